@@ -1,4 +1,5 @@
--- What one more record adds to which records a case has, and that what follows from them is what the definitions say.
+-- What one more record adds to which records a case has, and that what follows from them is what the
+-- definitions say.
 use Rattle.std.proofs.Common.{◌≡◌, ◌∙◌, Bool, true, false, ◌||◌, if◌then◌else◌, List, [], ◌∷◌, ◌++◌, refl, sym, ap}
 use Rattle.std.proofs.lemmas.List.Folds.{list_any-append}
 use Rattle.tree_model.specs.declared.names.Case.{Case}
@@ -24,7 +25,8 @@ or_none : (b : Bool) → (b || false) ≡ b
 or_none true = refl
 or_none false = refl
 
-has_more : (q : Record → Bool) (rs : List Record) (r : Record) → has q (rs ++ r ∷ []) ≡ (has q rs || has q (r ∷ []))
+has_more : (q : Record → Bool) (rs : List Record) (r : Record)
+    → has q (rs ++ r ∷ []) ≡ (has q rs || has q (r ∷ []))
 unfolding has
 has_more q rs r = list_any-append q rs (r ∷ [])
 
@@ -49,7 +51,8 @@ module _ (c : Case) (r : Record) where
       ∙ or_true (has (is_prepared c) xs))
       ∙ since_prepared xs is
 
-  by_rest : (x : Record) (xs : List Record) (b : Bool) → since_promise c (xs ++ r ∷ []) ≡ since_promise c xs ++ r ∷ []
+  by_rest : (x : Record) (xs : List Record) (b : Bool)
+      → since_promise c (xs ++ r ∷ []) ≡ since_promise c xs ++ r ∷ []
       → (if b then since_promise c (xs ++ r ∷ []) else x ∷ (xs ++ r ∷ []))
       ≡ (if b then since_promise c xs else x ∷ xs) ++ r ∷ []
   by_rest x xs true rest = rest
@@ -115,7 +118,8 @@ none_by true = refl
 none_by false = refl
 
 -- which kinds one record has
-one_kind : (c : Case) (r : Record) → kinds_of c (r ∷ []) ≡ (if is_of c r then kinds_after no_kinds r else no_kinds)
+one_kind : (c : Case) (r : Record) → kinds_of c (r ∷ [])
+    ≡ (if is_of c r then kinds_after no_kinds r else no_kinds)
 unfolding has
 one_kind c (Collecting d ts) = set_by (λ b. record no_kinds { collecting = b }) (same_case d c)
 one_kind c (Prepare d ts) = set_by (λ b. record no_kinds { prepare = b }) (same_case d c)
@@ -132,8 +136,10 @@ one_kind c (HeurCommit (CaseBranch d)) = set_by (λ b. record no_kinds { heur_co
 one_kind c (HeurCommit (Foreign x)) = refl
 one_kind c (HeurRollback (CaseBranch d)) = set_by (λ b. record no_kinds { heur_rollback = b }) (same_case d c)
 one_kind c (HeurRollback (Foreign x)) = refl
-one_kind c (Told (CaseBranch d) CommittedOutcome) = set_by (λ b. record no_kinds { told_commit = b }) (same_case d c)
-one_kind c (Told (CaseBranch d) AbortedOutcome) = set_by (λ b. record no_kinds { told_abort = b }) (same_case d c)
+one_kind c (Told (CaseBranch d) CommittedOutcome) =
+    set_by (λ b. record no_kinds { told_commit = b }) (same_case d c)
+one_kind c (Told (CaseBranch d) AbortedOutcome) =
+    set_by (λ b. record no_kinds { told_abort = b }) (same_case d c)
 one_kind c (Told (Foreign x) CommittedOutcome) = refl
 one_kind c (Told (Foreign x) AbortedOutcome) = refl
 one_kind c (Forgot (CaseBranch d)) = set_by (λ b. record no_kinds { forgot = b }) (same_case d c)
@@ -167,29 +173,41 @@ module _ (k : Kinds) where
   one_more : (f : Bool → Kinds → Kinds) (b : Bool) → f (b || true) (either k no_kinds) ≡ f true k
   one_more f b = ap (λ x. f x (either k no_kinds)) (or_true b) ∙ ap (f true) no_more
 
-  by_test : (b : Bool) (m n : Kinds) → either k m ≡ n → either k (if b then m else no_kinds) ≡ (if b then n else k)
+  by_test : (b : Bool) (m n : Kinds) → either k m ≡ n
+      → either k (if b then m else no_kinds) ≡ (if b then n else k)
   by_test true m n h = h
   by_test false m n h = no_more
 
   -- with the kinds of one record that is no Prepared of the case
   with_one : (c : Case) (r : Record) → is_prepared c r ≡ false
-      → either k (if is_of c r then kinds_after no_kinds r else no_kinds) ≡ (if is_of c r then kinds_after k r else k)
+      → either k (if is_of c r then kinds_after no_kinds r else no_kinds)
+      ≡ (if is_of c r then kinds_after k r else k)
   unfolding either
-  with_one c (Collecting d ts) is = by_test (same_case d c) _ _ (one_more (λ b m. record m { collecting = b }) k.collecting)
-  with_one c (Prepare d ts) is = by_test (same_case d c) _ _ (one_more (λ b m. record m { prepare = b }) k.prepare)
-  with_one c (Commit d ts) is = by_test (same_case d c) _ _ (one_more (λ b m. record m { commit = b }) k.commit)
+  with_one c (Collecting d ts) is = by_test (same_case d c) _ _
+      (one_more (λ b m. record m { collecting = b }) k.collecting)
+  with_one c (Prepare d ts) is = by_test (same_case d c) _ _
+      (one_more (λ b m. record m { prepare = b }) k.prepare)
+  with_one c (Commit d ts) is = by_test (same_case d c) _ _
+      (one_more (λ b m. record m { commit = b }) k.commit)
   with_one c (Abort d ts) is = by_test (same_case d c) _ _ (one_more (λ b m. record m { abort = b }) k.abort)
   with_one c (End d) is = by_test (same_case d c) _ _ (one_more (λ b m. record m { ended = b }) k.ended)
-  with_one c (Committed b) is = by_test (is_of c (Committed b)) _ _ (one_more (λ b m. record m { committed = b }) k.committed)
-  with_one c (RolledBack b) is = by_test (is_of c (RolledBack b)) _ _ (one_more (λ b m. record m { rolled_back = b }) k.rolled_back)
-  with_one c (HeurCommit b) is = by_test (is_of c (HeurCommit b)) _ _ (one_more (λ b m. record m { heur_commit = b }) k.heur_commit)
+  with_one c (Committed b) is = by_test (is_of c (Committed b)) _ _
+      (one_more (λ b m. record m { committed = b }) k.committed)
+  with_one c (RolledBack b) is = by_test (is_of c (RolledBack b)) _ _
+      (one_more (λ b m. record m { rolled_back = b }) k.rolled_back)
+  with_one c (HeurCommit b) is = by_test (is_of c (HeurCommit b)) _ _
+      (one_more (λ b m. record m { heur_commit = b }) k.heur_commit)
   with_one c (HeurRollback b) is =
-      by_test (is_of c (HeurRollback b)) _ _ (one_more (λ b m. record m { heur_rollback = b }) k.heur_rollback)
+      by_test (is_of c (HeurRollback b)) _ _ (one_more
+      (λ b m. record m { heur_rollback = b }) k.heur_rollback)
   with_one c (Told b CommittedOutcome) is =
-      by_test (is_of c (Told b CommittedOutcome)) _ _ (one_more (λ b m. record m { told_commit = b }) k.told_commit)
+      by_test (is_of c (Told b CommittedOutcome)) _ _
+      (one_more (λ b m. record m { told_commit = b }) k.told_commit)
   with_one c (Told b AbortedOutcome) is =
-      by_test (is_of c (Told b AbortedOutcome)) _ _ (one_more (λ b m. record m { told_abort = b }) k.told_abort)
-  with_one c (Forgot b) is = by_test (is_of c (Forgot b)) _ _ (one_more (λ b m. record m { forgot = b }) k.forgot)
+      by_test (is_of c (Told b AbortedOutcome)) _ _
+      (one_more (λ b m. record m { told_abort = b }) k.told_abort)
+  with_one c (Forgot b) is = by_test (is_of c (Forgot b)) _ _
+      (one_more (λ b m. record m { forgot = b }) k.forgot)
   with_one c (Direct b ws) is = by_test (is_of c (Direct b ws)) _ _ no_more
   with_one c (Prepared (CaseBranch d) ws) is = never (same_case d c) is
     where
@@ -219,9 +237,11 @@ pub kinds_behind : (rs : List Record) (c : Case) (r : Record) → kinds_of c (si
 kinds_behind rs c r = by_kind (is_prepared c r) refl
   where
     by_kind : (b : Bool) → is_prepared c r ≡ b → kinds_of c (since_promise c (rs ++ r ∷ []))
-        ≡ (if is_of c r then kinds_after (kinds_of c (since_promise c rs)) r else kinds_of c (since_promise c rs))
+        ≡ (if is_of c r then kinds_after (kinds_of c (since_promise c rs)) r
+        else kinds_of c (since_promise c rs))
     by_kind true is =
-        ap (kinds_of c) (since_prepared c r rs is) ∙ one_kind c r ∙ begun (kinds_of c (since_promise c rs)) c r is
+        ap (kinds_of c) (since_prepared c r rs is) ∙ one_kind c r
+        ∙ begun (kinds_of c (since_promise c rs)) c r is
     by_kind false is =
         ap (kinds_of c) (since_other c r rs is) ∙ kinds_more c (since_promise c rs) r
         ∙ ap (either (kinds_of c (since_promise c rs))) (one_kind c r)
@@ -273,17 +293,21 @@ module _ (c : Case) (rs : List Record) where
 
   pub own_is : own_in (kinds_of c rs) ≡ own_of c rs
   own_is = λ i.
-      own_by (has (is_decided c CommittedOutcome) rs) (has (is_decided c AbortedOutcome) rs) (sym committing i)
+      own_by (has (is_decided c CommittedOutcome) rs)
+      (has (is_decided c AbortedOutcome) rs) (sym committing i)
       (sym aborting i) (sym promises i)
 
-pub decision_is : (c : Case) (rs : List Record) → decision_in (kinds_of c (since_promise c rs)) ≡ own_decision c rs
+pub decision_is : (c : Case) (rs : List Record)
+    → decision_in (kinds_of c (since_promise c rs)) ≡ own_decision c rs
 decision_is c rs = decision_by_kinds c (since_promise c rs)
 
-pub line_is : (role : Role) (c : Case) (rs : List Record) → line_in role (kinds_of c rs) ≡ has_line_in role c rs
+pub line_is : (role : Role) (c : Case) (rs : List Record)
+    → line_in role (kinds_of c rs) ≡ has_line_in role c rs
 line_is AtRoot c rs = refl
 line_is (Below p) c rs = refl
 line_is (AtLeaf p) c rs = refl
 
-pub decided_is : (c : Case) (o : Outcome) (rs : List Record) → decided_in (kinds_of c rs) o ≡ has (is_decided c o) rs
+pub decided_is : (c : Case) (o : Outcome) (rs : List Record)
+    → decided_in (kinds_of c rs) o ≡ has (is_decided c o) rs
 decided_is c CommittedOutcome rs = refl
 decided_is c AbortedOutcome rs = refl

@@ -55,26 +55,35 @@ tickets_by c (Told (Foreign x) o) = refl
 tickets_by c (Forgot (CaseBranch d)) = none_named (same_case d c) []
 tickets_by c (Forgot (Foreign x)) = refl
 
-named_more : (c : Case) (rs : List Record) (r : Record) → named_by c (rs ++ r ∷ []) ≡ named_by c rs ++ named_in c r
+named_more : (c : Case) (rs : List Record) (r : Record)
+    → named_by c (rs ++ r ∷ []) ≡ named_by c rs ++ named_in c r
 unfolding named_by
 named_more c rs r =
-    flat_map-append (named_in c) rs (r ∷ []) ∙ ap (λ ts. flat_map (named_in c) rs ++ ts) (append-nil (named_in c r))
+    flat_map-append (named_in c) rs (r ∷ []) ∙ ap
+    (λ ts. flat_map (named_in c) rs ++ ts) (append-nil (named_in c r))
 
 -- what is noted of a case behind one more record
 note_more : (rs : List Record) (c : Case) (r : Record)
     → note_of (rs ++ r ∷ []) c ≡ (if is_of c r then note_after (note_of rs c) r else note_of rs c)
 note_more rs c r =
-    (λ i. record { kinds = kinds_behind rs c r i; named = (named_more c rs r ∙ ap (λ ts. named_by c rs ++ ts) (tickets_by c r)) i })
+    (λ i. record {
+      kinds = kinds_behind rs c r i;
+      named = (named_more c rs r ∙ ap (λ ts. named_by c rs ++ ts) (tickets_by c r)) i;
+    })
     ∙ by_test (is_of c r)
   where
     by_test : (b : Bool)
         → record {
-          kinds = if b then kinds_after (kinds_of c (since_promise c rs)) r else kinds_of c (since_promise c rs);
+          kinds = if b then kinds_after (kinds_of c (since_promise c rs)) r
+              else kinds_of c (since_promise c rs);
           named = named_by c rs ++ (if b then tickets_in r else []);
         }
         ≡ (if b then note_after (note_of rs c) r else note_of rs c)
     by_test true = refl
-    by_test false = λ i. record { kinds = kinds_of c (since_promise c rs); named = append-nil (named_by c rs) i }
+    by_test false = λ i. record {
+      kinds = kinds_of c (since_promise c rs);
+      named = append-nil (named_by c rs) i;
+    }
 
 note_nothing : (c : Case) → note_of [] c ≡ no_note
 unfolding named_by
@@ -100,7 +109,8 @@ or_parts false b h = (refl, h)
 
 has_more : (cs : List Case) (c d : Case) → has_case (cs ++ d ∷ []) c ≡ (has_case cs c || same_case d c)
 unfolding has_case
-has_more cs c d = list_any-append (λ e. same_case e c) cs (d ∷ []) ∙ ap (λ b. has_case cs c || b) (or_none (same_case d c))
+has_more cs c d = list_any-append (λ e. same_case e c) cs (d ∷ [])
+    ∙ ap (λ b. has_case cs c || b) (or_none (same_case d c))
   where
     or_none : (b : Bool) → (b || false) ≡ b
     or_none true = refl
@@ -123,12 +133,15 @@ once_more : (cs : List Case) (c : Case) → Once cs → has_case cs c ≡ false 
 unfolding Once has_case
 once_more [] c once none = (refl, tt)
 once_more (e ∷ cs) c once none =
-    let parts = or_parts (same_case e c) (has_case cs c) none in
-    (has_more cs e c ∙ or_false (has_case cs e) (same_case c e) once.0 (apart_back e c parts.0), once_more cs c once.1 parts.1)
+    let parts = or_parts (same_case e c) (has_case cs c) none in (
+      has_more cs e c ∙ or_false (has_case cs e) (same_case c e) once.0 (apart_back e c parts.0),
+      once_more cs c once.1 parts.1,
+    )
 
 -- An entry that is written.
 
-module _ (f g : Case → CaseNote) (d : Case) (v : CaseNote) (others : (c : Case) → same_case d c ≡ false → g c ≡ f c) (own : g d ≡ v) where
+module _ (f g : Case → CaseNote) (d : Case) (v : CaseNote)
+    (others : (c : Case) → same_case d c ≡ false → g c ≡ f c) (own : g d ≡ v) where
   -- the entries of cases that are not this one stay
   stay : (cs : List Case) → has_case cs d ≡ false → map (entry_by f) cs ≡ map (entry_by g) cs
   unfolding has_case
@@ -137,17 +150,21 @@ module _ (f g : Case → CaseNote) (d : Case) (v : CaseNote) (others : (c : Case
       let parts = or_parts (same_case e d) (has_case cs d) none in
       (λ i. (e, sym (others e (apart_back e d parts.0)) i) ∷ stay cs parts.1 i)
 
-  written : (cs : List Case) → Once cs → insert_entry same (map (entry_by f) cs) d v ≡ map (entry_by g) (with_case cs (Some d))
+  written : (cs : List Case) → Once cs → insert_entry same (map (entry_by f) cs) d v
+      ≡ map (entry_by g) (with_case cs (Some d))
   unfolding Once has_case
   written [] once = λ i. (d, sym own i) ∷ []
   written (e ∷ cs) once = by_test (written cs once.1) (same d e) refl
     where
-      behind : (h : Bool) (ds : List Case) → map (entry_by g) (if h then e ∷ cs else e ∷ ds) ≡ (e, g e) ∷ map (entry_by g) (if h then cs else ds)
+      behind : (h : Bool) (ds : List Case) → map (entry_by g) (if h then e ∷ cs else e ∷ ds) ≡ (e, g e)
+          ∷ map (entry_by g) (if h then cs else ds)
       behind true ds = refl
       behind false ds = refl
 
-      by_test : insert_entry same (map (entry_by f) cs) d v ≡ map (entry_by g) (with_case cs (Some d)) → (b : Bool) → same d e ≡ b
-          → (if b then (e, v) ∷ map (entry_by f) cs else (e, f e) ∷ insert_entry same (map (entry_by f) cs) d v)
+      by_test : insert_entry same (map (entry_by f) cs) d v
+          ≡ map (entry_by g) (with_case cs (Some d)) → (b : Bool) → same d e ≡ b
+          → (if b then (e, v) ∷ map (entry_by f) cs else (e, f e)
+          ∷ insert_entry same (map (entry_by f) cs) d v)
           ≡ map (entry_by g) (with_case (e ∷ cs) (Some d))
       by_test rest true is =
           let one : d ≡ e = same_is d e is in
@@ -159,32 +176,40 @@ module _ (f g : Case → CaseNote) (d : Case) (v : CaseNote) (others : (c : Case
           let differs : same_case d e ≡ false = sym (case_equality d e) ∙ is in
           (λ i. (e, sym (others e differs) i) ∷ rest i)
           ∙ sym (behind (has_case cs d) (cs ++ d ∷ []))
-          ∙ ap (λ b. map (entry_by g) (if b || has_case cs d then e ∷ cs else e ∷ cs ++ d ∷ [])) (sym (apart_back d e differs))
+          ∙ ap (λ b. map (entry_by g) (if b || has_case cs d then e ∷ cs else e ∷ cs ++ d ∷ []))
+          (sym (apart_back d e differs))
 
 -- a value that is written where the case is, is that of the entry that is put there
-pub put_there : (d : Case) (s w : CaseNote) (t : Table) → lookup (same d) t ≡ Some s → set_value (same d) t w ≡ insert_entry same t d w
+pub put_there : (d : Case) (s w : CaseNote) (t : Table) → lookup (same d) t ≡ Some s
+    → set_value (same d) t w ≡ insert_entry same t d w
 put_there d s w [] had = absurd (cc)
 put_there d s w (e ∷ t) had = by_test (λ h. put_there d s w t h) (same d e.0) had
   where
-    by_test : (lookup (same d) t ≡ Some s → set_value (same d) t w ≡ insert_entry same t d w) → (b : Bool) → (if b then Some e.1 else lookup (same d) t) ≡ Some s
-        → (if b then (e.0, w) ∷ t else e ∷ set_value (same d) t w) ≡ (if b then (e.0, w) ∷ t else e ∷ insert_entry same t d w)
+    by_test : (lookup (same d) t ≡ Some s → set_value (same d) t w ≡ insert_entry same t d w) → (b : Bool)
+        → (if b then Some e.1 else lookup (same d) t) ≡ Some s
+        → (if b then (e.0, w) ∷ t else e ∷ set_value (same d) t w)
+        ≡ (if b then (e.0, w) ∷ t else e ∷ insert_entry same t d w)
     by_test rest true h = refl
     by_test rest false h = ap (λ es. e ∷ es) (rest h)
 
 -- what is found of a case among entries
-pub found : (f : Case → CaseNote) (d : Case) (cs : List Case) → lookup (same d) (map (entry_by f) cs) ≡ (if has_case cs d then Some (f d) else None)
+pub found : (f : Case → CaseNote) (d : Case) (cs : List Case)
+    → lookup (same d) (map (entry_by f) cs) ≡ (if has_case cs d then Some (f d) else None)
 unfolding has_case
 found f d [] = refl
 found f d (e ∷ cs) = by_test (found f d cs) (same d e) refl
   where
-    by_test : lookup (same d) (map (entry_by f) cs) ≡ (if has_case cs d then Some (f d) else None) → (b : Bool) → same d e ≡ b
-        → (if b then Some (f e) else lookup (same d) (map (entry_by f) cs)) ≡ (if same_case e d || has_case cs d then Some (f d) else None)
+    by_test : lookup (same d) (map (entry_by f) cs)
+        ≡ (if has_case cs d then Some (f d) else None) → (b : Bool) → same d e ≡ b
+        → (if b then Some (f e) else lookup (same d) (map (entry_by f) cs))
+        ≡ (if same_case e d || has_case cs d then Some (f d) else None)
     by_test rest true is =
         let one : d ≡ e = same_is d e is in
         let here : same_case e d ≡ true = subst (λ c. same_case c d ≡ true) one (itself d) in
         ap (λ c. Some (f c)) (sym one) ∙ ap (λ b. if b || has_case cs d then Some (f d) else None) (sym here)
     by_test rest false is =
-        rest ∙ ap (λ b. if b || has_case cs d then Some (f d) else None) (sym (apart_back d e (sym (case_equality d e) ∙ is)))
+        rest ∙ ap (λ b. if b || has_case cs d then Some (f d) else None)
+        (sym (apart_back d e (sym (case_equality d e) ∙ is)))
 
 -- The pass.
 
@@ -203,7 +228,8 @@ change false s t h = absurd (cc)
 
 module _ (rs : List Record) (r : Record) where
   -- what is said of a case of which the record is not
-  other_stays : (o : Option Case) (c : Case) → record_case r ≡ o → is_case c o ≡ false → note_of (rs ++ r ∷ []) c ≡ note_of rs c
+  other_stays : (o : Option Case) (c : Case) → record_case r ≡ o → is_case c o ≡ false
+      → note_of (rs ++ r ∷ []) c ≡ note_of rs c
   other_stays o c is not_of = note_more rs c r ∙ no_change (is_of c r) _ _ (ap (is_case c) is ∙ not_of)
 
   own_changes : (c : Case) → record_case r ≡ Some c → note_of (rs ++ r ∷ []) c ≡ note_after (note_of rs c) r
@@ -212,13 +238,15 @@ module _ (rs : List Record) (r : Record) where
   still_cases : (cs : List Case) → AreCases rs cs → AreCases (rs ++ r ∷ []) (with_record cs r)
   still_cases cs are = by_case (record_case r) refl
     where
-      by_test : (c : Case) → record_case r ≡ Some c → (b : Bool) → has_case cs c ≡ b → AreCases (rs ++ r ∷ []) (if b then cs else cs ++ c ∷ [])
+      by_test : (c : Case) → record_case r ≡ Some c → (b : Bool) → has_case cs c ≡ b
+          → AreCases (rs ++ r ∷ []) (if b then cs else cs ++ c ∷ [])
       by_test c is true there =
           record {
             once = are.once;
             absent = λ d none.
                 let differs : same_case c d ≡ false =
-                apart_of (same_case c d) (λ one. true_not_false (sym (subst (λ e. has_case cs e ≡ true) (is_same c d one) there) ∙ none)) in
+                apart_of (same_case c d) (λ one. true_not_false
+                (sym (subst (λ e. has_case cs e ≡ true) (is_same c d one) there) ∙ none)) in
                 other_stays (Some c) d is differs ∙ are.absent d none;
           }
       by_test c is false gone =
@@ -230,23 +258,31 @@ module _ (rs : List Record) (r : Record) where
           }
 
       by_case : (o : Option Case) → record_case r ≡ o → AreCases (rs ++ r ∷ []) (with_case cs o)
-      by_case None is = record { once = are.once; absent = λ d none. other_stays None d is refl ∙ are.absent d none }
+      by_case None is = record {
+        once = are.once;
+        absent = λ d none. other_stays None d
+            is refl ∙ are.absent d none;
+      }
       by_case (Some c) is = by_test c is (has_case cs c) refl
 
-  all_stay : record_case r ≡ None → (ds : List Case) → map (entry_by (note_of rs)) ds ≡ map (entry_by (note_of (rs ++ r ∷ []))) ds
+  all_stay : record_case r ≡ None → (ds : List Case)
+      → map (entry_by (note_of rs)) ds ≡ map (entry_by (note_of (rs ++ r ∷ []))) ds
   all_stay is [] = refl
   all_stay is (d ∷ ds) = λ i. (d, sym (other_stays None d is refl) i) ∷ all_stay is ds i
 
   same_table : (o : Option Case) → record_case r ≡ o → (cs : List Case) → AreCases rs cs
-      → noted_by (map (entry_by (note_of rs)) cs) r o ≡ map (entry_by (note_of (rs ++ r ∷ []))) (with_case cs o)
+      → noted_by (map (entry_by (note_of rs)) cs) r o
+      ≡ map (entry_by (note_of (rs ++ r ∷ []))) (with_case cs o)
   same_table None is cs are = all_stay is cs
   same_table (Some d) is cs are =
       ap (λ s. insert_entry same (map (entry_by (note_of rs)) cs) d (note_after s r))
       (ap (λ o. unwrap_or o no_note) (found (note_of rs) d cs) ∙ by_test (has_case cs d) refl)
-      ∙ written (note_of rs) (note_of (rs ++ r ∷ [])) d (note_after (note_of rs d) r) (λ c differs. other_stays (Some d) c is differs)
+      ∙ written (note_of rs) (note_of (rs ++ r ∷ [])) d (note_after (note_of rs d) r)
+      (λ c differs. other_stays (Some d) c is differs)
       (own_changes d is) cs are.once
     where
-      by_test : (b : Bool) → has_case cs d ≡ b → unwrap_or (if b then Some (note_of rs d) else None) no_note ≡ note_of rs d
+      by_test : (b : Bool) → has_case cs d ≡ b
+          → unwrap_or (if b then Some (note_of rs d) else None) no_note ≡ note_of rs d
       by_test true there = refl
       by_test false gone = sym (are.absent d gone)
 
@@ -254,7 +290,8 @@ module _ (rs : List Record) (r : Record) where
 one_then : {A : Type 0} (ks : List A) (a : A) (bs : List A) → (ks ++ a ∷ []) ++ bs ≡ ks ++ a ∷ bs
 one_then ks a bs = append_assoc ks (a ∷ []) bs
 
-cases_from : (done rest : List Record) (cs : List Case) → AreCases done cs → AreCases (done ++ rest) (fold with_record cs rest)
+cases_from : (done rest : List Record) (cs : List Case) → AreCases done cs
+    → AreCases (done ++ rest) (fold with_record cs rest)
 cases_from done [] cs are = subst (λ rs. AreCases rs cs) (sym (append-nil done)) are
 cases_from done (r ∷ rest) cs are =
     subst (λ rs. AreCases rs (fold with_record (with_record cs r) rest)) (one_then done r rest)
@@ -281,7 +318,8 @@ noted_more rs r =
 pub noted_from : (done rest : List Record) → fold noted (notes_of done) rest ≡ notes_of (done ++ rest)
 noted_from done [] = ap notes_of (sym (append-nil done))
 noted_from done (r ∷ rest) =
-    ap (λ s. fold noted s rest) (noted_more done r) ∙ noted_from (done ++ r ∷ []) rest ∙ ap notes_of (one_then done r rest)
+    ap (λ s. fold noted s rest) (noted_more done r) ∙ noted_from (done ++ r ∷ []) rest
+    ∙ ap notes_of (one_then done r rest)
 
 nothing_is : [] ≡ notes_of []
 unfolding cases_in

@@ -42,14 +42,16 @@ found_behind : (s : Outcomes) (c d : Case) (o : Outcome) → lookup (same c) s �
 found_behind [] c d o none = refl
 found_behind (e ∷ s) c d o none = by_test (same c e.0) none (λ h. found_behind s c d o h)
   where
-    by_found : (b : Bool) → lookup (same d) (insert_entry same s c o) ≡ or_else (lookup (same d) s) (only (same d c) o)
+    by_found : (b : Bool) → lookup (same d) (insert_entry same s c o)
+        ≡ or_else (lookup (same d) s) (only (same d c) o)
         → (if b then Some e.1 else lookup (same d) (insert_entry same s c o))
         ≡ or_else (if b then Some e.1 else lookup (same d) s) (only (same d c) o)
     by_found true rest = refl
     by_found false rest = rest
 
     by_test : (b : Bool) → (if b then Some e.1 else lookup (same c) s) ≡ None
-        → (lookup (same c) s ≡ None → lookup (same d) (insert_entry same s c o) ≡ or_else (lookup (same d) s) (only (same d c) o))
+        → (lookup (same c) s ≡ None → lookup (same d) (insert_entry same s c o)
+        ≡ or_else (lookup (same d) s) (only (same d c) o))
         → lookup (same d) (if b then (e.0, o) ∷ s else e ∷ insert_entry same s c o)
         ≡ or_else (if same d e.0 then Some e.1 else lookup (same d) s) (only (same d c) o)
     by_test true h rest = absurd (cc)
@@ -71,14 +73,16 @@ first_found : (s : Outcomes) (c d : Case) (o : Outcome)
 first_found s c d o = by_found (lookup (same c) s) refl
   where
     by_found : (a : Option Outcome) → lookup (same c) s ≡ a
-        → lookup (same d) (if is_some a then s else insert_entry same s c o) ≡ or_else (lookup (same d) s) (only (same d c) o)
+        → lookup (same d) (if is_some a then s else insert_entry same s c o)
+        ≡ or_else (lookup (same d) s) (only (same d c) o)
     by_found None is = found_behind s c d o is
     by_found (Some p) is = found_same s c d o p is
 
 -- The tickets of a case.
 
 -- a child's case is this one where the transaction and the ticket are
-child_is : (y x : Txn) (u t : Ticket) → same (child_case x t) (child_case y u) ≡ (same_txn y x && same_ticket u t)
+child_is : (y x : Txn) (u t : Ticket) → same (child_case x t) (child_case y u)
+    ≡ (same_txn y x && same_ticket u t)
 unfolding same_case same_owner
 child_is y x u t = case_equality (child_case x t) (child_case y u) ∙ turned (child_case x t) (child_case y u)
   where
@@ -96,15 +100,18 @@ named_found : (y : Txn) (o : Outcome) (s : Outcomes) (us : List Ticket) (x : Txn
     ≡ or_else (lookup (same (child_case x t)) s) (only (same_txn y x && in_list us t) o)
 unfolding in_list
 named_found y o s [] x t =
-    sym (or_nothing (lookup (same (child_case x t)) s)) ∙ ap (λ b. or_else (lookup (same (child_case x t)) s) (only b o)) (sym (never (same_txn y x)))
+    sym (or_nothing (lookup (same (child_case x t)) s))
+    ∙ ap (λ b. or_else (lookup (same (child_case x t)) s) (only b o)) (sym (never (same_txn y x)))
   where
     never : (b : Bool) → (b && false) ≡ false
     never true = refl
     never false = refl
 named_found y o s (u ∷ us) x t =
     named_found y o (with_first s (child_case y u) o) us x t
-    ∙ ap (λ a. or_else a (only (same_txn y x && in_list us t) o)) (first_found s (child_case y u) (child_case x t) o)
-    ∙ or_assoc (lookup (same (child_case x t)) s) (only (same (child_case x t) (child_case y u)) o) (only (same_txn y x && in_list us t) o)
+    ∙ ap (λ a. or_else a (only (same_txn y x && in_list us t) o))
+    (first_found s (child_case y u) (child_case x t) o)
+    ∙ or_assoc (lookup (same (child_case x t)) s) (only (same (child_case x t) (child_case y u)) o)
+    (only (same_txn y x && in_list us t) o)
     ∙ ap (or_else (lookup (same (child_case x t)) s))
     (ap (λ b. or_else (only b o) (only (same_txn y x && in_list us t) o)) (child_is y x u t)
     ∙ either_one (same_txn y x && same_ticket u t) (same_txn y x && in_list us t) o
@@ -117,16 +124,20 @@ named_found y o s (u ∷ us) x t =
 -- The cases.
 
 module _ (above : Option Outcomes) (x : Txn) (t : Ticket) where
-  all_found : (s : Outcomes) (notes : Table) → lookup (same (child_case x t)) (fold (with_entry above) s notes)
+  all_found : (s : Outcomes) (notes : Table) → lookup (same (child_case x t))
+      (fold (with_entry above) s notes)
       ≡ or_else (lookup (same (child_case x t)) s) (outcome_at above (first_naming notes x t))
   all_found s [] = sym (or_nothing (lookup (same (child_case x t)) s))
   all_found s (e ∷ notes) =
       all_found (with_entry above s e) notes
-      ∙ ap (λ a. or_else a (outcome_at above (first_naming notes x t))) (named_found e.0.txn (outcome_in above e.0 e.1) s e.1.named x t)
-      ∙ or_assoc (lookup (same (child_case x t)) s) (only (names x t e) (outcome_in above e.0 e.1)) (outcome_at above (first_naming notes x t))
+      ∙ ap (λ a. or_else a (outcome_at above (first_naming notes x t)))
+      (named_found e.0.txn (outcome_in above e.0 e.1) s e.1.named x t)
+      ∙ or_assoc (lookup (same (child_case x t)) s) (only (names x t e) (outcome_in above e.0 e.1))
+      (outcome_at above (first_naming notes x t))
       ∙ ap (or_else (lookup (same (child_case x t)) s)) (by_test (names x t e))
     where
-      by_test : (b : Bool) → or_else (only b (outcome_in above e.0 e.1)) (outcome_at above (first_naming notes x t))
+      by_test : (b : Bool) → or_else (only b (outcome_in above e.0 e.1))
+          (outcome_at above (first_naming notes x t))
           ≡ outcome_at above (if b then Some e else find (names x t) notes)
       by_test true = refl
       by_test false = refl

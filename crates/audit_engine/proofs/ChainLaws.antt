@@ -37,21 +37,27 @@ none_named tree ts ns = λ logs notes q h listed. absurd (true_not_false (sym h)
 some_table : (a b : Table) → Some a ≡ Some b → a ≡ b
 some_table a b e = cc
 
-named_more : (tree : List TreeEntry) (ts : TreeTables) (es : List TreeEntry) (e : TreeEntry) (old new : TreeFounds)
-    → Adds (lookup (same_id e.id) ts) e.id old new → NamedTo tree ts es old → NamedTo tree ts (es ++ e ∷ []) new
+named_more : (tree : List TreeEntry) (ts : TreeTables) (es : List TreeEntry)
+    (e : TreeEntry) (old new : TreeFounds)
+    → Adds (lookup (same_id e.id) ts) e.id old new → NamedTo tree ts es old
+    → NamedTo tree ts (es ++ e ∷ []) new
 unfolding NamedTo
-named_more tree ts es e old new adds before = λ logs notes q h listed. by_name logs notes q h listed (same_id q e.id) refl
+named_more tree ts es e old new adds before =
+    λ logs notes q h listed. by_name logs notes q h listed (same_id q e.id) refl
   where
-    earlier : (q : ProcessId) → is_listed (es ++ e ∷ []) q ≡ true → same_id q e.id ≡ false → is_listed es q ≡ true
+    earlier : (q : ProcessId) → is_listed (es ++ e ∷ []) q ≡ true
+        → same_id q e.id ≡ false → is_listed es q ≡ true
     earlier q h apart = listed_more es e q h
         (apart_of (same_process e.id q)
         (λ one. true_not_false (sym (same_self q) ∙ ap (same_id q) (sym (is_one e.id q one)) ∙ apart)))
 
     by_table : (logs : Logs) → AreNotes tree logs ts → (q : ProcessId) → is_listed (es ++ e ∷ []) q ≡ true
-        → is_listed tree q ≡ true → (b : Bool) → same_id q e.id ≡ b → (a : Option Table) → lookup (same_id e.id) ts ≡ a
+        → is_listed tree q ≡ true → (b : Bool) → same_id q e.id ≡ b → (a : Option Table)
+        → lookup (same_id e.id) ts ≡ a
         → Adds a e.id old new → FindsAt logs q new
     by_table logs notes q h listed true here None is added =
-        absurd (nothing (sym is ∙ ap (λ p. lookup (same_id p) ts) (sym (same_is q e.id here)) ∙ notes.tables q listed))
+        absurd (nothing (sym is ∙ ap (λ p. lookup (same_id p) ts)
+        (sym (same_is q e.id here)) ∙ notes.tables q listed))
       where
         nothing : {t : Table} → None ≡ Some t → ⊥
         nothing e = cc
@@ -76,7 +82,8 @@ named_more tree ts es e old new adds before = λ logs notes q h listed. by_name 
 
     by_name : (logs : Logs) → AreNotes tree logs ts → (q : ProcessId) → is_listed (es ++ e ∷ []) q ≡ true
         → is_listed tree q ≡ true → (b : Bool) → same_id q e.id ≡ b → FindsAt logs q new
-    by_name logs notes q h listed b is = by_table logs notes q h listed b is (lookup (same_id e.id) ts) refl adds
+    by_name logs notes q h listed b is = by_table logs notes q h listed b is
+        (lookup (same_id e.id) ts) refl adds
 
 -- the next process
 pub named_next : (tree : List TreeEntry) (ts : TreeTables) (es : List TreeEntry) (i : ℕ) (e : TreeEntry)
@@ -86,8 +93,10 @@ named_next tree ts es i e old new lt at adds before =
     rw (take_more es i e lt, ← at) (named_more tree ts (take i es) e old new adds before)
 
 -- all processes
-pub named_all : (tree : List TreeEntry) (ts : TreeTables) (es : List TreeEntry) (i : ℕ) (ns : TreeFounds) → es ≡ tree
-    → length es ≤ i → NamedTo tree ts (take i es) ns → (logs : Logs) → AreNotes tree logs ts → AreNamings tree logs ns
+pub named_all : (tree : List TreeEntry) (ts : TreeTables) (es : List TreeEntry) (i : ℕ)
+    (ns : TreeFounds) → es ≡ tree
+    → length es ≤ i → NamedTo tree ts (take i es) ns → (logs : Logs)
+    → AreNotes tree logs ts → AreNamings tree logs ns
 unfolding NamedTo
 named_all tree ts es i ns same enough named = λ logs notes q listed.
     named logs notes q (ap (λ xs. is_listed xs q) (take_all i es enough ∙ same) ∙ listed) listed
@@ -95,7 +104,8 @@ named_all tree ts es i ns same enough named = λ logs notes q listed.
 -- The steps.
 
 -- a parent is listed
-up_listed : (tree : List TreeEntry) → IsTree tree → (q p : ProcessId) → parent_of tree q ≡ Some p → is_listed tree p ≡ true
+up_listed : (tree : List TreeEntry) → IsTree tree → (q p : ProcessId)
+    → parent_of tree q ≡ Some p → is_listed tree p ≡ true
 unfolding parent_of
 up_listed tree t q p up = by_entry (find (λ e. same_process e.id q) tree) refl up
   where
@@ -108,7 +118,8 @@ up_listed tree t q p up = by_entry (find (λ e. same_process e.id q) tree) refl 
     by_entry (Some e) is h = parent_listed tree t q p e is h
 
 -- what is found of a case with a ticket
-pub found_so : (tree : List TreeEntry) → IsTree tree → (logs : Logs) (ns : TreeFounds) → AreNamings tree logs ns
+pub found_so : (tree : List TreeEntry) → IsTree tree
+    → (logs : Logs) (ns : TreeFounds) → AreNamings tree logs ns
     → (c : Case) (t : Ticket) → c.ticket ≡ Some t → (p : ProcessId) → parent_of tree (process_of c) ≡ Some p
     → found_by_table (lookup (same_id p) ns) c ≡ finds (notes_of (logs p)) c.txn t
 found_so tree is_tree logs ns are c t ticket p up =
@@ -126,15 +137,18 @@ module _ (tree : List TreeEntry) (logs : Logs) where
   pub no_ticket : (c : Case) (most : ℕ) → c.ticket ≡ None → steps_within most tree logs c ≡ []
   no_ticket c zero is = refl
   no_ticket c (suc k) is =
-      ap (λ o. steps_by (steps_within k tree logs) (found_in logs c.txn c.ticket) o (parent_of tree (process_of c))) is
+      ap (λ o. steps_by (steps_within k tree logs) (found_in logs c.txn c.ticket) o
+      (parent_of tree (process_of c))) is
 
   -- without a parent there is none
-  pub no_parent : (c : Case) (most : ℕ) → parent_of tree (process_of c) ≡ None → steps_within most tree logs c ≡ []
+  pub no_parent : (c : Case) (most : ℕ) → parent_of tree (process_of c) ≡ None
+      → steps_within most tree logs c ≡ []
   no_parent c zero is = refl
   no_parent c (suc k) is =
       ap (steps_by (steps_within k tree logs) (found_in logs c.txn c.ticket) c.ticket) is ∙ by_ticket c.ticket
     where
-      by_ticket : (o : Option Ticket) → steps_by (steps_within k tree logs) (found_in logs c.txn c.ticket) o None ≡ []
+      by_ticket : (o : Option Ticket) → steps_by (steps_within k tree logs)
+          (found_in logs c.txn c.ticket) o None ≡ []
       by_ticket None = refl
       by_ticket (Some t) = refl
 
@@ -151,12 +165,15 @@ module _ (tree : List TreeEntry) (logs : Logs) where
       let less = one_less most some in
       let k : most - 1 ≡ less.0 = omega (arith, less.1) in
       ap (λ n. steps_within n tree logs c) less.1
-      ∙ ap (λ o. steps_by (steps_within less.0 tree logs) (found_in logs c.txn o) o (parent_of tree (process_of c))) ticket
+      ∙ ap (λ o. steps_by (steps_within less.0 tree logs) (found_in logs c.txn o) o
+      (parent_of tree (process_of c))) ticket
       ∙ ap (steps_by (steps_within less.0 tree logs) (found_in logs c.txn (Some t)) (Some t)) up
       ∙ ap (λ n. steps_from (steps_within n tree logs) t p (finds (notes_of (logs p)) c.txn t)) (sym k)
 
-module _ (tree : List TreeEntry) (is_tree : IsTree tree) (ns : TreeFounds) (c : Case) (t : Ticket) (p q : ProcessId)
-    (most : ℕ) (some : most ≡ 0 → ⊥) (ticket : c.ticket ≡ Some t) (own : q ≡ process_of c) (up : parent_of tree q ≡ Some p)
+module _ (tree : List TreeEntry) (is_tree : IsTree tree) (ns : TreeFounds) (c : Case)
+    (t : Ticket) (p q : ProcessId)
+    (most : ℕ) (some : most ≡ 0 → ⊥) (ticket : c.ticket ≡ Some t) (own : q ≡ process_of c)
+    (up : parent_of tree q ≡ Some p)
     (found : Found) (finding : found ≡ found_by_table (lookup (same_id p) ns) c) where
   abbrev step : Step
   step = record { ticket = t; process = p; found = found }
@@ -177,8 +194,10 @@ module _ (tree : List TreeEntry) (is_tree : IsTree tree) (ns : TreeFounds) (c : 
       ∙ ap (λ ss. old ++ ss) (sym (stepped logs are))
 
   -- a step, and those of the case that asks in its turn
-  pub step_goes_on : (old mid new : List Step) (next : Case) → mid ≡ old ++ step ∷ [] → asks_on found ≡ Some next
-      → ((logs : Logs) → AreNamings tree logs ns → new ≡ mid ++ steps_within (most - 1) tree logs next) → (logs : Logs)
+  pub step_goes_on : (old mid new : List Step) (next : Case)
+      → mid ≡ old ++ step ∷ [] → asks_on found ≡ Some next
+      → ((logs : Logs) → AreNamings tree logs ns
+      → new ≡ mid ++ steps_within (most - 1) tree logs next) → (logs : Logs)
       → AreNamings tree logs ns → new ≡ old ++ steps_within most tree logs c
   step_goes_on old mid new next is asks more = λ logs are.
       more logs are ∙ ap (λ ss. ss ++ steps_within (most - 1) tree logs next) is
@@ -191,9 +210,11 @@ on_ok (Ok a) f h = f h
 on_ok (Err e) f h = h
 
 -- all the steps
-pub all_steps : (tree : List TreeEntry) (ns : TreeFounds) (c : Case) (es : List TreeEntry) (none new : List Step)
+pub all_steps : (tree : List TreeEntry) (ns : TreeFounds) (c : Case)
+    (es : List TreeEntry) (none new : List Step)
     → es ≡ tree → none ≡ []
-    → ((logs : Logs) → AreNamings tree logs ns → new ≡ none ++ steps_within (length es) tree logs c) → (logs : Logs)
+    → ((logs : Logs) → AreNamings tree logs ns
+    → new ≡ none ++ steps_within (length es) tree logs c) → (logs : Logs)
     → AreNamings tree logs ns → new ≡ chain_of tree logs c
 unfolding chain_of
 all_steps tree ns c es none new same is more = λ logs are.

@@ -51,12 +51,14 @@ nothing_pushed x t p found old a b d e is f g h i =
 
 -- An explanation.
 
-pub explanation_pushed : (tree : List TreeEntry) (logs : Logs) (l : Line) (old a b d : List ℕ) (ss : List Step)
+pub explanation_pushed : (tree : List TreeEntry) (logs : Logs) (l : Line)
+    (old a b d : List ℕ) (ss : List Step)
     → a ≡ old ++ told_part l.case l.decision → b ≡ a ++ steps_text l.case.txn.presumption ss
     → d ≡ b ++ do_text l.mismatch l.case ss → ss ≡ steps_of tree logs l.case l.decision
     → d ≡ old ++ explanation_text tree logs l
 explanation_pushed tree logs l old a b d ss told steps does is =
-    three old a b d (told_part l.case l.decision) (steps_text l.case.txn.presumption ss) (do_text l.mismatch l.case ss)
+    three old a b d (told_part l.case l.decision) (steps_text l.case.txn.presumption ss)
+    (do_text l.mismatch l.case ss)
     told steps does
     ∙ ap (λ (ts : List Step). old ++ (told_part l.case l.decision
     ++ (steps_text l.case.txn.presumption ts ++ do_text l.mismatch l.case ts))) is
@@ -64,14 +66,17 @@ explanation_pushed tree logs l old a b d ss told steps does is =
     (steps_text l.case.txn.presumption (steps_of tree logs l.case l.decision))
     (do_text l.mismatch l.case (steps_of tree logs l.case l.decision))))
 
-pub line_explained : (tree : List TreeEntry) (logs : Logs) (l : Line) (old mid new : List ℕ) → is_explained l ≡ true
-    → mid ≡ old ++ line_text l → new ≡ mid ++ explanation_text tree logs l → new ≡ old ++ explained_line tree logs l
+pub line_explained : (tree : List TreeEntry) (logs : Logs) (l : Line)
+    (old mid new : List ℕ) → is_explained l ≡ true
+    → mid ≡ old ++ line_text l → new ≡ mid ++ explanation_text tree logs l
+    → new ≡ old ++ explained_line tree logs l
 line_explained tree logs l old mid new is line why =
     why ∙ ap (λ t. t ++ explanation_text tree logs l) line
     ∙ append_assoc old (line_text l) (explanation_text tree logs l)
     ∙ ap (λ b. old ++ (line_text l ++ (if b then explanation_text tree logs l else []))) (sym is)
 
-pub all_explained : (tree : List TreeEntry) (logs : Logs) (r : Report) (none mid new : List ℕ) (ls : List Line)
+pub all_explained : (tree : List TreeEntry) (logs : Logs) (r : Report)
+    (none mid new : List ℕ) (ls : List Line)
     → none ≡ [] → ls ≡ r.lines.items → mid ≡ none ++ flat_map (explained_line tree logs) ls
     → new ≡ mid ++ count_text r.mismatches → r.mismatches ≡ mismatches_in r.lines.items
     → new ≡ explained_text tree logs r.lines.items
@@ -85,7 +90,8 @@ all_explained tree logs r none mid new ls empty same lines count counted =
 pub lines_told : {V E : Type 0} (items : V → List ℕ) (text : Result V E) (d : Detail) (tree : List TreeEntry)
     (ts : TreeTables) (r : Report) → d ≡ detail.Lines → r.mismatches ≡ mismatches_in r.lines.items
     → IfOk text (λ t. items t ≡ lines_text r.lines.items ++ count_text r.mismatches)
-    → IfOk text (λ t. (logs : Logs) → AreNotes tree logs ts → items t ≡ detailed_text d tree logs r.lines.items)
+    → IfOk text (λ t. (logs : Logs) → AreNotes tree logs ts
+    → items t ≡ detailed_text d tree logs r.lines.items)
 unfolding report_text
 lines_told items (Ok t) d tree ts r is counted told = λ logs notes.
     told ∙ ap (λ n. lines_text r.lines.items ++ count_text n) counted

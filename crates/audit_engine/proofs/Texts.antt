@@ -43,16 +43,19 @@ pub line_pushed : (l : Line) (old d e f g out mis : List ℕ)
     → g ≡ old ++ line_text l
 line_pushed l old d e f g out mis up_to o out_is m mis_is end =
     four old d e f g (case_text l.case ++ (codes " " ++ (own_word l.own ++ codes " "))) (outcome_word l.outcome)
-    (mismatch_part l.mismatch) (codes "\n") up_to (o ∙ ap (λ t. d ++ t) out_is) (m ∙ ap (λ t. e ++ t) mis_is) end
+    (mismatch_part l.mismatch) (codes "\n") up_to (o ∙ ap (λ t. d ++ t) out_is)
+    (m ∙ ap (λ t. e ++ t) mis_is) end
     ∙ ap (λ t. old ++ t)
     (joined (case_text l.case) (codes " ") (own_word l.own) (codes " ") (outcome_word l.outcome)
     (mismatch_part l.mismatch) (codes "\n"))
   where
-    joined : (x y z w o m n : List ℕ) → (x ++ (y ++ (z ++ w))) ++ (o ++ (m ++ n)) ≡ x ++ y ++ z ++ w ++ o ++ m ++ n
+    joined : (x y z w o m n : List ℕ) → (x ++ (y ++ (z ++ w))) ++ (o ++ (m ++ n)) ≡ x
+        ++ y ++ z ++ w ++ o ++ m ++ n
     joined x y z w o m n = simp append_assoc
 
 -- how an audit ends with this report
-pub report_ends : (detail : Detail) (tree : List TreeEntry) (logs : List ProcessLog) (r : Report) (text : List ℕ)
+pub report_ends : (detail : Detail) (tree : List TreeEntry) (logs : List ProcessLog)
+    (r : Report) (text : List ℕ)
     (e : Ending) → first_damage tree logs ≡ None → r.lines.items ≡ audit_lines tree logs
     → r.mismatches ≡ mismatches_in r.lines.items
     → text ≡ detailed_text detail tree (kept_lists tree logs) r.lines.items → e ≡ ending_by r.mismatches

@@ -6,7 +6,8 @@ use Rattle.audit_engine.specs.declared.detail.Detail.{Detail}
 use Rattle.audit_engine.specs.declared.ending.Ending.{Ending}
 use Rattle.audit_engine.specs.declared.ending.Ending.TheVariants as ending
 
-of_logs : (d : Detail) (e : Ending) (input text : List ℕ) (a : AuditsLogs d e input text) → Reports d a.tree a.logs text
+of_logs : (d : Detail) (e : Ending) (input text : List ℕ) (a : AuditsLogs d e input text)
+    → Reports d a.tree a.logs text
     → ReportsRuns d input text
 of_logs d e input text a reports = record {
   tree = a.tree;

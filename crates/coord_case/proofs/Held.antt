@@ -18,7 +18,8 @@ use Rattle.coord_case.proofs.Works.{works-sending, works_each, works_of-push}
 -- the first vote of a ticket
 pub counts-vote : (s : Standing) (cs : List Child) (promised named owed : List Ticket) (t : Ticket) (w : Vote)
     → is_counted (accepted_in cs) (votes_in cs) t ≡ true
-    → SameView (meant s (changing t (voting (Some w)) cs) promised named owed) (record (meant s cs promised named owed) { votes = votes_in cs ++ (t, w) ∷ [] })
+    → SameView (meant s (changing t (voting (Some w)) cs) promised named owed)
+    (record (meant s cs promised named owed) { votes = votes_in cs ++ (t, w) ∷ [] })
 counts-vote s cs promised named owed t w counted =
     let is = counted_is cs t counted in
     record {
@@ -26,7 +27,8 @@ counts-vote s cs promised named owed t w counted =
       accepted = accepted-changing t (voting (Some w)) (λ c. refl) cs;
       voted = λ o u.
           voted-casts o (changing t (voting (Some w)) cs) u ∙ casts-voting (is_vote o) refl t w cs u is.0 is.1
-          ∙ ap (λ b. b || (same_vote o w && same_ticket t u)) (sym (voted-casts o cs u)) ∙ sym (voted_so-push o (votes_in cs) t w u);
+          ∙ ap (λ b. b || (same_vote o w && same_ticket t u)) (sym (voted-casts o cs u))
+          ∙ sym (voted_so-push o (votes_in cs) t w u);
       worked = λ u. ap (λ ws. works_of ws u) (works-voting t (Some w) cs);
       promised = refl;
       named = λ u. refl;
@@ -34,7 +36,8 @@ counts-vote s cs promised named owed t w counted =
     }
 
 -- the vote of a ticket is taken back
-pub uncounts-vote : (s : Standing) (cs : List Child) (promised named owed : List Ticket) (t : Ticket) → are_distinct cs ≡ true
+pub uncounts-vote : (s : Standing) (cs : List Child) (promised named owed : List Ticket)
+    (t : Ticket) → are_distinct cs ≡ true
     → Uncounts t (meant s cs promised named owed) (meant s (changing t (voting None) cs) promised named owed)
 uncounts-vote s cs promised named owed t distinct =
     record {
@@ -53,14 +56,17 @@ votes-sending : (t : Ticket) (n : ℕ) (cs : List Child) → votes_in (changing 
 votes-sending t n [] = refl
 votes-sending t n (c ∷ cs) = by_test (same_ticket c.ticket t) (votes-sending t n cs)
   where
-    by_test : (b : Bool) → votes_in (changing t (sending n) cs) ≡ votes_in cs → votes_in (if b then sending n c ∷ cs else c ∷ changing t (sending n) cs) ≡ votes_in (c ∷ cs)
+    by_test : (b : Bool) → votes_in (changing t (sending n) cs) ≡ votes_in cs
+        → votes_in (if b then sending n c ∷ cs else c ∷ changing t (sending n) cs) ≡ votes_in (c ∷ cs)
     by_test true rest = refl
     by_test false rest = ap (cons_option (vote_of c)) rest
 
 -- one work more to the ticket
-pub sends-work : (s : Standing) (cs : List Child) (promised named owed : List Ticket) (t : Ticket) (n : ℕ) → are_distinct cs ≡ true
+pub sends-work : (s : Standing) (cs : List Child) (promised named owed : List Ticket) (t : Ticket)
+    (n : ℕ) → are_distinct cs ≡ true
     → in_list (accepted_in cs) t ≡ true → n ≡ works_of (works_in cs) t + 1
-    → SameView (meant s (changing t (sending n) cs) promised named owed) (record (meant s cs promised named owed) { works = works_in cs ++ t ∷ [] })
+    → SameView (meant s (changing t (sending n) cs) promised named owed)
+    (record (meant s cs promised named owed) { works = works_in cs ++ t ∷ [] })
 sends-work s cs promised named owed t n distinct there is =
     record {
       standing = refl;
@@ -75,13 +81,24 @@ sends-work s cs promised named owed t n distinct there is =
 -- a child more
 pub accepts : (s : Standing) (cs ds : List Child) (promised named owed : List Ticket) (t : Ticket)
     → ds ≡ cs ++ record { ticket = t; works = 0; vote = None } ∷ []
-    → meant s ds promised named owed ≡ record (meant s cs promised named owed) { accepted = accepted_in cs ++ t ∷ [] }
+    → meant s ds promised named owed ≡ record (meant s cs promised named
+    owed) { accepted = accepted_in cs ++ t ∷ [] }
 accepts s cs ds promised named owed t pushed =
-    rw (pushed, accepted_in-push cs (record { ticket = t; works = 0; vote = None }), votes_in-push cs t, works_in-push cs t) refl
+    rw (
+      pushed,
+      accepted_in-push cs (record { ticket = t; works = 0; vote = None }),
+      votes_in-push
+          cs t,
+      works_in-push cs t,
+    ) refl
 
 -- PREPARE to each of the children
-pub prepares-each : (seat : Seat) (s : Standing) (cs : List Child) (promised named owed : List Ticket) → are_distinct cs ≡ true
-    → prepares seat (meant s cs promised named owed) ≡ map (λ c. post seat.me c.ticket.child (Prepare (child_case seat.own.txn c.ticket) c.works)) cs
+pub prepares-each : (seat : Seat) (s : Standing) (cs : List Child)
+    (promised named owed : List Ticket) → are_distinct cs ≡ true
+    → prepares seat (meant s cs promised named owed)
+    ≡ map (λ c. post seat.me c.ticket.child (Prepare (child_case seat.own.txn c.ticket) c.works)) cs
 prepares-each seat s cs promised named owed distinct =
-    map_each (λ t. post seat.me t.child (Prepare (child_case seat.own.txn t) (works_of (works_in cs) t))) (λ c. post seat.me c.ticket.child (Prepare (child_case seat.own.txn c.ticket) c.works)) cs
-    (each_two _ _ _ (λ c is is'. ap (λ n. post seat.me c.ticket.child (Prepare (child_case seat.own.txn c.ticket) n)) is) cs (works_each cs distinct) (works_each cs distinct))
+    map_each (λ t. post seat.me t.child (Prepare (child_case seat.own.txn t) (works_of (works_in cs) t)))
+    (λ c. post seat.me c.ticket.child (Prepare (child_case seat.own.txn c.ticket) c.works)) cs
+    (each_two _ _ _ (λ c is is'. ap (λ n. post seat.me c.ticket.child (Prepare
+    (child_case seat.own.txn c.ticket) n)) is) cs (works_each cs distinct) (works_each cs distinct))

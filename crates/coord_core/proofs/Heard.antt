@@ -87,13 +87,15 @@ not_retiring AbortActive is = refl
 not_retiring AbortCollecting is = refl
 not_retiring Ask is = refl
 
-none_has : (slots : Slots) (x : Txn) (t : Ticket) → FindsAt slots x t None → (c : Case) (b : Bool) → same_txn c.txn x ≡ b
+none_has : (slots : Slots) (x : Txn) (t : Ticket) → FindsAt slots x t None
+    → (c : Case) (b : Bool) → same_txn c.txn x ≡ b
     → (b && has_child (view_in slots c) t) ≡ false
 none_has slots x t none c true is = none c is
 none_has slots x t none c false is = refl
 
 -- where no live case has the child, it meets the other turn
-pub hears_none : (v : CoordinatorValue) (x : Txn) (t : Ticket) (asked : Asked) (otherwise : Turn) → FindsAt v.slots x t None
+pub hears_none : (v : CoordinatorValue) (x : Txn) (t : Ticket) (asked : Asked)
+    (otherwise : Turn) → FindsAt v.slots x t None
     → ((i : Input) → May v i otherwise) → HearsOf v x t asked otherwise otherwise
 hears_none v x t asked otherwise none any =
     record {
@@ -104,8 +106,10 @@ hears_none v x t asked otherwise none any =
     }
 
 -- the case that has the child takes what it asks
-pub hears_some : (v : CoordinatorValue) (x : Txn) (t : Ticket) (asked : Asked) (otherwise : Turn) (key : ℕ) (c : Case) → FindsAt v.slots x t (Some (key, c))
-    → is_of_child asked ≡ true → v.log.sight.failed ≡ false → HearsOf v x t asked otherwise (Takes key c asked)
+pub hears_some : (v : CoordinatorValue) (x : Txn) (t : Ticket) (asked : Asked) (otherwise : Turn) (key : ℕ)
+    (c : Case) → FindsAt v.slots x t (Some (key, c))
+    → is_of_child asked ≡ true → v.log.sight.failed ≡ false
+    → HearsOf v x t asked otherwise (Takes key c asked)
 hears_some v x t asked otherwise key c finds is up =
     record {
       found = Some c;
@@ -117,39 +121,53 @@ hears_some v x t asked otherwise key c finds is up =
             accepted = accepts_any asked (view_in v.slots c) is;
             root = λ of. let clash : true ≡ false = sym of ∙ not_of_root asked is in absurd (cc);
             up = up;
-            retiring = λ d u. retires d u ∙ sym (ap (λ b. b && same_case (child_case d.txn u) c) (not_retiring asked is));
+            retiring = λ d u. retires d u ∙ sym
+                (ap (λ b. b && same_case (child_case d.txn u) c) (not_retiring asked is));
           };
     }
 
 -- Messages.
 
 -- what is said of the message's case
-of_case : (v : CoordinatorValue) (i : Input) (says : Option Case → CoreTurn) (asked : Asked) (c : Case) (turn : Turn) → Finds (state v) (asked_by i) None
+of_case : (v : CoordinatorValue) (i : Input) (says : Option Case → CoreTurn) (asked : Asked) (c : Case)
+    (turn : Turn) → Finds (state v) (asked_by i) None
     → says None ≡ TakesTurn c (met v c asked) → RetiresAs i asked c
-    → meant v turn ≡ TakesTurn c (met v c asked) → ((i : Input) → RetiresAs i asked c → May v i turn) → Hears v i says turn
-of_case v i says asked c turn finds same retires is may = record { found = None; finds = finds; is = same ∙ sym is; may = may i retires }
+    → meant v turn ≡ TakesTurn c (met v c asked)
+    → ((i : Input) → RetiresAs i asked c → May v i turn) → Hears v i says turn
+of_case v i says asked c turn finds same retires is may =
+    record { found = None; finds = finds; is = same ∙ sym is; may = may i retires }
 
-pub hears_joined : (v : CoordinatorValue) (n : ℕ) (c : Case) (t : Ticket) (turn : Turn) → meant v turn ≡ TakesTurn c (met v c (AskedJoined t))
+pub hears_joined : (v : CoordinatorValue) (n : ℕ) (c : Case) (t : Ticket) (turn : Turn)
+    → meant v turn ≡ TakesTurn c (met v c (AskedJoined t))
     → ((i : Input) → RetiresAs i (AskedJoined t) c → May v i turn)
     → Hears v (MessageInput n (Joined c t)) (λ found. child_says (state v) found (Joined c t)) turn
-hears_joined v n c t turn is may = of_case v (MessageInput n (Joined c t)) (λ found. child_says (state v) found (Joined c t)) (AskedJoined t) c turn refl refl (λ d u. refl) is may
+hears_joined v n c t turn is may = of_case v (MessageInput n (Joined c t))
+    (λ found. child_says (state v) found (Joined c t)) (AskedJoined t) c turn refl refl (λ d u. refl) is may
 
 module _ (v : CoordinatorValue) (n : ℕ) (p : ProcessId) (c : Case) (turn : Turn) where
-  pub hears_prepare : (k : ℕ) → meant v turn ≡ TakesTurn c (met v c AskedPrepare) → ((i : Input) → RetiresAs i AskedPrepare c → May v i turn)
+  pub hears_prepare : (k : ℕ) → meant v turn ≡ TakesTurn c (met v c AskedPrepare)
+      → ((i : Input) → RetiresAs i AskedPrepare c → May v i turn)
       → Hears v (MessageInput n (Prepare c k)) (λ found. cascaded_turn (state v) p found (Prepare c k)) turn
-  hears_prepare k is may = of_case v (MessageInput n (Prepare c k)) (λ found. cascaded_turn (state v) p found (Prepare c k)) AskedPrepare c turn refl refl (λ d u. refl) is may
+  hears_prepare k is may = of_case v (MessageInput n (Prepare c k)) (λ found. cascaded_turn (state v) p found
+      (Prepare c k)) AskedPrepare c turn refl refl (λ d u. refl) is may
 
-  pub hears_commit : meant v turn ≡ TakesTurn c (met v c Commits) → ((i : Input) → RetiresAs i Commits c → May v i turn)
+  pub hears_commit : meant v turn ≡ TakesTurn c (met v c Commits)
+      → ((i : Input) → RetiresAs i Commits c → May v i turn)
       → Hears v (MessageInput n (Commit c)) (λ found. cascaded_turn (state v) p found (Commit c)) turn
-  hears_commit is may = of_case v (MessageInput n (Commit c)) (λ found. cascaded_turn (state v) p found (Commit c)) Commits c turn refl refl (λ d u. refl) is may
+  hears_commit is may = of_case v (MessageInput n (Commit c))
+      (λ found. cascaded_turn (state v) p found (Commit c)) Commits c turn refl refl (λ d u. refl) is may
 
-  pub hears_abort : meant v turn ≡ TakesTurn c (met v c Aborts) → ((i : Input) → RetiresAs i Aborts c → May v i turn)
+  pub hears_abort : meant v turn ≡ TakesTurn c (met v c Aborts)
+      → ((i : Input) → RetiresAs i Aborts c → May v i turn)
       → Hears v (MessageInput n (Abort c)) (λ found. cascaded_turn (state v) p found (Abort c)) turn
-  hears_abort is may = of_case v (MessageInput n (Abort c)) (λ found. cascaded_turn (state v) p found (Abort c)) Aborts c turn refl refl (λ d u. refl) is may
+  hears_abort is may = of_case v (MessageInput n (Abort c))
+      (λ found. cascaded_turn (state v) p found (Abort c)) Aborts c turn refl refl (λ d u. refl) is may
 
 -- what is said of the case that was found for the child
-of_child : (v : CoordinatorValue) (i : Input) (says : Option Case → CoreTurn) (x : Txn) (t : Ticket) (asked : Asked) (otherwise turn : Turn)
-    → asked_by i ≡ Some (x, t) → ((found : Option Case) → says found ≡ met_by_child v asked otherwise found) → RetiresNone i
+of_child : (v : CoordinatorValue) (i : Input) (says : Option Case → CoreTurn) (x : Txn) (t : Ticket)
+    (asked : Asked) (otherwise turn : Turn)
+    → asked_by i ≡ Some (x, t) → ((found : Option Case)
+    → says found ≡ met_by_child v asked otherwise found) → RetiresNone i
     → HearsOf v x t asked otherwise turn → Hears v i says turn
 of_child v i says x t asked otherwise turn by same retires hears =
     record {
@@ -161,47 +179,62 @@ of_child v i says x t asked otherwise turn by same retires hears =
 
 module _ (v : CoordinatorValue) (n : ℕ) (x : Txn) (t : Ticket) (turn : Turn) where
   voted : (w : Vote) (m : Message) → asked_by (MessageInput n m) ≡ Some (x, t)
-      → ((found : Option Case) → child_says (state v) found m ≡ met_by_child v (AskedVote t w) Nothing found) → RetiresNone (MessageInput n m)
-      → HearsOf v x t (AskedVote t w) Nothing turn → Hears v (MessageInput n m) (λ found. child_says (state v) found m) turn
-  voted w m by same retires hears = of_child v (MessageInput n m) (λ found. child_says (state v) found m) x t (AskedVote t w) Nothing turn by same retires hears
+      → ((found : Option Case) → child_says (state v) found m ≡ met_by_child v (AskedVote t w) Nothing found)
+      → RetiresNone (MessageInput n m)
+      → HearsOf v x t (AskedVote t w) Nothing turn
+      → Hears v (MessageInput n m) (λ found. child_says (state v) found m) turn
+  voted w m by same retires hears = of_child v (MessageInput n m) (λ found. child_says (state v) found m) x t
+      (AskedVote t w) Nothing turn by same retires hears
 
   pub hears_yes : HearsOf v x t (AskedVote t VoteYes) Nothing turn
-      → Hears v (MessageInput n (Yes (child_case x t))) (λ found. child_says (state v) found (Yes (child_case x t))) turn
+      → Hears v (MessageInput n (Yes (child_case x t)))
+      (λ found. child_says (state v) found (Yes (child_case x t))) turn
   hears_yes = voted VoteYes (Yes (child_case x t)) refl same (λ d u. refl)
     where
-      same : (found : Option Case) → child_says (state v) found (Yes (child_case x t)) ≡ met_by_child v (AskedVote t VoteYes) Nothing found
+      same : (found : Option Case) → child_says (state v) found (Yes (child_case x t))
+          ≡ met_by_child v (AskedVote t VoteYes) Nothing found
       same None = refl
       same (Some c) = refl
 
   pub hears_no : HearsOf v x t (AskedVote t VoteNo) Nothing turn
-      → Hears v (MessageInput n (No (child_case x t))) (λ found. child_says (state v) found (No (child_case x t))) turn
+      → Hears v (MessageInput n (No (child_case x t)))
+      (λ found. child_says (state v) found (No (child_case x t))) turn
   hears_no = voted VoteNo (No (child_case x t)) refl same (λ d u. refl)
     where
-      same : (found : Option Case) → child_says (state v) found (No (child_case x t)) ≡ met_by_child v (AskedVote t VoteNo) Nothing found
+      same : (found : Option Case) → child_says (state v) found (No (child_case x t))
+          ≡ met_by_child v (AskedVote t VoteNo) Nothing found
       same None = refl
       same (Some c) = refl
 
   pub hears_read : HearsOf v x t (AskedVote t VoteRead) Nothing turn
-      → Hears v (MessageInput n (Read (child_case x t))) (λ found. child_says (state v) found (Read (child_case x t))) turn
+      → Hears v (MessageInput n (Read (child_case x t)))
+      (λ found. child_says (state v) found (Read (child_case x t))) turn
   hears_read = voted VoteRead (Read (child_case x t)) refl same (λ d u. refl)
     where
-      same : (found : Option Case) → child_says (state v) found (Read (child_case x t)) ≡ met_by_child v (AskedVote t VoteRead) Nothing found
+      same : (found : Option Case) → child_says (state v) found (Read (child_case x t))
+          ≡ met_by_child v (AskedVote t VoteRead) Nothing found
       same None = refl
       same (Some c) = refl
 
   pub hears_ack : (o : Outcome) → HearsOf v x t (AskedAck t o) Nothing turn
-      → Hears v (MessageInput n (Ack (child_case x t) o)) (λ found. child_says (state v) found (Ack (child_case x t) o)) turn
-  hears_ack o = of_child v (MessageInput n (Ack (child_case x t) o)) (λ found. child_says (state v) found (Ack (child_case x t) o)) x t (AskedAck t o) Nothing turn refl same (λ d u. refl)
+      → Hears v (MessageInput n (Ack (child_case x t) o))
+      (λ found. child_says (state v) found (Ack (child_case x t) o)) turn
+  hears_ack o = of_child v (MessageInput n (Ack (child_case x t) o)) (λ found. child_says (state v) found
+      (Ack (child_case x t) o)) x t (AskedAck t o) Nothing turn refl same (λ d u. refl)
     where
-      same : (found : Option Case) → child_says (state v) found (Ack (child_case x t) o) ≡ met_by_child v (AskedAck t o) Nothing found
+      same : (found : Option Case) → child_says (state v) found (Ack (child_case x t) o)
+          ≡ met_by_child v (AskedAck t o) Nothing found
       same None = refl
       same (Some c) = refl
 
   pub hears_inquiry : HearsOf v x t (AskedInquire t) (Presumes x t) turn
-      → Hears v (MessageInput n (Inquire (child_case x t))) (λ found. child_says (state v) found (Inquire (child_case x t))) turn
-  hears_inquiry = of_child v (MessageInput n (Inquire (child_case x t))) (λ found. child_says (state v) found (Inquire (child_case x t))) x t (AskedInquire t) (Presumes x t) turn refl same (λ d u. refl)
+      → Hears v (MessageInput n (Inquire (child_case x t)))
+      (λ found. child_says (state v) found (Inquire (child_case x t))) turn
+  hears_inquiry = of_child v (MessageInput n (Inquire (child_case x t))) (λ found. child_says (state v) found
+      (Inquire (child_case x t))) x t (AskedInquire t) (Presumes x t) turn refl same (λ d u. refl)
     where
-      same : (found : Option Case) → child_says (state v) found (Inquire (child_case x t)) ≡ met_by_child v (AskedInquire t) (Presumes x t) found
+      same : (found : Option Case) → child_says (state v) found (Inquire (child_case x t))
+          ≡ met_by_child v (AskedInquire t) (Presumes x t) found
       same None = refl
       same (Some c) = refl
 
@@ -209,43 +242,53 @@ module _ (v : CoordinatorValue) (n : ℕ) (x : Txn) (t : Ticket) (turn : Turn) w
 
 -- a case that has the child, or no entry of the table has it
 search : (v : CoordinatorValue) (x : Txn) (t : Ticket) (rest : Slots)
-    → ((c : Case) × (is_case_of (state v) x t c ≡ true)) ⊎ ((k : ℕ) (p : Case × Held) → entry_at rest k ≡ Some p → is_case_of (state v) x t p.0 ≡ false)
+    → ((c : Case) × (is_case_of (state v) x t c ≡ true)) ⊎
+    ((k : ℕ) (p : Case × Held) → entry_at rest k ≡ Some p → is_case_of (state v) x t p.0 ≡ false)
 search v x t [] = inr (λ k p at. absurd (cc))
 search v x t (slot ∷ rest) = by_slot slot (search v x t rest)
   where
-    by_slot : (s : Option (Case × Held)) → ((c : Case) × (is_case_of (state v) x t c ≡ true)) ⊎ ((k : ℕ) (p : Case × Held) → entry_at rest k ≡ Some p → is_case_of (state v) x t p.0 ≡ false)
-        → ((c : Case) × (is_case_of (state v) x t c ≡ true)) ⊎ ((k : ℕ) (p : Case × Held) → entry_at (s ∷ rest) k ≡ Some p → is_case_of (state v) x t p.0 ≡ false)
+    by_slot : (s : Option (Case × Held)) → ((c : Case) × (is_case_of (state v) x t c ≡ true)) ⊎
+        ((k : ℕ) (p : Case × Held) → entry_at rest k ≡ Some p → is_case_of (state v) x t p.0 ≡ false)
+        → ((c : Case) × (is_case_of (state v) x t c ≡ true)) ⊎ ((k : ℕ) (p : Case × Held)
+        → entry_at (s ∷ rest) k ≡ Some p → is_case_of (state v) x t p.0 ≡ false)
     by_slot s (inl there) = inl there
     by_slot None (inr none) = inr behind
       where
-        behind : (k : ℕ) (p : Case × Held) → entry_at (None ∷ rest) k ≡ Some p → is_case_of (state v) x t p.0 ≡ false
+        behind : (k : ℕ) (p : Case × Held) → entry_at (None ∷ rest) k ≡ Some p
+            → is_case_of (state v) x t p.0 ≡ false
         behind zero p at = absurd (cc)
         behind (suc k) p at = none k p at
     by_slot (Some q) (inr none) = by_test (is_case_of (state v) x t q.0) refl
       where
         by_test : (b : Bool) → is_case_of (state v) x t q.0 ≡ b
-            → ((c : Case) × (is_case_of (state v) x t c ≡ true)) ⊎ ((k : ℕ) (p : Case × Held) → entry_at (Some q ∷ rest) k ≡ Some p → is_case_of (state v) x t p.0 ≡ false)
+            → ((c : Case) × (is_case_of (state v) x t c ≡ true)) ⊎ ((k : ℕ) (p : Case × Held)
+            → entry_at (Some q ∷ rest) k ≡ Some p → is_case_of (state v) x t p.0 ≡ false)
         by_test true is = inl (q.0, is)
         by_test false is = inr behind
           where
-            behind : (k : ℕ) (p : Case × Held) → entry_at (Some q ∷ rest) k ≡ Some p → is_case_of (state v) x t p.0 ≡ false
-            behind zero p at = let one : q ≡ p = cc in sym (ap (λ (e : Case × Held). is_case_of (state v) x t e.0) one) ∙ is
+            behind : (k : ℕ) (p : Case × Held) → entry_at (Some q ∷ rest) k ≡ Some p
+                → is_case_of (state v) x t p.0 ≡ false
+            behind zero p at = let one : q ≡ p =
+                cc in sym (ap (λ (e : Case × Held). is_case_of (state v) x t e.0) one) ∙ is
             behind (suc k) p at = none k p at
 
 both_false : (a b c : Bool) → b ≡ false → (a && (b && c)) ≡ false
 both_false true b c is = rw is refl
 both_false false b c is = refl
 
-no_case : (v : CoordinatorValue) (x : Txn) (t : Ticket) → ((k : ℕ) (p : Case × Held) → entry_at v.slots k ≡ Some p → is_case_of (state v) x t p.0 ≡ false)
+no_case : (v : CoordinatorValue) (x : Txn) (t : Ticket)
+    → ((k : ℕ) (p : Case × Held) → entry_at v.slots k ≡ Some p → is_case_of (state v) x t p.0 ≡ false)
     → (c : Case) (value : Option Held) → live_value v.slots c ≡ value → is_case_of (state v) x t c ≡ false
-no_case v x t none c None e = both_false _ (is_known (view_in v.slots c).standing) _ (ap (λ h. is_known (held_view h).standing) e)
+no_case v x t none c None e = both_false _ (is_known (view_in v.slots c).standing) _
+    (ap (λ h. is_known (held_view h).standing) e)
 no_case v x t none c (Some h) e =
     let there = live_found v.slots c h e in
     let one : there.1 ≡ c = (case_tells there.1 c).0 there.3 in
     sym (ap (is_case_of (state v) x t) one) ∙ none there.0 (there.1, h) there.2
 
 -- whose case a child is of can be told
-found_for : (v : CoordinatorValue) (child : Option (Txn × Ticket)) → (found : Option Case) × Finds (state v) child found
+found_for : (v : CoordinatorValue) (child : Option (Txn × Ticket)) → (found : Option Case)
+    × Finds (state v) child found
 found_for v None = (None, refl)
 found_for v (Some p) =
     elim (search v p.0 p.1 v.slots) [
@@ -254,20 +297,23 @@ found_for v (Some p) =
     ]
 
 -- the input names a child that is not listed
-pub meets_unlisted : (v : CoordinatorValue) (i : Input) → act_is_listed v.tree i ≡ false → Meets v i (Refuses NoSuch)
+pub meets_unlisted : (v : CoordinatorValue) (i : Input) → act_is_listed v.tree i ≡ false
+    → Meets v i (Refuses NoSuch)
 unfolding turn_of
 meets_unlisted v i unlisted =
     let found = found_for v (asked_by i) in
     record { found = found.0; finds = found.1; is = rw unlisted refl; may = refl }
 
 -- the coordinator has failed
-pub meets_failed : (v : CoordinatorValue) (i : Input) → act_is_listed v.tree i ≡ true → v.log.sight.failed ≡ true → Meets v i (Refuses Failed)
+pub meets_failed : (v : CoordinatorValue) (i : Input) → act_is_listed v.tree i ≡ true
+    → v.log.sight.failed ≡ true → Meets v i (Refuses Failed)
 unfolding turn_of
 meets_failed v i listed failed =
     let found = found_for v (asked_by i) in
     record { found = found.0; finds = found.1; is = rw (listed, failed) refl; may = refl }
 
-acts_so : (v : CoordinatorValue) (a : Act) (parent : Option ProcessId) → act_turn (role_below parent) (state v) a ≡ coordinator_act (state v) a
+acts_so : (v : CoordinatorValue) (a : Act) (parent : Option ProcessId)
+    → act_turn (role_below parent) (state v) a ≡ coordinator_act (state v) a
 acts_so v a None = refl
 acts_so v a (Some p) = refl
 
@@ -279,18 +325,33 @@ by_tests true true up is not = absurd (cc)
 by_tests false failed up is not = absurd (cc)
 
 -- an act
-pub meets_act : (v : CoordinatorValue) (a : Act) (turn : Turn) → act_is_listed v.tree (ActInput a) ≡ true → v.log.sight.failed ≡ false → MeetsAct v a turn
+pub meets_act : (v : CoordinatorValue) (a : Act) (turn : Turn) → act_is_listed v.tree (ActInput a) ≡ true
+    → v.log.sight.failed ≡ false → MeetsAct v a turn
     → Meets v (ActInput a) turn
 unfolding turn_of
 meets_act v a turn listed up meets =
-    record { found = None; finds = refl; is = by_tests (act_is_listed v.tree (ActInput a)) v.log.sight.failed (act_turn (role_below v.parent) (state v) a) listed up ∙ acts_so v a v.parent ∙ meets.is; may = meets.may }
+    record {
+      found = None;
+      finds = refl;
+      is = by_tests (act_is_listed v.tree (ActInput a))
+          v.log.sight.failed (act_turn (role_below v.parent) (state v) a) listed up ∙ acts_so v a v.parent
+          ∙ meets.is;
+      may = meets.may;
+    }
 
 -- a message
 pub meets_message : (v : CoordinatorValue) (n : ℕ) (m : Message) (turn : Turn) → v.log.sight.failed ≡ false
-    → Hears v (MessageInput n m) (λ found. message_turn (place_of v).role (state v) no_data found m) turn → Meets v (MessageInput n m) turn
+    → Hears v (MessageInput n m) (λ found. message_turn (place_of v).role (state v) no_data found m) turn
+    → Meets v (MessageInput n m) turn
 unfolding turn_of
 meets_message v n m turn up hears =
-    record { found = hears.found; finds = hears.finds; is = by_tests true v.log.sight.failed (message_turn (place_of v).role (state v) no_data hears.found m) refl up ∙ hears.is; may = hears.may }
+    record {
+      found = hears.found;
+      finds = hears.finds;
+      is = by_tests true v.log.sight.failed
+          (message_turn (place_of v).role (state v) no_data hears.found m) refl up ∙ hears.is;
+      may = hears.may;
+    }
 
 -- Work.
 
@@ -298,12 +359,14 @@ either_true : (a b : Bool) → b ≡ true → (a || b) ≡ true
 either_true true b is = refl
 either_true false b is = is
 
-listed_ticket : (ts : List Ticket) (q : ProcessId) (t : Ticket) → ticket_of_child ts q ≡ Some t → in_list ts t ≡ true
+listed_ticket : (ts : List Ticket) (q : ProcessId) (t : Ticket)
+    → ticket_of_child ts q ≡ Some t → in_list ts t ≡ true
 unfolding ticket_of_child in_list
 listed_ticket [] q t found = absurd (cc)
 listed_ticket (u ∷ us) q t found = by_test (same_process u.child q) (listed_ticket us q t) found
   where
-    by_test : (b : Bool) → (find (λ w. same_process w.child q) us ≡ Some t → in_list us t ≡ true) → (if b then Some u else find (λ w. same_process w.child q) us) ≡ Some t
+    by_test : (b : Bool) → (find (λ w. same_process w.child q) us ≡ Some t → in_list us t ≡ true)
+        → (if b then Some u else find (λ w. same_process w.child q) us) ≡ Some t
         → (same_ticket u t || in_list us t) ≡ true
     by_test true later found =
         let one : u ≡ t = cc in
@@ -315,8 +378,10 @@ picks true x y is = refl
 picks false x y is = absurd (cc)
 
 -- work is sent to an accepted manager
-pub meets_work : (v : CoordinatorValue) (key : ℕ) (c : Case) (q : ProcessId) (t : Ticket) (op : Bor Op) → IsAt v.slots key c → (view_in v.slots c).standing ≡ Active
-    → ticket_of_child (view_in v.slots c).accepted q ≡ Some t → is_leaf (role_of v.tree t.child) ≡ true → v.log.sight.failed ≡ false
+pub meets_work : (v : CoordinatorValue) (key : ℕ) (c : Case) (q : ProcessId) (t : Ticket) (op : Bor Op)
+    → IsAt v.slots key c → (view_in v.slots c).standing ≡ Active
+    → ticket_of_child (view_in v.slots c).accepted q ≡ Some t → is_leaf (role_of v.tree t.child) ≡ true
+    → v.log.sight.failed ≡ false
     → MeetsAct v (WorkAct c q op.now) (Takes key c (Work t op))
 meets_work v key c q t op at active accepted leaf up =
     let w = view_in v.slots c in
@@ -324,7 +389,8 @@ meets_work v key c q t op at active accepted leaf up =
     record {
       is =
           ap (work_turn s v.tree q op.now w) active ∙ ap (work_for_turn s v.tree op.now w) accepted
-          ∙ picks (is_leaf (role_of v.tree t.child)) (TakesTurn c (active_work s t op.now w)) (RefusesTurn NotAChild) leaf;
+          ∙ picks (is_leaf (role_of v.tree t.child)) (TakesTurn c (active_work s t op.now w))
+          (RefusesTurn NotAChild) leaf;
       may = record {
         at = at;
         accepted = listed_ticket w.accepted q t accepted;

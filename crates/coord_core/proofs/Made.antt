@@ -49,7 +49,8 @@ use Rattle.coord_core.specs.Turned.{Stopped, Turned, WritesDown, framed_of}
 -- The step.
 
 -- the turn that the input meets was made: so was the input
-pub makes_of : (v : CoordinatorValue) (new : CoreState) (i : Input) (turn : Turn) (reaction : Reaction) → Meets v i turn
+pub makes_of : (v : CoordinatorValue) (new : CoreState) (i : Input) (turn : Turn)
+    (reaction : Reaction) → Meets v i turn
     → Turned (state v) new i (meant v turn) reaction → Makes (state v) new no_data i reaction
 makes_of v new i turn reaction meets turned =
     record {
@@ -62,10 +63,15 @@ makes_of v new i turn reaction meets turned =
     }
 
 -- the turn was stopped: so the input was not made
-pub not_made : (v : CoordinatorValue) (new : CoreState) (i : Input) (turn : Turn) (e : StepError) → Meets v i turn
+pub not_made : (v : CoordinatorValue) (new : CoreState) (i : Input) (turn : Turn)
+    (e : StepError) → Meets v i turn
     → Stopped (state v) new (meant v turn) e → NotMade (state v) new no_data i e
 not_made v new i turn Memory meets stopped = stopped
-not_made v new i turn Device meets stopped = record { found = meets.found; finds = meets.finds; breaks = rw meets.is stopped }
+not_made v new i turn Device meets stopped = record {
+  found = meets.found;
+  finds = meets.finds;
+  breaks = rw meets.is stopped;
+}
 not_made v new i turn UnknownTxn meets stopped = absurd stopped
 not_made v new i turn NotAChild meets stopped = absurd stopped
 not_made v new i turn Closed meets stopped = absurd stopped
@@ -78,47 +84,102 @@ pub same_core : (s : CoreState) → SameCore s s
 same_core s =
     record {
       log = refl;
-      rest = record { place = refl; boot = refl; begun = refl; given = refl; tickets = λ d. refl; views = λ c. same_view (s.view_of c); branches = λ c. refl };
+      rest = record {
+        place = refl;
+        boot = refl;
+        begun = refl;
+        given = refl;
+        tickets = λ d. refl;
+        views = λ c.
+            same_view (s.view_of c);
+        branches = λ c. refl;
+      };
     }
 
 -- the input meets a refusal
-pub refused_by : (v : CoordinatorValue) (i : Input) (e : StepError) → Meets v i (Refuses e) → NotMade (state v) (state v) no_data i e
+pub refused_by : (v : CoordinatorValue) (i : Input) (e : StepError) → Meets v i (Refuses e)
+    → NotMade (state v) (state v) no_data i e
 refused_by v i Memory meets = same_core (state v)
 refused_by v i Device meets = let clash : false ≡ true = meets.may in absurd (cc)
-refused_by v i UnknownTxn meets = record { same = same_core (state v); found = meets.found; finds = meets.finds; refuses = meets.is }
-refused_by v i NotAChild meets = record { same = same_core (state v); found = meets.found; finds = meets.finds; refuses = meets.is }
-refused_by v i Closed meets = record { same = same_core (state v); found = meets.found; finds = meets.finds; refuses = meets.is }
-refused_by v i Failed meets = record { same = same_core (state v); found = meets.found; finds = meets.finds; refuses = meets.is }
-refused_by v i NotInDoubt meets = record { same = same_core (state v); found = meets.found; finds = meets.finds; refuses = meets.is }
-refused_by v i NothingToForget meets = record { same = same_core (state v); found = meets.found; finds = meets.finds; refuses = meets.is }
-refused_by v i NoSuch meets = record { same = same_core (state v); found = meets.found; finds = meets.finds; refuses = meets.is }
+refused_by v i UnknownTxn meets = record {
+  same = same_core (state v);
+  found = meets.found;
+  finds = meets.finds;
+  refuses = meets.is;
+}
+refused_by v i NotAChild meets = record {
+  same = same_core (state v);
+  found = meets.found;
+  finds = meets.finds;
+  refuses = meets.is;
+}
+refused_by v i Closed meets = record {
+  same = same_core (state v);
+  found = meets.found;
+  finds = meets.finds;
+  refuses = meets.is;
+}
+refused_by v i Failed meets = record {
+  same = same_core (state v);
+  found = meets.found;
+  finds = meets.finds;
+  refuses = meets.is;
+}
+refused_by v i NotInDoubt meets = record {
+  same = same_core (state v);
+  found = meets.found;
+  finds = meets.finds;
+  refuses = meets.is;
+}
+refused_by v i NothingToForget meets = record {
+  same = same_core (state v);
+  found = meets.found;
+  finds = meets.finds;
+  refuses = meets.is;
+}
+refused_by v i NoSuch meets = record {
+  same = same_core (state v);
+  found = meets.found;
+  finds = meets.finds;
+  refuses = meets.is;
+}
 
 -- Results.
 
-pub step_ok : (v : CoordinatorValue) (new : CoreState) (i : Input) (turn : Turn) (made : Result Reaction StepError) → Meets v i turn
+pub step_ok : (v : CoordinatorValue) (new : CoreState) (i : Input) (turn : Turn)
+    (made : Result Reaction StepError) → Meets v i turn
     → IfOk made (Turned (state v) new i (meant v turn)) → IfOk made (Makes (state v) new no_data i)
 step_ok v new i turn (Ok reaction) meets turned = makes_of v new i turn reaction meets turned
 step_ok v new i turn (Err e) meets turned = turned
 
-pub step_err : (v : CoordinatorValue) (new : CoreState) (i : Input) (turn : Turn) (made : Result Reaction StepError) → Meets v i turn
+pub step_err : (v : CoordinatorValue) (new : CoreState) (i : Input) (turn : Turn)
+    (made : Result Reaction StepError) → Meets v i turn
     → IfErr made (Stopped (state v) new (meant v turn)) → IfErr made (NotMade (state v) new no_data i)
 step_err v new i turn (Ok reaction) meets stopped = stopped
 step_err v new i turn (Err e) meets stopped = not_made v new i turn e meets stopped
 
 -- what is said for each input is said for this one
-pub for_input : (P : Input → Type 0) (Q : Input → Reaction → Type 0) (made : Result Reaction StepError) → IfOk made (λ reaction. (i : Input) → P i → Q i reaction)
+pub for_input : (P : Input → Type 0) (Q : Input → Reaction → Type 0) (made : Result Reaction StepError)
+    → IfOk made (λ reaction. (i : Input) → P i → Q i reaction)
     → (i : Input) → P i → IfOk made (Q i)
 for_input P Q (Ok reaction) all i is = all i is
 for_input P Q (Err e) all i is = all
 
-pub for_any : (Q : Input → Reaction → Type 0) (made : Result Reaction StepError) → IfOk made (λ reaction. (i : Input) → Q i reaction) → (i : Input) → IfOk made (Q i)
+pub for_any : (Q : Input → Reaction → Type 0) (made : Result Reaction StepError)
+    → IfOk made (λ reaction. (i : Input) → Q i reaction) → (i : Input) → IfOk made (Q i)
 for_any Q (Ok reaction) all i = all i
 for_any Q (Err e) all i = all
 
 -- these messages go out, and nothing moves
-pub said_turn : (v : CoordinatorValue) (ls : List Envelope) (reaction : Reaction) → reaction ≡ reaction_of (sends_only ls) → (i : Input)
+pub said_turn : (v : CoordinatorValue) (ls : List Envelope) (reaction : Reaction)
+    → reaction ≡ reaction_of (sends_only ls) → (i : Input)
     → Turned (state v) (state v) i (SaysTurn ls) reaction
-said_turn v ls reaction shown i = record { moves = same_core (state v); effect = sends_only ls; does = refl; shown = shown }
+said_turn v ls reaction shown i = record {
+  moves = same_core (state v);
+  effect = sends_only ls;
+  does = refl;
+  shown = shown;
+}
 
 -- Tickets and cases.
 
@@ -126,23 +187,27 @@ retired_none : (i : Input) (d : Case) (o : Option Ticket) → RetiresNone i → 
 retired_none i d None none = refl
 retired_none i d (Some t) none = rw (none d t) refl
 
-retired_as : (i : Input) (asked : Asked) (c d : Case) (o : Option Ticket) → RetiresAs i asked c → retired_if (is_retiring asked) c d o ≡ retired_by i d o
+retired_as : (i : Input) (asked : Asked) (c d : Case) (o : Option Ticket) → RetiresAs i asked c
+    → retired_if (is_retiring asked) c d o ≡ retired_by i d o
 retired_as i asked c d None as' = refl
 retired_as i asked c d (Some t) as' = ap (λ b. if b then None else Some t) (sym (as' d t))
 
 same_of : (v w : CoordinatorView) → v ≡ w → SameView v w
 same_of v w same = subst (λ u. SameView v u) same (same_view v)
 
-live_here : (slots : Slots) (c : Case) (h : Held) → live_value slots c ≡ Some h → (k : ℕ) × (case_of (entry_at slots k) ≡ Some c)
+live_here : (slots : Slots) (c : Case) (h : Held) → live_value slots c ≡ Some h → (k : ℕ)
+    × (case_of (entry_at slots k) ≡ Some c)
 live_here slots c h e =
     let there = live_found slots c h e in
     (there.0, ap case_of there.2 ∙ ap (λ d. Some d) ((case_tells there.1 c).0 there.3))
 
 -- no case is live of the transaction that is begun next
-pub fresh_txn : (v : CoordinatorValue) (p : Presumption) → IsCoordinator v → live_value v.slots (root_case (own_txn v p (v.begun + 1))) ≡ None
+pub fresh_txn : (v : CoordinatorValue) (p : Presumption) → IsCoordinator v
+    → live_value v.slots (root_case (own_txn v p (v.begun + 1))) ≡ None
 fresh_txn v p kept = by_value (live_value v.slots (root_case (own_txn v p (v.begun + 1)))) refl
   where
-    by_value : (value : Option Held) → live_value v.slots (root_case (own_txn v p (v.begun + 1))) ≡ value → value ≡ None
+    by_value : (value : Option Held) → live_value v.slots
+        (root_case (own_txn v p (v.begun + 1))) ≡ value → value ≡ None
     by_value None e = refl
     by_value (Some h) e =
         let there = live_here v.slots (root_case (own_txn v p (v.begun + 1))) h e in
@@ -150,10 +215,12 @@ fresh_txn v p kept = by_value (live_value v.slots (root_case (own_txn v p (v.beg
         absurd (omega (arith, clash))
 
 -- no case is live of the ticket that is given next
-pub fresh_ticket : (v : CoordinatorValue) (x : Txn) → IsCoordinator v → live_value v.slots (child_case x (own_ticket v (v.given + 1))) ≡ None
+pub fresh_ticket : (v : CoordinatorValue) (x : Txn) → IsCoordinator v
+    → live_value v.slots (child_case x (own_ticket v (v.given + 1))) ≡ None
 fresh_ticket v x kept = by_value (live_value v.slots (child_case x (own_ticket v (v.given + 1)))) refl
   where
-    by_value : (value : Option Held) → live_value v.slots (child_case x (own_ticket v (v.given + 1))) ≡ value → value ≡ None
+    by_value : (value : Option Held) → live_value v.slots
+        (child_case x (own_ticket v (v.given + 1))) ≡ value → value ≡ None
     by_value None e = refl
     by_value (Some h) e =
         let there = live_here v.slots (child_case x (own_ticket v (v.given + 1))) h e in
@@ -164,9 +231,11 @@ fresh_ticket v x kept = by_value (live_value v.slots (child_case x (own_ticket v
 
 module _ (v : CoordinatorValue) (slots : Slots) where
   -- a transaction began
-  pub begun_turn : (p : Presumption) (reaction : Reaction) → Begins v.slots slots (root_case (own_txn v p (v.begun + 1)))
+  pub begun_turn : (p : Presumption) (reaction : Reaction)
+      → Begins v.slots slots (root_case (own_txn v p (v.begun + 1)))
       → reaction ≡ reaction_of (begin_effect (own_txn v p (v.begun + 1))) → (i : Input) → RetiresNone i
-      → Turned (state v) (state (record v { begun = v.begun + 1; slots = slots })) i (meant v (BeginsOne p)) reaction
+      → Turned (state v) (state (record v { begun = v.begun + 1; slots = slots })) i
+      (meant v (BeginsOne p)) reaction
   begun_turn p reaction begins shown i none =
       record {
         moves = record {
@@ -176,7 +245,12 @@ module _ (v : CoordinatorValue) (slots : Slots) where
           branches = λ d. refl;
           begun = refl;
           given = refl;
-          stays = record { place = refl; boot = refl; tickets = λ d. begins.tickets d ∙ sym (retired_none i d (ticket_in v.slots d) none) };
+          stays = record {
+            place = refl;
+            boot = refl;
+            tickets = λ d. begins.tickets d
+                ∙ sym (retired_none i d (ticket_in v.slots d) none);
+          };
         };
         effect = begin_effect (own_txn v p (v.begun + 1));
         does = refl;
@@ -184,16 +258,28 @@ module _ (v : CoordinatorValue) (slots : Slots) where
       }
 
   opens_case : (role : Option ProcessId) (d : Case) (t : Ticket) → Gives v.slots slots d t
-      → OpensCase (role_below role) (state v) (state (record v { given = v.given + 1; slots = slots })) (child_case d.txn t)
-  opens_case None d t gives =
-      (same_of _ open_view gives.moves.own, λ e differs. same_of (view_in slots e) (view_in v.slots e) (gives.moves.others e differs), λ e. refl)
-  opens_case (Some p) d t gives =
-      (same_of _ open_view gives.moves.own, λ e differs. same_of (view_in slots e) (view_in v.slots e) (gives.moves.others e differs), λ e. refl)
+      → OpensCase (role_below role) (state v)
+      (state (record v { given = v.given + 1; slots = slots })) (child_case d.txn t)
+  opens_case None d t gives = (
+    same_of _ open_view gives.moves.own,
+    λ e differs. same_of (view_in slots e) (view_in v.slots e)
+        (gives.moves.others e differs),
+    λ e. refl,
+  )
+  opens_case (Some p) d t gives = (
+    same_of _ open_view gives.moves.own,
+    λ e differs. same_of (view_in slots e) (view_in v.slots e)
+        (gives.moves.others e differs),
+    λ e. refl,
+  )
 
   -- a ticket was given
-  pub issued_turn : (p : ProcessId) (d : Case) (reaction : Reaction) → Gives v.slots slots d (own_ticket v (v.given + 1))
-      → reaction ≡ reaction_of (sends_only (post v.me p (JoinedMessage d (own_ticket v (v.given + 1))) ∷ [])) → (i : Input)
-      → Turned (state v) (state (record v { given = v.given + 1; slots = slots })) i (meant v (IssuesOne p d)) reaction
+  pub issued_turn : (p : ProcessId) (d : Case) (reaction : Reaction)
+      → Gives v.slots slots d (own_ticket v (v.given + 1))
+      → reaction ≡ reaction_of (sends_only (post v.me p (JoinedMessage d (own_ticket v (v.given + 1))) ∷ []))
+      → (i : Input)
+      → Turned (state v) (state (record v { given = v.given + 1; slots = slots })) i
+      (meant v (IssuesOne p d)) reaction
   issued_turn p d reaction gives shown i =
       record {
         moves = record {
@@ -223,32 +309,43 @@ seat_for v c = record { me = v.me; parent = v.parent; case = c }
 seat_is : (v : CoordinatorValue) (c : Case) → seat (seat_for v c) ≡ seat_in (state v) c
 seat_is v c = ap (λ p. record { me = v.me; parent = p; own = c }) (sym (parent_below v.parent))
 
-row_is : (v : CoordinatorValue) (c : Case) (asked : Asked) → asked_row (seat (seat_for v c)) asked (view_in v.slots c) ≡ met v c asked
+row_is : (v : CoordinatorValue) (c : Case) (asked : Asked)
+    → asked_row (seat (seat_for v c)) asked (view_in v.slots c) ≡ met v c asked
 row_is v c asked = ap (λ s. asked_row s asked (view_in v.slots c)) (seat_is v c)
 
-framed_is : (p : Option ProcessId) (w : Option Framed) → AreFramed p w → framed_of w ≡ map (in_log p) (entries_written (written_of w))
+framed_is : (p : Option ProcessId) (w : Option Framed) → AreFramed p w
+    → framed_of w ≡ map (in_log p) (entries_written (written_of w))
 framed_is p None framed = refl
 framed_is p (Some w) framed = ap (λ r. r ∷ []) framed.named
 
 -- the frames of a row's record are its records as the log holds them
-logged_is : (v : CoordinatorValue) (w : Option Framed) (ws : List Written) → AreFramed v.parent w → written_of w ≡ ws
+logged_is : (v : CoordinatorValue) (w : Option Framed) (ws : List Written)
+    → AreFramed v.parent w → written_of w ≡ ws
     → framed_of w ≡ logged (state v) (entries_written ws)
 logged_is v w ws framed same =
-    framed_is v.parent w framed ∙ ap (λ rs. map (in_log v.parent) (entries_written rs)) same ∙ ap (λ p. map (in_log p) (entries_written ws)) (sym (parent_below v.parent))
+    framed_is v.parent w framed ∙ ap (λ rs. map (in_log v.parent) (entries_written rs)) same
+    ∙ ap (λ p. map (in_log p) (entries_written ws)) (sym (parent_below v.parent))
 
-module _ (v : CoordinatorValue) (log : LogState) (slots : Slots) (c : Case) (asked : Asked) (written : Option Framed) (reaction : Reaction) (mid : LogState) (room : mid.sight ≡ v.log.sight)
-    (takes : TakesRowOf v.slots slots (seat_for v c) asked (record { written = written; reaction = reaction })) where
-  does_met : Does (seat_for v c) (met v c asked) (record { written = written; reaction = reaction }) (view_in slots c)
-  does_met = subst (λ r. Does (seat_for v c) r (record { written = written; reaction = reaction }) (view_in slots c)) (row_is v c asked) takes.does
+module _ (v : CoordinatorValue) (log : LogState) (slots : Slots) (c : Case) (asked : Asked)
+    (written : Option Framed) (reaction : Reaction) (mid : LogState) (room : mid.sight ≡ v.log.sight)
+    (takes : TakesRowOf v.slots slots (seat_for v c) asked
+    (record { written = written; reaction = reaction })) where
+  does_met : Does (seat_for v c) (met v c asked)
+      (record { written = written; reaction = reaction }) (view_in slots c)
+  does_met = subst (λ r. Does (seat_for v c) r (record { written = written; reaction = reaction })
+      (view_in slots c)) (row_is v c asked) takes.does
 
-  sight_is : WritesDown mid log written → log.sight ≡ wrote v.log.sight (met v c asked).written (logged (state v) (entries_written (met v c asked).written))
+  sight_is : WritesDown mid log written → log.sight ≡ wrote v.log.sight (met v c asked).written
+      (logged (state v) (entries_written (met v c asked).written))
   sight_is writes =
       writes.sight ∙ ap (λ s. wrote s (written_of written) (framed_of written)) room
-      ∙ (λ j. wrote v.log.sight (does_met.written j) (logged_is v written (met v c asked).written takes.does.framed does_met.written j))
+      ∙ (λ j. wrote v.log.sight (does_met.written j)
+      (logged_is v written (met v c asked).written takes.does.framed does_met.written j))
 
   -- the row was taken and its record stands
   pub row_turn : WritesDown mid log written → (i : Input) → RetiresAs i asked c
-      → Turned (state v) (state (record v { log = log; slots = slots })) i (TakesTurn c (met v c asked)) reaction
+      → Turned (state v) (state (record v { log = log; slots = slots })) i
+      (TakesTurn c (met v c asked)) reaction
   row_turn writes i as' =
       record {
         moves = record {
@@ -258,7 +355,12 @@ module _ (v : CoordinatorValue) (log : LogState) (slots : Slots) (c : Case) (ask
           branches = λ d. refl;
           begun = refl;
           given = refl;
-          stays = record { place = refl; boot = refl; tickets = λ d. takes.tickets d ∙ retired_as i asked c d (ticket_in v.slots d) as' };
+          stays = record {
+            place = refl;
+            boot = refl;
+            tickets = λ d. takes.tickets d
+                ∙ retired_as i asked c d (ticket_in v.slots d) as';
+          };
         };
         effect = row_effect c (met v c asked);
         does = refl;
@@ -266,11 +368,14 @@ module _ (v : CoordinatorValue) (log : LogState) (slots : Slots) (c : Case) (ask
       }
 
   -- the device failed under the record
-  pub row_breaks : Breaks mid log (framed_of written) → BreaksIn (state v) (state (record v { log = log; slots = slots })) (TakesTurn c (met v c asked))
+  pub row_breaks : Breaks mid log (framed_of written)
+      → BreaksIn (state v) (state (record v { log = log; slots = slots })) (TakesTurn c (met v c asked))
   row_breaks breaks =
       let records = logged_is v written (met v c asked).written takes.does.framed does_met.written in
-      let at : Breaks (record mid { sight = v.log.sight }) log (logged (state v) (entries_written (met v c asked).written)) =
-      subst (λ s. Breaks (record mid { sight = s }) log (logged (state v) (entries_written (met v c asked).written))) room (subst (Breaks mid log) records breaks) in (
+      let at : Breaks (record mid { sight = v.log.sight }) log
+      (logged (state v) (entries_written (met v c asked).written)) =
+      subst (λ s. Breaks (record mid { sight = s }) log (logged (state v)
+      (entries_written (met v c asked).written))) room (subst (Breaks mid log) records breaks) in (
         row_effect c (met v c asked),
         refl,
         record {
@@ -290,12 +395,14 @@ module _ (v : CoordinatorValue) (log : LogState) (slots : Slots) (c : Case) (ask
 
 -- A case that is not live.
 
-unwritten : (s : SeatRow) (asked : Asked) → is_for_any asked ≡ true → ((asked_row s asked unknown_view).written ≡ []) × ((asked_row s asked unknown_view).view ≡ unknown_view)
+unwritten : (s : SeatRow) (asked : Asked) → is_for_any asked ≡ true
+    → ((asked_row s asked unknown_view).written ≡ []) × ((asked_row s asked unknown_view).view ≡ unknown_view)
 unwritten s (Joined t) any = (refl, refl)
 unwritten s Prepare any = (refl, refl)
 unwritten s Commits any = by_presumption s.own.txn.presumption
   where
-    by_presumption : (p : Presumption) → ((unknown_commit_by s unknown_view p).written ≡ []) × ((unknown_commit_by s unknown_view p).view ≡ unknown_view)
+    by_presumption : (p : Presumption) → ((unknown_commit_by s unknown_view p).written ≡ [])
+        × ((unknown_commit_by s unknown_view p).view ≡ unknown_view)
     by_presumption PresumeAbort = (refl, refl)
     by_presumption PresumeCommit = (refl, refl)
 unwritten s Aborts any = (refl, refl)
@@ -310,21 +417,26 @@ unwritten s (Ack t o) any = absurd (cc)
 unwritten s (Inquire t) any = absurd (cc)
 
 wrote_none : (l : LogSight) → wrote l [] [] ≡ l
-wrote_none l = ap (λ rs. record l { kept = record { forced = l.kept.forced; unforced = rs } }) (append-nil l.kept.unforced)
+wrote_none l = ap (λ rs. record l { kept = record { forced = l.kept.forced; unforced = rs } })
+    (append-nil l.kept.unforced)
 
 -- a case that is not live answered, and nothing moved
-pub answered_turn : (v : CoordinatorValue) (c : Case) (asked : Asked) (effect : RowEffect) → is_for_any asked ≡ true → live_value v.slots c ≡ None → AreApart v.slots → FitsGiven v.slots
-    → Does (seat_for v c) (asked_row (seat (seat_for v c)) asked unknown_view) effect unknown_view → (i : Input) → RetiresAs i asked c
+pub answered_turn : (v : CoordinatorValue) (c : Case) (asked : Asked) (effect : RowEffect)
+    → is_for_any asked ≡ true → live_value v.slots c ≡ None → AreApart v.slots → FitsGiven v.slots
+    → Does (seat_for v c) (asked_row (seat (seat_for v c)) asked unknown_view) effect unknown_view
+    → (i : Input) → RetiresAs i asked c
     → Turned (state v) (state v) i (TakesTurn c (met v c asked)) effect.reaction
 answered_turn v c asked effect any gone apart fits does i as' =
     let unknown : view_in v.slots c ≡ unknown_view = ap held_view gone in
-    let row : asked_row (seat (seat_for v c)) asked unknown_view ≡ met v c asked = ap (asked_row (seat (seat_for v c)) asked) (sym unknown) ∙ row_is v c asked in
+    let row : asked_row (seat (seat_for v c)) asked unknown_view ≡ met v c asked =
+    ap (asked_row (seat (seat_for v c)) asked) (sym unknown) ∙ row_is v c asked in
     let quiet = unwritten (seat (seat_for v c)) asked any in
     let written : (met v c asked).written ≡ [] = sym (ap (λ (r : Row). r.written) row) ∙ quiet.0 in
     let view : (met v c asked).view ≡ unknown_view = sym (ap (λ (r : Row). r.view) row) ∙ quiet.1 in
     record {
       moves = record {
-        log = sym (ap (λ ws. wrote v.log.sight ws (logged (state v) (entries_written ws))) written ∙ wrote_none v.log.sight);
+        log = sym (ap (λ ws. wrote v.log.sight ws (logged (state v) (entries_written ws)))
+            written ∙ wrote_none v.log.sight);
         own = same_of (view_in v.slots c) (met v c asked).view (unknown ∙ sym view);
         others = λ d differs. same_view (view_in v.slots d);
         branches = λ d. refl;
@@ -333,7 +445,8 @@ answered_turn v c asked effect any gone apart fits does i as' =
         stays = record {
           place = refl;
           boot = refl;
-          tickets = λ d. sym (gone_keeps v.slots fits apart c gone (is_retiring asked) d) ∙ retired_as i asked c d (ticket_in v.slots d) as';
+          tickets = λ d. sym (gone_keeps v.slots fits apart c gone (is_retiring asked) d)
+              ∙ retired_as i asked c d (ticket_in v.slots d) as';
         };
       };
       effect = row_effect c (met v c asked);

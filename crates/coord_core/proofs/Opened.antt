@@ -23,21 +23,42 @@ none_live : (c : Case) → view_in [] c ≡ unknown_view
 unfolding live_value
 none_live c = refl
 
-pub opened : (me : ProcessId) (parent : Option ProcessId) (tree : List TreeEntry) (old new : LogState) (slots : Slots) → records_of old.sight.kept ≡ [] → old.sight.failed ≡ false
+pub opened : (me : ProcessId) (parent : Option ProcessId) (tree : List TreeEntry) (old new : LogState)
+    (slots : Slots) → records_of old.sight.kept ≡ [] → old.sight.failed ≡ false
     → WritesOpened old new → slots ≡ []
-    → IsOpened (state (record { me = me; parent = parent; tree = tree; log = new; boot = 1; begun = 0; given = 0; slots = slots })) (record { me = me; role = role_below parent; tree = tree }) old.sight.failures
+    → IsOpened (state (record {
+      me = me;
+      parent = parent;
+      tree = tree;
+      log = new;
+      boot = 1;
+      begun = 0;
+      given = 0;
+      slots = slots;
+    }))
+    (record { me = me; role = role_below parent; tree = tree }) old.sight.failures
 opened me parent tree old new slots empty works writes bare =
     let place : Place = record { me = me; role = role_below parent; tree = tree } in
     let read = opened_is_read place in
     record {
       place_is = refl;
-      log = writes.sight ∙ (λ i. record { kept = record { forced = empty i ++ first_opened ∷ []; unforced = [] }; behind = 0; failed = works i; failures = old.sight.failures });
+      log = writes.sight ∙ (λ i. record {
+        kept = record {
+          forced = empty i ++ first_opened
+              ∷ [];
+          unforced = [];
+        };
+        behind = 0;
+        failed = works i;
+        failures = old.sight.failures;
+      });
       read = record {
         boot = read.boot;
         begun = refl;
         given = refl;
         tickets = λ d. ap (λ s. ticket_in s d) bare ∙ none_given d;
-        views = λ c. subst (λ (v : CoordinatorView). SameView v (recorded_view_at (role_below parent) (Opened 1 ∷ []) c)) (sym (ap (λ s. view_in s c) bare ∙ none_live c)) (read.views c);
+        views = λ c. subst (λ (v : CoordinatorView). SameView v (recorded_view_at (role_below parent)
+            (Opened 1 ∷ []) c)) (sym (ap (λ s. view_in s c) bare ∙ none_live c)) (read.views c);
         branches = read.branches;
       };
     }

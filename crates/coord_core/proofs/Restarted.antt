@@ -27,7 +27,8 @@ use Rattle.coord_restart.specs.declared.rebuilding.Rebuilt.{Rebuilt}
 use Rattle.coord_core.specs.States.{CoordinatorValue, IsCoordinator, error_of, own_ticket, own_txn, place_of, state}
 
 -- but for its log nothing is otherwise
-pub same_but_log : (v : CoordinatorValue) (log : LogState) → SameButLog (state v) (state (record v { log = log }))
+pub same_but_log : (v : CoordinatorValue) (log : LogState)
+    → SameButLog (state v) (state (record v { log = log }))
 same_but_log v log =
     record {
       place = refl;
@@ -40,7 +41,8 @@ same_but_log v log =
     }
 
 -- a log that is seen as it was
-pub same_log : (v : CoordinatorValue) (log : LogState) → log.sight ≡ v.log.sight → SameCore (state v) (state (record v { log = log }))
+pub same_log : (v : CoordinatorValue) (log : LogState) → log.sight ≡ v.log.sight
+    → SameCore (state v) (state (record v { log = log }))
 same_log v log same = record { log = same; rest = same_but_log v log }
 
 pub same_itself : (v : CoordinatorValue) → SameCore (state v) (state v)
@@ -52,15 +54,18 @@ same_itself v = same_log v v.log refl
 abbrev pub rebuilt_as : CoordinatorValue → LogState → Rebuilt → CoordinatorValue
 rebuilt_as v log r = record v { log = log; boot = r.boot; begun = 0; given = 0; slots = r.cases }
 
-no_branches : (parent : Option ProcessId) (rs : List Record) (c : Case) → unknown_branch ≡ recorded_branch_at (role_below parent) rs c
+no_branches : (parent : Option ProcessId) (rs : List Record) (c : Case)
+    → unknown_branch ≡ recorded_branch_at (role_below parent) rs c
 no_branches None rs c = refl
 no_branches (Some p) rs c = refl
 
-module _ (v : CoordinatorValue) (keep : ℕ) (ls : List LogRecord) (r : Rebuilt) (log : LogState) (left : ls ≡ left_by v.log.sight keep) (rebuilds : Rebuilds (place_of v) ls r) where
+module _ (v : CoordinatorValue) (keep : ℕ) (ls : List LogRecord) (r : Rebuilt) (log : LogState)
+    (left : ls ≡ left_by v.log.sight keep) (rebuilds : Rebuilds (place_of v) ls r) where
   of_left : Rebuilds (place_of v) (left_by v.log.sight keep) r
   of_left = subst (λ ks. Rebuilds (place_of v) ks r) left rebuilds
 
-  pub restarts : LogRestarts v.log log keep (map frame_record r.frames.items) → Restarts (state v) keep (state (rebuilt_as v log r)) r.reaction
+  pub restarts : LogRestarts v.log log keep (map frame_record r.frames.items)
+      → Restarts (state v) keep (state (rebuilt_as v log r)) r.reaction
   restarts restarted =
       record {
         place = refl;
@@ -78,7 +83,8 @@ module _ (v : CoordinatorValue) (keep : ℕ) (ls : List LogRecord) (r : Rebuilt)
           begun = refl;
           given = refl;
           tickets = of_left.tickets;
-          views = λ c. subst (λ (w : CoordinatorView). SameView w (recorded_view_at (role_below v.parent) (read_of (state v) (restarted_log (state v) keep)) c))
+          views = λ c. subst (λ (w : CoordinatorView). SameView w
+              (recorded_view_at (role_below v.parent) (read_of (state v) (restarted_log (state v) keep)) c))
               (sym (of_left.views c)) (same_view _);
           branches = λ c. no_branches v.parent (read_of (state v) (restarted_log (state v) keep)) c;
         };
@@ -91,8 +97,10 @@ module _ (v : CoordinatorValue) (keep : ℕ) (ls : List LogRecord) (r : Rebuilt)
   not_restarted log_error.Device breaks = (
     record {
       kind = refl;
-      either = subst (λ ks. ((records_of log.sight.kept ≡ left_by v.log.sight keep) × (log.sight.kept.forced ≡ v.log.sight.kept.forced))
-          ⊎ (log.sight.kept ≡ record { forced = left_by v.log.sight keep ++ ks; unforced = [] })) of_left.frames breaks.either;
+      either = subst (λ ks. ((records_of log.sight.kept ≡ left_by v.log.sight keep)
+          × (log.sight.kept.forced ≡ v.log.sight.kept.forced))
+          ⊎ (log.sight.kept ≡ record { forced = left_by v.log.sight keep ++ ks; unforced = [] }))
+          of_left.frames breaks.either;
       failed = breaks.failed;
       cause = breaks.cause;
     },
@@ -103,14 +111,16 @@ never : (boot n : ℕ) → boot < boot → n ≤ 0
 never boot n below = absurd (omega arith)
 
 -- a live case was numbered in an earlier boot
-numbered_before : (boot : ℕ) (slot : Option (Case × Held)) (c : Case) → ((p : Case × Held) → slot ≡ Some p → IsRestored boot p) → case_of slot ≡ Some c → IsNumbered boot c
+numbered_before : (boot : ℕ) (slot : Option (Case × Held)) (c : Case)
+    → ((p : Case × Held) → slot ≡ Some p → IsRestored boot p) → case_of slot ≡ Some c → IsNumbered boot c
 numbered_before boot None c restored at = absurd (cc)
 numbered_before boot (Some p) c restored at =
     let one : p.0 ≡ c = cc in
     subst (IsNumbered boot) one (restored p refl).numbered
 
 -- the cases that were rebuilt have numbers of earlier boots, and no ticket is active
-pub is_coordinator : (v : CoordinatorValue) (ls : List LogRecord) (r : Rebuilt) (log : LogState) → Rebuilds (place_of v) ls r → log.kind ≡ Coordinator
+pub is_coordinator : (v : CoordinatorValue) (ls : List LogRecord) (r : Rebuilt) (log : LogState)
+    → Rebuilds (place_of v) ls r → log.kind ≡ Coordinator
     → IsCoordinator (rebuilt_as v log r)
 is_coordinator v ls r log rebuilds kind =
     record {
@@ -118,8 +128,10 @@ is_coordinator v ls r log rebuilds kind =
       active = λ k d p at is.
           let no : false ≡ true = sym (ap (is_for d) (rebuilds.entries k p at).ungiven) ∙ is in
           absurd (cc);
-      begun = λ k p n at. never r.boot n (numbered_before r.boot (entry_at r.cases k) (root_case (own_txn (rebuilt_as v log r) p n)) (rebuilds.entries k) at);
-      given = λ k x n at. never r.boot n (numbered_before r.boot (entry_at r.cases k) (child_case x (own_ticket (rebuilt_as v log r) n)) (rebuilds.entries k) at);
+      begun = λ k p n at. never r.boot n (numbered_before r.boot (entry_at r.cases k)
+          (root_case (own_txn (rebuilt_as v log r) p n)) (rebuilds.entries k) at);
+      given = λ k x n at. never r.boot n (numbered_before r.boot (entry_at r.cases k)
+          (child_case x (own_ticket (rebuilt_as v log r) n)) (rebuilds.entries k) at);
     }
 
 -- A trim.
@@ -134,7 +146,8 @@ trimmed_as v =
     ap (λ rs. front_of_trim (records_of v.log.sight.kept) ++ logged (state v) rs)
     (sym (no_data_records v.parent (read_of (state v) (records_of v.log.sight.kept))))
 
-pub trims : (v : CoordinatorValue) (log : LogState) (count : ℕ) → Trimmed v.log log [] count → Trims (state v) (state (record v { log = log })) count
+pub trims : (v : CoordinatorValue) (log : LogState) (count : ℕ) → Trimmed v.log log [] count
+    → Trims (state v) (state (record v { log = log })) count
 trims v log count trimmed =
     record {
       log = λ i. record {
@@ -147,12 +160,14 @@ trims v log count trimmed =
       rest = same_but_log v log;
     }
 
-pub not_trimmed : (v : CoordinatorValue) (log : LogState) (e : LogError) → NotRewritten v.log log (trim_of v.log []) e
+pub not_trimmed : (v : CoordinatorValue) (log : LogState) (e : LogError)
+    → NotRewritten v.log log (trim_of v.log []) e
     → NotTrimmed (state v) (state (record v { log = log })) (error_of e)
 not_trimmed v log log_error.Memory same = same_log v log same
 not_trimmed v log log_error.Device breaks =
     record {
-      either = subst (λ ls. (log.sight.kept ≡ v.log.sight.kept) ⊎ (log.sight.kept ≡ record { forced = ls; unforced = [] })) (trimmed_as v) breaks.either;
+      either = subst (λ ls. (log.sight.kept ≡ v.log.sight.kept) ⊎
+          (log.sight.kept ≡ record { forced = ls; unforced = [] })) (trimmed_as v) breaks.either;
       failed = breaks.failed;
       cause = breaks.cause;
       place = refl;

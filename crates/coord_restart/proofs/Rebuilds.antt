@@ -28,33 +28,44 @@ use Rattle.inquire_core.proofs.Readings.{are_cases, each_alike, entry_by, found}
 use Rattle.coord_restart.proofs.OwnCases.{parent_again, read_again_is, reopens_role}
 
 -- the view that the table says is the one that the records say
-found_view : (rs : List Record) (c : Case) → view_found (lookup (same c) (reading_of rs).table) ≡ recorded_view rs c
-found_view rs c = ap view_found (found (summary_of rs) c (cases_in rs)) ∙ by_test (has_case (cases_in rs) c) refl ∙ sym (view_recorded rs c)
+found_view : (rs : List Record) (c : Case) → view_found
+    (lookup (same c) (reading_of rs).table) ≡ recorded_view rs c
+found_view rs c = ap view_found (found (summary_of rs) c (cases_in rs))
+    ∙ by_test (has_case (cases_in rs) c) refl ∙ sym (view_recorded rs c)
   where
-    by_test : (b : Bool) → has_case (cases_in rs) c ≡ b → view_found (if b then Some (summary_of rs c) else None) ≡ view_of (summary_of rs c)
+    by_test : (b : Bool) → has_case (cases_in rs) c ≡ b
+        → view_found (if b then Some (summary_of rs c) else None) ≡ view_of (summary_of rs c)
     by_test true there = refl
     by_test false gone = sym (ap view_of ((are_cases rs).absent c gone))
 
-viewed_at : (parent : Option ProcessId) (rs : List Record) (c : Case) → recorded_view rs c ≡ recorded_view_at (role_below parent) rs c
+viewed_at : (parent : Option ProcessId) (rs : List Record) (c : Case)
+    → recorded_view rs c ≡ recorded_view_at (role_below parent) rs c
 viewed_at None rs c = refl
 viewed_at (Some p) rs c = refl
 
-resumes_of : (me : ProcessId) (parent : Option ProcessId) (rs : List Record) (c : Case) → resumed_of me parent (entry_by (summary_of rs) c) ≡ coordinator_resumes me parent rs c
-resumes_of me parent rs c = ap (λ (v : CoordinatorView). resumes_by (record { me = me; parent = parent; own = c }) v v.standing) (sym (view_recorded rs c))
+resumes_of : (me : ProcessId) (parent : Option ProcessId) (rs : List Record) (c : Case)
+    → resumed_of me parent (entry_by (summary_of rs) c) ≡ coordinator_resumes me parent rs c
+resumes_of me parent rs c = ap (λ (v : CoordinatorView). resumes_by
+    (record { me = me; parent = parent; own = c }) v v.standing) (sym (view_recorded rs c))
 
-resumes_role : (me : ProcessId) (parent : Option ProcessId) (rs : List Record) → flat_map (coordinator_resumes me parent rs) (cases_in rs) ≡ resumes (role_below parent) me rs
+resumes_role : (me : ProcessId) (parent : Option ProcessId) (rs : List Record)
+    → flat_map (coordinator_resumes me parent rs) (cases_in rs) ≡ resumes (role_below parent) me rs
 resumes_role me None rs = refl
 resumes_role me (Some p) rs = refl
 
-resumes_so : (me : ProcessId) (parent : Option ProcessId) (rs : List Record) → flat_map (resumed_of me parent) (reading_of rs).table ≡ resumes (role_below parent) me rs
+resumes_so : (me : ProcessId) (parent : Option ProcessId) (rs : List Record)
+    → flat_map (resumed_of me parent) (reading_of rs).table ≡ resumes (role_below parent) me rs
 resumes_so me parent rs =
     flat_map-map (resumed_of me parent) (entry_by (summary_of rs)) (cases_in rs)
-    ∙ each_alike (λ c. resumed_of me parent (entry_by (summary_of rs) c)) (coordinator_resumes me parent rs) (resumes_of me parent rs) (cases_in rs)
+    ∙ each_alike (λ c. resumed_of me parent (entry_by (summary_of rs) c)) (coordinator_resumes me parent rs)
+    (resumes_of me parent rs) (cases_in rs)
     ∙ resumes_role me parent rs
 
-module _ (me : ProcessId) (parent : Option ProcessId) (tree : List TreeEntry) (ls : List LogRecord) (new : List Record) (behind : ReadLog)
+module _ (me : ProcessId) (parent : Option ProcessId) (tree : List TreeEntry) (ls : List LogRecord)
+    (new : List Record) (behind : ReadLog)
     (appends : new ≡ coordinator_reopens (own_records (place_below me parent tree) ls))
-    (reads : behind ≡ reading_of (own_records (place_below me parent tree) ls ++ coordinator_reopens (own_records (place_below me parent tree) ls))) where
+    (reads : behind ≡ reading_of (own_records (place_below me parent tree) ls
+    ++ coordinator_reopens (own_records (place_below me parent tree) ls))) where
   -- where the process sits
   abbrev here : Place
   here = place_below me parent tree
@@ -67,19 +78,24 @@ module _ (me : ProcessId) (parent : Option ProcessId) (tree : List TreeEntry) (l
   new_so = appends ∙ sym (reopens_role parent mine)
 
   behind_so : behind ≡ reading_of (read_again here ls)
-  behind_so = reads ∙ ap reading_of (ap (λ rs. mine ++ rs) (sym (reopens_role parent mine)) ∙ sym (read_again_is me parent tree ls))
+  behind_so = reads ∙ ap reading_of (ap (λ rs. mine ++ rs) (sym (reopens_role parent mine))
+      ∙ sym (read_again_is me parent tree ls))
 
   pub rebuilds : (r : Rebuilt) (written : List Logged) (messages : List Envelope) → r.boot ≡ behind.boot
-      → map frame_record r.frames.items ≡ map (in_log parent) new → AreRecords Coordinator (map frame_record r.frames.items)
+      → map frame_record r.frames.items ≡ map (in_log parent) new
+      → AreRecords Coordinator (map frame_record r.frames.items)
       → written ≡ map logged_of (forced_all new) → RestoresAll me parent behind r.cases messages
-      → r.reaction ≡ record { begun = None; written = written; told = None; messages = messages; kept = None } → Rebuilds here ls r
+      → r.reaction ≡ record { begun = None; written = written; told = None; messages = messages; kept = None }
+      → Rebuilds here ls r
   rebuilds r written messages boot spells sound shows restores reaction =
       record {
         boot = boot ∙ ap (λ (s : ReadLog). s.boot) behind_so;
-        frames = spells ∙ ap (map (in_log parent)) new_so ∙ ap (λ p. map (in_log p) (reopens (role_below parent) mine)) (sym (parent_again parent));
+        frames = spells ∙ ap (map (in_log parent)) new_so
+            ∙ ap (λ p. map (in_log p) (reopens (role_below parent) mine)) (sym (parent_again parent));
         sound = sound;
         views = λ c.
-            restores.views c ∙ ap (λ (s : ReadLog). view_found (lookup (same c) s.table)) behind_so ∙ found_view (read_again here ls) c
+            restores.views c ∙ ap (λ (s : ReadLog). view_found (lookup (same c) s.table)) behind_so
+            ∙ found_view (read_again here ls) c
             ∙ viewed_at parent (read_again here ls) c;
         tickets = restores.tickets;
         entries = λ k p at. subst (λ b. IsRestored b p) (sym boot) (restores.entries k p at);
@@ -89,7 +105,8 @@ module _ (me : ProcessId) (parent : Option ProcessId) (tree : List TreeEntry) (l
               begun = None;
               written = (shows ∙ ap (λ rs. map logged_of (forced_all rs)) new_so) i;
               told = None;
-              messages = (restores.messages ∙ ap (λ (s : ReadLog). flat_map (resumed_of me parent) s.table) behind_so ∙ resumes_so me parent (read_again here ls)
+              messages = (restores.messages ∙ ap (λ (s : ReadLog). flat_map (resumed_of me parent) s.table)
+                  behind_so ∙ resumes_so me parent (read_again here ls)
                   ∙ ap (resumes (role_below parent) me) (read_again_is me parent tree ls)) i;
               kept = None;
             });

@@ -34,12 +34,14 @@ known_is Committing v h = refl
 known_is Aborting v h = refl
 known_is Heuristic v h = refl
 
-module _ (boot : ℕ) (s : Seat) (summary : Summary) (old : Slots) (sent : List Envelope) (gone : live_value old s.case ≡ None) where
+module _ (boot : ℕ) (s : Seat) (summary : Summary) (old : Slots) (sent : List Envelope)
+    (gone : live_value old s.case ≡ None) where
   -- a case of which nothing is left
   pub next_unknown : standing_of summary ≡ Unknown → RestoresNext boot s summary old old sent sent
   next_unknown unknown =
       record {
-        messages = sym (ap (λ (v : CoordinatorView). sent ++ resumes_by (seat s) v v.standing) forgotten ∙ append-nil sent);
+        messages = sym (ap (λ (v : CoordinatorView). sent ++ resumes_by (seat s) v v.standing)
+            forgotten ∙ append-nil sent);
         own = ap held_view gone ∙ sym forgotten;
         others = λ d differs. refl;
         only = λ d differs none. none;
@@ -51,8 +53,10 @@ module _ (boot : ℕ) (s : Seat) (summary : Summary) (old : Slots) (sent : List 
       forgotten = ap (λ st. known_view st (restored_view st summary)) unknown
 
   -- a live case
-  pub next_live : (st : Standing) (live : CoordinatorView) (new : Slots) (now_sent : List Envelope) → st ≡ standing_of summary → (st ≡ Unknown → ⊥)
-      → live ≡ restored_view st summary → Restores old new s.case live → now_sent ≡ sent ++ resumes_by (seat s) live live.standing
+  pub next_live : (st : Standing) (live : CoordinatorView) (new : Slots) (now_sent : List Envelope)
+      → st ≡ standing_of summary → (st ≡ Unknown → ⊥)
+      → live ≡ restored_view st summary → Restores old new s.case live
+      → now_sent ≡ sent ++ resumes_by (seat s) live live.standing
       → IsNumbered boot s.case → RestoresNext boot s summary old new sent now_sent
   next_live st live new now_sent stands known is restores sends numbered =
       record {
@@ -65,9 +69,11 @@ module _ (boot : ℕ) (s : Seat) (summary : Summary) (old : Slots) (sent : List 
       }
     where
       viewed : live ≡ view_of summary
-      viewed = is ∙ sym (known_is st (restored_view st summary) known) ∙ ap (λ t. known_view t (restored_view t summary)) stands
+      viewed = is ∙ sym (known_is st (restored_view st summary) known)
+          ∙ ap (λ t. known_view t (restored_view t summary)) stands
 
-      entries : (k : ℕ) (p : Case × Held) → entry_at new k ≡ Some p → (entry_at old k ≡ Some p) ⊎ IsRestored boot p
+      entries : (k : ℕ) (p : Case × Held) → entry_at new k ≡ Some p
+          → (entry_at old k ≡ Some p) ⊎ IsRestored boot p
       entries k p at =
           elim (cases_eq k restores.key) [
             | inl one ↦
@@ -87,41 +93,50 @@ found_then : Option Summary → Option Summary → Option Summary
 found_then None o = o
 found_then (Some s) o = Some s
 
-lookup_end : (d c : Case) (s : Summary) (es : Table) → lookup (same d) (es ++ (c, s) ∷ []) ≡ found_then (lookup (same d) es) (if same d c then Some s else None)
+lookup_end : (d c : Case) (s : Summary) (es : Table) → lookup (same d) (es ++ (c, s) ∷ [])
+    ≡ found_then (lookup (same d) es) (if same d c then Some s else None)
 unfolding found_then
 lookup_end d c s [] = refl
 lookup_end d c s (e ∷ es) = by_test (lookup_end d c s es) (same d e.0)
   where
-    by_test : lookup (same d) (es ++ (c, s) ∷ []) ≡ found_then (lookup (same d) es) (if same d c then Some s else None) → (b : Bool) → (if b then Some e.1 else lookup (same d) (es ++ (c, s) ∷ [])) ≡ found_then (if b then Some e.1 else lookup (same d) es) (if same d c then Some s else None)
+    by_test : lookup (same d) (es ++ (c, s) ∷ []) ≡ found_then (lookup (same d) es) (if same d
+        c then Some s else None) → (b : Bool) → (if b then Some e.1 else lookup (same d) (es ++ (c, s) ∷ []))
+        ≡ found_then (if b then Some e.1 else lookup (same d) es) (if same d c then Some s else None)
     by_test rest true = refl
     by_test rest false = rest
 
-lookup_other : (d c : Case) (s : Summary) (es : Table) → same_case c d ≡ false → lookup (same d) (es ++ (c, s) ∷ []) ≡ lookup (same d) es
+lookup_other : (d c : Case) (s : Summary) (es : Table) → same_case c d ≡ false
+    → lookup (same d) (es ++ (c, s) ∷ []) ≡ lookup (same d) es
 unfolding found_then
 lookup_other d c s es differs =
-    lookup_end d c s es ∙ ap (λ b. found_then (lookup (same d) es) (if b then Some s else None)) (case_equality d c ∙ apart_back c d differs) ∙ nothing (lookup (same d) es)
+    lookup_end d c s es ∙ ap (λ b. found_then (lookup (same d) es) (if b then Some s else None))
+    (case_equality d c ∙ apart_back c d differs) ∙ nothing (lookup (same d) es)
   where
     nothing : (o : Option Summary) → found_then o None ≡ o
     nothing None = refl
     nothing (Some t) = refl
 
-lookup_own : (c : Case) (s : Summary) (es : Table) → lookup (same c) es ≡ None → lookup (same c) (es ++ (c, s) ∷ []) ≡ Some s
+lookup_own : (c : Case) (s : Summary) (es : Table) → lookup (same c) es ≡ None
+    → lookup (same c) (es ++ (c, s) ∷ []) ≡ Some s
 unfolding found_then
 lookup_own c s es none =
     lookup_end c c s es ∙ ap (λ o. found_then o (if same c c then Some s else None)) none
     ∙ ap (λ b. if b then Some s else None) (case_equality c c ∙ (case_tells c c).1 refl)
 
-differs_there : (P : Case → Type 0) (c : Case) (s : Summary) (es rest : Table) → AllByRecursion P (keys_of (es ++ (c, s) ∷ rest)) → P c
+differs_there : (P : Case → Type 0) (c : Case) (s : Summary) (es rest : Table)
+    → AllByRecursion P (keys_of (es ++ (c, s) ∷ rest)) → P c
 differs_there P c s [] rest all = all.0
 differs_there P c s (e ∷ es) rest all = differs_there P c s es rest all.1
 
 -- what comes later was not found before
-pub not_before : (c : Case) (s : Summary) (done rest : Table) → IsDistinct same (keys_of (done ++ (c, s) ∷ rest)) → lookup (same c) done ≡ None
+pub not_before : (c : Case) (s : Summary) (done rest : Table)
+    → IsDistinct same (keys_of (done ++ (c, s) ∷ rest)) → lookup (same c) done ≡ None
 unfolding IsDistinct
 not_before c s [] rest apart = refl
 not_before c s (e ∷ done) rest apart =
     let differs : same e.0 c ≡ false = differs_there (λ d. same e.0 d ≡ false) c s done rest apart.0 in
-    let back : same c e.0 ≡ false = case_equality c e.0 ∙ apart_back e.0 c (sym (case_equality e.0 c) ∙ differs) in
+    let back : same c e.0 ≡ false = case_equality c e.0
+    ∙ apart_back e.0 c (sym (case_equality e.0 c) ∙ differs) in
     ap (λ b. if b then Some e.1 else lookup (same c) done) back ∙ not_before c s done rest apart.1
 
 none_live : (c : Case) → live_value {V = Held} [] c ≡ None
@@ -136,7 +151,8 @@ unfolding ticket_in
 none_given d = refl
 
 -- the entries in front of these rest are restored
-pub record IsRestoring (me : ProcessId) (parent : Option ProcessId) (boot : ℕ) (es rest : Table) (slots : Slots) (sent : List Envelope) : Type 0 where
+pub record IsRestoring (me : ProcessId) (parent : Option ProcessId) (boot : ℕ) (es rest : Table)
+    (slots : Slots) (sent : List Envelope) : Type 0 where
   pub done : Table
   pub split : done ++ rest ≡ es
   pub apart : IsDistinct same (keys_of es)
@@ -147,7 +163,8 @@ pub record IsRestoring (me : ProcessId) (parent : Option ProcessId) (boot : ℕ)
   pub entries : (k : ℕ) (p : Case × Held) → entry_at slots k ≡ Some p → IsRestored boot p
 
 module _ (me : ProcessId) (parent : Option ProcessId) (boot : ℕ) (es : Table) where
-  pub restoring_begins : (slots : Slots) (sent : List Envelope) → IsDistinct same (keys_of es) → slots ≡ [] → sent ≡ [] → IsRestoring me parent boot es es slots sent
+  pub restoring_begins : (slots : Slots) (sent : List Envelope) → IsDistinct same (keys_of es) → slots ≡ []
+      → sent ≡ [] → IsRestoring me parent boot es es slots sent
   restoring_begins slots sent apart bare quiet =
       subst (λ t. IsRestoring me parent boot es es t sent) (sym bare)
       (subst (λ ms. IsRestoring me parent boot es es [] ms) (sym quiet)
@@ -166,9 +183,11 @@ module _ (me : ProcessId) (parent : Option ProcessId) (boot : ℕ) (es : Table) 
   pub restoring_is_new : (c : Case) (s : Summary) (rest : Table) (slots : Slots) (sent : List Envelope)
       → IsRestoring me parent boot es ((c, s) ∷ rest) slots sent → live_value slots c ≡ None
   restoring_is_new c s rest slots sent restoring =
-      restoring.absent c (not_before c s restoring.done rest (subst (λ t. IsDistinct same (keys_of t)) (sym restoring.split) restoring.apart))
+      restoring.absent c (not_before c s restoring.done rest
+      (subst (λ t. IsDistinct same (keys_of t)) (sym restoring.split) restoring.apart))
 
-  pub restoring_goes_on : (c : Case) (s : Summary) (rest : Table) (slots new : Slots) (sent now_sent : List Envelope)
+  pub restoring_goes_on : (c : Case) (s : Summary) (rest : Table) (slots new : Slots)
+      (sent now_sent : List Envelope)
       → IsRestoring me parent boot es ((c, s) ∷ rest) slots sent
       → RestoresNext boot (record { me = me; parent = parent; case = c }) s slots new sent now_sent
       → IsRestoring me parent boot es rest new now_sent
@@ -179,32 +198,42 @@ module _ (me : ProcessId) (parent : Option ProcessId) (boot : ℕ) (es : Table) 
         apart = restoring.apart;
         messages =
             next.messages ∙ ap (λ ms. ms ++ resumed_of me parent (c, s)) restoring.messages
-            ∙ ap (λ ms. flat_map (resumed_of me parent) restoring.done ++ ms) (sym (append-nil (resumed_of me parent (c, s))))
+            ∙ ap (λ ms. flat_map (resumed_of me parent) restoring.done ++ ms)
+            (sym (append-nil (resumed_of me parent (c, s))))
             ∙ sym (flat_map-append (resumed_of me parent) restoring.done ((c, s) ∷ []));
         views = λ d. viewed d (same_case c d) refl;
         absent = λ d none. gone d none (same_case c d) refl;
         tickets = λ d. next.tickets d ∙ restoring.tickets d;
-        entries = λ k p at. elim (next.entries k p at) [ inl was ↦ restoring.entries k p was | inr made ↦ made ];
+        entries = λ k p at. elim (next.entries k p at)
+            [ inl was ↦ restoring.entries k p was | inr made ↦ made ];
       }
     where
       fresh : lookup (same c) restoring.done ≡ None
-      fresh = not_before c s restoring.done rest (subst (λ t. IsDistinct same (keys_of t)) (sym restoring.split) restoring.apart)
+      fresh = not_before c s restoring.done rest
+          (subst (λ t. IsDistinct same (keys_of t)) (sym restoring.split) restoring.apart)
 
-      viewed : (d : Case) (b : Bool) → same_case c d ≡ b → view_in new d ≡ view_found (lookup (same d) (restoring.done ++ (c, s) ∷ []))
+      viewed : (d : Case) (b : Bool) → same_case c d ≡ b
+          → view_in new d ≡ view_found (lookup (same d) (restoring.done ++ (c, s) ∷ []))
       viewed d true is =
-          subst (λ e. view_in new e ≡ view_found (lookup (same e) (restoring.done ++ (c, s) ∷ []))) (is_same c d is)
+          subst (λ e. view_in new e ≡ view_found
+          (lookup (same e) (restoring.done ++ (c, s) ∷ []))) (is_same c d is)
           (next.own ∙ ap view_found (sym (lookup_own c s restoring.done fresh)))
-      viewed d false is = next.others d is ∙ restoring.views d ∙ ap view_found (sym (lookup_other d c s restoring.done is))
+      viewed d false is = next.others d is ∙ restoring.views d
+          ∙ ap view_found (sym (lookup_other d c s restoring.done is))
 
-      gone : (d : Case) → lookup (same d) (restoring.done ++ (c, s) ∷ []) ≡ None → (b : Bool) → same_case c d ≡ b → live_value new d ≡ None
+      gone : (d : Case) → lookup (same d) (restoring.done ++ (c, s) ∷ []) ≡ None → (b : Bool)
+          → same_case c d ≡ b → live_value new d ≡ None
       gone d none true is =
           let there : Some s ≡ None =
-          sym (lookup_own c s restoring.done fresh) ∙ subst (λ e. lookup (same e) (restoring.done ++ (c, s) ∷ []) ≡ None) (sym (is_same c d is)) none in
+          sym (lookup_own c s restoring.done fresh) ∙ subst
+          (λ e. lookup (same e) (restoring.done ++ (c, s) ∷ []) ≡ None) (sym (is_same c d is)) none in
           absurd (cc)
-      gone d none false is = next.only d is (restoring.absent d (sym (lookup_other d c s restoring.done is) ∙ none))
+      gone d none false is = next.only d is (restoring.absent d
+          (sym (lookup_other d c s restoring.done is) ∙ none))
 
 -- all are restored
-pub restoring_ends : (me : ProcessId) (parent : Option ProcessId) (r : ReadLog) (slots : Slots) (sent : List Envelope)
+pub restoring_ends : (me : ProcessId) (parent : Option ProcessId) (r : ReadLog)
+    (slots : Slots) (sent : List Envelope)
     → IsRestoring me parent r.boot r.table [] slots sent → RestoresAll me parent r slots sent
 restoring_ends me parent r slots sent restoring =
     let all : restoring.done ≡ r.table = sym (append-nil restoring.done) ∙ restoring.split in

@@ -8,7 +8,9 @@ use Rattle.coord_rows.specs.declared.effect.RowEffect.{RowEffect}
 use Rattle.coord_rows.specs.Rows.{Does}
 
 -- what does a row whatever the view, does it in this view
-pub at_view : (s : Seat) (row : CoordinatorView → Row) (met : Row) (v : CoordinatorView) (made : Result RowEffect AllocError) → met ≡ row v
-    → IfOk made (λ effect. (view : CoordinatorView) → Does s (row view) effect view) → IfOk made (λ effect. Does s met effect v)
+pub at_view : (s : Seat) (row : CoordinatorView → Row) (met : Row) (v : CoordinatorView)
+    (made : Result RowEffect AllocError) → met ≡ row v
+    → IfOk made (λ effect. (view : CoordinatorView) → Does s (row view) effect view)
+    → IfOk made (λ effect. Does s met effect v)
 at_view s row met v (Ok effect) same does = subst (λ r. Does s r effect v) (sym same) (does v)
 at_view s row met v (Err e) same does = does

@@ -24,10 +24,12 @@ so_few true n r h = absurd (cc)
 so_few false true r h = absurd (cc)
 so_few false false true h = absurd (cc)
 
-voted_none : (o : Vote) (vs : List (Ticket × Vote)) (t : Ticket) → has_voted vs t ≡ false → voted_so o vs t ≡ false
+voted_none : (o : Vote) (vs : List (Ticket × Vote)) (t : Ticket)
+    → has_voted vs t ≡ false → voted_so o vs t ≡ false
 voted_none o vs t h = by_vote o (so_few _ _ _ (sym (has_voted-so vs t) ∙ h))
   where
-    by_vote : (o : Vote) → (voted_so Yes vs t ≡ false) × (voted_so No vs t ≡ false) × (voted_so Read vs t ≡ false) → voted_so o vs t ≡ false
+    by_vote : (o : Vote) → (voted_so Yes vs t ≡ false) × (voted_so No vs t ≡ false)
+        × (voted_so Read vs t ≡ false) → voted_so o vs t ≡ false
     by_vote Yes k = k.0
     by_vote No k = k.1
     by_vote Read k = k.2
@@ -47,7 +49,8 @@ counted_new false false h = refl
 counted_new true true h = absurd (cc)
 counted_new false true h = absurd (cc)
 
-pub takes_back : (old mid new : CoordinatorView) (t : Ticket) (w : Vote) → is_counted old.accepted old.votes t ≡ true
+pub takes_back : (old mid new : CoordinatorView) (t : Ticket) (w : Vote)
+    → is_counted old.accepted old.votes t ≡ true
     → SameView mid (record old { votes = old.votes ++ (t, w) ∷ [] }) → Uncounts t mid new → SameView new old
 takes_back old mid new t w counted counts back =
     let unheard : has_voted old.votes t ≡ false = counted_new _ _ counted in
@@ -55,8 +58,10 @@ takes_back old mid new t w counted counts back =
       standing = back.standing ∙ counts.standing;
       accepted = back.accepted ∙ counts.accepted;
       voted = λ o u.
-          back.voted o u ∙ ap (λ b. b && not (same_ticket t u)) (counts.voted o u ∙ voted_so-push o old.votes t w u)
-          ∙ taken_back (voted_so o old.votes u) (same_vote o w) (same_ticket t u) (λ h. ap (voted_so o old.votes) (sym ((ticket_tells t u).0 h)) ∙ voted_none o old.votes t unheard);
+          back.voted o u ∙ ap (λ b. b && not (same_ticket t u))
+          (counts.voted o u ∙ voted_so-push o old.votes t w u)
+          ∙ taken_back (voted_so o old.votes u) (same_vote o w) (same_ticket t u) (λ h. ap
+          (voted_so o old.votes) (sym ((ticket_tells t u).0 h)) ∙ voted_none o old.votes t unheard);
       worked = λ u. ap (λ ws. works_of ws u) back.works ∙ counts.worked u;
       promised = back.promised ∙ counts.promised;
       named = λ u. ap (λ ts. in_list ts u) back.named ∙ counts.named u;
@@ -76,7 +81,8 @@ same_view-trans u v w a b =
     }
 
 -- an effect that does a row does the same row
-does_same : (s : Seat) (r q : Row) (effect : RowEffect) (view : CoordinatorView) → SameRow r q → Does s r effect view → Does s q effect view
+does_same : (s : Seat) (r q : Row) (effect : RowEffect) (view : CoordinatorView) → SameRow r q
+    → Does s r effect view → Does s q effect view
 does_same s r q effect view same does =
     record {
       written = does.written ∙ same.written;
@@ -86,11 +92,19 @@ does_same s r q effect view same does =
     }
 
 -- the row behind a vote that counts is the row of the vote
-pub does_vote : (s : Seat) (t : Ticket) (w : Vote) (old mid new : CoordinatorView) (effect : RowEffect) → is_counted old.accepted old.votes t ≡ true
-    → SameView mid (record old { votes = old.votes ++ (t, w) ∷ [] }) → Does s (collecting_after (seat s) mid w) effect new
+pub does_vote : (s : Seat) (t : Ticket) (w : Vote) (old mid new : CoordinatorView) (effect : RowEffect)
+    → is_counted old.accepted old.votes t ≡ true
+    → SameView mid (record old { votes = old.votes ++ (t, w) ∷ [] })
+    → Does s (collecting_after (seat s) mid w) effect new
     → Does s (collecting_vote (seat s) t w old) effect new
 does_vote s t w old mid new effect counted counts does =
     let after = record old { votes = old.votes ++ (t, w) ∷ [] } in
-    let same : SameRow (collecting_after (seat s) mid w) (collecting_after (seat s) after w) = collecting_after-same mid after counts (seat s) w in
+    let same : SameRow (collecting_after (seat s) mid w) (collecting_after (seat s) after w) =
+    collecting_after-same mid after counts (seat s) w in
     let done : Does s (collecting_after (seat s) after w) effect new = does_same s _ _ effect new same does in
-    rw counted (record { written = done.written; framed = done.framed; reaction = done.reaction; view_is = done.view_is })
+    rw counted (record {
+      written = done.written;
+      framed = done.framed;
+      reaction = done.reaction;
+      view_is = done.view_is;
+    })

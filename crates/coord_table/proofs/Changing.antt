@@ -14,13 +14,21 @@ use Rattle.coord_table.specs.Cases.{Begins, Ends, FitsGiven, Gives, Moves, Reliv
 use Rattle.coord_table.specs.Lends.{relived, with_live}
 use Rattle.coord_table.proofs.Tickets.{One, given_or_none, one_given, one_stays, ticket_is, ticket_none, ticket_stays}
 
-moves_view : (old new : Slots) (c : Case) (value : Option Held) → MovesValue old new c value → Moves old new c (held_view value)
-moves_view old new c value moves = record { own = ap held_view moves.own; others = λ d differs. ap held_view (moves.others d differs) }
+moves_view : (old new : Slots) (c : Case) (value : Option Held) → MovesValue old new c value
+    → Moves old new c (held_view value)
+moves_view old new c value moves = record {
+  own = ap held_view moves.own;
+  others = λ d differs. ap
+      held_view (moves.others d differs);
+}
 
 -- tickets that fit still fit with another entry that fits
-fits_with : (old new : Slots) (key : ℕ) (slot : Option (Case × Held)) → FitsGiven old → Updates old new key slot
-    → ((d : Case) (p : Case × Held) → slot ≡ Some p → is_for d p.1.given_for ≡ true → same_txn p.0.txn d.txn ≡ true)
-    → ((d : Case) (p : Case × Held) → slot ≡ Some p → is_for d p.1.given_for ≡ true → is_some p.0.ticket ≡ true)
+fits_with : (old new : Slots) (key : ℕ) (slot : Option (Case × Held))
+    → FitsGiven old → Updates old new key slot
+    → ((d : Case) (p : Case × Held) → slot ≡ Some p → is_for d p.1.given_for ≡ true
+    → same_txn p.0.txn d.txn ≡ true)
+    → ((d : Case) (p : Case × Held) → slot ≡ Some p → is_for d p.1.given_for ≡ true
+    → is_some p.0.ticket ≡ true)
     → ((d : Case) → One new d) → FitsGiven new
 fits_with old new key slot fits updates its has one =
     record {
@@ -38,16 +46,19 @@ fits_with old new key slot fits updates its has one =
     }
 
 -- an entry that was given for nobody
-pub begins : (old new : Slots) (c : Case) (h : Held) (key : ℕ) → FitsGiven old → h.given_for ≡ None → h.live ≡ open_view → Inserts old new c h key → Begins old new c
+pub begins : (old new : Slots) (c : Case) (h : Held) (key : ℕ) → FitsGiven old → h.given_for ≡ None
+    → h.live ≡ open_view → Inserts old new c h key → Begins old new c
 begins old new c h key fits ungiven opened inserts =
     record {
       moves = rw (← opened) (moves_view old new c (Some h) inserts.moves);
       tickets = λ d.
           let behind : is_given d (Some (c, h)) ≡ false = ap (is_for d) ungiven in
-          ticket_stays old new key (Some (c, h)) d (fits.one d) (one_stays old new key (Some (c, h)) d (fits.one d) inserts.updates behind) inserts.updates
+          ticket_stays old new key (Some (c, h)) d (fits.one d)
+          (one_stays old new key (Some (c, h)) d (fits.one d) inserts.updates behind) inserts.updates
           (ap (is_given d) inserts.vacant) behind;
       key = key;
-      updates = subst (λ e. Updates old new key (Some (c, e))) (λ i. record { given_for = ungiven i; live = opened i }) inserts.updates;
+      updates = subst (λ e. Updates old new key (Some (c, e)))
+          (λ i. record { given_for = ungiven i; live = opened i }) inserts.updates;
       counts = inserts.counts;
     }
 
@@ -60,14 +71,16 @@ restores old new c v key fits inserts =
       moves = moves_view old new c (Some h) inserts.moves;
       only = λ d differs none. inserts.moves.others d differs ∙ none;
       tickets = λ d.
-          ticket_stays old new key (Some (c, h)) d (fits.one d) (one_stays old new key (Some (c, h)) d (fits.one d) inserts.updates refl) inserts.updates
+          ticket_stays old new key (Some (c, h)) d (fits.one d)
+          (one_stays old new key (Some (c, h)) d (fits.one d) inserts.updates refl) inserts.updates
           (ap (is_given d) inserts.vacant) refl;
       key = key;
       updates = inserts.updates;
     }
 
 -- where there is no active ticket no key was given for it
-pub ungiven_of : (slots : Slots) (d : Case) → FitsGiven slots → ticket_in slots d ≡ None → (k : ℕ) → is_given d (entry_at slots k) ≡ false
+pub ungiven_of : (slots : Slots) (d : Case) → FitsGiven slots → ticket_in slots d ≡ None → (k : ℕ)
+    → is_given d (entry_at slots k) ≡ false
 ungiven_of slots d fits none k = by_entry (entry_at slots k) refl
   where
     by_entry : (slot : Option (Case × Held)) → entry_at slots k ≡ slot → is_given d slot ≡ false
@@ -77,13 +90,15 @@ ungiven_of slots d fits none k = by_entry (entry_at slots k) refl
         by_test : (b : Bool) → is_for d p.1.given_for ≡ b → b ≡ false
         by_test false is = refl
         by_test true is =
-            let active : ticket_in slots d ≡ p.0.ticket = ticket_is slots d k (fits.one d) (ap (is_given d) at ∙ is) ∙ ap entry_ticket at in
+            let active : ticket_in slots d ≡ p.0.ticket =
+            ticket_is slots d k (fits.one d) (ap (is_given d) at ∙ is) ∙ ap entry_ticket at in
             let some : is_some p.0.ticket ≡ true = fits.ticketed k d p at is in
             let missing : is_some p.0.ticket ≡ false = ap is_some (sym active ∙ none) in
             sym some ∙ missing
 
 -- an entry whose ticket was given for this case of the parent
-module _ (old new : Slots) (t : Ticket) (h : Held) (key : ℕ) (parent : Case) (fits : FitsGiven old) (given : h.given_for ≡ Some parent) (opened : h.live ≡ open_view)
+module _ (old new : Slots) (t : Ticket) (h : Held) (key : ℕ) (parent : Case) (fits : FitsGiven old)
+    (given : h.given_for ≡ Some parent) (opened : h.live ≡ open_view)
     (none : ticket_in old parent ≡ None) (inserts : Inserts old new (child_case parent.txn t) h key) where
   shown : (d : Case) → is_given d (Some (child_case parent.txn t, h)) ≡ same_case parent d
   shown d = ap (is_for d) given
@@ -94,20 +109,25 @@ module _ (old new : Slots) (t : Ticket) (h : Held) (key : ℕ) (parent : Case) (
       by_test : (b : Bool) → same_case parent d ≡ b → One new d
       by_test true is =
           let same : parent ≡ d = (case_tells parent d).0 is in
-          one_given old new key (Some (child_case parent.txn t, h)) d (λ k. ap (λ e. is_given e (entry_at old k)) (sym same) ∙ ungiven_of old parent fits none k) inserts.updates
-      by_test false is = one_stays old new key (Some (child_case parent.txn t, h)) d (fits.one d) inserts.updates (shown d ∙ is)
+          one_given old new key (Some (child_case parent.txn t, h)) d (λ k. ap (λ e. is_given e
+          (entry_at old k)) (sym same) ∙ ungiven_of old parent fits none k) inserts.updates
+      by_test false is = one_stays old new key (Some (child_case parent.txn t, h)) d (fits.one d)
+          inserts.updates (shown d ∙ is)
 
   pub gives : Gives old new parent t
   gives =
       record {
         moves = rw (← opened) (moves_view old new (child_case parent.txn t) (Some h) inserts.moves);
         ticket =
-            ticket_is new parent key (one_behind parent) (ap (is_given parent) inserts.updates.changed ∙ shown parent ∙ (case_tells parent parent).1 refl)
+            ticket_is new parent key (one_behind parent) (ap (is_given parent) inserts.updates.changed
+            ∙ shown parent ∙ (case_tells parent parent).1 refl)
             ∙ ap entry_ticket inserts.updates.changed;
         tickets = λ d differs.
-            ticket_stays old new key (Some (child_case parent.txn t, h)) d (fits.one d) (one_behind d) inserts.updates (ap (is_given d) inserts.vacant) (shown d ∙ differs);
+            ticket_stays old new key (Some (child_case parent.txn t, h)) d (fits.one d) (one_behind d)
+            inserts.updates (ap (is_given d) inserts.vacant) (shown d ∙ differs);
         key = key;
-        updates = subst (λ e. Updates old new key (Some (child_case parent.txn t, e))) (λ i. record { given_for = given i; live = opened i }) inserts.updates;
+        updates = subst (λ e. Updates old new key (Some (child_case parent.txn t, e)))
+            (λ i. record { given_for = given i; live = opened i }) inserts.updates;
         counts = inserts.counts;
       }
 
@@ -116,11 +136,14 @@ module _ (old new : Slots) (t : Ticket) (h : Held) (key : ℕ) (parent : Case) (
       let entry : (child_case parent.txn t, h) ≡ p = cc in
       let for_d : same_case parent d ≡ true = sym (shown d) ∙ ap (is_given d) at ∙ is in
       let same : parent ≡ d = (case_tells parent d).0 for_d in
-      sym (ap (λ (q : Case × Held). same_txn q.0.txn d.txn) entry) ∙ sym (ap (λ (e : Case). same_txn parent.txn e.txn) same) ∙ (txn_tells parent.txn parent.txn).1 refl)
-      (λ d p at is. let entry : (child_case parent.txn t, h) ≡ p = cc in sym (ap (λ (q : Case × Held). is_some q.0.ticket) entry)) one_behind
+      sym (ap (λ (q : Case × Held). same_txn q.0.txn d.txn) entry) ∙ sym
+      (ap (λ (e : Case). same_txn parent.txn e.txn) same) ∙ (txn_tells parent.txn parent.txn).1 refl)
+      (λ d p at is. let entry : (child_case parent.txn t, h)
+      ≡ p = cc in sym (ap (λ (q : Case × Held). is_some q.0.ticket) entry)) one_behind
 
 -- an entry whose ticket is active no longer
-module _ (old new : Slots) (key : ℕ) (c : Case) (h : Held) (fits : FitsGiven old) (was : entry_at old key ≡ Some (c, h))
+module _ (old new : Slots) (key : ℕ) (c : Case) (h : Held) (fits : FitsGiven old)
+    (was : entry_at old key ≡ Some (c, h))
     (updates : Updates old new key (Some (c, record h { given_for = None }))) where
   one_retired : (d : Case) → One new d
   one_retired d = one_stays old new key (Some (c, record h { given_for = None })) d (fits.one d) updates refl
@@ -144,37 +167,46 @@ module _ (old new : Slots) (key : ℕ) (c : Case) (h : Held) (fits : FitsGiven o
         views = λ d. same_or d (same_case c d) refl moves;
         retired = λ d is. ticket_none new d (λ k. gone d is k (is_given d (entry_at new k)) refl);
         tickets = λ d not_for.
-            ticket_stays old new key (Some (c, record h { given_for = None })) d (fits.one d) (one_retired d) updates (ap (is_given d) was ∙ not_for) refl;
+            ticket_stays old new key (Some (c, record h { given_for = None })) d (fits.one d) (one_retired d)
+            updates (ap (is_given d) was ∙ not_for) refl;
       }
     where
-      same_or : (d : Case) (b : Bool) → same_case c d ≡ b → MovesValue old new c (Some (record h { given_for = None })) → view_in new d ≡ view_in old d
+      same_or : (d : Case) (b : Bool) → same_case c d ≡ b
+          → MovesValue old new c (Some (record h { given_for = None })) → view_in new d ≡ view_in old d
       same_or d true is moves =
           let one : c ≡ d = (case_tells c d).0 is in
-          sym (ap (view_in new) one) ∙ ap held_view moves.own ∙ sym (ap held_view (live_at old c key (c, h) apart was (same_case-itself c))) ∙ ap (view_in old) one
+          sym (ap (view_in new) one) ∙ ap held_view moves.own ∙ sym
+          (ap held_view (live_at old c key (c, h) apart was (same_case-itself c))) ∙ ap (view_in old) one
       same_or d false is moves = ap held_view (moves.others d is)
 
-      gone : (d : Case) → is_for d h.given_for ≡ true → (k : ℕ) (b : Bool) → is_given d (entry_at new k) ≡ b → b ≡ false
+      gone : (d : Case) → is_for d h.given_for ≡ true → (k : ℕ) (b : Bool)
+          → is_given d (entry_at new k) ≡ b → b ≡ false
       gone d is k false e = refl
       gone d is k true e =
           elim (cases_eq k key) [
-            | inl same ↦ let none : is_given d (entry_at new k) ≡ false = ap (λ j. is_given d (entry_at new j)) same ∙ ap (is_given d) updates.changed in cc
+            | inl same ↦ let none : is_given d (entry_at new k) ≡ false =
+                ap (λ j. is_given d (entry_at new j)) same ∙ ap (is_given d) updates.changed in cc
             | inr differs ↦
-                let there : is_given d (entry_at old k) ≡ true = sym (ap (is_given d) (updates.others k differs)) ∙ e in
+                let there : is_given d (entry_at old k) ≡ true =
+                sym (ap (is_given d) (updates.others k differs)) ∙ e in
                 let here : is_given d (entry_at old key) ≡ true = ap (is_given d) was ∙ is in
                 absurd (differs (fits.one d k key there here))
           ]
 
 -- an entry whose live case is another
-one_same : (old new : Slots) (d : Case) → ((k : ℕ) → is_given d (entry_at new k) ≡ is_given d (entry_at old k)) → One old d → One new d
+one_same : (old new : Slots) (d : Case) → ((k : ℕ)
+    → is_given d (entry_at new k) ≡ is_given d (entry_at old k)) → One old d → One new d
 one_same old new d same one j k here there = one j k (sym (same j) ∙ here) (sym (same k) ∙ there)
 
-module _ (old new : Slots) (key : ℕ) (c : Case) (h : Held) (v : CoordinatorView) (fits : FitsGiven old) (was : entry_at old key ≡ Some (c, h))
+module _ (old new : Slots) (key : ℕ) (c : Case) (h : Held) (v : CoordinatorView) (fits : FitsGiven old)
+    (was : entry_at old key ≡ Some (c, h))
     (updates : Updates old new key (Some (c, record h { live = v }))) where
   given_same : (d : Case) (k : ℕ) → is_given d (entry_at new k) ≡ is_given d (entry_at old k)
   given_same d k =
       elim (cases_eq k key) [
         | inl same ↦
-            ap (λ j. is_given d (entry_at new j)) same ∙ ap (is_given d) updates.changed ∙ sym (ap (is_given d) was)
+            ap (λ j. is_given d (entry_at new j)) same
+            ∙ ap (is_given d) updates.changed ∙ sym (ap (is_given d) was)
             ∙ sym (ap (λ j. is_given d (entry_at old j)) same)
         | inr differs ↦ ap (is_given d) (updates.others k differs)
       ]
@@ -185,9 +217,11 @@ module _ (old new : Slots) (key : ℕ) (c : Case) (h : Held) (v : CoordinatorVie
   pub fits_relived : FitsGiven new
   fits_relived = fits_with old new key (Some (c, record h { live = v })) fits updates
       (λ d p at is. let entry : (c, record h { live = v }) ≡ p = cc in
-      ap (λ (q : Case × Held). same_txn q.0.txn d.txn) (sym entry) ∙ fits.txns key d (c, h) was (ap (λ (q : Case × Held). is_for d q.1.given_for) entry ∙ is))
+      ap (λ (q : Case × Held). same_txn q.0.txn d.txn) (sym entry)
+      ∙ fits.txns key d (c, h) was (ap (λ (q : Case × Held). is_for d q.1.given_for) entry ∙ is))
       (λ d p at is. let entry : (c, record h { live = v }) ≡ p = cc in
-      ap (λ (q : Case × Held). is_some q.0.ticket) (sym entry) ∙ fits.ticketed key d (c, h) was (ap (λ (q : Case × Held). is_for d q.1.given_for) entry ∙ is))
+      ap (λ (q : Case × Held). is_some q.0.ticket) (sym entry)
+      ∙ fits.ticketed key d (c, h) was (ap (λ (q : Case × Held). is_for d q.1.given_for) entry ∙ is))
       one_relived
 
   pub relives : AreApart old → Relives old new key h.live v
@@ -195,7 +229,8 @@ module _ (old new : Slots) (key : ℕ) (c : Case) (h : Held) (v : CoordinatorVie
       record {
         owner = c;
         stood = ap held_view (live_at old c key (c, h) apart was (same_case-itself c));
-        moves = moves_view old new c (Some (record h { live = v })) (Moves-changed old new key c h (record h { live = v }) was updates apart);
+        moves = moves_view old new c (Some (record h { live = v }))
+            (Moves-changed old new key c h (record h { live = v }) was updates apart);
         tickets = λ d. by_given d (given_or_none old d);
         held = h;
         was = was;
@@ -206,29 +241,38 @@ module _ (old new : Slots) (key : ℕ) (c : Case) (h : Held) (v : CoordinatorVie
       ticket_same k =
           elim (cases_eq k key) [
             | inl same ↦
-                ap (λ j. entry_ticket (entry_at new j)) same ∙ ap entry_ticket updates.changed ∙ sym (ap entry_ticket was)
+                ap (λ j. entry_ticket (entry_at new j)) same
+                ∙ ap entry_ticket updates.changed ∙ sym (ap entry_ticket was)
                 ∙ sym (ap (λ j. entry_ticket (entry_at old j)) same)
             | inr differs ↦ ap entry_ticket (updates.others k differs)
           ]
 
-      by_given : (d : Case) → ((k : ℕ) × (is_given d (entry_at old k) ≡ true)) ⊎ ((k : ℕ) → is_given d (entry_at old k) ≡ false) → ticket_in new d ≡ ticket_in old d
+      by_given : (d : Case) → ((k : ℕ) × (is_given d (entry_at old k) ≡ true)) ⊎
+          ((k : ℕ) → is_given d (entry_at old k) ≡ false) → ticket_in new d ≡ ticket_in old d
       by_given d (inl there) =
-          ticket_is new d there.0 (one_relived d) (given_same d there.0 ∙ there.1) ∙ ticket_same there.0 ∙ sym (ticket_is old d there.0 (fits.one d) there.1)
+          ticket_is new d there.0 (one_relived d) (given_same d there.0 ∙ there.1) ∙ ticket_same there.0
+          ∙ sym (ticket_is old d there.0 (fits.one d) there.1)
       by_given d (inr none) = ticket_none new d (λ k. given_same d k ∙ none k) ∙ sym (ticket_none old d none)
 
 -- the write through a `&mut` to the live case of a key
-updates_live : (slots : Slots) (key : ℕ) (c : Case) (h : Held) (v : CoordinatorView) → entry_at slots key ≡ Some (c, h)
+updates_live : (slots : Slots) (key : ℕ) (c : Case) (h : Held) (v : CoordinatorView)
+    → entry_at slots key ≡ Some (c, h)
     → Updates slots (with_live slots key v) key (Some (c, record h { live = v }))
 updates_live slots key c h v was =
-    subst (λ e. Updates slots (with_live slots key v) key (relived e v)) was (Updates-set slots key (relived (entry_at slots key) v) (rw was refl))
+    subst (λ e. Updates slots (with_live slots key v) key (relived e v)) was
+    (Updates-set slots key (relived (entry_at slots key) v) (rw was refl))
 
-pub fits_lent : (slots : Slots) (key : ℕ) (c : Case) (h : Held) (v : CoordinatorView) → FitsGiven slots → entry_at slots key ≡ Some (c, h)
+pub fits_lent : (slots : Slots) (key : ℕ) (c : Case) (h : Held) (v : CoordinatorView) → FitsGiven slots
+    → entry_at slots key ≡ Some (c, h)
     → FitsGiven (with_live slots key v)
-fits_lent slots key c h v fits was = fits_relived slots (with_live slots key v) key c h v fits was (updates_live slots key c h v was)
+fits_lent slots key c h v fits was = fits_relived slots (with_live slots key v) key c h v fits was
+    (updates_live slots key c h v was)
 
-pub Relives-with_live : (slots : Slots) (key : ℕ) (c : Case) (h : Held) (v : CoordinatorView) → FitsGiven slots → AreApart slots
+pub Relives-with_live : (slots : Slots) (key : ℕ) (c : Case) (h : Held) (v : CoordinatorView)
+    → FitsGiven slots → AreApart slots
     → entry_at slots key ≡ Some (c, h) → Relives slots (with_live slots key v) key h.live v
-Relives-with_live slots key c h v fits apart was = relives slots (with_live slots key v) key c h v fits was (updates_live slots key c h v was) apart
+Relives-with_live slots key c h v fits apart was =
+    relives slots (with_live slots key v) key c h v fits was (updates_live slots key c h v was) apart
 
 -- an entry that goes
 pub ends : (old new : Slots) (key : ℕ) (h : Held) → FitsGiven old → Removes old new key h → Ends old new key
@@ -241,18 +285,22 @@ ends old new key h fits removes =
       moves = moves_view old new removes.owner None removes.moves;
       retired = λ d is. ticket_none new d (λ k. gone d is k (is_given d (entry_at new k)) refl);
       tickets = λ d not_for.
-          ticket_stays old new key None d (fits.one d) (one_stays old new key None d (fits.one d) removes.updates refl) removes.updates
+          ticket_stays old new key None d (fits.one d)
+          (one_stays old new key None d (fits.one d) removes.updates refl) removes.updates
           (ap (is_given d) removes.was ∙ not_for) refl;
       counts = removes.counts;
     }
   where
-    gone : (d : Case) → is_for d h.given_for ≡ true → (k : ℕ) (b : Bool) → is_given d (entry_at new k) ≡ b → b ≡ false
+    gone : (d : Case) → is_for d h.given_for ≡ true → (k : ℕ) (b : Bool)
+        → is_given d (entry_at new k) ≡ b → b ≡ false
     gone d is k false e = refl
     gone d is k true e =
         elim (cases_eq k key) [
-          | inl same ↦ let none : is_given d (entry_at new k) ≡ false = ap (λ j. is_given d (entry_at new j)) same ∙ ap (is_given d) removes.updates.changed in cc
+          | inl same ↦ let none : is_given d (entry_at new k) ≡ false =
+              ap (λ j. is_given d (entry_at new j)) same ∙ ap (is_given d) removes.updates.changed in cc
           | inr differs ↦
-              let there : is_given d (entry_at old k) ≡ true = sym (ap (is_given d) (removes.updates.others k differs)) ∙ e in
+              let there : is_given d (entry_at old k) ≡ true =
+              sym (ap (is_given d) (removes.updates.others k differs)) ∙ e in
               let here : is_given d (entry_at old key) ≡ true = ap (is_given d) removes.was ∙ is in
               absurd (differs (fits.one d k key there here))
         ]

@@ -11,44 +11,55 @@ abbrev pub One : Slots → Case → Type 0
 One slots d = (j k : ℕ) → is_given d (entry_at slots j) ≡ true → is_given d (entry_at slots k) ≡ true → j ≡ k
 
 one_behind : (slot : Option (Case × Held)) (slots : Slots) (d : Case) → One (slot ∷ slots) d → One slots d
-one_behind slot slots d one j k here there = let same : suc j ≡ suc k = one (suc j) (suc k) here there in omega (arith, same)
+one_behind slot slots d one j k here there = let same : suc j ≡ suc k =
+    one (suc j) (suc k) here there in omega (arith, same)
 
 -- what a key was given for is active
-pub ticket_is : (slots : Slots) (d : Case) (k : ℕ) → One slots d → is_given d (entry_at slots k) ≡ true → ticket_in slots d ≡ entry_ticket (entry_at slots k)
+pub ticket_is : (slots : Slots) (d : Case) (k : ℕ) → One slots d → is_given d (entry_at slots k) ≡ true
+    → ticket_in slots d ≡ entry_ticket (entry_at slots k)
 unfolding ticket_in
 ticket_is [] d k one given = absurd (cc)
 ticket_is (slot ∷ slots) d zero one given = by_slot slot given
   where
-    by_slot : (s : Option (Case × Held)) → is_given d s ≡ true → ticket_if d s (ticket_in slots d) ≡ entry_ticket s
+    by_slot : (s : Option (Case × Held)) → is_given d s ≡ true
+        → ticket_if d s (ticket_in slots d) ≡ entry_ticket s
     by_slot None given = absurd (cc)
     by_slot (Some p) given = rw given refl
-ticket_is (slot ∷ slots) d (suc k) one given = by_slot slot one (ticket_is slots d k (one_behind slot slots d one) given)
+ticket_is (slot ∷ slots) d (suc k) one given =
+    by_slot slot one (ticket_is slots d k (one_behind slot slots d one) given)
   where
-    by_slot : (s : Option (Case × Held)) → One (s ∷ slots) d → ticket_in slots d ≡ entry_ticket (entry_at slots k) → ticket_if d s (ticket_in slots d) ≡ entry_ticket (entry_at slots k)
+    by_slot : (s : Option (Case × Held)) → One (s ∷ slots) d → ticket_in slots d ≡ entry_ticket
+        (entry_at slots k) → ticket_if d s (ticket_in slots d) ≡ entry_ticket (entry_at slots k)
     by_slot None one later = later
     by_slot (Some p) one later = by_test (is_for d p.1.given_for) refl
       where
-        by_test : (b : Bool) → is_for d p.1.given_for ≡ b → (if b then p.0.ticket else ticket_in slots d) ≡ entry_ticket (entry_at slots k)
+        by_test : (b : Bool) → is_for d p.1.given_for ≡ b
+            → (if b then p.0.ticket else ticket_in slots d) ≡ entry_ticket (entry_at slots k)
         by_test true here = let clash : 0 ≡ suc k = one 0 (suc k) here given in absurd (omega (arith, clash))
         by_test false here = later
 
 -- where no key was given for it there is no active ticket
-pub ticket_none : (slots : Slots) (d : Case) → ((k : ℕ) → is_given d (entry_at slots k) ≡ false) → ticket_in slots d ≡ None
+pub ticket_none : (slots : Slots) (d : Case) → ((k : ℕ)
+    → is_given d (entry_at slots k) ≡ false) → ticket_in slots d ≡ None
 unfolding ticket_in
 ticket_none [] d none = refl
 ticket_none (slot ∷ slots) d none = by_slot slot (none 0) (ticket_none slots d (λ k. none (suc k)))
   where
-    by_slot : (s : Option (Case × Held)) → is_given d s ≡ false → ticket_in slots d ≡ None → ticket_if d s (ticket_in slots d) ≡ None
+    by_slot : (s : Option (Case × Held)) → is_given d s ≡ false → ticket_in slots d ≡ None
+        → ticket_if d s (ticket_in slots d) ≡ None
     by_slot None here later = later
     by_slot (Some p) here later = rw here later
 
 -- some key was given for it, or none
-pub given_or_none : (slots : Slots) (d : Case) → ((k : ℕ) × (is_given d (entry_at slots k) ≡ true)) ⊎ ((k : ℕ) → is_given d (entry_at slots k) ≡ false)
+pub given_or_none : (slots : Slots) (d : Case)
+    → ((k : ℕ) × (is_given d (entry_at slots k) ≡ true)) ⊎ ((k : ℕ) → is_given d (entry_at slots k) ≡ false)
 given_or_none [] d = inr (λ k. refl)
 given_or_none (slot ∷ slots) d = by_slot (is_given d slot) refl (given_or_none slots d)
   where
-    by_slot : (b : Bool) → is_given d slot ≡ b → ((k : ℕ) × (is_given d (entry_at slots k) ≡ true)) ⊎ ((k : ℕ) → is_given d (entry_at slots k) ≡ false)
-        → ((k : ℕ) × (is_given d (entry_at (slot ∷ slots) k) ≡ true)) ⊎ ((k : ℕ) → is_given d (entry_at (slot ∷ slots) k) ≡ false)
+    by_slot : (b : Bool) → is_given d slot ≡ b → ((k : ℕ) × (is_given d (entry_at slots k) ≡ true)) ⊎
+        ((k : ℕ) → is_given d (entry_at slots k) ≡ false)
+        → ((k : ℕ) × (is_given d (entry_at (slot ∷ slots) k) ≡ true)) ⊎
+        ((k : ℕ) → is_given d (entry_at (slot ∷ slots) k) ≡ false)
     by_slot true e later = inl (0, e)
     by_slot false e (inl there) = inl (suc there.0, there.1)
     by_slot false e (inr none) = inr behind
@@ -58,14 +69,17 @@ given_or_none (slot ∷ slots) d = by_slot (is_given d slot) refl (given_or_none
         behind (suc k) = none k
 
 -- a change of one key that was not given for it and is not now leaves the active ticket
-pub ticket_stays : (old new : Slots) (key : ℕ) (slot : Option (Case × Held)) (d : Case) → One old d → One new d → Updates old new key slot
+pub ticket_stays : (old new : Slots) (key : ℕ) (slot : Option (Case × Held)) (d : Case) → One old d
+    → One new d → Updates old new key slot
     → is_given d (entry_at old key) ≡ false → is_given d slot ≡ false → ticket_in new d ≡ ticket_in old d
 ticket_stays old new key slot d one one' updates before behind =
     elim (given_or_none old d) [
       | inl there ↦
-          let differs : there.0 ≢ key = λ same. absurd (let not_here : is_given d (entry_at old there.0) ≡ false = ap (λ k. is_given d (entry_at old k)) same ∙ before in cc) in
+          let differs : there.0 ≢ key = λ same. absurd (let not_here : is_given d (entry_at old there.0)
+          ≡ false = ap (λ k. is_given d (entry_at old k)) same ∙ before in cc) in
           let stays = updates.others there.0 differs in
-          ticket_is new d there.0 one' (ap (is_given d) stays ∙ there.1) ∙ ap entry_ticket stays ∙ sym (ticket_is old d there.0 one there.1)
+          ticket_is new d there.0 one' (ap (is_given d) stays ∙ there.1) ∙ ap entry_ticket stays
+          ∙ sym (ticket_is old d there.0 one there.1)
       | inr none ↦
           ticket_none new d (λ k.
           elim (cases_eq k key) [
@@ -75,7 +89,8 @@ ticket_stays old new key slot d one one' updates before behind =
     ]
 
 -- a change of one key that is not given for it keeps the others apart
-pub one_stays : (old new : Slots) (key : ℕ) (slot : Option (Case × Held)) (d : Case) → One old d → Updates old new key slot
+pub one_stays : (old new : Slots) (key : ℕ) (slot : Option (Case × Held)) (d : Case)
+    → One old d → Updates old new key slot
     → is_given d slot ≡ false → One new d
 one_stays old new key slot d one updates behind j k here there = one j k (stood j here) (stood k there)
   where
@@ -83,13 +98,15 @@ one_stays old new key slot d one updates behind j k here there = one j k (stood 
     stood i is =
         elim (cases_eq i key) [
           | inl same ↦
-              let gone : is_given d (entry_at new i) ≡ false = ap (λ j. is_given d (entry_at new j)) same ∙ ap (is_given d) updates.changed ∙ behind in
+              let gone : is_given d (entry_at new i) ≡ false = ap (λ j. is_given d (entry_at new j)) same
+              ∙ ap (is_given d) updates.changed ∙ behind in
               absurd (cc)
           | inr differs ↦ sym (ap (is_given d) (updates.others i differs)) ∙ is
         ]
 
 -- the first key that is given for it is the only one
-pub one_given : (old new : Slots) (key : ℕ) (slot : Option (Case × Held)) (d : Case) → ((k : ℕ) → is_given d (entry_at old k) ≡ false) → Updates old new key slot → One new d
+pub one_given : (old new : Slots) (key : ℕ) (slot : Option (Case × Held)) (d : Case)
+    → ((k : ℕ) → is_given d (entry_at old k) ≡ false) → Updates old new key slot → One new d
 one_given old new key slot d none updates j k here there = at j here ∙ sym (at k there)
   where
     at : (i : ℕ) → is_given d (entry_at new i) ≡ true → i ≡ key
@@ -97,6 +114,7 @@ one_given old new key slot d none updates j k here there = at j here ∙ sym (at
         elim (cases_eq i key) [
           | inl same ↦ same
           | inr differs ↦
-              let nothing : is_given d (entry_at new i) ≡ false = ap (is_given d) (updates.others i differs) ∙ none i in
+              let nothing : is_given d (entry_at new i) ≡ false =
+              ap (is_given d) (updates.others i differs) ∙ none i in
               absurd (cc)
         ]

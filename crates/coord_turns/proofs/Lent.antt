@@ -24,7 +24,8 @@ pub record HeldAt (slots : Slots) (key : ℕ) (c : Case) (v : CoordinatorView) :
   pub was : entry_at slots key ≡ Some (c, held)
   pub live : held.live ≡ v
 
-entry_held : (slots : Slots) (key : ℕ) (c : Case) (v : CoordinatorView) (slot : Option (Case × Held)) → entry_at slots key ≡ slot
+entry_held : (slots : Slots) (key : ℕ) (c : Case) (v : CoordinatorView)
+    (slot : Option (Case × Held)) → entry_at slots key ≡ slot
     → case_of slot ≡ Some c → live_of slot ≡ Some v → HeldAt slots key c v
 entry_held slots key c v None at of is = absurd (cc)
 entry_held slots key c v (Some p) at of is =
@@ -32,20 +33,25 @@ entry_held slots key c v (Some p) at of is =
     let live : p.1.live ≡ v = cc in
     record { held = p.1; was = at ∙ ap (λ d. Some (d, p.1)) owner; live = live }
 
-pub held_at : (slots : Slots) (key : ℕ) (c : Case) (v : CoordinatorView) → IsAt slots key c → live_at slots key ≡ Some v → HeldAt slots key c v
+pub held_at : (slots : Slots) (key : ℕ) (c : Case) (v : CoordinatorView) → IsAt slots key c
+    → live_at slots key ≡ Some v → HeldAt slots key c v
 held_at slots key c v of is = entry_held slots key c v (entry_at slots key) refl of is
 
 -- the case of a key stands as what is live there
-pub view_here : (slots : Slots) (key : ℕ) (c : Case) (v : CoordinatorView) → AreApart slots → IsAt slots key c → live_at slots key ≡ Some v → view_in slots c ≡ v
+pub view_here : (slots : Slots) (key : ℕ) (c : Case) (v : CoordinatorView) → AreApart slots → IsAt slots key c
+    → live_at slots key ≡ Some v → view_in slots c ≡ v
 view_here slots key c v apart of is =
     let at = held_at slots key c v of is in
     ap held_view (value_of_case slots c key (c, at.held) apart at.was (same_case-itself c)) ∙ at.live
 
-module _ (slots : Slots) (key : ℕ) (s : Seat) (asked : Asked) (v : CoordinatorView) (fits : FitsGiven slots) (apart : AreApart slots) (at : HeldAt slots key s.case v) where
+module _ (slots : Slots) (key : ℕ) (s : Seat) (asked : Asked) (v : CoordinatorView) (fits : FitsGiven slots)
+    (apart : AreApart slots) (at : HeldAt slots key s.case v) where
   pub view_at : view_in slots s.case ≡ v
-  view_at = ap held_view (value_of_case slots s.case key (s.case, at.held) apart at.was (same_case-itself s.case)) ∙ at.live
+  view_at = ap held_view (value_of_case slots s.case key (s.case, at.held) apart at.was
+      (same_case-itself s.case)) ∙ at.live
 
-  pub takes_live : (behind : CoordinatorView) (made : Result RowEffect AllocError) → IfOk made (λ effect. Does s (asked_row (seat s) asked v) effect behind)
+  pub takes_live : (behind : CoordinatorView) (made : Result RowEffect AllocError)
+      → IfOk made (λ effect. Does s (asked_row (seat s) asked v) effect behind)
       → IfOk made (λ effect. TakesLive slots (with_live slots key behind) key s asked effect)
   takes_live behind (Ok effect) does =
       record {
@@ -59,8 +65,10 @@ module _ (slots : Slots) (key : ℕ) (s : Seat) (asked : Asked) (v : Coordinator
       }
   takes_live behind (Err e) does = does
 
-  pub refuses_live : (behind : CoordinatorView) (made : Result RowEffect AllocError) → OnErr made (SameView behind v) → OnErr made (SameCases slots (with_live slots key behind))
+  pub refuses_live : (behind : CoordinatorView) (made : Result RowEffect AllocError)
+      → OnErr made (SameView behind v) → OnErr made (SameCases slots (with_live slots key behind))
   refuses_live behind (Ok effect) same = same
   refuses_live behind (Err e) same =
-      refused slots (with_live slots key behind) key s.case at.held behind at.was (Relives-with_live slots key s.case at.held behind fits apart at.was)
+      refused slots (with_live slots key behind) key s.case at.held behind at.was
+      (Relives-with_live slots key s.case at.held behind fits apart at.was)
       (subst (SameView behind) (sym at.live) same)

@@ -12,25 +12,31 @@ use Rattle.coord_turns.specs.declared.asked.Asked.TheVariants.{Join, Work, Commi
 use Rattle.coord_turns.specs.Asks.{asked_row, is_of_root, is_retiring}
 
 -- of two rows the one that a test picks leaves the standing that both leave
-either : (b : Bool) (r q : Row) → r.view.standing ≡ Active → q.view.standing ≡ Active → (if b then r else q).view.standing ≡ Active
+either : (b : Bool) (r q : Row) → r.view.standing ≡ Active → q.view.standing ≡ Active
+    → (if b then r else q).view.standing ≡ Active
 either true r q this that = this
 either false r q this that = that
 
-acked : (s : Seat) (t : Ticket) (o : Outcome) (v : CoordinatorView) → v.standing ≡ Active → (on_ack s t o v Active).view.standing ≡ Active
+acked : (s : Seat) (t : Ticket) (o : Outcome) (v : CoordinatorView) → v.standing ≡ Active
+    → (on_ack s t o v Active).view.standing ≡ Active
 acked s t Committed v active = active
 acked s t Aborted v active = active
 
 joined : (t : Ticket) (v : CoordinatorView) → v.standing ≡ Active → (active_joined t v).view.standing ≡ Active
 joined t v active = either (has_child v.accepted t.child) (quiet v) _ active active
 
-pub stays_active : (s : Seat) (asked : Asked) (v : CoordinatorView) → v.standing ≡ Active → is_retiring asked ≡ false → is_of_root asked ≡ false
+pub stays_active : (s : Seat) (asked : Asked) (v : CoordinatorView) → v.standing ≡ Active
+    → is_retiring asked ≡ false → is_of_root asked ≡ false
     → (asked_row s asked v).view.standing ≡ Active
-stays_active s (Join q) v active not_retiring below = either (has_child v.accepted q) (quiet v) _ active active
+stays_active s (Join q) v active not_retiring below =
+    either (has_child v.accepted q) (quiet v) _ active active
 stays_active s (Work t op) v active not_retiring below = active
 stays_active s Ask v active not_retiring below = active
-stays_active s (Joined t) v active not_retiring below = subst (λ at. (on_joined t v at).view.standing ≡ Active) (sym active) (joined t v active)
+stays_active s (Joined t) v active not_retiring below =
+    subst (λ at. (on_joined t v at).view.standing ≡ Active) (sym active) (joined t v active)
 stays_active s (Vote t w) v active not_retiring below = rw active refl
-stays_active s (Ack t o) v active not_retiring below = subst (λ at. (on_ack s t o v at).view.standing ≡ Active) (sym active) (acked s t o v active)
+stays_active s (Ack t o) v active not_retiring below =
+    subst (λ at. (on_ack s t o v at).view.standing ≡ Active) (sym active) (acked s t o v active)
 stays_active s (Inquire t) v active not_retiring below = rw active refl
 stays_active s Commits v active not_retiring below = rw active refl
 stays_active s Commit v active not_retiring below = absurd (cc)

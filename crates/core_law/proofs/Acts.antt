@@ -24,11 +24,13 @@ use Rattle.tree_model.specs.Views.{begin_effect}
 use Rattle.core_model.specs.States.{CoreState, parent}
 use Rattle.core_model.specs.Turns.{Refuses, Takes, abort_turn, ask_turn, begin_turn, childless_turn, commit_turn, coordinator_act, decide_turn, forget_turn, join_turn, leaf_ask_turn, live_turn, manager_act, reacted, seat_in, untold_turn, work_for_turn, work_turn}
 
-joins : (s : Seat) (tree : List TreeEntry) (q : ProcessId) (v : CoordinatorView) (st : Standing) → join_by s tree q v st ≡ reacted (join_turn s tree q v st)
+joins : (s : Seat) (tree : List TreeEntry) (q : ProcessId) (v : CoordinatorView) (st : Standing)
+    → join_by s tree q v st ≡ reacted (join_turn s tree q v st)
 joins s tree q v Unknown = refl
 joins s tree q v Active = by_test (is_child tree q s.me)
   where
-    by_test : (b : Bool) → (if b then Does (row_effect s.own (active_join s q v)) else Refused NotAChild) ≡ reacted (if b then Takes s.own (active_join s q v) else Refuses NotAChild)
+    by_test : (b : Bool) → (if b then Does (row_effect s.own (active_join s q v)) else Refused NotAChild)
+        ≡ reacted (if b then Takes s.own (active_join s q v) else Refuses NotAChild)
     by_test true = refl
     by_test false = refl
 joins s tree q v Collecting = refl
@@ -37,15 +39,18 @@ joins s tree q v Committing = refl
 joins s tree q v Aborting = refl
 joins s tree q v Heuristic = refl
 
-works_for : (s : Seat) (tree : List TreeEntry) (op : Op) (v : CoordinatorView) (o : Option Ticket) → work_for s tree op v o ≡ reacted (work_for_turn s tree op v o)
+works_for : (s : Seat) (tree : List TreeEntry) (op : Op) (v : CoordinatorView) (o : Option Ticket)
+    → work_for s tree op v o ≡ reacted (work_for_turn s tree op v o)
 works_for s tree op v None = refl
 works_for s tree op v (Some t) = by_test (is_leaf (role_of tree t.child))
   where
-    by_test : (b : Bool) → (if b then Does (row_effect s.own (active_work s t op v)) else Refused NotAChild) ≡ reacted (if b then Takes s.own (active_work s t op v) else Refuses NotAChild)
+    by_test : (b : Bool) → (if b then Does (row_effect s.own (active_work s t op v)) else Refused NotAChild)
+        ≡ reacted (if b then Takes s.own (active_work s t op v) else Refuses NotAChild)
     by_test true = refl
     by_test false = refl
 
-works : (s : Seat) (tree : List TreeEntry) (q : ProcessId) (op : Op) (v : CoordinatorView) (st : Standing) → work_by s tree q op v st ≡ reacted (work_turn s tree q op v st)
+works : (s : Seat) (tree : List TreeEntry) (q : ProcessId) (op : Op) (v : CoordinatorView) (st : Standing)
+    → work_by s tree q op v st ≡ reacted (work_turn s tree q op v st)
 works s tree q op v Unknown = refl
 works s tree q op v Active = works_for s tree op v (ticket_of_child v.accepted q)
 works s tree q op v Collecting = refl
@@ -136,46 +141,65 @@ pub record ReadsCoordinator (s : CoreState) (n : Node) : Type 0 where
   pub begun : s.begun ≡ (memory_of s.place n (some_case s.place)).begun
   pub views : (c : Case) → s.view_of c ≡ coordinator_view s.place n c
 
-pub coordinator_acts_as : (s : CoreState) (n : Node) (x : Act) → ReadsCoordinator s n → coordinator_acts s.place (parent s) n x ≡ reacted (coordinator_act s x)
+pub coordinator_acts_as : (s : CoreState) (n : Node) (x : Act) → ReadsCoordinator s n
+    → coordinator_acts s.place (parent s) n x ≡ reacted (coordinator_act s x)
 coordinator_acts_as s n (Begin p) reads = by_parent (parent s)
   where
     by_parent : (par : Option ProcessId) → begins_at par s.place n p ≡ reacted (begin_turn s p par)
     by_parent None =
-        sym (λ i. Does (begin_effect (record { root = s.place.me; boot = reads.boot i; sequence = reads.begun i + 1; presumption = p })))
+        sym (λ i. Does (begin_effect (record {
+          root = s.place.me;
+          boot = reads.boot i;
+          sequence = reads.begun i + 1;
+          presumption = p;
+        })))
     by_parent (Some q) = refl
 coordinator_acts_as s n (JoinAct c q) reads =
     let v = coordinator_view s.place n c in
-    joins (seat_in s c) s.place.tree q v v.standing ∙ sym (ap (λ w. reacted (join_turn (seat_in s c) s.place.tree q w w.standing)) (reads.views c))
+    joins (seat_in s c) s.place.tree q v v.standing
+    ∙ sym (ap (λ w. reacted (join_turn (seat_in s c) s.place.tree q w w.standing)) (reads.views c))
 coordinator_acts_as s n (WorkAct c q op) reads =
     let v = coordinator_view s.place n c in
-    works (seat_in s c) s.place.tree q op v v.standing ∙ sym (ap (λ w. reacted (work_turn (seat_in s c) s.place.tree q op w w.standing)) (reads.views c))
+    works (seat_in s c) s.place.tree q op v v.standing
+    ∙ sym (ap (λ w. reacted (work_turn (seat_in s c) s.place.tree q op w w.standing)) (reads.views c))
 coordinator_acts_as s n (CommitAct x) reads =
     let c = root_case x in
     let v = coordinator_view s.place n c in
-    commits (seat_in s c) v v.standing ∙ sym (ap (λ w. reacted (commit_turn (seat_in s c) w w.standing)) (reads.views c))
+    commits (seat_in s c) v v.standing
+    ∙ sym (ap (λ w. reacted (commit_turn (seat_in s c) w w.standing)) (reads.views c))
 coordinator_acts_as s n (AbortAct x) reads =
     let c = root_case x in
     let v = coordinator_view s.place n c in
-    aborts (seat_in s c) v v.standing ∙ sym (ap (λ w. reacted (abort_turn (seat_in s c) w w.standing)) (reads.views c))
+    aborts (seat_in s c) v v.standing
+    ∙ sym (ap (λ w. reacted (abort_turn (seat_in s c) w w.standing)) (reads.views c))
 coordinator_acts_as s n (Ask c) reads =
     let v = coordinator_view s.place n c in
-    asks (seat_in s c) v v.standing ∙ sym (ap (λ w. reacted (ask_turn (seat_in s c) w w.standing)) (reads.views c))
+    asks (seat_in s c) v v.standing
+    ∙ sym (ap (λ w. reacted (ask_turn (seat_in s c) w w.standing)) (reads.views c))
 coordinator_acts_as s n (Decide c o) reads =
-    lives NotInDoubt (coordinator_view s.place n c).standing ∙ sym (ap (λ w. reacted (live_turn NotInDoubt w.standing)) (reads.views c))
+    lives NotInDoubt (coordinator_view s.place n c).standing
+    ∙ sym (ap (λ w. reacted (live_turn NotInDoubt w.standing)) (reads.views c))
 coordinator_acts_as s n (Forget c) reads =
-    lives NothingToForget (coordinator_view s.place n c).standing ∙ sym (ap (λ w. reacted (live_turn NothingToForget w.standing)) (reads.views c))
+    lives NothingToForget (coordinator_view s.place n c).standing
+    ∙ sym (ap (λ w. reacted (live_turn NothingToForget w.standing)) (reads.views c))
 
-pub manager_acts_as : (s : CoreState) (n : Node) (p : ProcessId) (x : Act) → ((c : Case) → s.branch_of c ≡ manager_view s.place n c)
+pub manager_acts_as : (s : CoreState) (n : Node) (p : ProcessId) (x : Act)
+    → ((c : Case) → s.branch_of c ≡ manager_view s.place n c)
     → manager_acts s.place p n x ≡ reacted (manager_act s p x)
 manager_acts_as s n p (Begin q) branches = refl
-manager_acts_as s n p (JoinAct c q) branches = childless (manager_view s.place n c).standing ∙ sym (ap (λ w. reacted (childless_turn w.standing)) (branches c))
-manager_acts_as s n p (WorkAct c q op) branches = childless (manager_view s.place n c).standing ∙ sym (ap (λ w. reacted (childless_turn w.standing)) (branches c))
+manager_acts_as s n p (JoinAct c q) branches = childless (manager_view s.place n c).standing
+    ∙ sym (ap (λ w. reacted (childless_turn w.standing)) (branches c))
+manager_acts_as s n p (WorkAct c q op) branches = childless (manager_view s.place n c).standing
+    ∙ sym (ap (λ w. reacted (childless_turn w.standing)) (branches c))
 manager_acts_as s n p (CommitAct x) branches = refl
 manager_acts_as s n p (AbortAct x) branches = refl
 manager_acts_as s n p (Ask c) branches =
     let v = manager_view s.place n c in
-    leaf_asks (leaf_of s.place p c) v v.standing ∙ sym (ap (λ w. reacted (leaf_ask_turn (leaf_of s.place p c) w w.standing)) (branches c))
+    leaf_asks (leaf_of s.place p c) v v.standing
+    ∙ sym (ap (λ w. reacted (leaf_ask_turn (leaf_of s.place p c) w w.standing)) (branches c))
 manager_acts_as s n p (Decide c o) branches =
-    decides (leaf_of s.place p c) o (manager_view s.place n c).standing ∙ sym (ap (λ w. reacted (decide_turn (leaf_of s.place p c) o w.standing)) (branches c))
+    decides (leaf_of s.place p c) o (manager_view s.place n c).standing
+    ∙ sym (ap (λ w. reacted (decide_turn (leaf_of s.place p c) o w.standing)) (branches c))
 manager_acts_as s n p (Forget c) branches =
-    forgets (leaf_of s.place p c) (manager_view s.place n c).standing ∙ sym (ap (λ w. reacted (forget_turn (leaf_of s.place p c) w.standing)) (branches c))
+    forgets (leaf_of s.place p c) (manager_view s.place n c).standing
+    ∙ sym (ap (λ w. reacted (forget_turn (leaf_of s.place p c) w.standing)) (branches c))

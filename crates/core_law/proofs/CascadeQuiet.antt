@@ -28,14 +28,16 @@ module _ (me : ProcessId) (boot : ℕ) (c : Case) where
   quiet_joins : (m : Memory) (d : Case) (o : Option Ticket) → Quiet m → Quiet (joins me boot c d m o)
   quiet_joins m d (Some t) q = q
   quiet_joins m d None q =
-      either_quiet (same_case c (child_case d.txn (next_ticket me boot m))) (gives m d (next_ticket me boot m))
+      either_quiet (same_case c (child_case d.txn (next_ticket me boot m)))
+      (gives m d (next_ticket me boot m))
       (opens_case (gives m d (next_ticket me boot m))) q refl
 
   quiet_message : (m : Memory) (x : Message) → Quiet m → Quiet (cascaded_hears me boot c m x)
   quiet_message m (Join d) q = quiet_joins m d (active_ticket m.active d) q
   quiet_message m (Prepare d k) q =
       either_quiet (same_case d c) (retires m d) _ q (quiet_asks (retires m d) m.phase q refl)
-  quiet_message m (Abort d) q = either_quiet (same_case d c) (retires m d) _ q (quiet_closes (retires m d) m.phase refl)
+  quiet_message m (Abort d) q = either_quiet (same_case d c) (retires m d) _ q
+      (quiet_closes (retires m d) m.phase refl)
   quiet_message m (Joined d t) q = quiet_hears c m (Joined d t) q
   quiet_message m (Yes d) q = quiet_hears c m (Yes d) q
   quiet_message m (No d) q = quiet_hears c m (No d) q
@@ -61,7 +63,8 @@ module _ (me : ProcessId) (boot : ℕ) (c : Case) where
   quiet_inputs : (p : ProcessId) (m : Memory) (hs : List Heard) → Quiet m
       → Quiet (fold (remembers me (Below p) boot c) m hs)
   quiet_inputs p m [] q = q
-  quiet_inputs p m (h ∷ hs) q = quiet_inputs p (cascaded_remembers me boot c m h.input) hs (quiet_input m h.input q)
+  quiet_inputs p m (h ∷ hs) q = quiet_inputs p (cascaded_remembers me boot c m h.input)
+      hs (quiet_input m h.input q)
 
 pub cascaded_quiet : (me p : ProcessId) (tree : List TreeEntry) (n : Node) (c : Case)
     → Quiet (memory_of (cascaded_place me p tree) n c)

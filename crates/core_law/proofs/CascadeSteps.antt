@@ -1,4 +1,5 @@
--- An input at a coordinator below the root, by whether it names listed processes and whether its device has failed.
+-- An input at a coordinator below the root, by whether it names listed processes and whether its device has
+-- failed.
 use Rattle.std.proofs.Common.{◌≡◌, Bool, true, false, if◌then◌else◌, List, Option, refl, sym, subst, ◌∙◌}
 use Rattle.tree_model.specs.declared.names.Case.{Case}
 use Rattle.tree_model.specs.declared.names.ProcessId.{ProcessId}
@@ -40,16 +41,19 @@ module _ (n : Node) (s s' : CoreState) (me p : ProcessId) (tree : List TreeEntry
   up_follows runs stands fits (MessageInput k m) finds late =
       heard_so n s s' me p tree a fits runs stands k found m finds late
 
-  follows : n.failed ≡ false → Stands n old → CascadeFits (cascaded_place me p tree) n → Finds old (asked_by i) found
+  follows : n.failed ≡ false → Stands n old → CascadeFits (cascaded_place me p tree) n
+      → Finds old (asked_by i) found
       → is_passed_over (cascaded_place me p tree) n i ≡ false → Leads i (turn_of old a found i)
   unfolding turn_of
   follows runs stands fits finds late = by_test (act_is_listed tree i)
     where
       by_test : (b : Bool)
-          → Leads i (if b then (if s.log.failed then Refuses Failed else up_turn old a found i) else Refuses NoSuch)
+          → Leads i
+          (if b then (if s.log.failed then Refuses Failed else up_turn old a found i) else Refuses NoSuch)
       by_test false = λ e is made. absurd made
       by_test true =
-          subst (λ z. Leads i (if z then Refuses Failed else up_turn old a found i)) (sym (stands.failed ∙ runs))
+          subst (λ z. Leads i (if z then Refuses Failed else up_turn old a found i))
+          (sym (stands.failed ∙ runs))
           (up_follows runs stands fits i finds late)
 
 -- the place of a process is that of a coordinator below the root
@@ -61,17 +65,21 @@ module _ (n : Node) (old new : CoreState) (p : ProcessId) (a : DataAnswer) (i : 
     (stands : Stands n old) (made : Makes old new a i reaction) where
   abbrev at_place : Place → Place → Type 0
   at_place q r =
-      Stands n (record old { place = q }) → CascadeFits q n → Finds (record old { place = q }) (asked_by i) made.found
-      → is_passed_over q n i ≡ false → reacted (turn_of (record old { place = q }) a made.found i) ≡ Does made.effect
+      Stands n (record old { place = q }) → CascadeFits q n
+      → Finds (record old { place = q }) (asked_by i) made.found
+      → is_passed_over q n i ≡ false → reacted
+      (turn_of (record old { place = q }) a made.found i) ≡ Does made.effect
       → Moves (record old { place = q }) (record new { place = r }) i
       (turn_of (record old { place = q }) a made.found i)
       → Stands (after n (record { input = i; data_answer = a }) made.effect) (record new { place = r })
 
-  placed : n.failed ≡ false → (q r : Place) → q ≡ cascaded_place old.place.me p old.place.tree → r ≡ q → at_place q r
+  placed : n.failed ≡ false → (q r : Place) → q
+      ≡ cascaded_place old.place.me p old.place.tree → r ≡ q → at_place q r
   placed runs q r is_q is_r =
       subst (at_place q) (sym is_r)
       (subst (λ q. at_place q q) (sym is_q)
-      (λ s f g l d m. follows n old new old.place.me p old.place.tree a i made.found runs s f g l made.effect d m))
+      (λ s f g l d m. follows n old new old.place.me p old.place.tree a i made.found
+      runs s f g l made.effect d m))
 
   made_so : n.failed ≡ false → CascadeFits old.place n → is_passed_over old.place n i ≡ false
       → MadeAs n (record { input = i; data_answer = a }) old new reaction
@@ -89,6 +97,7 @@ module _ (n : Node) (old new : CoreState) (p : ProcessId) (a : DataAnswer) (i : 
       → MadeAs n (record { input = i; data_answer = a }) old new reaction
   cascade_makes fits late = by_failed n.failed refl
     where
-      by_failed : (f : Bool) → n.failed ≡ f → MadeAs n (record { input = i; data_answer = a }) old new reaction
+      by_failed : (f : Bool) → n.failed ≡ f → MadeAs n
+          (record { input = i; data_answer = a }) old new reaction
       by_failed false runs = made_so runs (fits runs) late
       by_failed true failed = failed_makes old new a made.found i (stands.failed ∙ failed) made.moves

@@ -1,5 +1,5 @@
--- The rows of a coordinator below the root, over records and what is remembered: the view that a row gives is what the
--- extended lists read as.
+-- The rows of a coordinator below the root, over records and what is remembered: the view that a row gives
+-- is what the extended lists read as.
 use Rattle.std.proofs.Common.{◌≡◌, ◌∙◌, Bool, true, false, not, ◌||◌, if◌then◌else◌, Some, List, [], ◌∷◌, ◌++◌, refl, sym, ap}
 use Rattle.tree_model.specs.declared.names.Case.{Case}
 use Rattle.tree_model.specs.declared.names.Outcome.{Outcome}
@@ -36,7 +36,8 @@ pub record PreparedFacts (E C A P : Bool) : Type 0 where
   pub no_abort : A ≡ false
   pub prepared : P ≡ true
 
-pub prepared_facts : (E C A P K N : Bool) (hs : Standing) → (hs ≡ Prepared → ⊥) → standing_by E C A P K N hs ≡ Prepared
+pub prepared_facts : (E C A P K N : Bool) (hs : Standing) → (hs ≡ Prepared → ⊥)
+    → standing_by E C A P K N hs ≡ Prepared
     → PreparedFacts E C A P
 prepared_facts true C A P K N hs d e = absurd (cc)
 prepared_facts false true A P K true hs d e = absurd (cc)
@@ -76,10 +77,12 @@ module _ (me p : ProcessId) (c : Case) (rs : List Record) where
 
   -- what a case that collects votes is known by
   abbrev pub Collects : Type 0
-  Collects = CollectingFacts (has (is_end c) rs) (has (is_commit c) rs) (has (is_abort c) rs) (has (is_prepare c) rs)
+  Collects = CollectingFacts (has (is_end c) rs) (has (is_commit c) rs)
+      (has (is_abort c) rs) (has (is_prepare c) rs)
 
   abbrev pub Promised : Type 0
-  Promised = PreparedFacts (has (is_end c) rs) (has (is_commit c) rs) (has (is_abort c) rs) (has (is_prepare c) rs)
+  Promised = PreparedFacts (has (is_end c) rs) (has (is_commit c) rs)
+      (has (is_abort c) rs) (has (is_prepare c) rs)
 
   -- the view of the case with this presumption
   abbrev reads : Presumption → List Record → Memory → CoordinatorView
@@ -92,7 +95,8 @@ module _ (me p : ProcessId) (c : Case) (rs : List Record) where
       (has (is_collecting c) rs) Active
       → let row = commit_row seat (view_at Active rs c m) q b in
       let m' : Memory =
-      record m { phase = if b then Over else Asked } in reads q (rs ++ entries_written row.written) m' ≡ row.view
+      record m { phase = if b then Over else Asked } in reads q
+      (rs ++ entries_written row.written) m' ≡ row.view
   asks_reads PresumeAbort true m f = commit_pure me c PresumeAbort true rs m f
   asks_reads PresumeCommit true m f = commit_pure me c PresumeCommit true rs m f
   asks_reads PresumeAbort false m f = commit_pure me c PresumeAbort false rs m f
@@ -100,7 +104,8 @@ module _ (me p : ProcessId) (c : Case) (rs : List Record) where
 
   -- an abort of a case that collects votes
 
-  pub aborts_reads : (q : Presumption) (why : Reason) (us : List Ticket) (m : Memory) → Collects → owing_by c rs ≡ []
+  pub aborts_reads : (q : Presumption) (why : Reason) (us : List Ticket) (m : Memory)
+      → Collects → owing_by c rs ≡ []
       → m.acks ≡ []
       → let row = collecting_abort_by seat why (view_at Collecting rs c m) us q in
       let m' : Memory = record m { phase = Over } in reads q (rs ++ entries_written row.written) m' ≡ row.view
@@ -124,27 +129,32 @@ module _ (me p : ProcessId) (c : Case) (rs : List Record) where
   full_reads true m e f no_record = read_only_pure me c c.txn.presumption rs m f no_record
   full_reads false m e f no_record = promises_reads c.txn.presumption (yes_of m.accepted m.votes) m f
 
-  module _ (m : Memory) (stands : standing_with c.txn.presumption rs c m ≡ Collecting) (asked : m.phase ≡ Asked)
+  module _ (m : Memory) (stands : standing_with c.txn.presumption rs c m
+      ≡ Collecting) (asked : m.phase ≡ Asked)
       (f : Collects)
-      (no_record : c.txn.presumption ≡ PresumeAbort → has (is_collecting c) rs ≡ false) (owes : owing_by c rs ≡ [])
+      (no_record : c.txn.presumption ≡ PresumeAbort
+      → has (is_collecting c) rs ≡ false) (owes : owing_by c rs ≡ [])
       (acks : m.acks ≡ []) where
     abbrev with_one : Ticket → Vote → Memory
     with_one t w = record m { votes = m.votes ++ (t, w) ∷ [] }
 
     consent_reads : (t : Ticket) (w : Vote) (all : Bool)
-        → let v = view_at Collecting rs c (with_one t w) in let row = if all then collecting_full seat v else quiet v in
+        → let v = view_at Collecting rs c (with_one t w) in let row =
+        if all then collecting_full seat v else quiet v in
         reads c.txn.presumption (rs ++ entries_written row.written)
         (record (with_one t w) { phase = if all then Over else Asked }) ≡ row.view
     consent_reads t w true =
         full_reads (none_of (yes_of m.accepted (m.votes ++ (t, w) ∷ []))) (with_one t w) refl f no_record
     consent_reads t w false =
-        same_pure c c.txn.presumption Collecting rs m (record (with_one t w) { phase = Asked }) stands (sym asked)
+        same_pure c c.txn.presumption Collecting rs m
+        (record (with_one t w) { phase = Asked }) stands (sym asked)
 
     after_reads : (t : Ticket) (w : Vote) → let row =
         collecting_after seat (view_at Collecting rs c (with_one t w)) w in
         reads c.txn.presumption (rs ++ entries_written row.written) (with_vote m t w) ≡ row.view
     after_reads t No =
-        aborts_reads c.txn.presumption ByVote (undecided_of m.accepted (m.votes ++ (t, No) ∷ [])) (with_one t No) f owes
+        aborts_reads c.txn.presumption ByVote
+        (undecided_of m.accepted (m.votes ++ (t, No) ∷ [])) (with_one t No) f owes
         acks
     after_reads t Yes = consent_reads t Yes (all_voted m.accepted (m.votes ++ (t, Yes) ∷ []))
     after_reads t Read = consent_reads t Read (all_voted m.accepted (m.votes ++ (t, Read) ∷ []))
@@ -153,12 +163,14 @@ module _ (me p : ProcessId) (c : Case) (rs : List Record) where
         → let row = if b then record
         (collecting_after seat (view_at Collecting rs c (with_one t w)) w) { counts = (t, w) ∷ [] } else quiet
         (view_at Collecting rs c m) in
-        reads c.txn.presumption (rs ++ entries_written row.written) (if b then with_vote m t w else m) ≡ row.view
+        reads c.txn.presumption (rs ++ entries_written row.written)
+        (if b then with_vote m t w else m) ≡ row.view
     counted_reads t w true = after_reads t w
     counted_reads t w false = same_pure c c.txn.presumption Collecting rs m m stands refl
 
     -- a vote at a case that collects them
-    pub vote_reads : (t : Ticket) (w : Vote) → let row = collecting_vote seat t w (view_at Collecting rs c m) in
+    pub vote_reads : (t : Ticket) (w : Vote) → let row =
+        collecting_vote seat t w (view_at Collecting rs c m) in
         reads c.txn.presumption (rs ++ entries_written row.written)
         (if is_counted m.accepted m.votes t then with_vote m t w else m) ≡ row.view
     vote_reads t w = counted_reads t w (is_counted m.accepted m.votes t)
@@ -171,18 +183,49 @@ module _ (me p : ProcessId) (c : Case) (rs : List Record) where
     pub commits_reads : (q : Presumption) (none : Bool) → none_of (promised_by c rs) ≡ none
         → still_owed m.acks CommittedOutcome (promised_by c rs) ≡ promised_by c rs
         → let row =
-        prepared_commit_by seat (view_at Prepared rs c m) q in reads q (rs ++ entries_written row.written) k ≡ row.view
-    commits_reads PresumeAbort true u still = simp (pushed, f.no_end, f.no_commit, f.no_abort, f.prepared, owes, u) refl
+        prepared_commit_by seat (view_at Prepared rs c m) q in reads q
+        (rs ++ entries_written row.written) k ≡ row.view
+    commits_reads PresumeAbort true u still =
+        simp (pushed, f.no_end, f.no_commit, f.no_abort, f.prepared, owes, u) refl
     commits_reads PresumeAbort false u still =
-        simp (pushed, f.no_end, f.no_commit, f.no_abort, f.prepared, owes, u, accepted, votes, works, acks, still) refl
-    commits_reads PresumeCommit none u still = simp (pushed, f.no_end, f.no_commit, f.no_abort, f.prepared, owes) refl
+        simp (
+          pushed,
+          f.no_end,
+          f.no_commit,
+          f.no_abort,
+          f.prepared,
+          owes,
+          u,
+          accepted,
+          votes,
+          works,
+          acks,
+          still,
+        ) refl
+    commits_reads PresumeCommit none u still =
+        simp (pushed, f.no_end, f.no_commit, f.no_abort, f.prepared, owes) refl
 
     pub aborted_reads : (q : Presumption) (none : Bool) → none_of (promised_by c rs) ≡ none
         → still_owed m.acks AbortedOutcome (promised_by c rs) ≡ promised_by c rs
         → let row =
-        prepared_abort_by seat (view_at Prepared rs c m) q in reads q (rs ++ entries_written row.written) k ≡ row.view
-    aborted_reads PresumeAbort none u still = simp (pushed, f.no_end, f.no_commit, f.no_abort, f.prepared, owes) refl
+        prepared_abort_by seat (view_at Prepared rs c m) q in reads q
+        (rs ++ entries_written row.written) k ≡ row.view
+    aborted_reads PresumeAbort none u still =
+        simp (pushed, f.no_end, f.no_commit, f.no_abort, f.prepared, owes) refl
     aborted_reads PresumeCommit true u still =
         simp (pushed, f.no_end, f.no_commit, f.no_abort, f.prepared, owes, u) refl
     aborted_reads PresumeCommit false u still =
-        simp (pushed, f.no_end, f.no_commit, f.no_abort, f.prepared, owes, u, accepted, votes, works, acks, still) refl
+        simp (
+          pushed,
+          f.no_end,
+          f.no_commit,
+          f.no_abort,
+          f.prepared,
+          owes,
+          u,
+          accepted,
+          votes,
+          works,
+          acks,
+          still,
+        ) refl

@@ -141,7 +141,8 @@ module _ (n : Node) (s s' : CoreState) (me p : ProcessId) (tree : List TreeEntry
 
   -- What each input leaves of the process itself.
 
-  kept_tickets : (i : Input) → ((d : Case) (t : Ticket) → retires_ticket i d t ≡ false) → (d : Case) (o : Option Ticket)
+  kept_tickets : (i : Input) → ((d : Case) (t : Ticket) → retires_ticket i d t ≡ false)
+      → (d : Case) (o : Option Ticket)
       → retired_by i d o ≡ o
   kept_tickets i none d None = refl
   kept_tickets i none d (Some t) = ap (λ b. if b then None else Some t) (none d t)
@@ -186,7 +187,8 @@ module _ (n : Node) (s s' : CoreState) (me p : ProcessId) (tree : List TreeEntry
 
   -- How a case stands, by its lists.
 
-  stands_as : (c : Case) (st : Standing) → (view c).standing ≡ st → standing_with c.txn.presumption rs c (memory c) ≡ st
+  stands_as : (c : Case) (st : Standing) → (view c).standing ≡ st
+      → standing_with c.txn.presumption rs c (memory c) ≡ st
   unfolding coordinator_view
   stands_as c st is = sym (view_standing (coordinator_standing rs c (memory c)) rs c (memory c)) ∙ is
 
@@ -206,7 +208,8 @@ module _ (n : Node) (s s' : CoreState) (me p : ProcessId) (tree : List TreeEntry
       → (memory c).phase ≡ ph → ph ≡ Open → ⊥
   not_open c st is apart ph was e = apart (sym is ∙ (fits.alike c).open_is_active (was ∙ e))
 
-  not_asked : (c : Case) (st : Standing) → (view c).standing ≡ st → (st ≡ standing.Collecting → ⊥) → (ph : Phase)
+  not_asked : (c : Case) (st : Standing) → (view c).standing ≡ st
+      → (st ≡ standing.Collecting → ⊥) → (ph : Phase)
       → (memory c).phase ≡ ph → ph ≡ Asked → ⊥
   not_asked c st is apart ph was e = apart (sym is ∙ (fits.alike c).asked_is_collecting (was ∙ e))
 
@@ -227,7 +230,8 @@ module _ (n : Node) (s s' : CoreState) (me p : ProcessId) (tree : List TreeEntry
         (own_moved n s s' place a (λ m c. refl) (λ m c. refl) i c row' own
         (ap (read (rs ++ entries_written row'.written) c) is ∙ reads)) keeps
 
-    rests : (i : Input) (c : Case) (row row' : Row) → SameRow row row' → row'.written ≡ [] → row'.view ≡ view c → Same i
+    rests : (i : Input) (c : Case) (row row' : Row) → SameRow row row' → row'.written ≡ []
+        → row'.view ≡ view c → Same i
         → ((d : Case) → Still i d) → Leads i (Takes c row)
     rests = rested n s s' place a (λ m c. refl) (λ m c. refl) runs stands
 
@@ -279,18 +283,22 @@ module _ (n : Node) (s s' : CoreState) (me p : ProcessId) (tree : List TreeEntry
         let m = memory c in
         let k : Memory = record m { works = m.works ++ t ∷ [] } in
         let stood = stands_as c standing.Active active in
-        let opened : m.phase ≡ Open = phase_active c.txn.presumption m.phase (active_facts _ _ _ _ _ _ _ stood).heard in
-        let here_found : ticket_of_child m.accepted q ≡ Some t = ap (λ (v : CoordinatorView). ticket_of_child v.accepted
+        let opened : m.phase ≡ Open = phase_active c.txn.presumption m.phase
+        (active_facts _ _ _ _ _ _ _ stood).heard in
+        let here_found : ticket_of_child m.accepted q ≡ Some t =
+        ap (λ (v : CoordinatorView). ticket_of_child v.accepted
         q) (sym (seen_as c standing.Active active)) ∙ found in
         takes (ActInput (WorkAct c q op)) c _ (active_work (seat c) t op (view c))
         (active_work-same (s.view_of c) (view c) (shows c) (seat c) t op)
         (work_of (seat c) (view c) t op) (same (ActInput (WorkAct c q op)) (λ g. refl) (λ d t. refl)) k
-        (here c m (sends_work m (ticket_of_child m.accepted q) m.phase) ∙ ap (λ u. sends_work m u m.phase) here_found
+        (here c m (sends_work m (ticket_of_child m.accepted q) m.phase)
+        ∙ ap (λ u. sends_work m u m.phase) here_found
         ∙ ap (λ ph. sends_work m (Some t) ph) opened)
         (own_by c standing.Active active (active_work (seat c) t op) k
         (same_pure c c.txn.presumption standing.Active rs m k stood refl))
         (λ d apart. ap (λ b. read rs d
-        (if b then sends_work (memory d) (ticket_of_child (memory d).accepted q) (memory d).phase else memory d))
+        (if b then sends_work (memory d) (ticket_of_child (memory d).accepted q)
+        (memory d).phase else memory d))
         apart)
 
     work_at : (c : Case) (q : ProcessId) (op : Op) (st : Standing) → (view c).standing ≡ st
@@ -307,7 +315,8 @@ module _ (n : Node) (s s' : CoreState) (me p : ProcessId) (tree : List TreeEntry
         by_ticket : (o : Option Ticket) → ticket_of_child (s.view_of c).accepted q ≡ o
             → Leads (ActInput (WorkAct c q op)) (work_for_turn (seat c) tree op (s.view_of c) o)
         by_ticket None found = refuses (ActInput (WorkAct c q op)) NotAChild
-        by_ticket (Some t) found = by_leaf t (ap (λ ts. ticket_of_child ts q) (sym (shows c).accepted) ∙ found)
+        by_ticket (Some t) found = by_leaf t (ap (λ ts. ticket_of_child ts q)
+            (sym (shows c).accepted) ∙ found)
             (is_leaf (role_of tree t.child))
     work_at c q op standing.Unknown is = refuses (ActInput (WorkAct c q op)) _
     work_at c q op standing.Collecting is = refuses (ActInput (WorkAct c q op)) _
@@ -319,16 +328,19 @@ module _ (n : Node) (s s' : CoreState) (me p : ProcessId) (tree : List TreeEntry
     commit_act : (x : Txn) (st : Standing) → st ≡ standing.Unknown
         → Leads (ActInput (CommitAct x)) (commit_turn (seat (root_case x)) (s.view_of (root_case x)) st)
     commit_act x st is = subst (λ st. Leads (ActInput (CommitAct x))
-        (commit_turn (seat (root_case x)) (s.view_of (root_case x)) st)) (sym is) (refuses (ActInput (CommitAct x)) _)
+        (commit_turn (seat (root_case x)) (s.view_of (root_case x)) st)) (sym is)
+        (refuses (ActInput (CommitAct x)) _)
 
     abort_act : (x : Txn) (st : Standing) → st ≡ standing.Unknown
         → Leads (ActInput (AbortAct x)) (abort_turn (seat (root_case x)) (s.view_of (root_case x)) st)
     abort_act x st is = subst (λ st. Leads (ActInput (AbortAct x))
-        (abort_turn (seat (root_case x)) (s.view_of (root_case x)) st)) (sym is) (refuses (ActInput (AbortAct x)) _)
+        (abort_turn (seat (root_case x)) (s.view_of (root_case x)) st)) (sym is)
+        (refuses (ActInput (AbortAct x)) _)
 
     ask_at : (c : Case) (st : Standing) → Leads (ActInput (Ask c)) (ask_turn (seat c) (s.view_of c) st)
     ask_at c standing.Prepared =
-        rests (ActInput (Ask c)) c _ (prepared_ask (seat c) (view c)) (sends-same _ (s.view_of c) (view c) (shows c))
+        rests (ActInput (Ask c)) c _ (prepared_ask (seat c) (view c))
+        (sends-same _ (s.view_of c) (view c) (shows c))
         refl refl
         (same (ActInput (Ask c)) (λ g. refl) (λ d t. refl)) (λ d. refl)
     ask_at c standing.Unknown = refuses (ActInput (Ask c)) _
@@ -368,7 +380,8 @@ module _ (n : Node) (s s' : CoreState) (me p : ProcessId) (tree : List TreeEntry
 
     prepare_keeps : (k j : ℕ) (c d : Case) → same_case c d ≡ false → Still (MessageInput k (Prepare c j)) d
     prepare_keeps k j c d apart =
-        ap (λ b. read rs d (if b then asks_votes (retires (memory d) c) (memory d).phase else retires (memory d) c))
+        ap (λ b. read rs d (if b then asks_votes (retires (memory d) c)
+        (memory d).phase else retires (memory d) c))
         apart
 
     prepare_leaves : (k j : ℕ) (c : Case) → ((memory c).phase ≡ Open → ⊥) → (d : Case)
@@ -376,7 +389,8 @@ module _ (n : Node) (s s' : CoreState) (me p : ProcessId) (tree : List TreeEntry
     prepare_leaves k j c shut d = by_same (same_case c d) refl
       where
         by_same : (b : Bool) → same_case c d ≡ b
-            → read rs d (if b then asks_votes (retires (memory d) c) (memory d).phase else retires (memory d) c)
+            → read rs d (if b then asks_votes (retires (memory d) c)
+            (memory d).phase else retires (memory d) c)
             ≡ read rs d (memory d)
         by_same false is = refl
         by_same true is =
@@ -401,7 +415,8 @@ module _ (n : Node) (s s' : CoreState) (me p : ProcessId) (tree : List TreeEntry
         let f = active_facts _ _ _ _ _ _ _ stood in
         let opened : m.phase ≡ Open = phase_active c.txn.presumption m.phase f.heard in
         let next : Memory = record (retires m c) { phase = if none_of m.accepted then Over else Asked } in
-        takes i c _ (active_commit (seat c) (view c)) (active_commit-same (s.view_of c) (view c) (shows c) (seat c))
+        takes i c _ (active_commit (seat c) (view c))
+        (active_commit-same (s.view_of c) (view c) (shows c) (seat c))
         (active_commit_of (seat c) (view c)) (same_prepare k j c) next
         (ap (λ b. if b then asks_votes (retires m c) m.phase else retires m c) (same_case-refl c)
         ∙ ap (λ ph. asks_votes (retires m c) ph) opened)
@@ -427,7 +442,8 @@ module _ (n : Node) (s s' : CoreState) (me p : ProcessId) (tree : List TreeEntry
         → Leads (MessageInput k (Commit c)) (Takes c (on_commit (seat c) (s.view_of c) st))
     commit_rests k c st none shown =
         let i = MessageInput k (Commit c) in
-        rests i c _ (on_commit (seat c) (view c) st) (on_commit-same (s.view_of c) (view c) (shows c) (seat c) st) none
+        rests i c _ (on_commit (seat c) (view c) st)
+        (on_commit-same (s.view_of c) (view c) (shows c) (seat c) st) none
         shown
         (same i (λ g. refl) (λ d t. refl)) (λ d. refl)
 
@@ -457,9 +473,11 @@ module _ (n : Node) (s s' : CoreState) (me p : ProcessId) (tree : List TreeEntry
 
     abort_keeps : (k : ℕ) (c d : Case) → same_case c d ≡ false → Still (MessageInput k (Abort c)) d
     abort_keeps k c d apart =
-        ap (λ b. read rs d (if b then closes (retires (memory d) c) (memory d).phase else retires (memory d) c)) apart
+        ap (λ b. read rs d (if b then closes (retires (memory d) c) (memory d).phase
+        else retires (memory d) c)) apart
 
-    abort_leaves : (k : ℕ) (c : Case) → ((memory c).phase ≡ Open → ⊥) → ((memory c).phase ≡ Asked → ⊥) → (d : Case)
+    abort_leaves : (k : ℕ) (c : Case) → ((memory c).phase ≡ Open → ⊥)
+        → ((memory c).phase ≡ Asked → ⊥) → (d : Case)
         → Still (MessageInput k (Abort c)) d
     abort_leaves k c shut silent d = by_same (same_case c d) refl
       where
@@ -477,7 +495,8 @@ module _ (n : Node) (s s' : CoreState) (me p : ProcessId) (tree : List TreeEntry
         → (if same_case c c then closes (retires (memory c) c) (memory c).phase else retires (memory c) c)
         ≡ closes (retires (memory c) c) ph
     closed_is c ph is =
-        ap (λ b. if b then closes (retires (memory c) c) (memory c).phase else retires (memory c) c) (same_case-refl c)
+        ap (λ b. if b then closes (retires (memory c) c) (memory c).phase else retires
+        (memory c) c) (same_case-refl c)
         ∙ ap (closes (retires (memory c) c)) is
 
     abort_rests : (k : ℕ) (c : Case) (st : Standing) → (view c).standing ≡ st → (st ≡ standing.Active → ⊥)
@@ -498,7 +517,8 @@ module _ (n : Node) (s s' : CoreState) (me p : ProcessId) (tree : List TreeEntry
         let m = memory c in
         let f = active_facts _ _ _ _ _ _ _ (stands_as c standing.Active active) in
         let opened : m.phase ≡ Open = phase_active c.txn.presumption m.phase f.heard in
-        takes i c _ (active_abort (seat c) (view c)) (active_abort-same (s.view_of c) (view c) (shows c) (seat c))
+        takes i c _ (active_abort (seat c) (view c))
+        (active_abort-same (s.view_of c) (view c) (shows c) (seat c))
         (active_abort_of (seat c) (view c)) (same_abort k c) (record (retires m c) { phase = Over })
         (closed_is c Open opened)
         (abort_pure me c c.txn.presumption rs m (record {
@@ -535,7 +555,8 @@ module _ (n : Node) (s s' : CoreState) (me p : ProcessId) (tree : List TreeEntry
         (on_abort-same (s.view_of c) (view c) (shows c) (seat c) standing.Prepared)
         (on_abort_of (seat c) (view c) standing.Prepared) (same_abort k c) next (closed_is c m.phase refl)
         (own_by c standing.Prepared is (λ v. on_abort (seat c) v standing.Prepared) next
-        (aborted_reads me p c rs m next f (undecided_owes c rs f.no_commit f.no_abort) keeps.0 keeps.1 keeps.2 keeps.3
+        (aborted_reads me p c rs m next f (undecided_owes c rs f.no_commit f.no_abort)
+        keeps.0 keeps.1 keeps.2 keeps.3
         c.txn.presumption
         (none_of (promised_by c rs)) refl
         (all_still m.acks Aborted (promised_by c rs) (λ t e. fits.none_early c t Aborted is e))))
@@ -552,18 +573,23 @@ module _ (n : Node) (s s' : CoreState) (me p : ProcessId) (tree : List TreeEntry
     joined_leaves k c t shut d = by_same (same_case c d) refl
       where
         by_same : (b : Bool) → same_case c d ≡ b
-            → read rs d (if b then accepts_ticket (memory d) t (memory d).phase else memory d) ≡ read rs d (memory d)
+            → read rs d (if b then accepts_ticket (memory d) t (memory d).phase
+            else memory d) ≡ read rs d (memory d)
         by_same false is = refl
         by_same true is = ap (read rs d)
-            (not_accepted (memory d) t (memory d).phase (λ e. shut (ap (λ x. (memory x).phase) (one_case c d is) ∙ e)))
+            (not_accepted (memory d) t (memory d).phase
+            (λ e. shut (ap (λ x. (memory x).phase) (one_case c d is) ∙ e)))
 
-    joined_rests : (k : ℕ) (c : Case) (t : Ticket) (st : Standing) → (view c).standing ≡ st → (st ≡ standing.Active → ⊥)
+    joined_rests : (k : ℕ) (c : Case) (t : Ticket) (st : Standing) → (view c).standing ≡ st
+        → (st ≡ standing.Active → ⊥)
         → (on_joined t (view c) st).written ≡ [] → (on_joined t (view c) st).view ≡ view c
         → Leads (MessageInput k (Joined c t)) (Takes c (on_joined t (s.view_of c) st))
     joined_rests k c t st is apart none shown =
         let i = MessageInput k (Joined c t) in
-        rests i c _ (on_joined t (view c) st) (on_joined-same (s.view_of c) (view c) (shows c) t st) none shown
-        (same i (λ g. refl) (λ d u. refl)) (joined_leaves k c t (not_open c st is apart (memory c).phase refl))
+        rests i c _ (on_joined t (view c) st)
+        (on_joined-same (s.view_of c) (view c) (shows c) t st) none shown
+        (same i (λ g. refl) (λ d u. refl)) (joined_leaves k c t
+        (not_open c st is apart (memory c).phase refl))
 
     -- the row of an Active case
     accepted_reads : (c : Case) (t : Ticket) (b : Bool)
@@ -579,7 +605,8 @@ module _ (n : Node) (s s' : CoreState) (me p : ProcessId) (tree : List TreeEntry
         } in
         read (rs ++ entries_written row.written) c
         (if b then memory c else record (memory c) { accepted = (memory c).accepted ++ t ∷ [] }) ≡ row.view
-    accepted_reads c t true stood = same_pure c c.txn.presumption standing.Active rs (memory c) (memory c) stood refl
+    accepted_reads c t true stood = same_pure c c.txn.presumption standing.Active rs
+        (memory c) (memory c) stood refl
     accepted_reads c t false stood =
         same_pure c c.txn.presumption standing.Active rs (memory c)
         (record (memory c) { accepted = (memory c).accepted ++ t ∷ [] }) stood refl
@@ -590,9 +617,11 @@ module _ (n : Node) (s s' : CoreState) (me p : ProcessId) (tree : List TreeEntry
         let i = MessageInput k (Joined c t) in
         let m = memory c in
         let stood = stands_as c standing.Active active in
-        let opened : m.phase ≡ Open = phase_active c.txn.presumption m.phase (active_facts _ _ _ _ _ _ _ stood).heard in
+        let opened : m.phase ≡ Open = phase_active c.txn.presumption m.phase
+        (active_facts _ _ _ _ _ _ _ stood).heard in
         takes i c _ (active_joined t (view c)) (active_joined-same (s.view_of c) (view c) (shows c) t)
-        (on_joined_of (seat c) (view c) t standing.Active) (same i (λ g. refl) (λ d u. refl)) (accepts_ticket m t Open)
+        (on_joined_of (seat c) (view c) t standing.Active)
+        (same i (λ g. refl) (λ d u. refl)) (accepts_ticket m t Open)
         (here c m (accepts_ticket m t m.phase) ∙ ap (λ ph. accepts_ticket m t ph) opened)
         (own_by c standing.Active active (active_joined t) (accepts_ticket m t Open)
         (accepted_reads c t (has_child m.accepted t.child) stood))
@@ -633,33 +662,39 @@ module _ (n : Node) (s s' : CoreState) (me p : ProcessId) (tree : List TreeEntry
     vote_is k VoteNo e d = refl
     vote_is k VoteRead e d = refl
 
-    vote_still : (k : ℕ) (w : Vote) (x : Txn) (t : Ticket) (d : Case) → IsStranger place n d (fits.alike d) x t
+    vote_still : (k : ℕ) (w : Vote) (x : Txn) (t : Ticket) (d : Case)
+        → IsStranger place n d (fits.alike d) x t
         → Still (MessageInput k (vote_message w (child_case x t))) d
     vote_still k w x t d stranger =
         ap (read rs d) (vote_is k w (child_case x t) d) ∙ vote_keeps place n d (fits.alike d) x t w stranger
 
     -- of the case that was found
     vote_own : (k : ℕ) (w : Vote) (t : Ticket) (c : Case)
-        → remembers me (Below p) boot c (memory c) (heard (MessageInput k (vote_message w (child_case c.txn t))))
+        → remembers me (Below p) boot c (memory c)
+        (heard (MessageInput k (vote_message w (child_case c.txn t))))
         ≡ takes_vote (memory c) t w (memory c).phase
     vote_own k w t c =
         vote_is k w (child_case c.txn t) c ∙ vote_hears place n c (fits.alike c) c.txn t w
         ∙ ap (λ b. if b then takes_vote (memory c) t w (memory c).phase else memory c) (same_txn-refl c.txn)
 
-    vote_rests : (k : ℕ) (w : Vote) (t : Ticket) (c : Case) → Finds old (Some (c.txn, t)) (Some c) → (st : Standing)
+    vote_rests : (k : ℕ) (w : Vote) (t : Ticket) (c : Case)
+        → Finds old (Some (c.txn, t)) (Some c) → (st : Standing)
         → (view c).standing ≡ st
         → (st ≡ standing.Collecting → ⊥) → (on_vote (seat c) t w (view c) st).written ≡ []
         → (on_vote (seat c) t w (view c) st).view ≡ view c
-        → Leads (MessageInput k (vote_message w (child_case c.txn t))) (Takes c (on_vote (seat c) t w (s.view_of c) st))
+        → Leads (MessageInput k (vote_message w (child_case c.txn t)))
+        (Takes c (on_vote (seat c) t w (s.view_of c) st))
     vote_rests k w t c finds st is apart none shown =
         rests (MessageInput k (vote_message w (child_case c.txn t))) c _ (on_vote (seat c) t w (view c) st)
-        (on_vote-same (s.view_of c) (view c) (shows c) (seat c) t w st) none shown (same_vote k w (child_case c.txn t))
+        (on_vote-same (s.view_of c) (view c) (shows c) (seat c) t w st) none shown
+        (same_vote k w (child_case c.txn t))
         keeps
       where
         keeps : (d : Case) → Still (MessageInput k (vote_message w (child_case c.txn t))) d
         keeps d = by_same (same_case c d) refl
           where
-            by_same : (b : Bool) → same_case c d ≡ b → Still (MessageInput k (vote_message w (child_case c.txn t))) d
+            by_same : (b : Bool) → same_case c d ≡ b
+                → Still (MessageInput k (vote_message w (child_case c.txn t))) d
             by_same false other = vote_still k w c.txn t d (strangers c.txn t (Some c) finds d other)
             by_same true one =
                 subst (λ e. Still (MessageInput k (vote_message w (child_case c.txn t))) e) (one_case c d one)
@@ -667,9 +702,11 @@ module _ (n : Node) (s s' : CoreState) (me p : ProcessId) (tree : List TreeEntry
                 (vote_own k w t c
                 ∙ not_taken (memory c) t w (memory c).phase (not_asked c st is apart (memory c).phase refl)))
 
-    vote_to : (k : ℕ) (w : Vote) (t : Ticket) (c : Case) → Finds old (Some (c.txn, t)) (Some c) → (st : Standing)
+    vote_to : (k : ℕ) (w : Vote) (t : Ticket) (c : Case)
+        → Finds old (Some (c.txn, t)) (Some c) → (st : Standing)
         → (view c).standing ≡ st
-        → Leads (MessageInput k (vote_message w (child_case c.txn t))) (Takes c (on_vote (seat c) t w (s.view_of c) st))
+        → Leads (MessageInput k (vote_message w (child_case c.txn t)))
+        (Takes c (on_vote (seat c) t w (s.view_of c) st))
     vote_to k w t c finds standing.Collecting is =
         let i = MessageInput k (vote_message w (child_case c.txn t)) in
         let m = memory c in
@@ -686,12 +723,17 @@ module _ (n : Node) (s s' : CoreState) (me p : ProcessId) (tree : List TreeEntry
         (undecided_owes c rs f.no_commit f.no_abort)
         (asked_quiet m (cascaded_quiet me p tree n c) asked) t w))
         (λ d apart. vote_still k w c.txn t d (strangers c.txn t (Some c) finds d apart))
-    vote_to k w t c finds standing.Unknown is = vote_rests k w t c finds standing.Unknown is (λ e. cc) refl refl
+    vote_to k w t c finds standing.Unknown is =
+        vote_rests k w t c finds standing.Unknown is (λ e. cc) refl refl
     vote_to k w t c finds standing.Active is = vote_rests k w t c finds standing.Active is (λ e. cc) refl refl
-    vote_to k w t c finds standing.Prepared is = vote_rests k w t c finds standing.Prepared is (λ e. cc) refl refl
-    vote_to k w t c finds standing.Committing is = vote_rests k w t c finds standing.Committing is (λ e. cc) refl refl
-    vote_to k w t c finds standing.Aborting is = vote_rests k w t c finds standing.Aborting is (λ e. cc) refl refl
-    vote_to k w t c finds standing.Heuristic is = vote_rests k w t c finds standing.Heuristic is (λ e. cc) refl refl
+    vote_to k w t c finds standing.Prepared is =
+        vote_rests k w t c finds standing.Prepared is (λ e. cc) refl refl
+    vote_to k w t c finds standing.Committing is =
+        vote_rests k w t c finds standing.Committing is (λ e. cc) refl refl
+    vote_to k w t c finds standing.Aborting is =
+        vote_rests k w t c finds standing.Aborting is (λ e. cc) refl refl
+    vote_to k w t c finds standing.Heuristic is =
+        vote_rests k w t c finds standing.Heuristic is (λ e. cc) refl refl
 
     vote_at : (k : ℕ) (w : Vote) (x : Txn) (t : Ticket) (found : Option Case) → Finds old (Some (x, t)) found
         → Leads (MessageInput k (vote_message w (child_case x t))) (vote_turn old w t found)
@@ -707,16 +749,19 @@ module _ (n : Node) (s s' : CoreState) (me p : ProcessId) (tree : List TreeEntry
 
     -- Acknowledgements.
 
-    ack_still : (k : ℕ) (o : Outcome) (x : Txn) (t : Ticket) (d : Case) → IsStranger place n d (fits.alike d) x t
+    ack_still : (k : ℕ) (o : Outcome) (x : Txn) (t : Ticket) (d : Case)
+        → IsStranger place n d (fits.alike d) x t
         → Still (MessageInput k (Ack (child_case x t) o)) d
     ack_still k o x t d stranger = ack_keeps place n d (fits.alike d) x t o stranger
 
     ack_own : (k : ℕ) (o : Outcome) (t : Ticket) (c : Case)
         → remembers me (Below p) boot c (memory c) (heard (MessageInput k (Ack (child_case c.txn t) o)))
         ≡ takes_ack (memory c) t o (memory c).phase
-    ack_own k o t c = ap (λ b. if b then takes_ack (memory c) t o (memory c).phase else memory c) (same_txn-refl c.txn)
+    ack_own k o t c = ap (λ b. if b then takes_ack (memory c) t o (memory c).phase
+        else memory c) (same_txn-refl c.txn)
 
-    ack_others : (k : ℕ) (o : Outcome) (t : Ticket) (c : Case) → Finds old (Some (c.txn, t)) (Some c) → (d : Case)
+    ack_others : (k : ℕ) (o : Outcome) (t : Ticket) (c : Case)
+        → Finds old (Some (c.txn, t)) (Some c) → (d : Case)
         → same_case c d ≡ false
         → Still (MessageInput k (Ack (child_case c.txn t) o)) d
     ack_others k o t c finds d apart = ack_still k o c.txn t d (strangers c.txn t (Some c) finds d apart)
@@ -725,7 +770,8 @@ module _ (n : Node) (s s' : CoreState) (me p : ProcessId) (tree : List TreeEntry
     same_ack k o e = same (MessageInput k (Ack e o)) (λ g. refl) (λ d t. refl)
 
     -- an acknowledgement that is noted
-    ack_noted : (k : ℕ) (o : Outcome) (t : Ticket) (c : Case) → Finds old (Some (c.txn, t)) (Some c) → (st : Standing)
+    ack_noted : (k : ℕ) (o : Outcome) (t : Ticket) (c : Case)
+        → Finds old (Some (c.txn, t)) (Some c) → (st : Standing)
         → (view c).standing ≡ st
         → (st ≡ standing.Active → ⊥) → (st ≡ standing.Collecting → ⊥)
         → (f : CoordinatorView → Row) → ((v : CoordinatorView) → on_ack (seat c) t o v st ≡ f v)
@@ -739,18 +785,22 @@ module _ (n : Node) (s s' : CoreState) (me p : ProcessId) (tree : List TreeEntry
         (same_ack k o (child_case c.txn t)) (acked m t o)
         (ack_own k o t c
         ∙ noted m t o m.phase (not_open c st is shut m.phase refl) (not_asked c st is silent m.phase refl))
-        (subst (λ (r : Row). read (rs ++ entries_written r.written) c (acked m t o) ≡ r.view) (sym (so (view c)))
+        (subst (λ (r : Row). read (rs ++ entries_written r.written) c (acked m t o)
+        ≡ r.view) (sym (so (view c)))
         (own_by c st is f (acked m t o) reads))
         (ack_others k o t c finds)
 
     -- one that comes while children or votes can come
-    ack_rests : (k : ℕ) (o : Outcome) (t : Ticket) (c : Case) → Finds old (Some (c.txn, t)) (Some c) → (st : Standing)
-        → takes_ack (memory c) t o (memory c).phase ≡ memory c → (on_ack (seat c) t o (view c) st).written ≡ []
+    ack_rests : (k : ℕ) (o : Outcome) (t : Ticket) (c : Case)
+        → Finds old (Some (c.txn, t)) (Some c) → (st : Standing)
+        → takes_ack (memory c) t o (memory c).phase ≡ memory c
+        → (on_ack (seat c) t o (view c) st).written ≡ []
         → (on_ack (seat c) t o (view c) st).view ≡ view c
         → Leads (MessageInput k (Ack (child_case c.txn t) o)) (Takes c (on_ack (seat c) t o (s.view_of c) st))
     ack_rests k o t c finds st unheard none shown =
         rests (MessageInput k (Ack (child_case c.txn t) o)) c _ (on_ack (seat c) t o (view c) st)
-        (on_ack-same (s.view_of c) (view c) (shows c) (seat c) t o st) none shown (same_ack k o (child_case c.txn t))
+        (on_ack-same (s.view_of c) (view c) (shows c) (seat c) t o st) none shown
+        (same_ack k o (child_case c.txn t))
         keeps
       where
         keeps : (d : Case) → Still (MessageInput k (Ack (child_case c.txn t) o)) d
@@ -773,7 +823,8 @@ module _ (n : Node) (s s' : CoreState) (me p : ProcessId) (tree : List TreeEntry
         rw (found, is, runs) refl
 
     ack_quiet : (o : Outcome) (t : Ticket) (c : Case) (v : CoordinatorView)
-        → (on_ack (seat c) t o v standing.Active ≡ quiet v) × (on_ack (seat c) t o v standing.Collecting ≡ quiet v)
+        → (on_ack (seat c) t o v standing.Active ≡ quiet v)
+        × (on_ack (seat c) t o v standing.Collecting ≡ quiet v)
     ack_quiet Committed t c v = (refl, refl)
     ack_quiet Aborted t c v = (refl, refl)
 
@@ -783,18 +834,22 @@ module _ (n : Node) (s s' : CoreState) (me p : ProcessId) (tree : List TreeEntry
         → Leads (MessageInput k (Ack (child_case c.txn t) o)) (Takes c (on_ack (seat c) t o (s.view_of c) st))
     ack_to k Committed t c finds late standing.Committing is =
         let m = memory c in
-        ack_noted k Committed t c finds standing.Committing is (λ e. cc) (λ e. cc) (decided_ack (seat c) t) (λ v. refl)
+        ack_noted k Committed t c finds standing.Committing is (λ e. cc) (λ e. cc)
+        (decided_ack (seat c) t) (λ v. refl)
         (acked_commit me c c.txn.presumption t rs m (in_list (still_owed m.acks Committed (owing_by c rs)) t)
-        (none_of (other_tickets t (still_owed m.acks Committed (owing_by c rs)))) (stands_as c standing.Committing is)
+        (none_of (other_tickets t (still_owed m.acks Committed (owing_by c rs))))
+        (stands_as c standing.Committing is)
         refl refl)
     ack_to k Aborted t c finds late standing.Committing is =
         ack_noted k Aborted t c finds standing.Committing is (λ e. cc) (λ e. cc) quiet (λ v. refl)
         (refused_commit c c.txn.presumption t rs (memory c) (stands_as c standing.Committing is))
     ack_to k Aborted t c finds late standing.Aborting is =
         let m = memory c in
-        ack_noted k Aborted t c finds standing.Aborting is (λ e. cc) (λ e. cc) (decided_ack (seat c) t) (λ v. refl)
+        ack_noted k Aborted t c finds standing.Aborting is (λ e. cc) (λ e. cc)
+        (decided_ack (seat c) t) (λ v. refl)
         (acked_abort me c c.txn.presumption t rs m (in_list (still_owed m.acks Aborted (owing_by c rs)) t)
-        (none_of (other_tickets t (still_owed m.acks Aborted (owing_by c rs)))) (stands_as c standing.Aborting is) refl
+        (none_of (other_tickets t (still_owed m.acks Aborted (owing_by c rs))))
+        (stands_as c standing.Aborting is) refl
         refl)
     ack_to k Committed t c finds late standing.Aborting is =
         ack_noted k Committed t c finds standing.Aborting is (λ e. cc) (λ e. cc) quiet (λ v. refl)
@@ -804,7 +859,8 @@ module _ (n : Node) (s s' : CoreState) (me p : ProcessId) (tree : List TreeEntry
         let opened : m.phase ≡ Open = phase_active c.txn.presumption m.phase
         (active_facts _ _ _ _ _ _ _ (stands_as c standing.Active is)).heard in
         let row = (ack_quiet o t c (view c)).0 in
-        ack_rests k o t c finds standing.Active (ap (λ ph. takes_ack m t o ph) opened) (ap (λ (r : Row). r.written) row)
+        ack_rests k o t c finds standing.Active (ap (λ ph. takes_ack m t o ph) opened)
+        (ap (λ (r : Row). r.written) row)
         (ap (λ (r : Row). r.view) row)
     ack_to k o t c finds late standing.Collecting is =
         let m = memory c in
@@ -821,7 +877,8 @@ module _ (n : Node) (s s' : CoreState) (me p : ProcessId) (tree : List TreeEntry
         absurd (never_heuristic _ _ _ _ _ _ _ (phase_standing_known c.txn.presumption (memory c).phase)
         (stands_as c standing.Heuristic is))
 
-    ack_at : (k : ℕ) (o : Outcome) (x : Txn) (t : Ticket) (found : Option Case) → Finds old (Some (x, t)) found
+    ack_at : (k : ℕ) (o : Outcome) (x : Txn) (t : Ticket) (found : Option Case)
+        → Finds old (Some (x, t)) found
         → is_passed_over place n (MessageInput k (Ack (child_case x t) o)) ≡ false
         → Leads (MessageInput k (Ack (child_case x t) o)) (ack_turn old o t found)
     ack_at k o x t None finds late =
@@ -854,7 +911,8 @@ module _ (n : Node) (s s' : CoreState) (me p : ProcessId) (tree : List TreeEntry
         let i = MessageInput k (Inquire (child_case x t)) in
         let row = inquiry_row c t (view c) (view c).standing in
         rests i c _ (on_inquiry (seat c) t (view c) (view c).standing)
-        (at_standing (s.view_of c) (view c) (on_inquiry (seat c) t (s.view_of c)) (on_inquiry (seat c) t (view c))
+        (at_standing (s.view_of c) (view c) (on_inquiry (seat c) t (s.view_of c))
+        (on_inquiry (seat c) t (view c))
         (shows c)
         (on_inquiry-same (s.view_of c) (view c) (shows c) (seat c) t))
         row.0 row.1 (same i (λ g. refl) (λ d t. refl)) (λ d. refl)
@@ -864,7 +922,8 @@ module _ (n : Node) (s s' : CoreState) (me p : ProcessId) (tree : List TreeEntry
     nameless true d = refl
     nameless false d = refl
 
-    vote_nameless : (k : ℕ) (w : Vote) (x : Txn) (d : Case) → Still (MessageInput k (vote_message w (root_case x))) d
+    vote_nameless : (k : ℕ) (w : Vote) (x : Txn) (d : Case)
+        → Still (MessageInput k (vote_message w (root_case x))) d
     vote_nameless k VoteYes x d = nameless (same_txn x d.txn) d
     vote_nameless k VoteNo x d = nameless (same_txn x d.txn) d
     vote_nameless k VoteRead x d = nameless (same_txn x d.txn) d
@@ -884,13 +943,15 @@ module _ (n : Node) (s s' : CoreState) (me p : ProcessId) (tree : List TreeEntry
         → Leads (MessageInput k (Ack d o)) (child_turn d (λ t. ack_turn old o t found))
     ack_by k found o x (Some t) finds late = ack_at k o x t found finds late
     ack_by k found o x None finds late =
-        says (MessageInput k (Ack (root_case x) o)) [] (λ g. refl) (λ d t. refl) (λ d. nameless (same_txn x d.txn) d)
+        says (MessageInput k (Ack (root_case x) o)) [] (λ g. refl) (λ d t. refl)
+        (λ d. nameless (same_txn x d.txn) d)
 
     inquiry_by : (k : ℕ) (found : Option Case) (x : Txn) (t : Option Ticket) → let d : Case =
         record { txn = x; ticket = t } in
         Leads (MessageInput k (Inquire d)) (child_turn d (λ t. inquiry_turn old x t found))
     inquiry_by k found x (Some t) = inquiry_at k x t found
-    inquiry_by k found x None = says (MessageInput k (Inquire (root_case x))) [] (λ g. refl) (λ d t. refl) (λ d. refl)
+    inquiry_by k found x None = says (MessageInput k (Inquire (root_case x))) []
+        (λ g. refl) (λ d t. refl) (λ d. refl)
 
     -- JOIN.
 
@@ -902,17 +963,20 @@ module _ (n : Node) (s s' : CoreState) (me p : ProcessId) (tree : List TreeEntry
     one_active c d = ap (λ (g : Self). g.active) (self_same place n c d)
 
     one_next : (c d : Case) → next_ticket me boot (memory c) ≡ next_ticket me boot (memory d)
-    one_next c d = ap (λ (g : Self). record { child = me; boot = boot; number = g.given + 1 }) (self_same place n c d)
+    one_next c d =
+        ap (λ (g : Self). record { child = me; boot = boot; number = g.given + 1 }) (self_same place n c d)
 
     again_self : (d : Case) (t : Ticket) → active_ticket (memory d).active d ≡ Some t → (c : Case)
         → issuer_self me boot true (self_of (memory c)) (join 0 d) ≡ self_of (memory c)
     again_self d t has c =
-        ap (λ o. joins_self me boot (self_of (memory c)) d o) (ap (λ as'. active_ticket as' d) (one_active c d) ∙ has)
+        ap (λ o. joins_self me boot (self_of (memory c)) d o)
+        (ap (λ as'. active_ticket as' d) (one_active c d) ∙ has)
 
     again : (k : ℕ) (d : Case) (t : Ticket) → active_ticket (memory d).active d ≡ Some t
         → Leads (join k d) (Says (post me p (Joined d t) ∷ []))
     again k d t has =
-        said n s s' place a (λ m c. refl) (λ m c. refl) runs stands (join k d) (post me p (Joined d t) ∷ []) (record {
+        said n s s' place a (λ m c. refl) (λ m c. refl) runs stands (join k d)
+        (post me p (Joined d t) ∷ []) (record {
           begun = λ c. ap (λ (g : Self). g.begun) (again_self d t has c);
           given = λ c. ap (λ (g : Self). g.given) (again_self d t has c);
           tickets = λ c. ap (λ (g : Self). active_ticket g.active c) (again_self d t has c)
@@ -928,7 +992,8 @@ module _ (n : Node) (s s' : CoreState) (me p : ProcessId) (tree : List TreeEntry
     next_is : (d : Case) → next_of old ≡ next d
     next_is d = λ i. record { child = me; boot = is_up.boot i; number = is_up.given d i + 1 }
 
-    none_there : (c d : Case) → active_ticket (memory d).active d ≡ None → active_ticket (memory c).active d ≡ None
+    none_there : (c d : Case) → active_ticket (memory d).active d ≡ None
+        → active_ticket (memory c).active d ≡ None
     none_there c d none = ap (λ as'. active_ticket as' d) (one_active c d) ∙ none
 
     given_self : (k : ℕ) (d : Case) → active_ticket (memory d).active d ≡ None → (c : Case)
@@ -955,7 +1020,8 @@ module _ (n : Node) (s s' : CoreState) (me p : ProcessId) (tree : List TreeEntry
     fresh_keeps k d none c apart =
         ap (read rs c) (fresh_then k d none c
         ∙ ap (λ b. if b then opens_case (gives (memory c) d (next c)) else gives (memory c) d (next c))
-        (ap (λ t. same_case c (child_case d.txn t)) (one_next c d) ∙ flipped (child_case d.txn (next d)) c apart))
+        (ap (λ t. same_case c (child_case d.txn t)) (one_next c d)
+        ∙ flipped (child_case d.txn (next d)) c apart))
 
     fresh_opens : (k : ℕ) (d : Case) → active_ticket (memory d).active d ≡ None → let c =
         child_case d.txn (next d) in let f = sends_only (post me p (Joined d (next d)) ∷ []) in
@@ -968,7 +1034,8 @@ module _ (n : Node) (s s' : CoreState) (me p : ProcessId) (tree : List TreeEntry
         ap (λ t. same_case c (child_case d.txn t)) (one_next c d) ∙ same_case-refl c in
         view-after place n (heard (join k d)) f c (λ b. refl)
         ∙ ap (read (rs ++ []) c) (fresh_then k d none c
-        ∙ ap (λ b. if b then opens_case (gives (memory c) d (next c)) else gives (memory c) d (next c)) here_is)
+        ∙ ap (λ b. if b then opens_case (gives (memory c) d (next c)) else gives
+        (memory c) d (next c)) here_is)
         ∙ begun_pure rs c (gives (memory c) d (next c)) (fits.fresh d)
 
     fresh : (k : ℕ) (d : Case) → active_ticket (memory d).active d ≡ None
@@ -981,23 +1048,27 @@ module _ (n : Node) (s s' : CoreState) (me p : ProcessId) (tree : List TreeEntry
         (record { forced = stands.forced; unforced = stands.unforced; failed = stands.failed }) in
         let quiet : NoBoot [] = λ b. refl in
         let count : (c : Case)
-        → self_of (memory_of place (after n (heard i) f) c) ≡ issuer_self me boot true (self_of (memory c)) i =
+        → self_of (memory_of place (after n (heard i) f) c)
+        ≡ issuer_self me boot true (self_of (memory c)) i =
         counted n s s' place a (λ m c. refl) (λ m c. refl) i f quiet in
         subst (λ g. Stands (after n (heard i) g) new) (done_is f e is)
         (stand n s s' place a (λ m c. refl) (λ m c. refl) runs stands i f (record {
           forced = ap (λ (l : LogSight). l.kept.forced) made.log ∙ held.forced;
           unforced =
-              ap (λ (l : LogSight). l.kept.unforced) made.log ∙ sym (append-nil s.log.kept.unforced) ∙ held.unforced;
+              ap (λ (l : LogSight). l.kept.unforced) made.log
+              ∙ sym (append-nil s.log.kept.unforced) ∙ held.unforced;
           failed = ap (λ (l : LogSight). l.failed) made.log ∙ held.failed;
           boots = made.boot ∙ is_up.boot ∙ sym (boot-after n (heard i) f quiet);
-          begins = λ c. made.begun ∙ is_up.begun c ∙ sym (ap (λ (g : Self). g.begun) (count c ∙ given_self k d none c));
+          begins = λ c. made.begun ∙ is_up.begun c
+              ∙ sym (ap (λ (g : Self). g.begun) (count c ∙ given_self k d none c));
           gives = λ c. made.given ∙ ap (λ g. g + 1) (is_up.given c)
               ∙ sym (ap (λ (g : Self). g.given) (count c ∙ given_self k d none c));
           tickets = λ c. ticket_of c (same_case d c) refl
               ∙ sym (ap (λ (g : Self). active_ticket g.active c) (count c ∙ given_self k d none c));
           branches = made.cases.2;
         }) (λ c. elim (same_case_tells (child_case d.txn (next d)) c) [
-          | inl one ↦ subst (λ q. SameView (s'.view_of q) (coordinator_view place (after n (heard i) f) q)) one.1
+          | inl one ↦ subst (λ q. SameView (s'.view_of q)
+              (coordinator_view place (after n (heard i) f) q)) one.1
               (subst (λ v. SameView (s'.view_of (child_case d.txn (next d))) v) (sym (fresh_opens k d none))
               made.cases.0)
           | inr apart ↦ subst (λ v. SameView (s'.view_of c) v)
@@ -1009,7 +1080,8 @@ module _ (n : Node) (s s' : CoreState) (me p : ProcessId) (tree : List TreeEntry
         ticket_of : (c : Case) (b : Bool) → same_case d c ≡ b
             → s'.ticket_for c ≡ active_ticket ((memory c).active ++ (d, next c) ∷ []) c
         ticket_of c true one =
-            subst (λ q. s'.ticket_for q ≡ active_ticket ((memory q).active ++ (d, next q) ∷ []) q) (one_case d c one)
+            subst (λ q. s'.ticket_for q ≡ active_ticket
+            ((memory q).active ++ (d, next q) ∷ []) q) (one_case d c one)
             (made.ticket ∙ sym (found_fresh d (next d) (memory d).active none))
         ticket_of c false apart = made.tickets c apart ∙ is_up.tickets c
             ∙ sym (found_more d c (next c) (memory c).active (none_there c d none) apart)
@@ -1028,7 +1100,8 @@ module _ (n : Node) (s s' : CoreState) (me p : ProcessId) (tree : List TreeEntry
     heard_so k found (Join d) finds late =
         subst (λ o. Leads (join k d) (joined_turn old p d o)) (sym (is_up.tickets d))
         (join_at k d (active_ticket (memory d).active d) refl)
-    heard_so k found (Prepare d j) finds late = prepare_at k j d (s.view_of d).standing (sym (shows d).standing)
+    heard_so k found (Prepare d j) finds late =
+        prepare_at k j d (s.view_of d).standing (sym (shows d).standing)
     heard_so k found (Commit d) finds late = commit_at k d (s.view_of d).standing (sym (shows d).standing)
     heard_so k found (Abort d) finds late = abort_to k d (s.view_of d).standing (sym (shows d).standing)
     heard_so k found (Joined d t) finds late = joined_at k d t (s.view_of d).standing (sym (shows d).standing)

@@ -39,7 +39,8 @@ read rs c m = view_by (coordinator_standing rs c m) rs c m
 pub at_standing : (v w : CoordinatorView) (f g : Standing → Row) → SameView v w
     → ((st : Standing) → SameRow (f st) (g st))
     → SameRow (f v.standing) (g w.standing)
-at_standing v w f g same rows = subst (λ st. SameRow (f st) (g w.standing)) (sym same.standing) (rows w.standing)
+at_standing v w f g same rows = subst (λ st. SameRow (f st) (g w.standing))
+    (sym same.standing) (rows w.standing)
 
 module _ (n : Node) (s s' : CoreState) (place : Place) (a : DataAnswer)
     (views_are : (m : Node) (c : Case) → view_at place.role place m c ≡ coordinator_view place m c)
@@ -92,7 +93,8 @@ module _ (n : Node) (s s' : CoreState) (place : Place) (a : DataAnswer)
       → coordinator_view place (after n (heard i) (row_effect c row)) d ≡ view d
   unfolding coordinator_view
   row_others i c d row own apart keeps =
-      view-after place n (heard i) (row_effect c row) d own.boot ∙ own.others d (kept n) (next i d) apart ∙ keeps
+      view-after place n (heard i) (row_effect c row) d own.boot
+      ∙ own.others d (kept n) (next i d) apart ∙ keeps
 
   -- any view behind what writes nothing
   pub nothing_written : (i : Input) (e : Effect) → e.written ≡ [] → (d : Case) → Keeps i d
@@ -127,7 +129,8 @@ module _ (n : Node) (s s' : CoreState) (place : Place) (a : DataAnswer)
       pub boots : s'.boot ≡ boot_of (kept (after n (heard i) e))
       pub begins : (c : Case) → s'.begun ≡ (memory_of place (after n (heard i) e) c).begun
       pub gives : (c : Case) → s'.given ≡ (memory_of place (after n (heard i) e) c).given
-      pub tickets : (d : Case) → s'.ticket_for d ≡ active_ticket (memory_of place (after n (heard i) e) d).active d
+      pub tickets : (d : Case) → s'.ticket_for d
+          ≡ active_ticket (memory_of place (after n (heard i) e) d).active d
       pub branches : (c : Case) → s'.branch_of c ≡ s.branch_of c
 
     pub stand : (i : Input) (e : Effect) → Behind i e
@@ -143,8 +146,10 @@ module _ (n : Node) (s s' : CoreState) (place : Place) (a : DataAnswer)
             begun = behind.begins;
             given = behind.gives;
             tickets = behind.tickets;
-            views = λ c. subst (λ v. SameView (s'.view_of c) v) (sym (views_are (after n (heard i) e) c)) (views c);
-            branches = λ c. behind.branches c ∙ up.branches c ∙ no_branch n c ∙ sym (no_branch (after n (heard i) e) c);
+            views = λ c. subst (λ v. SameView (s'.view_of c) v)
+                (sym (views_are (after n (heard i) e) c)) (views c);
+            branches = λ c. behind.branches c ∙ up.branches c ∙ no_branch n c
+                ∙ sym (no_branch (after n (heard i) e) c);
           };
         }
 
@@ -178,7 +183,8 @@ module _ (n : Node) (s s' : CoreState) (place : Place) (a : DataAnswer)
     same_taken i c row row' same made =
         record {
           log = made.log
-              ∙ ap (λ ws. wrote s.log ws (map (in_log (parent_of place.role)) (entries_written ws))) same.written;
+              ∙ ap (λ ws. wrote s.log ws (map (in_log (parent_of place.role)) (entries_written ws)))
+              same.written;
           own = same_view-trans (s'.view_of c) row.view row'.view made.own same.view;
           others = made.others;
           branches = made.branches;
@@ -195,18 +201,22 @@ module _ (n : Node) (s s' : CoreState) (place : Place) (a : DataAnswer)
         let m = same_taken i c row row' same made in
         subst (λ f. Stands (after n (heard i) f) new)
         (sym (row_effect-same c row row' same) ∙ done_is (row_effect c row) e is)
-        (stand i (row_effect c row') (row_behind i c row' own.boot remains m) (λ d. elim (same_case_tells c d) [
+        (stand i (row_effect c row') (row_behind i c row' own.boot remains m)
+        (λ d. elim (same_case_tells c d) [
           | inl one ↦
-              subst (λ q. SameView (s'.view_of q) (coordinator_view place (after n (heard i) (row_effect c row')) q))
+              subst (λ q. SameView (s'.view_of q)
+              (coordinator_view place (after n (heard i) (row_effect c row')) q))
               one.1
               (subst (λ v. SameView (s'.view_of c) v) (sym moved) m.own)
           | inr apart ↦
-              subst (λ v. SameView (s'.view_of d) v) (sym (row_others i c d row' own apart.0 (keeps d apart.0)))
+              subst (λ v. SameView (s'.view_of d) v)
+              (sym (row_others i c d row' own apart.0 (keeps d apart.0)))
               (same_view-trans (s'.view_of d) (s.view_of d) (view d) (m.others d apart.0) (sees d))
         ]))
 
     -- a row that writes nothing and leaves the view as it is
-    pub rested : (i : Input) (c : Case) (row row' : Row) → SameRow row row' → row'.written ≡ [] → row'.view ≡ view c
+    pub rested : (i : Input) (c : Case) (row row' : Row) → SameRow row row'
+        → row'.written ≡ [] → row'.view ≡ view c
         → Remains i
         → ((d : Case) → Keeps i d) → Follows n (heard i) old new i (Takes c row)
     rested i c row row' same none shown remains keeps =
@@ -216,18 +226,21 @@ module _ (n : Node) (s s' : CoreState) (place : Place) (a : DataAnswer)
     -- Nothing is done but that something is said.
 
     pub said : (i : Input) (ls : List Envelope) → Remains i
-        → ((d : Case) → retired_by i d (active_ticket (memory d).active d) ≡ active_ticket (memory d).active d)
+        → ((d : Case) → retired_by i d (active_ticket (memory d).active d)
+        ≡ active_ticket (memory d).active d)
         → ((d : Case) → Keeps i d) → Follows n (heard i) old new i (Says ls)
     said i ls remains untouched keeps e is made =
         let f = sends_only ls in
         let q = parent_of place.role in
-        let held : Holds q (after n (heard i) f) (wrote s.log [] []) = held_after q n (heard i) f s.log holds in
+        let held : Holds q (after n (heard i) f) (wrote s.log [] []) =
+        held_after q n (heard i) f s.log holds in
         let quiet : NoBoot [] = λ b. refl in
         subst (λ g. Stands (after n (heard i) g) new) (done_is f e is)
         (stand i f (record {
           forced = ap (λ (l : LogSight). l.kept.forced) made.log ∙ held.forced;
           unforced =
-              ap (λ (l : LogSight). l.kept.unforced) made.log ∙ sym (append-nil s.log.kept.unforced) ∙ held.unforced;
+              ap (λ (l : LogSight). l.kept.unforced) made.log
+              ∙ sym (append-nil s.log.kept.unforced) ∙ held.unforced;
           failed = ap (λ (l : LogSight). l.failed) made.log ∙ held.failed;
           boots = made.rest.boot ∙ up.boot ∙ sym (boot-after n (heard i) f quiet);
           begins = λ d. made.rest.begun ∙ up.begun d ∙ sym (remains.begun d)

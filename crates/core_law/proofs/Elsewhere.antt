@@ -41,12 +41,15 @@ module _ (place : Place) (n : Node) (fit : ChildrenFit place n) (s : CoreState)
   view c = coordinator_view place n c
 
   is_case-at : (x : Txn) (t : Ticket) (c : Case) → is_case_of s x t c
-      ≡ (same_txn c.txn x && (is_known (view c).standing && (in_list (view c).accepted t || in_list (view c).named t)))
+      ≡ (same_txn c.txn x && (is_known (view c).standing
+      && (in_list (view c).accepted t || in_list (view c).named t)))
   is_case-at x t c = let same = sees c in
-      (λ i. same_txn c.txn x && (is_known (same.standing i) && (in_list (same.accepted i) t || same.named t i)))
+      (λ i. same_txn c.txn x && (is_known (same.standing i)
+      && (in_list (same.accepted i) t || same.named t i)))
 
   its_parts : (x : Txn) (t : Ticket) (c : Case) → is_case_of s x t c ≡ true
-      → (c.txn ≡ x) × (is_known (view c).standing ≡ true) × (belongs (memory_of place n c) (kept n) c t ≡ true)
+      → (c.txn ≡ x) × (is_known (view c).standing ≡ true)
+      × (belongs (memory_of place n c) (kept n) c t ≡ true)
   its_parts x t c is =
       let parts = and_all place n fit _ _ _ (sym (is_case-at x t c) ∙ is) in
       ((txn_tells c.txn x).0 parts.0, parts.1, sym (lists place n fit c t parts.1) ∙ parts.2)
@@ -67,7 +70,8 @@ module _ (place : Place) (n : Node) (fit : ChildrenFit place n) (s : CoreState)
   -- the child belongs to no live case but to the one that was found
   pub belongs_not : (x : Txn) (t : Ticket) (found : Option Case) → Finds s (Some (x, t)) found → (d : Case)
       → IsOther found d
-      → same_txn x d.txn ≡ true → is_known (view d).standing ≡ true → belongs (memory_of place n d) (kept n) d t ≡ false
+      → same_txn x d.txn ≡ true → is_known (view d).standing ≡ true
+      → belongs (memory_of place n d) (kept n) d t ≡ false
   belongs_not x t found finds d other of known = by_test (belongs (memory_of place n d) (kept n) d t) refl
     where
       flipped : same_txn d.txn x ≡ true
@@ -76,12 +80,14 @@ module _ (place : Place) (n : Node) (fit : ChildrenFit place n) (s : CoreState)
       there : has_case (own_cases place.role place n x) d ≡ true
       there = let one : x
           ≡ d.txn =
-          (txn_tells x d.txn).0 of in ap (λ y. has_case (own_cases place.role place n y) d) one ∙ fit.listed d known
+          (txn_tells x d.txn).0 of in ap (λ y. has_case (own_cases place.role place n y) d) one
+          ∙ fit.listed d known
 
       none_other : {A : Type 0} (o : Option Case) → Finds s (Some (x, t)) o → IsOther o d
           → belongs (memory_of place n d) (kept n) d t ≡ true → A
       none_other None none other its = let yes : is_case_of s x t d
-          ≡ true = is_its x t d flipped known its in let no : is_case_of s x t d ≡ false = none d in absurd (cc)
+          ≡ true = is_its x t d flipped known its in let no : is_case_of s x t d
+          ≡ false = none d in absurd (cc)
       none_other (Some c) is other its =
           let parts = its_parts x t c is in
           let listed : has_case (own_cases place.role place n x) c ≡ true =
@@ -121,7 +127,8 @@ none_in : (t : Ticket) → in_list [] t ≡ false
 unfolding in_list
 none_in t = refl
 
-owing_one : (c : Case) (t : Ticket) (r : Record) → in_list (named_in c r) t ≡ false → in_list (owing_in c r) t ≡ false
+owing_one : (c : Case) (t : Ticket) (r : Record) → in_list (named_in c r) t ≡ false
+    → in_list (owing_in c r) t ≡ false
 owing_one c t (CommitRecord d ts) h = h
 owing_one c t (AbortRecord d ts) h = h
 owing_one c t r h = none_in t
@@ -135,7 +142,8 @@ unnamed_unowing c t (r ∷ rs) h =
     both_not (owing_in c r) (owing_by c rs) t (owing_one c t r parts.0) (unnamed_unowing c t rs parts.1)
 
 -- an acknowledgement of a ticket that does not owe one changes nothing
-pub others_owe : (acks : List (Ticket × Outcome)) (t : Ticket) (a o : Outcome) (ts : List Ticket) → in_list ts t ≡ false
+pub others_owe : (acks : List (Ticket × Outcome)) (t : Ticket) (a o : Outcome)
+    (ts : List Ticket) → in_list ts t ≡ false
     → still_owed (acks ++ (t, a) ∷ []) o ts ≡ still_owed acks o ts
 unfolding in_list still_owed
 others_owe acks t a o [] h = refl
@@ -153,7 +161,8 @@ others_owe acks t a o (u ∷ ts) h =
     same_not : (u : Ticket) → same_ticket u t ≡ false
         → not (has_acked (acks ++ (t, a) ∷ []) o u) ≡ not (has_acked acks o u)
     same_not u e =
-        ap not (has_acked-push acks t u a o ∙ rw (flipped u e) (no_more (has_acked acks o u) (same_outcome a o)))
+        ap not (has_acked-push acks t u a o ∙ rw (flipped u e)
+        (no_more (has_acked acks o u) (same_outcome a o)))
 
     by_tests : (x y : Bool) → x ≡ y → still_owed (acks ++ (t, a) ∷ []) o ts ≡ still_owed acks o ts
         → (if x then u ∷ still_owed (acks ++ (t, a) ∷ []) o ts else still_owed (acks ++ (t, a) ∷ []) o ts)
@@ -192,7 +201,8 @@ module _ (place : Place) (n : Node) (d : Case) (alike : IsOpenAlike place n d) w
   -- the ticket belongs to a case of the transaction only where that is not live
   abbrev pub IsStranger : Txn → Ticket → Type 0
   IsStranger x t =
-      same_txn x d.txn ≡ true → is_known (coordinator_view place n d).standing ≡ true → belongs m rs d t ≡ false
+      same_txn x d.txn ≡ true → is_known (coordinator_view place n d).standing
+      ≡ true → belongs m rs d t ≡ false
 
   pub vote_hears : (x : Txn) (t : Ticket) (w : Vote)
       → hears_child d m (vote_message w (child_case x t))
@@ -237,6 +247,7 @@ module _ (place : Place) (n : Node) (d : Case) (alike : IsOpenAlike place n d) w
       noted of Idle = acked_view rs d m t o (coordinator_standing rs d m) (unnamed of)
       noted of Over = acked_view rs d m t o (coordinator_standing rs d m) (unnamed of)
 
-      by_txn : (b : Bool) → same_txn x d.txn ≡ b → read rs d (if b then takes_ack m t o m.phase else m) ≡ read rs d m
+      by_txn : (b : Bool) → same_txn x d.txn ≡ b
+          → read rs d (if b then takes_ack m t o m.phase else m) ≡ read rs d m
       by_txn false of = refl
       by_txn true of = noted of m.phase

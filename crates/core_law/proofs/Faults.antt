@@ -47,7 +47,8 @@ same_stands n old new same stands =
 
 pub refuses_so : (n : Node) (old new : CoreState) (a : DataAnswer) (i : Input) (e : StepError) → Stands n old
     → (n.failed ≡ false → ChildrenFit old.place n)
-    → IsRefused old new a i e → (reacts old.place n (record { input = i; data_answer = a }) ≡ Refused e) × Stands n new
+    → IsRefused old new a i e → (reacts old.place n (record { input = i; data_answer = a }) ≡ Refused e)
+    × Stands n new
 refuses_so n old new a i e stands fit refused = (
   meets_as n old a refused.found i fit refused.finds stands
       ∙ ap reacted refused.refuses,
@@ -154,7 +155,8 @@ module _ (n : Node) (old new : CoreState) (a : DataAnswer) (i : Input) (stands :
         does = meets_as n old a broken.found i fit broken.finds stands ∙ broken.breaks.1;
         appended = appended;
         forced = parts.more;
-        stands = subst (λ p. Stands (fails_in n (record { input = i; data_answer = a }) effect appended parts.more)
+        stands =
+            subst (λ p. Stands (fails_in n (record { input = i; data_answer = a }) effect appended parts.more)
             (record new { place = p }))
             (sym broken.breaks.2.place) left_so;
       }

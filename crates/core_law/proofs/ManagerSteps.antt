@@ -19,7 +19,8 @@ use Rattle.core_law.specs.Ties.{ChildrenFit, Stands}
 use Rattle.core_law.proofs.Managers.{Follows, acted, heard_so}
 use Rattle.core_law.proofs.Turns.{meets_as}
 
-module _ (n : Node) (s s' : CoreState) (me p : ProcessId) (tree : List TreeEntry) (a : DataAnswer) (i : Input) (found : Option Case) where
+module _ (n : Node) (s s' : CoreState) (me p : ProcessId) (tree : List TreeEntry) (a : DataAnswer)
+    (i : Input) (found : Option Case) where
   abbrev old : CoreState
   old = record s { place = leaf_place me p tree }
 
@@ -41,10 +42,12 @@ module _ (n : Node) (s s' : CoreState) (me p : ProcessId) (tree : List TreeEntry
           (if b then (if s.log.failed then Refuses Failed else up_turn old a found i) else Refuses NoSuch)
       by_tests false f failed = λ e is made. absurd made
       by_tests true true failed =
-          subst (λ z. Follows n (record { input = i; data_answer = a }) old new i (if z then Refuses Failed else up_turn old a found i))
+          subst (λ z. Follows n (record { input = i; data_answer = a }) old new i
+          (if z then Refuses Failed else up_turn old a found i))
           (sym (stands.failed ∙ failed)) (λ e is made. absurd made)
       by_tests true false failed =
-          subst (λ z. Follows n (record { input = i; data_answer = a }) old new i (if z then Refuses Failed else up_turn old a found i))
+          subst (λ z. Follows n (record { input = i; data_answer = a }) old new i
+          (if z then Refuses Failed else up_turn old a found i))
           (sym (stands.failed ∙ failed)) (up_follows failed stands fresh i)
 
 -- the place of a process is that of a manager
@@ -52,7 +55,8 @@ is_leaf_place : (q : Place) (p : ProcessId) → q.role ≡ AtLeaf p → q ≡ le
 is_leaf_place q p is = λ i. record { me = q.me; role = is i; tree = q.tree }
 
 -- in any turn that is made the place stays
-pub place_stays : (old new : CoreState) (i : Input) (turn : Turn) → Moves old new i turn → new.place ≡ old.place
+pub place_stays : (old new : CoreState) (i : Input) (turn : Turn)
+    → Moves old new i turn → new.place ≡ old.place
 place_stays old new i (Refuses e) made = absurd made
 place_stays old new i (Begins x) made = made.stays.place
 place_stays old new i (Issues d t l) made = made.place
@@ -60,7 +64,8 @@ place_stays old new i (Takes c row) made = made.stays.place
 place_stays old new i (Handles c row) made = made.stays.place
 place_stays old new i (Says ls) made = made.rest.place
 
-pub managers_make : (n : Node) (old new : CoreState) (p : ProcessId) (a : DataAnswer) (i : Input) (reaction : Reaction)
+pub managers_make : (n : Node) (old new : CoreState) (p : ProcessId) (a : DataAnswer)
+    (i : Input) (reaction : Reaction)
     → old.place.role ≡ AtLeaf p → Stands n old → ChildrenFit old.place n → FreshIsUnmarked old.place n
     → Makes old new a i reaction → MadeAs n (record { input = i; data_answer = a }) old new reaction
 managers_make n old new p a i reaction role stands fit fresh made =
@@ -68,20 +73,27 @@ managers_make n old new p a i reaction role stands fit fresh made =
       effect = made.effect;
       does = meets_as n old a made.found i (λ _. fit) made.finds stands ∙ made.does;
       shown = made.shown;
-      stands = at_place old.place new.place (is_leaf_place old.place p role) (place_stays old new i (turn_of old a made.found i) made.moves) stands fresh made.does made.moves;
+      stands = at_place old.place new.place (is_leaf_place old.place p role)
+          (place_stays old new i (turn_of old a made.found i) made.moves) stands fresh made.does made.moves;
     }
   where
-    at_place : (q r : Place) → q ≡ leaf_place old.place.me p old.place.tree → r ≡ q → Stands n (record old { place = q }) → FreshIsUnmarked q n
+    at_place : (q r : Place) → q ≡ leaf_place old.place.me p old.place.tree → r ≡ q
+        → Stands n (record old { place = q }) → FreshIsUnmarked q n
         → reacted (turn_of (record old { place = q }) a made.found i) ≡ Does made.effect
-        → Moves (record old { place = q }) (record new { place = r }) i (turn_of (record old { place = q }) a made.found i)
+        → Moves (record old { place = q }) (record new { place = r }) i
+        (turn_of (record old { place = q }) a made.found i)
         → Stands (after n (record { input = i; data_answer = a }) made.effect) (record new { place = r })
     at_place q r is_q is_r =
         subst (λ r. Stands n (record old { place = q }) → FreshIsUnmarked q n
         → reacted (turn_of (record old { place = q }) a made.found i) ≡ Does made.effect
-        → Moves (record old { place = q }) (record new { place = r }) i (turn_of (record old { place = q }) a made.found i)
-        → Stands (after n (record { input = i; data_answer = a }) made.effect) (record new { place = r })) (sym is_r)
+        → Moves (record old { place = q }) (record new { place = r }) i
+        (turn_of (record old { place = q }) a made.found i)
+        → Stands (after n (record { input = i; data_answer = a }) made.effect)
+        (record new { place = r })) (sym is_r)
         (subst (λ q. Stands n (record old { place = q }) → FreshIsUnmarked q n
         → reacted (turn_of (record old { place = q }) a made.found i) ≡ Does made.effect
-        → Moves (record old { place = q }) (record new { place = q }) i (turn_of (record old { place = q }) a made.found i)
-        → Stands (after n (record { input = i; data_answer = a }) made.effect) (record new { place = q })) (sym is_q)
+        → Moves (record old { place = q }) (record new { place = q }) i
+        (turn_of (record old { place = q }) a made.found i)
+        → Stands (after n (record { input = i; data_answer = a }) made.effect)
+        (record new { place = q })) (sym is_q)
         (λ s f d m. follows n old new old.place.me p old.place.tree a i made.found s f made.effect d m))

@@ -57,7 +57,8 @@ same_view-trans u v w first second =
 
 -- what the effect of a turn leaves of the model's process
 abbrev pub Follows : Node → Heard → CoreState → CoreState → Input → Turn → Type 0
-Follows n h old new i turn = (e : Effect) → reacted turn ≡ Does e → Moves old new i turn → Stands (after n h e) new
+Follows n h old new i turn = (e : Effect) → reacted turn ≡ Does e
+    → Moves old new i turn → Stands (after n h e) new
 
 pub done_is : (e f : Effect) → Does e ≡ Does f → e ≡ f
 done_is e f h = cc
@@ -68,9 +69,11 @@ begun_if : (b : Bool) (m r : Memory) (k : ℕ) → r.begun ≡ k → m.begun ≡
 begun_if true m r k here there = here
 begun_if false m r k here there = there
 
-begun_joins : (me : ProcessId) (boot : ℕ) (c d : Case) (m : Memory) (o : Option Ticket) → (joins me boot c d m o).begun ≡ m.begun
+begun_joins : (me : ProcessId) (boot : ℕ) (c d : Case) (m : Memory) (o : Option Ticket)
+    → (joins me boot c d m o).begun ≡ m.begun
 begun_joins me boot c d m (Some t) = refl
-begun_joins me boot c d m None = begun_if (same_case c (child_case d.txn (next_ticket me boot m))) _ _ m.begun refl refl
+begun_joins me boot c d m None = begun_if (same_case c
+    (child_case d.txn (next_ticket me boot m))) _ _ m.begun refl refl
 
 begun_works : (m : Memory) (i : ℕ) (does : Bool) (ph : Phase) → (works m i does ph).begun ≡ m.begun
 begun_works m i does Idle = refl
@@ -87,10 +90,14 @@ begun_closes m Over = refl
 
 begun_hears : (me : ProcessId) (boot : ℕ) (c : Case) (m : Memory) (a : DataAnswer) (message : Message)
     → (manager_hears me boot c m a message).begun ≡ m.begun
-begun_hears me boot c m a (Join d) = begun_if a.starts m _ m.begun (begun_joins me boot c d m (active_ticket m.active d)) refl
-begun_hears me boot c m a (Work d i op) = begun_if (same_case d c) m _ m.begun (begun_works m i a.does m.phase) refl
-begun_hears me boot c m a (Prepare d k) = begun_if (same_case d c) (retires m d) _ m.begun (begun_closes (retires m d) m.phase) refl
-begun_hears me boot c m a (Abort d) = begun_if (same_case d c) (retires m d) _ m.begun (begun_closes (retires m d) m.phase) refl
+begun_hears me boot c m a (Join d) = begun_if a.starts m _ m.begun
+    (begun_joins me boot c d m (active_ticket m.active d)) refl
+begun_hears me boot c m a (Work d i op) = begun_if (same_case d c) m _ m.begun
+    (begun_works m i a.does m.phase) refl
+begun_hears me boot c m a (Prepare d k) = begun_if (same_case d c) (retires m d) _ m.begun
+    (begun_closes (retires m d) m.phase) refl
+begun_hears me boot c m a (Abort d) = begun_if (same_case d c) (retires m d) _ m.begun
+    (begun_closes (retires m d) m.phase) refl
 begun_hears me boot c m a (Joined d t) = refl
 begun_hears me boot c m a (Yes d) = refl
 begun_hears me boot c m a (No d) = refl
@@ -104,7 +111,8 @@ begun_heard : (me : ProcessId) (boot : ℕ) (c : Case) (m : Memory) (a : DataAns
 begun_heard me boot c m a (ActInput x) = refl
 begun_heard me boot c m a (MessageInput k message) = begun_hears me boot c m a message
 
-module _ (n : Node) (s s' : CoreState) (me p : ProcessId) (tree : List TreeEntry) (runs : n.failed ≡ false) (a : DataAnswer) where
+module _ (n : Node) (s s' : CoreState) (me p : ProcessId) (tree : List TreeEntry)
+    (runs : n.failed ≡ false) (a : DataAnswer) where
   abbrev pub place : Place
   place = leaf_place me p tree
 
@@ -141,7 +149,8 @@ module _ (n : Node) (s s' : CoreState) (me p : ProcessId) (tree : List TreeEntry
         → (memory c).begun ≡ (memory_of place (after n (heard i) e) c).begun
     begun i e quiet c =
         sym (begun_heard me boot c (memory c) a i)
-        ∙ sym (ap (λ (m : Memory). m.begun) (memory_of-after place n (heard i) e c (same_boot n (entries_written e.written) quiet)))
+        ∙ sym (ap (λ (m : Memory). m.begun) (memory_of-after place n (heard i) e c
+        (same_boot n (entries_written e.written) quiet)))
 
     -- what is behind an input whose records are none of a boot, but for the branches
     record Behind (i : Input) (e : Effect) : Type 0 where
@@ -151,11 +160,13 @@ module _ (n : Node) (s s' : CoreState) (me p : ProcessId) (tree : List TreeEntry
       boots : s'.boot ≡ boot_of (kept (after n (heard i) e))
       begins : (c : Case) → s'.begun ≡ (memory_of place (after n (heard i) e) c).begun
       gives : (c : Case) → s'.given ≡ (memory_of place (after n (heard i) e) c).given
-      tickets : (d : Case) → s'.ticket_for d ≡ active_ticket (memory_of place (after n (heard i) e) d).active d
+      tickets : (d : Case) → s'.ticket_for d ≡ active_ticket
+          (memory_of place (after n (heard i) e) d).active d
       views : (c : Case) → SameView (s'.view_of c) unknown_view
 
     stand : (i : Input) (e : Effect) → Behind i e
-        → ((c : Case) → s'.branch_of c ≡ manager_view place (after n (heard i) e) c) → Stands (after n (heard i) e) new
+        → ((c : Case) → s'.branch_of c ≡ manager_view place (after n (heard i) e) c)
+        → Stands (after n (heard i) e) new
     stand i e behind branches =
         record {
           forced = behind.forced;
@@ -174,15 +185,18 @@ module _ (n : Node) (s s' : CoreState) (me p : ProcessId) (tree : List TreeEntry
     -- the number stays, and the tickets but those that the input retires
     record Remains (i : Input) : Type 0 where
       given : (c : Case) → (gives_heard me boot (givens_of (memory c)) a i).0 ≡ (memory c).given
-      tickets : (d : Case) → active_ticket (gives_heard me boot (givens_of (memory d)) a i).1 d ≡ retired_by i d (active_ticket (memory d).active d)
+      tickets : (d : Case) → active_ticket (gives_heard me boot (givens_of (memory d)) a i).1 d
+          ≡ retired_by i d (active_ticket (memory d).active d)
 
     -- A row is taken.
 
-    row_behind : (i : Input) (c : Case) (row : LeafRow) → NoBoot (entries_written row.written) → Remains i → HandlesRow old new i c row
+    row_behind : (i : Input) (c : Case) (row : LeafRow) → NoBoot (entries_written row.written) → Remains i
+        → HandlesRow old new i c row
         → Behind i (leaf_effect row)
     row_behind i c row quiet remains made =
         let e = leaf_effect row in
-        let held : Holds (Some p) (after n (heard i) e) (wrote s.log row.written (map (in_log (Some p)) (entries_written row.written))) =
+        let held : Holds (Some p) (after n (heard i) e)
+        (wrote s.log row.written (map (in_log (Some p)) (entries_written row.written))) =
         held_after (Some p) n (heard i) e s.log holds in
         record {
           forced = ap (λ (l : LogSight). l.kept.forced) made.log ∙ held.forced;
@@ -190,18 +204,21 @@ module _ (n : Node) (s s' : CoreState) (me p : ProcessId) (tree : List TreeEntry
           failed = ap (λ (l : LogSight). l.failed) made.log ∙ held.failed;
           boots = made.stays.boot ∙ up.boot ∙ sym (boot-after n (heard i) e quiet);
           begins = λ d. made.begun ∙ up.begun d ∙ begun i e quiet d;
-          gives = λ d. made.given ∙ up.given d ∙ sym (remains.given d) ∙ sym (ap (λ (g : Givens). g.0) (counted i e quiet d));
+          gives = λ d. made.given ∙ up.given d ∙ sym (remains.given d)
+              ∙ sym (ap (λ (g : Givens). g.0) (counted i e quiet d));
           tickets = λ d. made.stays.tickets d ∙ ap (retired_by i d) (up.tickets d) ∙ sym (remains.tickets d)
               ∙ sym (ap (λ (g : Givens). active_ticket g.1 d) (counted i e quiet d));
           views = λ d. same_view-trans (s'.view_of d) (s.view_of d) unknown_view (made.views d) (up.views d);
         }
 
-    handled : (i : Input) (c : Case) (row : LeafRow) → NoBoot (entries_written row.written) → MovesBranch place n (heard i) c row → Remains i
+    handled : (i : Input) (c : Case) (row : LeafRow) → NoBoot (entries_written row.written)
+        → MovesBranch place n (heard i) c row → Remains i
         → Follows n (heard i) old new i (Handles c row)
     handled i c row quiet moved remains e is made =
         subst (λ f. Stands (after n (heard i) f) new) (done_is (leaf_effect row) e is)
         (stand i (leaf_effect row) (row_behind i c row quiet remains made) (λ d. elim (same_case_tells c d) [
-          | inl one ↦ subst (λ q. s'.branch_of q ≡ manager_view place (after n (heard i) (leaf_effect row)) q) one.1
+          | inl one ↦ subst (λ q. s'.branch_of q
+              ≡ manager_view place (after n (heard i) (leaf_effect row)) q) one.1
               (made.own ∙ sym moved.moved)
           | inr apart ↦ made.others d apart.0 ∙ up.branches d ∙ sym (moved.others d apart.0)
         ]))
@@ -209,24 +226,29 @@ module _ (n : Node) (s s' : CoreState) (me p : ProcessId) (tree : List TreeEntry
     -- Nothing is done but that something is said.
 
     said : (i : Input) (ls : List Envelope) → Remains i
-        → ((d : Case) → retired_by i d (active_ticket (memory d).active d) ≡ active_ticket (memory d).active d)
+        → ((d : Case) → retired_by i d (active_ticket (memory d).active d)
+        ≡ active_ticket (memory d).active d)
         → ((c : Case) → manager_view place (after n (heard i) (sends_only ls)) c ≡ manager_view place n c)
         → Follows n (heard i) old new i (Says ls)
     said i ls remains untouched views e is made =
         let f = sends_only ls in
-        let held : Holds (Some p) (after n (heard i) f) (wrote s.log [] []) = held_after (Some p) n (heard i) f s.log holds in
+        let held : Holds (Some p) (after n (heard i) f) (wrote s.log [] []) =
+        held_after (Some p) n (heard i) f s.log holds in
         let quiet : NoBoot [] = λ b. refl in
         subst (λ g. Stands (after n (heard i) g) new) (done_is f e is)
         (stand i f (record {
           forced = ap (λ (l : LogSight). l.kept.forced) made.log ∙ held.forced;
-          unforced = ap (λ (l : LogSight). l.kept.unforced) made.log ∙ sym (append-nil s.log.kept.unforced) ∙ held.unforced;
+          unforced = ap (λ (l : LogSight). l.kept.unforced) made.log
+              ∙ sym (append-nil s.log.kept.unforced) ∙ held.unforced;
           failed = ap (λ (l : LogSight). l.failed) made.log ∙ held.failed;
           boots = made.rest.boot ∙ up.boot ∙ sym (boot-after n (heard i) f quiet);
           begins = λ d. made.rest.begun ∙ up.begun d ∙ begun i f quiet d;
-          gives = λ d. made.rest.given ∙ up.given d ∙ sym (remains.given d) ∙ sym (ap (λ (g : Givens). g.0) (counted i f quiet d));
+          gives = λ d. made.rest.given ∙ up.given d ∙ sym (remains.given d)
+              ∙ sym (ap (λ (g : Givens). g.0) (counted i f quiet d));
           tickets = λ d. made.rest.tickets d ∙ up.tickets d ∙ sym (untouched d) ∙ sym (remains.tickets d)
               ∙ sym (ap (λ (g : Givens). active_ticket g.1 d) (counted i f quiet d));
-          views = λ d. same_view-trans (s'.view_of d) (s.view_of d) unknown_view (made.rest.views d) (up.views d);
+          views = λ d. same_view-trans (s'.view_of d) (s.view_of d) unknown_view
+              (made.rest.views d) (up.views d);
         }) (λ c. made.rest.branches c ∙ up.branches c ∙ sym (views c)))
 
     refused : (i : Input) (x : StepError) → Follows n (heard i) old new i (Refuses x)
@@ -234,19 +256,23 @@ module _ (n : Node) (s s' : CoreState) (me p : ProcessId) (tree : List TreeEntry
 
     -- What each input leaves of the numbers and of the tickets.
 
-    kept_by : (i : Input) → ((d : Case) (t : Ticket) → retires_ticket i d t ≡ false) → (d : Case) (o : Option Ticket) → retired_by i d o ≡ o
+    kept_by : (i : Input) → ((d : Case) (t : Ticket) → retires_ticket i d t ≡ false)
+        → (d : Case) (o : Option Ticket) → retired_by i d o ≡ o
     kept_by i none d None = refl
     kept_by i none d (Some t) = ap (λ b. if b then None else Some t) (none d t)
 
-    remains_quiet : (i : Input) → ((c : Case) → gives_heard me boot (givens_of (memory c)) a i ≡ givens_of (memory c))
+    remains_quiet : (i : Input) → ((c : Case)
+        → gives_heard me boot (givens_of (memory c)) a i ≡ givens_of (memory c))
         → ((d : Case) (t : Ticket) → retires_ticket i d t ≡ false) → Remains i
     remains_quiet i same none =
         record {
           given = λ c. ap (λ (g : Givens). g.0) (same c);
-          tickets = λ d. ap (λ (g : Givens). active_ticket g.1 d) (same d) ∙ sym (kept_by i none d (active_ticket (memory d).active d));
+          tickets = λ d. ap (λ (g : Givens). active_ticket g.1 d) (same d)
+              ∙ sym (kept_by i none d (active_ticket (memory d).active d));
         }
 
-    unless_as : (k j : ℕ) (c d : Case) (o : Option Ticket) → unless_of c d o ≡ retired_by (MessageInput k (Prepare c j)) d o
+    unless_as : (k j : ℕ) (c d : Case) (o : Option Ticket)
+        → unless_of c d o ≡ retired_by (MessageInput k (Prepare c j)) d o
     unless_as k j c d None = refl
     unless_as k j c d (Some t) = refl
 
@@ -254,10 +280,12 @@ module _ (n : Node) (s s' : CoreState) (me p : ProcessId) (tree : List TreeEntry
     remains_prepare k j c =
         record {
           given = λ d. refl;
-          tickets = λ d. found_without c d (memory d).active (manager_once me p tree n d) ∙ unless_as k j c d (active_ticket (memory d).active d);
+          tickets = λ d. found_without c d (memory d).active (manager_once me p tree n d)
+              ∙ unless_as k j c d (active_ticket (memory d).active d);
         }
 
-    unless_aborted : (k : ℕ) (c d : Case) (o : Option Ticket) → unless_of c d o ≡ retired_by (MessageInput k (Abort c)) d o
+    unless_aborted : (k : ℕ) (c d : Case) (o : Option Ticket)
+        → unless_of c d o ≡ retired_by (MessageInput k (Abort c)) d o
     unless_aborted k c d None = refl
     unless_aborted k c d (Some t) = refl
 
@@ -265,25 +293,31 @@ module _ (n : Node) (s s' : CoreState) (me p : ProcessId) (tree : List TreeEntry
     remains_abort k c =
         record {
           given = λ d. refl;
-          tickets = λ d. found_without c d (memory d).active (manager_once me p tree n d) ∙ unless_aborted k c d (active_ticket (memory d).active d);
+          tickets = λ d. found_without c d (memory d).active (manager_once me p tree n d)
+              ∙ unless_aborted k c d (active_ticket (memory d).active d);
         }
 
     -- Acts.
 
     ask_at : (c : Case) (v : ManagerView) (st : Standing) → v ≡ manager_view place n c
-        → Follows n (heard (ActInput (Ask c))) old new (ActInput (Ask c)) (leaf_ask_turn (leaf_of place p c) v st)
+        → Follows n (heard (ActInput (Ask c))) old new (ActInput (Ask c))
+        (leaf_ask_turn (leaf_of place p c) v st)
     ask_at c v st is = by_standing st
       where
-        asks : Follows n (heard (ActInput (Ask c))) old new (ActInput (Ask c)) (Handles c (untold_ask (leaf_of place p c) v))
+        asks : Follows n (heard (ActInput (Ask c))) old new (ActInput (Ask c))
+            (Handles c (untold_ask (leaf_of place p c) v))
         asks = handled (ActInput (Ask c)) c (untold_ask (leaf_of place p c) v) (λ b. refl)
-            (subst (λ u. MovesBranch place n (heard (ActInput (Ask c))) c (untold_ask (leaf_of place p c) u)) (sym is) ((manager_views me p tree n c).ask a))
+            (subst (λ u. MovesBranch place n (heard (ActInput (Ask c))) c (untold_ask (leaf_of place p c) u))
+            (sym is) ((manager_views me p tree n c).ask a))
             (remains_quiet (ActInput (Ask c)) (λ d. refl) (λ d t. refl))
 
-        by_told : (o : Option Outcome) → Follows n (heard (ActInput (Ask c))) old new (ActInput (Ask c)) (untold_turn (leaf_of place p c) v o)
+        by_told : (o : Option Outcome) → Follows n (heard (ActInput (Ask c))) old new (ActInput (Ask c))
+            (untold_turn (leaf_of place p c) v o)
         by_told None = asks
         by_told (Some o) = refused (ActInput (Ask c)) _
 
-        by_standing : (st : Standing) → Follows n (heard (ActInput (Ask c))) old new (ActInput (Ask c)) (leaf_ask_turn (leaf_of place p c) v st)
+        by_standing : (st : Standing) → Follows n (heard (ActInput (Ask c))) old new (ActInput (Ask c))
+            (leaf_ask_turn (leaf_of place p c) v st)
         by_standing standing.Unknown = refused (ActInput (Ask c)) _
         by_standing standing.Active = refused (ActInput (Ask c)) _
         by_standing standing.Collecting = refused (ActInput (Ask c)) _
@@ -297,28 +331,35 @@ module _ (n : Node) (s s' : CoreState) (me p : ProcessId) (tree : List TreeEntry
     decide_boot l Aborted b = refl
 
     decide_at : (c : Case) (o : Outcome) (st : Standing)
-        → Follows n (heard (ActInput (Decide c o))) old new (ActInput (Decide c o)) (decide_turn (leaf_of place p c) o st)
+        → Follows n (heard (ActInput (Decide c o))) old new (ActInput (Decide c o))
+        (decide_turn (leaf_of place p c) o st)
     decide_at c o standing.Unknown = refused (ActInput (Decide c o)) _
     decide_at c o standing.Active = refused (ActInput (Decide c o)) _
     decide_at c o standing.Collecting = refused (ActInput (Decide c o)) _
-    decide_at c o standing.Prepared = handled (ActInput (Decide c o)) c (prepared_decide (leaf_of place p c) o) (decide_boot (leaf_of place p c) o)
-        ((manager_views me p tree n c).decide o a) (remains_quiet (ActInput (Decide c o)) (λ d. refl) (λ d t. refl))
+    decide_at c o standing.Prepared = handled (ActInput (Decide c o)) c
+        (prepared_decide (leaf_of place p c) o) (decide_boot (leaf_of place p c) o)
+        ((manager_views me p tree n c).decide o a)
+        (remains_quiet (ActInput (Decide c o)) (λ d. refl) (λ d t. refl))
     decide_at c o standing.Committing = refused (ActInput (Decide c o)) _
     decide_at c o standing.Aborting = refused (ActInput (Decide c o)) _
     decide_at c o standing.Heuristic = refused (ActInput (Decide c o)) _
 
     forget_at : (c : Case) (st : Standing)
-        → Follows n (heard (ActInput (Forget c))) old new (ActInput (Forget c)) (forget_turn (leaf_of place p c) st)
+        → Follows n (heard (ActInput (Forget c))) old new (ActInput (Forget c))
+        (forget_turn (leaf_of place p c) st)
     forget_at c standing.Unknown = refused (ActInput (Forget c)) _
     forget_at c standing.Active = refused (ActInput (Forget c)) _
     forget_at c standing.Collecting = refused (ActInput (Forget c)) _
     forget_at c standing.Prepared = refused (ActInput (Forget c)) _
     forget_at c standing.Committing = refused (ActInput (Forget c)) _
     forget_at c standing.Aborting = refused (ActInput (Forget c)) _
-    forget_at c standing.Heuristic = handled (ActInput (Forget c)) c (heuristic_forget (leaf_of place p c)) (λ b. refl)
-        ((manager_views me p tree n c).forget a) (remains_quiet (ActInput (Forget c)) (λ d. refl) (λ d t. refl))
+    forget_at c standing.Heuristic = handled (ActInput (Forget c)) c
+        (heuristic_forget (leaf_of place p c)) (λ b. refl)
+        ((manager_views me p tree n c).forget a)
+        (remains_quiet (ActInput (Forget c)) (λ d. refl) (λ d t. refl))
 
-    childless_at : (x : Act) (st : Standing) → Follows n (heard (ActInput x)) old new (ActInput x) (childless_turn st)
+    childless_at : (x : Act) (st : Standing) → Follows n (heard (ActInput x)) old new
+        (ActInput x) (childless_turn st)
     childless_at x standing.Unknown = refused (ActInput x) _
     childless_at x standing.Active = refused (ActInput x) _
     childless_at x standing.Collecting = refused (ActInput x) _
@@ -343,32 +384,43 @@ module _ (n : Node) (s s' : CoreState) (me p : ProcessId) (tree : List TreeEntry
     no_boot rs none b = ap (λ ls. fold boot_after b ls) none
 
     work_at : (k : ℕ) (d : Case) (j : ℕ) (op : Op) (v : ManagerView) → v ≡ manager_view place n d
-        → Follows n (heard (MessageInput k (Work d j op))) old new (MessageInput k (Work d j op)) (Handles d (on_work j a.does v v.standing))
+        → Follows n (heard (MessageInput k (Work d j op))) old new (MessageInput k (Work d j op))
+        (Handles d (on_work j a.does v v.standing))
     work_at k d j op v is =
-        handled (MessageInput k (Work d j op)) d (on_work j a.does v v.standing) (no_boot _ (work_writes j a.does v v.standing))
-        (subst (λ u. MovesBranch place n (heard (MessageInput k (Work d j op))) d (on_work j a.does u u.standing)) (sym is) ((manager_views me p tree n d).work k j op a))
+        handled (MessageInput k (Work d j op)) d (on_work j a.does v v.standing)
+        (no_boot _ (work_writes j a.does v v.standing))
+        (subst (λ u. MovesBranch place n (heard (MessageInput k (Work d j op))) d
+        (on_work j a.does u u.standing)) (sym is) ((manager_views me p tree n d).work k j op a))
         (remains_quiet (MessageInput k (Work d j op)) (λ c. refl) (λ c t. refl))
 
     prepare_at : (k j : ℕ) (d : Case) (v : ManagerView) → v ≡ manager_view place n d
-        → Follows n (heard (MessageInput k (Prepare d j))) old new (MessageInput k (Prepare d j)) (Handles d (on_prepare (leaf_of place p d) j a.holding v v.standing))
+        → Follows n (heard (MessageInput k (Prepare d j))) old new (MessageInput k (Prepare d j))
+        (Handles d (on_prepare (leaf_of place p d) j a.holding v v.standing))
     prepare_at k j d v is =
         handled (MessageInput k (Prepare d j)) d (on_prepare (leaf_of place p d) j a.holding v v.standing)
         (prepare_own (leaf_of place p d) j a.holding v v.standing).boot
-        (subst (λ u. MovesBranch place n (heard (MessageInput k (Prepare d j))) d (on_prepare (leaf_of place p d) j a.holding u u.standing)) (sym is) ((manager_views me p tree n d).prepare k j a))
+        (subst (λ u. MovesBranch place n (heard (MessageInput k (Prepare d j))) d (on_prepare (leaf_of place p
+        d) j a.holding u u.standing)) (sym is) ((manager_views me p tree n d).prepare k j a))
         (remains_prepare k j d)
 
     commit_at : (k : ℕ) (d : Case) (v : ManagerView) → v ≡ manager_view place n d
-        → Follows n (heard (MessageInput k (Commit d))) old new (MessageInput k (Commit d)) (Handles d (on_commit (leaf_of place p d) v v.standing))
+        → Follows n (heard (MessageInput k (Commit d))) old new (MessageInput k (Commit d))
+        (Handles d (on_commit (leaf_of place p d) v v.standing))
     commit_at k d v is =
-        handled (MessageInput k (Commit d)) d (on_commit (leaf_of place p d) v v.standing) (commit_own (leaf_of place p d) v v.standing).boot
-        (subst (λ u. MovesBranch place n (heard (MessageInput k (Commit d))) d (on_commit (leaf_of place p d) u u.standing)) (sym is) ((manager_views me p tree n d).commit k a))
+        handled (MessageInput k (Commit d)) d (on_commit (leaf_of place p d) v v.standing)
+        (commit_own (leaf_of place p d) v v.standing).boot
+        (subst (λ u. MovesBranch place n (heard (MessageInput k (Commit d))) d
+        (on_commit (leaf_of place p d) u u.standing)) (sym is) ((manager_views me p tree n d).commit k a))
         (remains_quiet (MessageInput k (Commit d)) (λ c. refl) (λ c t. refl))
 
     abort_at : (k : ℕ) (d : Case) (v : ManagerView) → v ≡ manager_view place n d
-        → Follows n (heard (MessageInput k (Abort d))) old new (MessageInput k (Abort d)) (Handles d (on_abort (leaf_of place p d) v v.standing))
+        → Follows n (heard (MessageInput k (Abort d))) old new (MessageInput k (Abort d))
+        (Handles d (on_abort (leaf_of place p d) v v.standing))
     abort_at k d v is =
-        handled (MessageInput k (Abort d)) d (on_abort (leaf_of place p d) v v.standing) (abort_own (leaf_of place p d) v v.standing).boot
-        (subst (λ u. MovesBranch place n (heard (MessageInput k (Abort d))) d (on_abort (leaf_of place p d) u u.standing)) (sym is) ((manager_views me p tree n d).abort k a))
+        handled (MessageInput k (Abort d)) d (on_abort (leaf_of place p d) v v.standing)
+        (abort_own (leaf_of place p d) v v.standing).boot
+        (subst (λ u. MovesBranch place n (heard (MessageInput k (Abort d))) d
+        (on_abort (leaf_of place p d) u u.standing)) (sym is) ((manager_views me p tree n d).abort k a))
         (remains_abort k d)
 
     -- JOIN.
@@ -388,10 +440,13 @@ module _ (n : Node) (s s' : CoreState) (me p : ProcessId) (tree : List TreeEntry
         → Follows n (heard (join k d)) old new (join k d) (Says (post me p (Joined d t) ∷ []))
     again k d t has =
         said (join k d) (post me p (Joined d t) ∷ [])
-        (remains_quiet (join k d) (λ c. joined_before a.starts d t (givens_of (memory c)) (ap (λ (g : Givens). active_ticket g.1 d) (same_givens me p tree n c d) ∙ has)) (λ c u. refl))
-        (λ c. kept_by (join k d) (λ e u. refl) c (active_ticket (memory c).active c)) ((joins_at k d).given_again t has)
+        (remains_quiet (join k d) (λ c. joined_before a.starts d t (givens_of (memory c))
+        (ap (λ (g : Givens). active_ticket g.1 d) (same_givens me p tree n c d) ∙ has)) (λ c u. refl))
+        (λ c. kept_by (join k d) (λ e u. refl) c (active_ticket (memory c).active c))
+        ((joins_at k d).given_again t has)
 
-    unstarted : (b : Bool) (d : Case) (g : Givens) → b ≡ false → (if b then gives_fresh me boot d g (active_ticket g.1 d) else g) ≡ g
+    unstarted : (b : Bool) (d : Case) (g : Givens) → b ≡ false
+        → (if b then gives_fresh me boot d g (active_ticket g.1 d) else g) ≡ g
     unstarted b d g is = ap (λ z. if z then gives_fresh me boot d g (active_ticket g.1 d) else g) is
 
     not_started : (k : ℕ) (d : Case) → active_ticket (memory d).active d ≡ None → a.starts ≡ false
@@ -400,7 +455,8 @@ module _ (n : Node) (s s' : CoreState) (me p : ProcessId) (tree : List TreeEntry
         said (join k d) []
         (remains_quiet (join k d) (λ c. unstarted a.starts d (givens_of (memory c)) is) (λ c u. refl))
         (λ c. kept_by (join k d) (λ e u. refl) c (active_ticket (memory c).active c))
-        (λ c. ap (λ b. manager_view place (after n (heard (join k d)) (leaf_joins place p n d (memory d) b None)) c) (sym is)
+        (λ c. ap (λ b. manager_view place (after n (heard (join k d))
+        (leaf_joins place p n d (memory d) b None)) c) (sym is)
         ∙ (joins_at k d).not_started none is c)
 
     -- the ticket that is given next
@@ -411,64 +467,84 @@ module _ (n : Node) (s s' : CoreState) (me p : ProcessId) (tree : List TreeEntry
     next_is d = λ i. record { child = me; boot = up.boot i; number = up.given d i + 1 }
 
     gives_one : (k : ℕ) (d c : Case) → active_ticket (memory d).active d ≡ None → a.starts ≡ true
-        → gives_heard me boot (givens_of (memory c)) a (join k d) ≡ ((memory c).given + 1, (memory c).active ++ (d, next d) ∷ [])
+        → gives_heard me boot (givens_of (memory c)) a (join k d)
+        ≡ ((memory c).given + 1, (memory c).active ++ (d, next d) ∷ [])
     gives_one k d c none starts =
-        ap (λ z. if z then gives_fresh me boot d (givens_of (memory c)) (active_ticket (memory c).active d) else givens_of (memory c)) starts
-        ∙ ap (gives_fresh me boot d (givens_of (memory c))) (ap (λ (g : Givens). active_ticket g.1 d) (same_givens me p tree n c d) ∙ none)
-        ∙ ap (λ (g : Givens). ((memory c).given + 1, (memory c).active ++ (d, record { child = me; boot = boot; number = g.0 + 1 }) ∷ [])) (same_givens me p tree n c d)
+        ap (λ z. if z then gives_fresh me boot d (givens_of (memory c)) (active_ticket (memory c).active d)
+        else givens_of (memory c)) starts
+        ∙ ap (gives_fresh me boot d (givens_of (memory c)))
+        (ap (λ (g : Givens). active_ticket g.1 d) (same_givens me p tree n c d) ∙ none)
+        ∙ ap (λ (g : Givens). (
+          (memory c).given + 1,
+          (memory c).active
+              ++ (d, record { child = me; boot = boot; number = g.0 + 1 }) ∷ [],
+        )) (same_givens me p tree n c d)
 
     fresh : (k : ℕ) (d : Case) → active_ticket (memory d).active d ≡ None → a.starts ≡ true
         → mark_of (CaseBranch (fresh_case place n d)) (kept n) ≡ Unmarked
         → Follows n (heard (join k d)) old new (join k d) (Issues d (next d) (post me p (Joined d (next d))))
     fresh k d none starts unmarked e is made =
         let f = sends_only (post me p (Joined d (next d)) ∷ []) in
-        let held : Holds (Some p) (after n (heard (join k d)) f) (wrote s.log [] []) = held_after (Some p) n (heard (join k d)) f s.log holds in
+        let held : Holds (Some p) (after n (heard (join k d)) f) (wrote s.log [] []) =
+        held_after (Some p) n (heard (join k d)) f s.log holds in
         let quiet : NoBoot [] = λ b. refl in
-        let same : leaf_joins place p n d (memory d) a.starts None ≡ f = ap (λ b. leaf_joins place p n d (memory d) b None) starts in
+        let same : leaf_joins place p n d (memory d) a.starts None ≡ f =
+        ap (λ b. leaf_joins place p n d (memory d) b None) starts in
         subst (λ g. Stands (after n (heard (join k d)) g) new) (done_is f e is)
         (stand (join k d) f (record {
           forced = ap (λ (l : LogSight). l.kept.forced) made.log ∙ held.forced;
-          unforced = ap (λ (l : LogSight). l.kept.unforced) made.log ∙ sym (append-nil s.log.kept.unforced) ∙ held.unforced;
+          unforced = ap (λ (l : LogSight). l.kept.unforced) made.log
+              ∙ sym (append-nil s.log.kept.unforced) ∙ held.unforced;
           failed = ap (λ (l : LogSight). l.failed) made.log ∙ held.failed;
           boots = made.boot ∙ up.boot ∙ sym (boot-after n (heard (join k d)) f quiet);
           begins = λ c. made.begun ∙ up.begun c ∙ begun (join k d) f quiet c;
-          gives = λ c. made.given ∙ ap (λ g. g + 1) (up.given c) ∙ sym (ap (λ (g : Givens). g.0) (gives_one k d c none starts))
+          gives = λ c. made.given ∙ ap (λ g. g + 1) (up.given c)
+              ∙ sym (ap (λ (g : Givens). g.0) (gives_one k d c none starts))
               ∙ sym (ap (λ (g : Givens). g.0) (counted (join k d) f quiet c));
-          tickets = λ c. ticket_of c (same_case d c) refl ∙ sym (ap (λ (g : Givens). active_ticket g.1 c) (gives_one k d c none starts))
+          tickets = λ c. ticket_of c (same_case d c) refl
+              ∙ sym (ap (λ (g : Givens). active_ticket g.1 c) (gives_one k d c none starts))
               ∙ sym (ap (λ (g : Givens). active_ticket g.1 c) (counted (join k d) f quiet c));
-          views = λ c. same_view-trans (s'.view_of c) (s.view_of c) unknown_view (made.cases.2 c) (up.views c);
+          views = λ c. same_view-trans (s'.view_of c) (s.view_of c) unknown_view
+              (made.cases.2 c) (up.views c);
         }) (λ c. elim (same_case_tells (fresh_case place n d) c) [
           | inl one ↦ subst (λ q. s'.branch_of q ≡ manager_view place (after n (heard (join k d)) f) q) one.1
               (made.cases.0 ∙ sym ((joins_at k d).fresh none starts unmarked)
               ∙ ap (λ g. manager_view place (after n (heard (join k d)) g) (fresh_case place n d)) same)
-          | inr apart ↦ made.cases.1 c apart.0 ∙ up.branches c ∙ sym ((joins_at k d).others none starts c (flipped (fresh_case place n d) c apart.0))
+          | inr apart ↦ made.cases.1 c apart.0 ∙ up.branches c
+              ∙ sym ((joins_at k d).others none starts c (flipped (fresh_case place n d) c apart.0))
               ∙ ap (λ g. manager_view place (after n (heard (join k d)) g) c) same
         ]))
       where
         flipped : (c e : Case) → same_case c e ≡ false → same_case e c ≡ false
         flipped c e z = grind (arith, same_case_tells)
 
-        ticket_of : (c : Case) (b : Bool) → same_case d c ≡ b → s'.ticket_for c ≡ active_ticket ((memory c).active ++ (d, next d) ∷ []) c
+        ticket_of : (c : Case) (b : Bool) → same_case d c ≡ b
+            → s'.ticket_for c ≡ active_ticket ((memory c).active ++ (d, next d) ∷ []) c
         ticket_of c true one =
-            subst (λ q. s'.ticket_for q ≡ active_ticket ((memory q).active ++ (d, next d) ∷ []) q) (one_case d c one)
+            subst (λ q. s'.ticket_for q ≡ active_ticket
+            ((memory q).active ++ (d, next d) ∷ []) q) (one_case d c one)
             (made.ticket ∙ sym (found_fresh d (next d) (memory d).active none))
         ticket_of c false apart =
             made.tickets c apart ∙ up.tickets c
-            ∙ sym (found_more d c (next d) (memory c).active (ap (λ (g : Givens). active_ticket g.1 d) (same_givens me p tree n c d) ∙ none) apart)
+            ∙ sym (found_more d c (next d) (memory c).active
+            (ap (λ (g : Givens). active_ticket g.1 d) (same_givens me p tree n c d) ∙ none) apart)
 
-    joined_at : (k : ℕ) (d : Case) (b : Bool) (o : Option Ticket) → a.starts ≡ b → active_ticket (memory d).active d ≡ o
+    joined_at : (k : ℕ) (d : Case) (b : Bool) (o : Option Ticket) → a.starts ≡ b
+        → active_ticket (memory d).active d ≡ o
         → mark_of (CaseBranch (fresh_case place n d)) (kept n) ≡ Unmarked
         → Follows n (heard (join k d)) old new (join k d) (leaf_joined_turn old p d b o)
     joined_at k d true (Some t) starts is unmarked = again k d t is
     joined_at k d false (Some t) starts is unmarked = again k d t is
     joined_at k d false None starts is unmarked = not_started k d is starts
     joined_at k d true None starts is unmarked =
-        subst (λ t. Follows n (heard (join k d)) old new (join k d) (Issues d t (post me p (Joined d t)))) (sym (next_is d)) (fresh k d is starts unmarked)
+        subst (λ t. Follows n (heard (join k d)) old new (join k d) (Issues d t (post me p (Joined d t))))
+        (sym (next_is d)) (fresh k d is starts unmarked)
 
     -- Any message.
 
     ignored : (k : ℕ) (m : Message) → ((c : Case) (y : Memory) → manager_hears me boot c y a m ≡ y)
-        → ((g : Givens) → gives_heard me boot g a (MessageInput k m) ≡ g) → ((d : Case) (t : Ticket) → retires_ticket (MessageInput k m) d t ≡ false)
+        → ((g : Givens) → gives_heard me boot g a (MessageInput k m) ≡ g)
+        → ((d : Case) (t : Ticket) → retires_ticket (MessageInput k m) d t ≡ false)
         → Follows n (heard (MessageInput k m)) old new (MessageInput k m) (Says [])
     unfolding manager_view
     ignored k m unheard same none =
@@ -477,10 +553,12 @@ module _ (n : Node) (s s' : CoreState) (me p : ProcessId) (tree : List TreeEntry
         (λ c. quiet-after place n (heard (MessageInput k m)) (sends_only []) c refl
         ∙ ap (λ y. marked_branch y (mark_of (CaseBranch c) (kept n))) (unheard c (memory c)))
 
-    pub heard_so : (k : ℕ) (m : Message) → ((d : Case) → mark_of (CaseBranch (fresh_case place n d)) (kept n) ≡ Unmarked)
+    pub heard_so : (k : ℕ) (m : Message) → ((d : Case)
+        → mark_of (CaseBranch (fresh_case place n d)) (kept n) ≡ Unmarked)
         → Follows n (heard (MessageInput k m)) old new (MessageInput k m) (manager_turn old p a m)
     heard_so k (Join d) unmarked =
-        subst (λ o. Follows n (heard (join k d)) old new (join k d) (leaf_joined_turn old p d a.starts o)) (sym (up.tickets d))
+        subst (λ o. Follows n (heard (join k d)) old new (join k d)
+        (leaf_joined_turn old p d a.starts o)) (sym (up.tickets d))
         (joined_at k d a.starts (active_ticket (memory d).active d) refl refl (unmarked d))
     heard_so k (Work d j op) unmarked = work_at k d j op (s.branch_of d) (up.branches d)
     heard_so k (Prepare d j) unmarked = prepare_at k j d (s.branch_of d) (up.branches d)

@@ -30,7 +30,8 @@ no_branch : (place : Place) (c : Case) → manager_view place opened_node c ≡ 
 unfolding manager_view memory_of mark_of
 no_branch place c = refl
 
-views_are : (role : Role) (place : Place) (c : Case) → SameView unknown_view (view_at role place opened_node c)
+views_are : (role : Role) (place : Place) (c : Case)
+    → SameView unknown_view (view_at role place opened_node c)
 views_are AtRoot place c = rw (unknown_case place c) (same_view unknown_view)
 views_are (Below p) place c = rw (unknown_case place c) (same_view unknown_view)
 views_are (AtLeaf p) place c = same_view unknown_view

@@ -21,7 +21,8 @@ both_so true b e f = f
 both_so false b e f = absurd (cc)
 
 module _ {X : Type 0} (q : X → Bool) where
-  pub all_append : (xs ys : List X) → list_all q xs ≡ true → list_all q ys ≡ true → list_all q (xs ++ ys) ≡ true
+  pub all_append : (xs ys : List X) → list_all q xs ≡ true → list_all q ys ≡ true
+      → list_all q (xs ++ ys) ≡ true
   all_append [] ys e f = f
   all_append (x ∷ xs) ys e f = let both = and_parts _ _ e in both_so _ _ both.0 (all_append xs ys both.1 f)
 

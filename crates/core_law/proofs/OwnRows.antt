@@ -29,7 +29,8 @@ either_of c true r q here there = here
 either_of c false r q here there = there
 
 -- what is counted writes nothing
-counting : (c : Case) (r : Row) (counts : List (Ticket × Vote)) → IsOf c r → IsOf c (record r { counts = counts })
+counting : (c : Case) (r : Row) (counts : List (Ticket × Vote)) → IsOf c r
+    → IsOf c (record r { counts = counts })
 counting c r counts own = record { boot = own.boot; others = own.others }
 
 module _ (s : Seat) (v : CoordinatorView) where
@@ -44,12 +45,14 @@ module _ (s : Seat) (v : CoordinatorView) where
   with_of PresumeCommit = collecting_of s.own v.accepted _ true refl
 
   pub active_commit_of : IsOf s.own (active_commit s v)
-  active_commit_of = either_of s.own (none_of v.accepted) _ _ (quiet_of s.own _ refl) (with_of s.own.txn.presumption)
+  active_commit_of = either_of s.own (none_of v.accepted) _ _ (quiet_of s.own _ refl)
+      (with_of s.own.txn.presumption)
 
   pub active_abort_of : IsOf s.own (active_abort s v)
   active_abort_of = quiet_of s.own _ refl
 
-  abort_by_of : (why : Reason) (us : List Ticket) (p : Presumption) → IsOf s.own (collecting_abort_by s why v us p)
+  abort_by_of : (why : Reason) (us : List Ticket) (p : Presumption)
+      → IsOf s.own (collecting_abort_by s why v us p)
   abort_by_of why us PresumeAbort = abort_of s.own [] _ false refl
   abort_by_of why us PresumeCommit = abort_of s.own us _ true refl
 
@@ -84,14 +87,16 @@ module _ (s : Seat) (v : CoordinatorView) where
   decided_of : (t : Ticket) → IsOf s.own (decided_ack s t v)
   decided_of t =
       either_of s.own (in_list v.owed t) _ _
-      (either_of s.own (none_of (other_tickets t v.owed)) _ _ (end_of s.own _ false refl) (quiet_of s.own _ refl))
+      (either_of s.own (none_of (other_tickets t v.owed)) _ _
+      (end_of s.own _ false refl) (quiet_of s.own _ refl))
       (quiet_of s.own _ refl)
 
 module _ (s : Seat) (v : CoordinatorView) where
   vote_of : (t : Ticket) (w : Vote) → IsOf s.own (collecting_vote s t w v)
   vote_of t w =
       either_of s.own (is_counted v.accepted v.votes t) _ _
-      (counting s.own _ _ (after_of s (record v { votes = v.votes ++ (t, w) ∷ [] }) w)) (quiet_of s.own _ refl)
+      (counting s.own _ _ (after_of s (record v { votes = v.votes ++ (t, w) ∷ [] }) w))
+      (quiet_of s.own _ refl)
 
   pub on_vote_of : (t : Ticket) (w : Vote) (st : Standing) → IsOf s.own (on_vote s t w v st)
   on_vote_of t w Collecting = vote_of t w

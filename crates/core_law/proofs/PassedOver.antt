@@ -1,5 +1,5 @@
--- An acknowledgement that comes while its case is Prepared: the model passes it over, and a coordinator does nothing
--- with it.
+-- An acknowledgement that comes while its case is Prepared: the model passes it over, and a coordinator does
+-- nothing with it.
 use Rattle.std.proofs.Common.{◌≡◌, ◌&&◌, not, ℕ, Bool, true, false, if◌then◌else◌, Option, Some, None, List, inl, inr, refl, sym, ap, subst, ◌∙◌}
 use Rattle.std.proofs.lemmas.List.{append-nil}
 use Rattle.tree_model.specs.declared.names.Case.{Case}
@@ -55,7 +55,8 @@ abbrev pub IsNothing : CoreState → CoreState → Input → Turn → Type 0
 IsNothing old new i turn =
     (e : Effect) → reacted turn ≡ Does e → Moves old new i turn → (e ≡ no_effect) × SameCore old new
 
-unretired : (k : ℕ) (d e : Case) (o : Outcome) (t : Option Ticket) → retired_by (MessageInput k (Ack d o)) e t ≡ t
+unretired : (k : ℕ) (d e : Case) (o : Outcome) (t : Option Ticket)
+    → retired_by (MessageInput k (Ack d o)) e t ≡ t
 unretired k d e o None = refl
 unretired k d e o (Some t) = refl
 
@@ -83,7 +84,8 @@ quiet_is_nothing old new k d c o e is made = (
   },
 )
 
-module _ (n : Node) (s s' : CoreState) (me p : ProcessId) (tree : List TreeEntry) (a : DataAnswer) (found : Option Case)
+module _ (n : Node) (s s' : CoreState) (me p : ProcessId) (tree : List TreeEntry)
+    (a : DataAnswer) (found : Option Case)
     (runs : n.failed ≡ false)
     (fit : ChildrenFit (cascaded_place me p tree) n) where
   abbrev place : Place
@@ -106,12 +108,14 @@ module _ (n : Node) (s s' : CoreState) (me p : ProcessId) (tree : List TreeEntry
         → on_ack (seat_in old c) t o (s.view_of c) st ≡ quiet (s.view_of c)
     is_quiet c t o st is = ap (on_ack (seat_in old c) t o (s.view_of c)) is ∙ by_outcome o
       where
-        by_outcome : (o : Outcome) → on_ack (seat_in old c) t o (s.view_of c) standing.Prepared ≡ quiet (s.view_of c)
+        by_outcome : (o : Outcome) → on_ack (seat_in old c) t o (s.view_of c)
+            standing.Prepared ≡ quiet (s.view_of c)
         by_outcome Committed = refl
         by_outcome Aborted = refl
 
     -- the case that the lists find, and that is Prepared, is what was found
-    ack_found : (k : ℕ) (d : Case) (x : Txn) (t : Ticket) (o : Outcome) (c : Case) → case_of_child place n x t ≡ Some c
+    ack_found : (k : ℕ) (d : Case) (x : Txn) (t : Ticket) (o : Outcome) (c : Case)
+        → case_of_child place n x t ≡ Some c
         → (view c).standing ≡ standing.Prepared
         → (found : Option Case) → Finds old (Some (x, t)) found
         → IsNothing old new (MessageInput k (Ack d o)) (ack_turn old o t found)
@@ -120,11 +124,13 @@ module _ (n : Node) (s s' : CoreState) (me p : ProcessId) (tree : List TreeEntry
         let same : same_txn x c.txn ≡ true = subst (λ y. same_txn y c.txn ≡ true) of (same_txn-refl c.txn) in
         let none : belongs (memory_of place n c) (kept n) c t ≡ false =
         belongs_not place n fit old shows x t None finds c tt same (ap is_known prepared) in
-        let its : belongs (memory_of place n c) (kept n) c t ≡ true = child_belongs me (Some p) tree n x t c there in
+        let its : belongs (memory_of place n c) (kept n) c t ≡ true =
+        child_belongs me (Some p) tree n x t c there in
         absurd (let clash : true ≡ false = sym its ∙ none in cc)
     ack_found k d x t o c there prepared (Some e) finds =
         let known = found_known place n fit old shows x t e finds in
-        let listed = ap (λ y. has_case (own_cases place.role place n y) e) (sym known.0) ∙ fit.listed e known.1 in
+        let listed = ap (λ y. has_case (own_cases place.role place n y) e)
+        (sym known.0) ∙ fit.listed e known.1 in
         let one : Some e ≡ Some c =
         sym (found_case place n fit x t e listed (found_belongs place n fit old shows x t e finds)) ∙ there in
         let same : e ≡ c = the_one e c one in
@@ -136,14 +142,17 @@ module _ (n : Node) (s s' : CoreState) (me p : ProcessId) (tree : List TreeEntry
         the_one : (e c : Case) → Some e ≡ Some c → e ≡ c
         the_one e c one = cc
 
-    by_case : (k : ℕ) (d : Case) (x : Txn) (t : Ticket) (o : Outcome) (f : Option Case) → case_of_child place n x t ≡ f
+    by_case : (k : ℕ) (d : Case) (x : Txn) (t : Ticket) (o : Outcome) (f : Option Case)
+        → case_of_child place n x t ≡ f
         → is_prepared_case place n f ≡ true
-        → Finds old (Some (x, t)) found → IsNothing old new (MessageInput k (Ack d o)) (ack_turn old o t found)
+        → Finds old (Some (x, t)) found → IsNothing old new
+        (MessageInput k (Ack d o)) (ack_turn old o t found)
     by_case k d x t o None there prepared finds = absurd (cc)
     by_case k d x t o (Some c) there prepared finds =
         ack_found k d x t o c there (prepared_is (view c).standing prepared) found finds
 
-    by_ticket : (k : ℕ) (x : Txn) (t : Option Ticket) (o : Outcome) → let d : Case = record { txn = x; ticket = t } in
+    by_ticket : (k : ℕ) (x : Txn) (t : Option Ticket) (o : Outcome)
+        → let d : Case = record { txn = x; ticket = t } in
         of_ticket t false (λ t. is_prepared_case place n (case_of_child place n x t)) ≡ true
         → Finds old (asked_of d) found
         → IsNothing old new (MessageInput k (Ack d o)) (child_turn d (λ t. ack_turn old o t found))

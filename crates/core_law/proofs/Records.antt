@@ -31,16 +31,38 @@ module _ (q : Option ProcessId) (n : Node) (l : LogSight) (rs : List Record) (he
   more_unforced : l.kept.unforced ++ map (in_log q) rs ≡ map (in_log q) (n.unforced ++ rs)
   more_unforced = ap (λ ls. ls ++ map (in_log q) rs) held.unforced ∙ sym (map_append (in_log q) n.unforced rs)
 
-held_by : (q : Option ProcessId) (n : Node) (l : LogSight) (rs life durable : List Record) (b : Bool) → Holds q n l
+held_by : (q : Option ProcessId) (n : Node) (l : LogSight)
+    (rs life durable : List Record) (b : Bool) → Holds q n l
     → Holds q
     (if b
     then record n { forced = kept n ++ rs; unforced = []; life = life; durable = durable }
     else record n { unforced = n.unforced ++ rs; life = life })
     (if b
-    then record l { kept = record { forced = (l.kept.forced ++ l.kept.unforced) ++ map (in_log q) rs; unforced = [] }; behind = 0 }
-    else record l { kept = record { forced = l.kept.forced; unforced = l.kept.unforced ++ map (in_log q) rs } })
-held_by q n l rs life durable true held = record { forced = all_forced q n l rs held; unforced = refl; failed = held.failed }
-held_by q n l rs life durable false held = record { forced = held.forced; unforced = more_unforced q n l rs held; failed = held.failed }
+    then record l {
+      kept = record {
+        forced = (l.kept.forced ++ l.kept.unforced)
+            ++ map (in_log q) rs;
+        unforced = [];
+      };
+      behind = 0;
+    }
+    else record l {
+      kept = record {
+        forced = l.kept.forced;
+        unforced = l.kept.unforced ++ map (in_log q) rs;
+      };
+    })
+held_by q n l rs life durable true held = record {
+  forced = all_forced q n l rs held;
+  unforced = refl;
+  failed = held.failed;
+}
+held_by q n l rs life durable false held = record {
+  forced = held.forced;
+  unforced = more_unforced q n l rs
+      held;
+  failed = held.failed;
+}
 
 pub held_after : (q : Option ProcessId) (n : Node) (h : Heard) (e : Effect) (l : LogSight) → Holds q n l
     → Holds q (after n h e) (wrote l e.written (map (in_log q) (entries_written e.written)))
@@ -50,7 +72,8 @@ held_after q n h e l held =
     held_by q n l rs (reverse rs ++ n.life) (rs ++ (kept n ++ n.durable)) (is_any_forced e.written) held in
     record { forced = by.forced; unforced = by.unforced; failed = by.failed }
 
-failed_by : (b : Bool) (whole part : Node) (f : Bool) → whole.failed ≡ f → part.failed ≡ f → (if b then whole else part).failed ≡ f
+failed_by : (b : Bool) (whole part : Node) (f : Bool) → whole.failed ≡ f → part.failed ≡ f
+    → (if b then whole else part).failed ≡ f
 failed_by true whole part f w p = w
 failed_by false whole part f w p = p
 
@@ -64,5 +87,6 @@ NoBoot rs = (b : ℕ) → fold boot_after b rs ≡ b
 pub same_boot : (n : Node) (rs : List Record) → NoBoot rs → boot_of (kept n ++ rs) ≡ boot_of (kept n)
 same_boot n rs quiet = boot_of-append (kept n) rs ∙ quiet (boot_of (kept n))
 
-pub boot-after : (n : Node) (h : Heard) (e : Effect) → NoBoot (entries_written e.written) → boot_of (kept (after n h e)) ≡ boot_of (kept n)
+pub boot-after : (n : Node) (h : Heard) (e : Effect) → NoBoot (entries_written e.written)
+    → boot_of (kept (after n h e)) ≡ boot_of (kept n)
 boot-after n h e quiet = ap boot_of (kept-after n h e) ∙ same_boot n (entries_written e.written) quiet

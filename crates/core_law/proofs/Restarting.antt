@@ -81,7 +81,8 @@ within_is_front m (l ∷ ls) = by_test (nat_le (record_size l) m) (within_is_fro
     by_test true e = ap (λ t. l ∷ t) e
     by_test false e = refl
 
-module _ (n : Node) (old new : CoreState) (keep : ℕ) (stands : Stands n old) (own : KeepsOwn old.place n) where
+module _ (n : Node) (old new : CoreState) (keep : ℕ) (stands : Stands n old)
+    (own : KeepsOwn old.place n) where
   abbrev place : Place
   place = old.place
 
@@ -112,7 +113,8 @@ module _ (n : Node) (old new : CoreState) (keep : ℕ) (stands : Stands n old) (
   own_left =
       all_append (is_own_record place) n.forced (take k n.unforced)
       (all_front (is_own_record place) n.forced n.unforced own)
-      (all_taken (is_own_record place) k n.unforced (all_behind (is_own_record place) n.forced n.unforced own))
+      (all_taken (is_own_record place) k n.unforced
+      (all_behind (is_own_record place) n.forced n.unforced own))
 
   read_left : read_of old (left_by old.log keep) ≡ left
   read_left = ap (own_records place) left_is ∙ reads_back place left own_left
@@ -220,7 +222,8 @@ module _ (n : Node) (old new : CoreState) (keep : ℕ) (stands : Stands n old) (
         effect = fault_effect (restart_effect place n k) (length added);
         left = restart_fails place n k (length added) all;
         makes = refl;
-        stands = subst (λ p. Stands (restart_fails place n k (length added) all) (record new { place = p })) (sym same)
+        stands = subst (λ p. Stands (restart_fails place n k (length added) all)
+            (record new { place = p })) (sym same)
             (record {
               forced = ap (λ (l : Kept). l.forced) stand ∙ whole_is
                   ∙ ap (logged old) (append_assoc n.forced (take k n.unforced) added

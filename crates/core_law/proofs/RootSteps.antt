@@ -33,7 +33,8 @@ failed_makes old new a found i failed = by_test (act_is_listed old.place.tree i)
         (if b then (if old.log.failed then Refuses Failed else up_turn old a found i) else Refuses NoSuch) → A
     by_test false made = absurd made
     by_test true made =
-        absurd (subst (λ b. Moves old new i (if b then Refuses Failed else up_turn old a found i)) failed made)
+        absurd
+        (subst (λ b. Moves old new i (if b then Refuses Failed else up_turn old a found i)) failed made)
 
 module _ (n : Node) (s s' : CoreState) (me : ProcessId) (tree : List TreeEntry) (a : DataAnswer) (i : Input)
     (found : Option Case) where
@@ -50,7 +51,8 @@ module _ (n : Node) (s s' : CoreState) (me : ProcessId) (tree : List TreeEntry) 
       → Finds old (asked_by i) found
       → Leads i (up_turn old a found i)
   up_follows runs stands fits (ActInput x) finds = acted n s s' me tree a fits runs stands x
-  up_follows runs stands fits (MessageInput k m) finds = heard_so n s s' me tree a fits runs stands k found m finds
+  up_follows runs stands fits (MessageInput k m) finds =
+      heard_so n s s' me tree a fits runs stands k found m finds
 
   follows : n.failed ≡ false → Stands n old → RootFits (root_place me tree) n → Finds old (asked_by i) found
       → Leads i (turn_of old a found i)
@@ -58,10 +60,12 @@ module _ (n : Node) (s s' : CoreState) (me : ProcessId) (tree : List TreeEntry) 
   follows runs stands fits finds = by_test (act_is_listed tree i)
     where
       by_test : (b : Bool)
-          → Leads i (if b then (if s.log.failed then Refuses Failed else up_turn old a found i) else Refuses NoSuch)
+          → Leads i
+          (if b then (if s.log.failed then Refuses Failed else up_turn old a found i) else Refuses NoSuch)
       by_test false = λ e is made. absurd made
       by_test true =
-          subst (λ z. Leads i (if z then Refuses Failed else up_turn old a found i)) (sym (stands.failed ∙ runs))
+          subst (λ z. Leads i (if z then Refuses Failed else up_turn old a found i))
+          (sym (stands.failed ∙ runs))
           (up_follows runs stands fits i finds)
 
 -- the place of a process is that of a root
@@ -73,19 +77,22 @@ module _ (n : Node) (old new : CoreState) (a : DataAnswer) (i : Input) (reaction
     (made : Makes old new a i reaction) where
   abbrev at_place : Place → Place → Type 0
   at_place q r =
-      Stands n (record old { place = q }) → RootFits q n → Finds (record old { place = q }) (asked_by i) made.found
+      Stands n (record old { place = q }) → RootFits q n
+      → Finds (record old { place = q }) (asked_by i) made.found
       → reacted (turn_of (record old { place = q }) a made.found i) ≡ Does made.effect
       → Moves (record old { place = q }) (record new { place = r }) i
       (turn_of (record old { place = q }) a made.found i)
       → Stands (after n (record { input = i; data_answer = a }) made.effect) (record new { place = r })
 
-  placed : n.failed ≡ false → (q r : Place) → q ≡ root_place old.place.me old.place.tree → r ≡ q → at_place q r
+  placed : n.failed ≡ false → (q r : Place) → q
+      ≡ root_place old.place.me old.place.tree → r ≡ q → at_place q r
   placed runs q r is_q is_r =
       subst (at_place q) (sym is_r)
       (subst (λ q. at_place q q) (sym is_q)
       (λ s f g d m. follows n old new old.place.me old.place.tree a i made.found runs s f g made.effect d m))
 
-  made_so : n.failed ≡ false → RootFits old.place n → MadeAs n (record { input = i; data_answer = a }) old new reaction
+  made_so : n.failed ≡ false → RootFits old.place n
+      → MadeAs n (record { input = i; data_answer = a }) old new reaction
   made_so runs fits =
       record {
         effect = made.effect;
@@ -100,6 +107,7 @@ module _ (n : Node) (old new : CoreState) (a : DataAnswer) (i : Input) (reaction
       → MadeAs n (record { input = i; data_answer = a }) old new reaction
   root_makes fits = by_failed n.failed refl
     where
-      by_failed : (f : Bool) → n.failed ≡ f → MadeAs n (record { input = i; data_answer = a }) old new reaction
+      by_failed : (f : Bool) → n.failed ≡ f → MadeAs n
+          (record { input = i; data_answer = a }) old new reaction
       by_failed false runs = made_so runs (fits runs)
       by_failed true failed = failed_makes old new a made.found i (stands.failed ∙ failed) made.moves

@@ -140,11 +140,13 @@ module _ (n : Node) (s s' : CoreState) (me : ProcessId) (tree : List TreeEntry) 
       record {
         begun = λ c. ap (λ (g : Self). g.begun) (h (self_of (memory c)));
         given = λ c. ap (λ (g : Self). g.given) (h (self_of (memory c)));
-        tickets = λ d. ap (λ (g : Self). active_ticket g.active d) (h (self_of (memory d))) ∙ sym (untouched i d);
+        tickets = λ d. ap (λ (g : Self). active_ticket g.active d)
+            (h (self_of (memory d))) ∙ sym (untouched i d);
       }
 
   -- a live case is the root's own
-  at_root : (P : Case → Type 0) (c : Case) → is_known (view c).standing ≡ true → ((x : Txn) → P (root_case x)) → P c
+  at_root : (P : Case → Type 0) (c : Case) → is_known (view c).standing ≡ true
+      → ((x : Txn) → P (root_case x)) → P c
   at_root P c known f = subst P (sym (one_of (root_case c.txn) c (fits.children.listed c known))) (f c.txn)
 
   module _ (stands : Stands n old) where
@@ -159,7 +161,8 @@ module _ (n : Node) (s s' : CoreState) (me : ProcessId) (tree : List TreeEntry) 
         → ((d : Case) → same_case c d ≡ false → Still i d) → Leads i (Takes c row)
     takes = taken n s s' place a (λ m c. refl) (λ m c. refl) runs stands
 
-    rests : (i : Input) (c : Case) (row row' : Row) → SameRow row row' → row'.written ≡ [] → row'.view ≡ view c → Same i
+    rests : (i : Input) (c : Case) (row row' : Row) → SameRow row row' → row'.written ≡ []
+        → row'.view ≡ view c → Same i
         → ((d : Case) → Still i d) → Leads i (Takes c row)
     rests = rested n s s' place a (λ m c. refl) (λ m c. refl) runs stands
 
@@ -191,7 +194,8 @@ module _ (n : Node) (s s' : CoreState) (me : ProcessId) (tree : List TreeEntry) 
         by_child true =
             rests (ActInput (JoinAct c q)) c _ (active_join (seat c) q (view c))
             (active_join-same (s.view_of c) (view c) (shows c) (seat c) q)
-            (join_row (view c) c q).0 (join_row (view c) c q).1 (same (ActInput (JoinAct c q)) (λ g. refl)) (λ d. refl)
+            (join_row (view c) c q).0 (join_row (view c) c q).1
+            (same (ActInput (JoinAct c q)) (λ g. refl)) (λ d. refl)
         by_child false = refuses (ActInput (JoinAct c q)) NotAChild
     join_at c q standing.Unknown = refuses (ActInput (JoinAct c q)) _
     join_at c q standing.Collecting = refuses (ActInput (JoinAct c q)) _
@@ -211,7 +215,8 @@ module _ (n : Node) (s s' : CoreState) (me : ProcessId) (tree : List TreeEntry) 
         (work_of (seat c) (view c) t op) (same (ActInput (WorkAct c q op)) (λ g. refl))
         ((root_views me tree n x).work a q t op active found).moved
         (λ d apart. ap (λ b. read (kept n) d
-        (if b then sends_work (memory d) (ticket_of_child (memory d).accepted q) (memory d).phase else memory d))
+        (if b then sends_work (memory d) (ticket_of_child (memory d).accepted q)
+        (memory d).phase else memory d))
         apart)
 
     work_at : (c : Case) (q : ProcessId) (op : Op) (st : Standing) → (view c).standing ≡ st
@@ -231,7 +236,8 @@ module _ (n : Node) (s s' : CoreState) (me : ProcessId) (tree : List TreeEntry) 
         by_ticket : (o : Option Ticket) → ticket_of_child (s.view_of c).accepted q ≡ o
             → Leads (ActInput (WorkAct c q op)) (work_for_turn (seat c) tree op (s.view_of c) o)
         by_ticket None found = refuses (ActInput (WorkAct c q op)) NotAChild
-        by_ticket (Some t) found = by_leaf t (ap (λ ts. ticket_of_child ts q) (sym (shows c).accepted) ∙ found)
+        by_ticket (Some t) found = by_leaf t (ap (λ ts. ticket_of_child ts q)
+            (sym (shows c).accepted) ∙ found)
             (is_leaf (role_of tree t.child))
     work_at c q op standing.Unknown is = refuses (ActInput (WorkAct c q op)) _
     work_at c q op standing.Collecting is = refuses (ActInput (WorkAct c q op)) _
@@ -248,7 +254,8 @@ module _ (n : Node) (s s' : CoreState) (me : ProcessId) (tree : List TreeEntry) 
         (active_commit-same (s.view_of c) (view c) (shows c) (seat c))
         (active_commit_of (seat c) (view c)) (same (ActInput (CommitAct x)) (λ g. refl))
         ((root_views me tree n x).commit a active).moved
-        (λ d apart. ap (λ b. read (kept n) d (if b then asks_votes (memory d) (memory d).phase else memory d)) apart)
+        (λ d apart. ap (λ b. read (kept n) d (if b then asks_votes (memory d) (memory d).phase else memory d))
+        apart)
     commit_at x standing.Unknown is = refuses (ActInput (CommitAct x)) _
     commit_at x standing.Collecting is = refuses (ActInput (CommitAct x)) _
     commit_at x standing.Prepared is = refuses (ActInput (CommitAct x)) _
@@ -257,7 +264,8 @@ module _ (n : Node) (s s' : CoreState) (me : ProcessId) (tree : List TreeEntry) 
     commit_at x standing.Heuristic is = refuses (ActInput (CommitAct x)) _
 
     abort_keeps : (x : Txn) (d : Case) → same_case (root_case x) d ≡ false → Still (ActInput (AbortAct x)) d
-    abort_keeps x d apart = ap (λ b. read (kept n) d (if b then closes (memory d) (memory d).phase else memory d)) apart
+    abort_keeps x d apart = ap (λ b. read (kept n) d
+        (if b then closes (memory d) (memory d).phase else memory d)) apart
 
     abort_at : (x : Txn) (st : Standing) → (view (root_case x)).standing ≡ st
         → Leads (ActInput (AbortAct x)) (abort_turn (seat (root_case x)) (s.view_of (root_case x)) st)
@@ -282,7 +290,8 @@ module _ (n : Node) (s s' : CoreState) (me : ProcessId) (tree : List TreeEntry) 
 
     ask_at : (c : Case) (st : Standing) → Leads (ActInput (Ask c)) (ask_turn (seat c) (s.view_of c) st)
     ask_at c standing.Prepared =
-        rests (ActInput (Ask c)) c _ (prepared_ask (seat c) (view c)) (sends-same _ (s.view_of c) (view c) (shows c))
+        rests (ActInput (Ask c)) c _ (prepared_ask (seat c) (view c))
+        (sends-same _ (s.view_of c) (view c) (shows c))
         refl refl
         (same (ActInput (Ask c)) (λ g. refl)) (λ d. refl)
     ask_at c standing.Unknown = refuses (ActInput (Ask c)) _
@@ -328,17 +337,20 @@ module _ (n : Node) (s s' : CoreState) (me : ProcessId) (tree : List TreeEntry) 
         (stand n s s' place a (λ m c. refl) (λ m c. refl) runs stands i f (record {
           forced = ap (λ (l : LogSight). l.kept.forced) made.log ∙ held.forced;
           unforced =
-              ap (λ (l : LogSight). l.kept.unforced) made.log ∙ sym (append-nil s.log.kept.unforced) ∙ held.unforced;
+              ap (λ (l : LogSight). l.kept.unforced) made.log
+              ∙ sym (append-nil s.log.kept.unforced) ∙ held.unforced;
           failed = ap (λ (l : LogSight). l.failed) made.log ∙ held.failed;
           boots = made.stays.boot ∙ is_up.boot ∙ sym (boot-after n (heard i) f quiet);
           begins =
-              λ d. made.begun ∙ ap (λ k. k + 1) (is_up.begun d) ∙ sym (ap (λ (g : Self). g.begun) (count i f quiet d));
+              λ d. made.begun ∙ ap (λ k. k + 1) (is_up.begun d)
+              ∙ sym (ap (λ (g : Self). g.begun) (count i f quiet d));
           gives = λ d. made.given ∙ is_up.given d ∙ sym (ap (λ (g : Self). g.given) (count i f quiet d));
           tickets = λ d. made.stays.tickets d ∙ ap (retired_by i d) (is_up.tickets d) ∙ untouched i d
               ∙ sym (ap (λ (g : Self). active_ticket g.active d) (count i f quiet d));
           branches = made.branches;
         }) (λ c. elim (same_case_tells (root_case x) c) [
-          | inl one ↦ subst (λ q. SameView (s'.view_of q) (coordinator_view place (after n (heard i) f) q)) one.1
+          | inl one ↦ subst (λ q. SameView (s'.view_of q)
+              (coordinator_view place (after n (heard i) f) q)) one.1
               (subst (λ v. SameView (s'.view_of (root_case x)) v)
               (sym ((root_begins me tree n p a).begun (fits.fresh p))) made.own)
           | inr apart ↦ subst (λ v. SameView (s'.view_of c) v)
@@ -350,7 +362,8 @@ module _ (n : Node) (s s' : CoreState) (me : ProcessId) (tree : List TreeEntry) 
             → self_of (memory_of place (after n (heard i) f) d) ≡ root_self (self_of (memory d)) i
         count i f quiet d = counted n s s' place a (λ m c. refl) (λ m c. refl) i f quiet d
 
-        keeps : (d : Case) → same_case (root_case (next_begun place n p)) d ≡ false → Still (ActInput (Begin p)) d
+        keeps : (d : Case) → same_case (root_case (next_begun place n p)) d ≡ false
+            → Still (ActInput (Begin p)) d
         keeps d apart =
             ap (λ b. read (kept n) d
             (if b then opens_case (record (memory d) { begun = (memory d).begun + 1 }) else record
@@ -382,7 +395,8 @@ module _ (n : Node) (s s' : CoreState) (me : ProcessId) (tree : List TreeEntry) 
         (on_joined-same (s.view_of c) (view c) (shows c) t))
         (on_joined_of (seat c) (view c) t (view c).standing) (same i (λ g. refl))
         ((root_views me tree n x).joined k a t (fits.alike c)).moved
-        (λ d apart. ap (λ b. read (kept n) d (if b then accepts_ticket (memory d) t (memory d).phase else memory d))
+        (λ d apart. ap
+        (λ b. read (kept n) d (if b then accepts_ticket (memory d) t (memory d).phase else memory d))
         apart)
 
     joined_nowhere : (k : ℕ) (c : Case) (t : Ticket) → (view c).standing ≡ standing.Unknown
@@ -392,16 +406,19 @@ module _ (n : Node) (s s' : CoreState) (me : ProcessId) (tree : List TreeEntry) 
         rests i c _ (on_joined t (view c) (view c).standing)
         (at_standing (s.view_of c) (view c) (on_joined t (s.view_of c)) (on_joined t (view c)) (shows c)
         (on_joined-same (s.view_of c) (view c) (shows c) t))
-        (ap (λ st. (on_joined t (view c) st).written) unknown) (ap (λ st. (on_joined t (view c) st).view) unknown)
+        (ap (λ st. (on_joined t (view c) st).written) unknown)
+        (ap (λ st. (on_joined t (view c) st).view) unknown)
         (same i (λ g. refl)) keeps
       where
-        not_open : (d : Case) → c ≡ d → (ph : Phase) → (memory d).phase ≡ ph → accepts_ticket (memory d) t ph ≡ memory d
+        not_open : (d : Case) → c ≡ d → (ph : Phase) → (memory d).phase ≡ ph
+            → accepts_ticket (memory d) t ph ≡ memory d
         not_open d one Idle is = refl
         not_open d one Asked is = refl
         not_open d one Over is = refl
         not_open d one Open is =
             let active : (view d).standing ≡ standing.Active = (fits.alike d).open_is_active is in
-            let not : (view d).standing ≡ standing.Unknown = ap (λ e. (view e).standing) (sym one) ∙ unknown in
+            let not : (view d).standing ≡ standing.Unknown =
+            ap (λ e. (view e).standing) (sym one) ∙ unknown in
             absurd (cc)
 
         keeps : (d : Case) → Still (MessageInput k (Joined c t)) d
@@ -438,7 +455,8 @@ module _ (n : Node) (s s' : CoreState) (me : ProcessId) (tree : List TreeEntry) 
         → Leads (MessageInput k (vote_message w (child_case x t))) (vote_turn old w t found)
     vote_at k w x t None finds =
         let i = MessageInput k (vote_message w (child_case x t)) in
-        says i [] (same i (λ g. refl)) (λ d. vote_keeps place n d (fits.alike d) x t w (strangers x t None finds d tt))
+        says i [] (same i (λ g. refl)) (λ d. vote_keeps place n d (fits.alike d) x t w
+        (strangers x t None finds d tt))
     vote_at k w x t (Some c) finds =
         subst (λ c. Finds old (Some (x, t)) (Some c)
         → Leads (MessageInput k (vote_message w (child_case x t))) (vote_turn old w t (Some c)))
@@ -450,18 +468,21 @@ module _ (n : Node) (s s' : CoreState) (me : ProcessId) (tree : List TreeEntry) 
             let c = root_case x in
             let i = MessageInput k (vote_message w (child_case x t)) in
             takes i c _ (on_vote (seat c) t w (view c) (view c).standing)
-            (at_standing (s.view_of c) (view c) (on_vote (seat c) t w (s.view_of c)) (on_vote (seat c) t w (view c))
+            (at_standing (s.view_of c) (view c) (on_vote (seat c) t w (s.view_of c))
+            (on_vote (seat c) t w (view c))
             (shows c)
             (on_vote-same (s.view_of c) (view c) (shows c) (seat c) t w))
             (on_vote_of (seat c) (view c) t w (view c).standing) (same i (λ g. refl))
             ((root_views me tree n x).vote k a t w (fits.alike c)).moved
             (λ d apart. vote_keeps place n d (fits.alike d) x t w (strangers x t (Some c) finds d apart))
 
-    ack_at : (k : ℕ) (o : Outcome) (x : Txn) (t : Ticket) (found : Option Case) → Finds old (Some (x, t)) found
+    ack_at : (k : ℕ) (o : Outcome) (x : Txn) (t : Ticket) (found : Option Case)
+        → Finds old (Some (x, t)) found
         → Leads (MessageInput k (Ack (child_case x t) o)) (ack_turn old o t found)
     ack_at k o x t None finds =
         let i = MessageInput k (Ack (child_case x t) o) in
-        says i [] (same i (λ g. refl)) (λ d. ack_keeps place n d (fits.alike d) x t o (strangers x t None finds d tt))
+        says i [] (same i (λ g. refl)) (λ d. ack_keeps place n d (fits.alike d) x t o
+        (strangers x t None finds d tt))
     ack_at k o x t (Some c) finds =
         subst (λ c. Finds old (Some (x, t)) (Some c)
         → Leads (MessageInput k (Ack (child_case x t) o)) (ack_turn old o t (Some c)))
@@ -473,7 +494,8 @@ module _ (n : Node) (s s' : CoreState) (me : ProcessId) (tree : List TreeEntry) 
             let c = root_case x in
             let i = MessageInput k (Ack (child_case x t) o) in
             takes i c _ (on_ack (seat c) t o (view c) (view c).standing)
-            (at_standing (s.view_of c) (view c) (on_ack (seat c) t o (s.view_of c)) (on_ack (seat c) t o (view c))
+            (at_standing (s.view_of c) (view c) (on_ack (seat c) t o (s.view_of c))
+            (on_ack (seat c) t o (view c))
             (shows c)
             (on_ack-same (s.view_of c) (view c) (shows c) (seat c) t o))
             (on_ack_of (seat c) (view c) t o (view c).standing) (same i (λ g. refl))
@@ -498,18 +520,21 @@ module _ (n : Node) (s s' : CoreState) (me : ProcessId) (tree : List TreeEntry) 
         let i = MessageInput k (Inquire (child_case x t)) in
         let row = inquiry_row c t (view c) (view c).standing in
         rests i c _ (on_inquiry (seat c) t (view c) (view c).standing)
-        (at_standing (s.view_of c) (view c) (on_inquiry (seat c) t (s.view_of c)) (on_inquiry (seat c) t (view c))
+        (at_standing (s.view_of c) (view c) (on_inquiry (seat c) t (s.view_of c))
+        (on_inquiry (seat c) t (view c))
         (shows c)
         (on_inquiry-same (s.view_of c) (view c) (shows c) (seat c) t))
         row.0 row.1 (same i (λ g. refl)) (λ d. refl)
 
     -- a message that names no child is none
-    nameless : (b : Bool) (d : Case) → read (kept n) d (if b then memory d else memory d) ≡ read (kept n) d (memory d)
+    nameless : (b : Bool) (d : Case) → read (kept n) d (if b then memory d else memory d)
+        ≡ read (kept n) d (memory d)
     nameless true d = refl
     nameless false d = refl
 
     vote_nameless : (w : Vote) (x : Txn) (d : Case)
-        → read (kept n) d (hears_child d (memory d) (vote_message w (root_case x))) ≡ read (kept n) d (memory d)
+        → read (kept n) d (hears_child d (memory d) (vote_message w (root_case x)))
+        ≡ read (kept n) d (memory d)
     vote_nameless VoteYes x d = nameless (same_txn x d.txn) d
     vote_nameless VoteNo x d = nameless (same_txn x d.txn) d
     vote_nameless VoteRead x d = nameless (same_txn x d.txn) d
@@ -520,13 +545,16 @@ module _ (n : Node) (s s' : CoreState) (me : ProcessId) (tree : List TreeEntry) 
         → Leads (MessageInput k (vote_message w d)) (child_turn d (λ t. vote_turn old w t found))
     vote_by k found w x (Some t) finds = vote_at k w x t found finds
     vote_by k found w x None finds =
-        let i = MessageInput k (vote_message w (root_case x)) in says i [] (same i (λ g. refl)) (vote_nameless w x)
+        let i = MessageInput k (vote_message w (root_case x)) in says i []
+        (same i (λ g. refl)) (vote_nameless w x)
 
     ack_by : (k : ℕ) (found : Option Case) (o : Outcome) (x : Txn) (t : Option Ticket) → let d : Case =
         record { txn = x; ticket = t } in
-        Finds old (asked_of d) found → Leads (MessageInput k (Ack d o)) (child_turn d (λ t. ack_turn old o t found))
+        Finds old (asked_of d) found → Leads (MessageInput k (Ack d o))
+        (child_turn d (λ t. ack_turn old o t found))
     ack_by k found o x (Some t) finds = ack_at k o x t found finds
-    ack_by k found o x None finds = let i = MessageInput k (Ack (root_case x) o) in says i [] (same i (λ g. refl))
+    ack_by k found o x None finds = let i = MessageInput k (Ack (root_case x) o)
+        in says i [] (same i (λ g. refl))
         (λ d. nameless (same_txn x d.txn) d)
 
     inquiry_by : (k : ℕ) (found : Option Case) (x : Txn) (t : Option Ticket) → let d : Case =
@@ -544,10 +572,13 @@ module _ (n : Node) (s s' : CoreState) (me : ProcessId) (tree : List TreeEntry) 
     heard_so k found (Read d) finds = vote_by k found VoteRead d.txn d.ticket finds
     heard_so k found (Ack d o) finds = ack_by k found o d.txn d.ticket finds
     heard_so k found (Inquire d) finds = inquiry_by k found d.txn d.ticket
-    heard_so k found (Join d) finds = let i = MessageInput k (Join d) in says i [] (same i (λ g. refl)) (λ d. refl)
+    heard_so k found (Join d) finds = let i =
+        MessageInput k (Join d) in says i [] (same i (λ g. refl)) (λ d. refl)
     heard_so k found (Work d j op) finds =
         let i = MessageInput k (Work d j op) in says i [] (same i (λ g. refl)) (λ d. refl)
     heard_so k found (Prepare d j) finds =
         let i = MessageInput k (Prepare d j) in says i [] (same i (λ g. refl)) (λ d. refl)
-    heard_so k found (Commit d) finds = let i = MessageInput k (Commit d) in says i [] (same i (λ g. refl)) (λ d. refl)
-    heard_so k found (Abort d) finds = let i = MessageInput k (Abort d) in says i [] (same i (λ g. refl)) (λ d. refl)
+    heard_so k found (Commit d) finds = let i =
+        MessageInput k (Commit d) in says i [] (same i (λ g. refl)) (λ d. refl)
+    heard_so k found (Abort d) finds = let i =
+        MessageInput k (Abort d) in says i [] (same i (λ g. refl)) (λ d. refl)

@@ -31,7 +31,8 @@ use Rattle.core_law.proofs.RootSteps.{failed_makes, root_makes}
 handled_so : (place : Place) (n : Node) (i : Input) (fault : Option Fault) (a : DataAnswer) (r : Reacts)
     → is_passed_over place n i ≡ false
     → reacts place n (record { input = i; data_answer = a }) ≡ r
-    → node_makes place n (input_move place.me i fault a) ≡ input_makes n (record { input = i; data_answer = a }) fault r
+    → node_makes place n (input_move place.me i fault a)
+    ≡ input_makes n (record { input = i; data_answer = a }) fault r
 unfolding node_makes
 handled_so place n i fault a r late does =
     ap (λ b. if b then passes_over n fault else input_makes n (record { input = i; data_answer = a }) fault
@@ -49,9 +50,11 @@ passed_by place n i fault a over =
 
 -- a process that is up refuses no message
 message_done : (place : Place) (n : Node) (k : ℕ) (m : Message) (a : DataAnswer) → n.failed ≡ false
-    → reacts place n (record { input = MessageInput k m; data_answer = a }) ≡ Does (hears place.role place n a m)
+    → reacts place n (record { input = MessageInput k m; data_answer = a })
+    ≡ Does (hears place.role place n a m)
 unfolding reacts
-message_done place n k m a runs = ap (λ b. if b then Refused Failed else Does (hears place.role place n a m)) runs
+message_done place n k m a runs = ap (λ b. if b then Refused Failed else Does
+    (hears place.role place n a m)) runs
 
 module _ (n : Node) (old new : CoreState) (a : DataAnswer) (i : Input) (stands : Stands n old)
     (fits : n.failed ≡ false → NodeFits old.place.role old.place n) where
@@ -67,7 +70,8 @@ module _ (n : Node) (old new : CoreState) (a : DataAnswer) (i : Input) (stands :
   children runs = children_of old.place.role (fits runs)
 
   -- a root and a manager pass nothing over
-  passes_as : (role : Role) → old.place.role ≡ role → is_passed_over old.place n i ≡ passes_at role old.place n i
+  passes_as : (role : Role) → old.place.role ≡ role
+      → is_passed_over old.place n i ≡ passes_at role old.place n i
   passes_as role is = ap (λ r. passes_at r old.place n i) is
 
   -- an input that is passed over does nothing at a coordinator below the root
@@ -91,7 +95,8 @@ module _ (n : Node) (old new : CoreState) (a : DataAnswer) (i : Input) (stands :
         (place_stays old new i (turn_of old a found i) moves) (children runs) stands over finds
 
   module _ (reaction : Reaction) (made : Makes old new a i reaction) where
-    made_step : is_passed_over old.place n i ≡ false → MadeAs n (record { input = i; data_answer = a }) old new reaction
+    made_step : is_passed_over old.place n i ≡ false
+        → MadeAs n (record { input = i; data_answer = a }) old new reaction
         → StepsAs n old new (input_move old.place.me i None a) reaction
     made_step late as' =
         record {
@@ -102,10 +107,12 @@ module _ (n : Node) (old new : CoreState) (a : DataAnswer) (i : Input) (stands :
           stands = as'.stands;
         }
 
-    passed_step : (p : ProcessId) → old.place.role ≡ Below p → n.failed ≡ false → is_passed_over old.place n i ≡ true
+    passed_step : (p : ProcessId) → old.place.role ≡ Below p → n.failed ≡ false
+        → is_passed_over old.place n i ≡ true
         → StepsAs n old new (input_move old.place.me i None a) reaction
     passed_step p role runs over =
-        let same = nothing p role made.found made.finds over runs made.moves made.effect made.does made.moves in
+        let same = nothing p role made.found made.finds over runs made.moves
+        made.effect made.does made.moves in
         record {
           effect = no_effect;
           left = n;
@@ -117,7 +124,8 @@ module _ (n : Node) (old new : CoreState) (a : DataAnswer) (i : Input) (stands :
     by_role : n.failed ≡ false → (role : Role) → old.place.role ≡ role
         → StepsAs n old new (input_move old.place.me i None a) reaction
     by_role runs AtRoot role =
-        made_step (passes_as AtRoot role) (root_makes n old new a i reaction role stands made (fits_as AtRoot role))
+        made_step (passes_as AtRoot role) (root_makes n old new a i reaction role
+        stands made (fits_as AtRoot role))
     by_role runs (AtLeaf p) role =
         let f : LeafFits old.place n = fits_as (AtLeaf p) role runs in
         made_step (passes_as (AtLeaf p) role)
@@ -127,7 +135,8 @@ module _ (n : Node) (old new : CoreState) (a : DataAnswer) (i : Input) (stands :
         by_over : (b : Bool) → is_passed_over old.place n i ≡ b
             → StepsAs n old new (input_move old.place.me i None a) reaction
         by_over false late =
-            made_step late (cascade_makes n old new p a i reaction role stands made (fits_as (Below p) role) late)
+            made_step late (cascade_makes n old new p a i reaction role stands made
+            (fits_as (Below p) role) late)
         by_over true over = passed_step p role runs over
 
     pub steps_so : StepsAs n old new (input_move old.place.me i None a) reaction
@@ -167,7 +176,8 @@ module _ (n : Node) (old new : CoreState) (a : DataAnswer) (i : Input) (stands :
 
   -- A fault.
 
-  handled_fault : is_passed_over old.place n i ≡ false → IsBroken old new a i → FaultsAs n old new old.place.me i a
+  handled_fault : is_passed_over old.place n i ≡ false → IsBroken old new a i
+      → FaultsAs n old new old.place.me i a
   handled_fault late broken =
       let so = breaks_so n old new a i stands broken children in
       record {

@@ -32,16 +32,19 @@ module _ (place : Place) where
       → own_by place (in_own r) (record_case r) ≡ r ∷ []
   unfolding own_records
   one_read r own =
-      sym (append-nil (own_by place (in_own r) (record_case r))) ∙ reads_back place (r ∷ []) (both_so _ _ own refl)
+      sym (append-nil (own_by place (in_own r) (record_case r)))
+      ∙ reads_back place (r ∷ []) (both_so _ _ own refl)
 
   all_read : (rs : List Record) → list_all (is_own_record place) rs ≡ true
       → AllByRecursion (ReadsItself place) (map in_own rs)
   all_read [] own = tt
   all_read (r ∷ rs) own =
-      let both = and_parts _ _ own in (record { read = one_read r both.0; written = refl }, all_read rs both.1)
+      let both =
+      and_parts _ _ own in (record { read = one_read r both.0; written = refl }, all_read rs both.1)
 
   -- such records are those that the process reads
-  again : (ls : List LogRecord) → AllByRecursion (ReadsItself place) ls → map in_own (own_records place ls) ≡ ls
+  again : (ls : List LogRecord) → AllByRecursion (ReadsItself place) ls
+      → map in_own (own_records place ls) ≡ ls
   unfolding own_records
   again [] all = refl
   again (l ∷ ls) all =
@@ -66,7 +69,8 @@ module _ (place : Place) where
       by_test true rest = (all.0, rest)
       by_test false rest = rest
 
-  opened_all : (o ls : List LogRecord) → AllByRecursion (ReadsItself place) o → AllByRecursion (ReadsItself place) ls
+  opened_all : (o ls : List LogRecord) → AllByRecursion (ReadsItself place) o
+      → AllByRecursion (ReadsItself place) ls
       → AllByRecursion (ReadsItself place) (fold opened_after o ls)
   opened_all o [] e all = e
   opened_all o (l ∷ ls) e all = opened_all (opened_after o l) ls (by_test (is_opened l.entry)) all.1
@@ -100,13 +104,17 @@ module _ (place : Place) where
     coordinated coordinates kind none sound =
         ap (λ ds. own_records place (front_of_trim ls) ++ ds) none
         ∙ append-nil (own_records place (front_of_trim ls))
-        ∙ coordinators_read_trims place ls coordinates (subst (λ k. AllByRecursion (IsSound k) ls) kind sound) opened
+        ∙ coordinators_read_trims place ls coordinates
+        (subst (λ k. AllByRecursion (IsSound k) ls) kind sound) opened
 
-    reads_trim : (role : Role) → place.role ≡ role → AllByRecursion (IsSound (kind_of_role place.role)) ls → ReadsTrim
+    reads_trim : (role : Role) → place.role ≡ role
+        → AllByRecursion (IsSound (kind_of_role place.role)) ls → ReadsTrim
     reads_trim AtRoot is sound =
-        coordinated (subst Coordinates (sym is) tt) (ap kind_of_role is) (ap (λ r. data_records r rs) is) sound
+        coordinated (subst Coordinates (sym is) tt) (ap kind_of_role is)
+        (ap (λ r. data_records r rs) is) sound
     reads_trim (Below p) is sound =
-        coordinated (subst Coordinates (sym is) tt) (ap kind_of_role is) (ap (λ r. data_records r rs) is) sound
+        coordinated (subst Coordinates (sym is) tt) (ap kind_of_role is)
+        (ap (λ r. data_records r rs) is) sound
     reads_trim (AtLeaf p) is sound =
         managers_read_trims place p ls is
         (subst (λ k. AllByRecursion (IsSound k) ls) (ap kind_of_role is) sound) opened
@@ -114,7 +122,8 @@ module _ (place : Place) where
   -- so the trimmed log is that of the model's lists
   trim_of : (rs : List Record) → list_all (is_own_record place) rs ≡ true → has is_opened rs ≡ true
       → AllByRecursion (IsSound (kind_of_role place.role)) (map in_own rs)
-      → front_of_trim (map in_own rs) ++ map in_own (data_records place.role (own_records place (map in_own rs)))
+      → front_of_trim (map in_own rs) ++ map in_own
+      (data_records place.role (own_records place (map in_own rs)))
       ≡ map in_own (trimmed place.role rs)
   trim_of rs own opened sound =
       let ls = map in_own rs in

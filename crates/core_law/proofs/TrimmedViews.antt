@@ -119,7 +119,8 @@ module _ (c : Case) where
         owing = listed (owing_in c) none_owing;
       }
     where
-      test : (q : Record → Bool) → ((r : Record) → is_record_of c r ≡ false → q r ≡ false) → has q xs ≡ has q ys
+      test : (q : Record → Bool) → ((r : Record) → is_record_of c r ≡ false
+          → q r ≡ false) → has q xs ≡ has q ys
       test q own = by_own q own xs ∙ ap (has q) same ∙ sym (by_own q own ys)
 
       listed : (f : Record → List Ticket) → ((r : Record) → is_record_of c r ≡ false → f r ≡ [])
@@ -135,10 +136,12 @@ module _ (c : Case) where
     stays_as (Below p) e rs x = refl
     stays_as (AtLeaf p) e rs x = absurd e
 
-    known_stays : (b : Bool) → is_known (recorded_view whole c).standing ≡ b → (o : Option Case) → is_of c o ≡ true
+    known_stays : (b : Bool) → is_known (recorded_view whole c).standing ≡ b
+        → (o : Option Case) → is_of c o ≡ true
         → case_stays whole o ≡ b
     known_stays b known None e = absurd (cc)
-    known_stays b known (Some d) e = ap (λ x. is_known (recorded_view whole x).standing) (case_is d c e) ∙ known
+    known_stays b known (Some d) e = ap (λ x. is_known (recorded_view whole x).standing) (case_is d c e)
+        ∙ known
 
     left_of : (b : Bool) → is_known (recorded_view whole c).standing ≡ b → (rs : List Record)
         → of (staying role whole rs) ≡ (if b then of rs else [])
@@ -155,8 +158,10 @@ module _ (c : Case) where
         by_test true is s stays e = stayed b s (stays ∙ known_stays b known (record_case r) is) e
           where
             stayed : (b s : Bool) → s ≡ b → of (staying role whole rs) ≡ (if b then of rs else [])
-                → of (if s then r ∷ staying role whole rs else staying role whole rs) ≡ (if b then r ∷ of rs else [])
-            stayed true true i e = ap (λ k. if k then r ∷ of (staying role whole rs) else of (staying role whole rs)) is
+                → of (if s then r ∷ staying role whole rs else staying role whole rs)
+                ≡ (if b then r ∷ of rs else [])
+            stayed true true i e = ap (λ k. if k then r
+                ∷ of (staying role whole rs) else of (staying role whole rs)) is
                 ∙ ap (λ k. r ∷ k) e
             stayed false false i e = e
             stayed true false i e = absurd (cc)
@@ -204,8 +209,14 @@ module _ (c : Case) where
   silent_list f none [] s = refl
   silent_list f none (r ∷ rs) s =
       rw (none r (first_false _ _ s.1) (first_false _ _ s.2) (first_false _ _ s.3) (first_false _ _ s.4))
-      (silent_list f none rs
-      (second_false _ _ s.0, second_false _ _ s.1, second_false _ _ s.2, second_false _ _ s.3, second_false _ _ s.4))
+      (silent_list f none rs (
+        second_false _ _ s.0,
+        second_false _ _ s.1,
+        second_false _ _ s.2,
+        second_false _
+            _ s.3,
+        second_false _ _ s.4,
+      ))
 
   silent_named : (r : Record) → is_commit c r ≡ false → is_abort c r ≡ false → is_prepare c r ≡ false
       → is_collecting c r ≡ false → named_in c r ≡ []
@@ -279,7 +290,8 @@ module _ (c : Case) where
     closed Open is unknown =
         absurd (let clash : standing.Unknown ≡ standing.Active = sym unknown ∙ alike.open_is_active is in cc)
     closed Asked is unknown =
-        absurd (let clash : standing.Unknown ≡ standing.Collecting = sym unknown ∙ alike.asked_is_collecting is in cc)
+        absurd (let clash : standing.Unknown ≡ standing.Collecting = sym unknown
+        ∙ alike.asked_is_collecting is in cc)
 
     bare : view c m [] ≡ standing_view (phase_standing c.txn.presumption m.phase) [] c m
     unfolding has
@@ -308,7 +320,8 @@ module _ (c : Case) where
       left_view : (b : Bool) → is_known (recorded_view (kept n) c).standing ≡ b
           → view c m (trimmed place.role (kept n)) ≡ view c m (kept n)
       left_view true known = view_same c m (trimmed place.role (kept n)) (kept n)
-          (same_says (trimmed place.role (kept n)) (kept n) (trim_of place.role coordinates (kept n) true known))
+          (same_says (trimmed place.role (kept n)) (kept n)
+          (trim_of place.role coordinates (kept n) true known))
       left_view false unknown =
           view_same c m (trimmed place.role (kept n)) []
           (same_says (trimmed place.role (kept n)) [] (trim_of place.role coordinates (kept n) false unknown))
@@ -331,11 +344,13 @@ prepared_of : (d : Case) (r : Record) → prepares_branch (CaseBranch d) r ≡ t
 prepared_of d (Prepared b ws) e = sym (same_is d b) ∙ e
 prepared_of d r e = absurd (cc)
 
-others_mark : (d : Case) (m : Mark) (rs : List Record) → has (is_branch_record d) rs ≡ false → mark_behind d m rs ≡ m
+others_mark : (d : Case) (m : Mark) (rs : List Record)
+    → has (is_branch_record d) rs ≡ false → mark_behind d m rs ≡ m
 unfolding has
 others_mark d m [] e = refl
 others_mark d m (r ∷ rs) e =
-    ap (λ k. mark_behind d k rs) (other_leaves d m r (first_false _ _ e)) ∙ others_mark d m rs (second_false _ _ e)
+    ap (λ k. mark_behind d k rs) (other_leaves d m r (first_false _ _ e))
+    ∙ others_mark d m rs (second_false _ _ e)
 
 mark_append : (d : Case) (m : Mark) (xs ys : List Record)
     → mark_behind d m (xs ++ ys) ≡ mark_behind d (mark_behind d m xs) ys
@@ -345,7 +360,8 @@ mark_append d m (x ∷ xs) ys = mark_append d (mark_after (CaseBranch d) m x) xs
 -- what stays of a branch that is open marks it alike, and from its last promise on whatever stood before
 record MarksAlike (d : Case) (ls rs : List Record) : Type 0 where
   same : (m : Mark) → mark_behind d m ls ≡ mark_behind d m rs
-  anew : has (prepares_branch (CaseBranch d)) rs ≡ true → (m k : Mark) → mark_behind d m ls ≡ mark_behind d k rs
+  anew : has (prepares_branch (CaseBranch d)) rs ≡ true → (m k : Mark)
+      → mark_behind d m ls ≡ mark_behind d k rs
 
 module _ (p : ProcessId) (whole : List Record) (d : Case)
     (is_there : is_open (mark_of (CaseBranch d) whole) ≡ true) where
@@ -394,15 +410,18 @@ module _ (p : ProcessId) (whole : List Record) (d : Case)
     anew = λ f m k. not_now f;
   }
     where
-      whichever : (s : Bool) (m : Mark) → mark_behind d m (if s then r ∷ left rs else left rs) ≡ mark_behind d m (left rs)
+      whichever : (s : Bool) (m : Mark) → mark_behind d m
+          (if s then r ∷ left rs else left rs) ≡ mark_behind d m (left rs)
       whichever true m = ap (λ x. mark_behind d x (left rs)) (other_leaves d m r away)
       whichever false m = refl
 
       first_true : (a b : Bool) → (a || b) ≡ true → b ≡ false → a ≡ true
       first_true a b e f = grind arith
 
-      not_now : {A : Type 0} → (prepares_branch (CaseBranch d) r || has (prepares_branch (CaseBranch d)) rs) ≡ true → A
-      not_now f = absurd (let is : is_branch_record d r ≡ true = prepared_of d r (first_true _ _ f none) in cc)
+      not_now : {A : Type 0} → (prepares_branch (CaseBranch d) r
+          || has (prepares_branch (CaseBranch d)) rs) ≡ true → A
+      not_now f = absurd (let is : is_branch_record d r
+          ≡ true = prepared_of d r (first_true _ _ f none) in cc)
 
   stays_own : (r : Record) (rs : List Record) → is_branch_record d r ≡ true
       → has (prepares_branch (CaseBranch d)) rs ≡ false → stays (AtLeaf p) whole rs r ≡ true
@@ -417,12 +436,14 @@ module _ (p : ProcessId) (whole : List Record) (d : Case)
   marks_alike (r ∷ rs) =
       by_test (has (prepares_branch (CaseBranch d)) rs) refl (is_branch_record d r) refl (marks_alike rs)
     where
-      by_test : (b : Bool) → has (prepares_branch (CaseBranch d)) rs ≡ b → (o : Bool) → is_branch_record d r ≡ o
+      by_test : (b : Bool) → has (prepares_branch (CaseBranch d)) rs ≡ b
+          → (o : Bool) → is_branch_record d r ≡ o
           → MarksAlike d (left rs) rs
           → MarksAlike d (if stays (AtLeaf p) whole rs r then r ∷ left rs else left rs) (r ∷ rs)
       by_test true more o is rest = again r rs (stays (AtLeaf p) whole rs r) more rest
       by_test false none true is rest =
-          subst (λ s. MarksAlike d (if s then r ∷ left rs else left rs) (r ∷ rs)) (sym (stays_own r rs is none))
+          subst (λ s. MarksAlike d (if s then r ∷ left rs else left rs) (r ∷ rs))
+          (sym (stays_own r rs is none))
           (last r rs none rest)
       by_test false none false is rest = other r rs (stays (AtLeaf p) whole rs r) is none rest
 
@@ -470,5 +491,6 @@ module _ (place : Place) (p : ProcessId) (role : place.role ≡ AtLeaf p) (n : N
   unfolding manager_view
   trimmed_branch =
       (λ j. marked_branch (trims_memory place n d j)
-      (mark_of (CaseBranch d) ((append-nil (trimmed place.role (kept n)) ∙ ap (λ r. trimmed r (kept n)) role) j)))
+      (mark_of (CaseBranch d) ((append-nil (trimmed place.role (kept n))
+      ∙ ap (λ r. trimmed r (kept n)) role) j)))
       ∙ left_mark (mark_of (CaseBranch d) (kept n)) refl

@@ -49,7 +49,8 @@ length_map f (x ∷ xs) = ap suc (length_map f xs)
 
 -- a move of a process that is up, and of one that is not
 pub trim_done : (place : Place) (n : Node) (fault : Option Fault) (b : Bool) → n.failed ≡ b
-    → node_makes place n (quiet_move place.me Trim fault) ≡ (if b then Refuses Failed else trim_makes place n fault)
+    → node_makes place n (quiet_move place.me Trim fault)
+    ≡ (if b then Refuses Failed else trim_makes place n fault)
 unfolding node_makes
 trim_done place n fault b is = ap (λ k. if k then Refuses Failed else trim_makes place n fault) is
 
@@ -65,7 +66,8 @@ module _ (n : Node) (old new : CoreState) (stands : Stands n old) where
   trim_refused refused =
       (trim_done place n None true (sym stands.failed ∙ refused.1), same_stands n old new refused.0 stands)
 
-  module _ (runs : n.failed ≡ false) (own : KeepsOwn place n) (opened : HasOpened n) (sound : IsSoundLog old) where
+  module _ (runs : n.failed ≡ false) (own : KeepsOwn place n) (opened : HasOpened n)
+      (sound : IsSoundLog old) where
     log_is : records_of old.log.kept ≡ map (in_log q) (kept n)
     log_is = (λ j. stands.forced j ++ stands.unforced j) ∙ sym (map_append (in_log q) n.forced n.unforced)
 
@@ -78,14 +80,17 @@ module _ (n : Node) (old new : CoreState) (stands : Stands n old) where
           record {
             boot = made.rest.boot ∙ up.boot ∙ sym (trimmed_boot place.role (kept n))
                 ∙ ap boot_of (sym (append-nil (trimmed place.role (kept n))));
-            begun = λ c. made.rest.begun ∙ up.begun c ∙ ap (λ (m : Memory). m.begun) (sym (trims_memory place n c));
-            given = λ c. made.rest.given ∙ up.given c ∙ ap (λ (m : Memory). m.given) (sym (trims_memory place n c));
+            begun = λ c. made.rest.begun ∙ up.begun c
+                ∙ ap (λ (m : Memory). m.begun) (sym (trims_memory place n c));
+            given = λ c. made.rest.given ∙ up.given c
+                ∙ ap (λ (m : Memory). m.given) (sym (trims_memory place n c));
             tickets = λ d. made.rest.tickets d ∙ up.tickets d
                 ∙ ap (λ (m : Memory). active_ticket m.active d) (sym (trims_memory place n d));
             views = λ c. subst (λ v. SameView (new.view_of c) v) (view_stays place.role place n c refl fits)
                 (same_view-trans (new.view_of c) (old.view_of c) (view_at place.role place n c)
                 (made.rest.views c) (up.views c));
-            branches = λ c. made.rest.branches c ∙ up.branches c ∙ branch_stays place.role place n c refl fits;
+            branches = λ c. made.rest.branches c ∙ up.branches c
+                ∙ branch_stays place.role place n c refl fits;
           }
 
       stands_trimmed : Stands (trims place n) (record new { place = place })

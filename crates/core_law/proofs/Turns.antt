@@ -42,56 +42,72 @@ record Reads (s : CoreState) (n : Node) : Type 0 where
 
 -- Messages of children.
 
-module _ (s : CoreState) (n : Node) (fit : ChildrenFit s.place n) (views : (c : Case) → s.view_of c ≡ coordinator_view s.place n c) where
+module _ (s : CoreState) (n : Node) (fit : ChildrenFit s.place n)
+    (views : (c : Case) → s.view_of c ≡ coordinator_view s.place n c) where
   vote_at : (w : Vote) (t : Ticket) (x : Txn) (k found : Option Case) → FoundAs s.place n x k found
       → Does (vote_for s.place (parent s) n t w k) ≡ reacted (vote_turn s w t found)
   vote_at w t x _ _ (alike None) = refl
-  vote_at w t x _ _ (alike (Some c)) = sym (ap (λ v. reacted (Takes c (on_vote (seat_in s c) t w v v.standing))) (views c))
-  vote_at w t x _ _ (dead c of gone) = ap (λ v. Does (row_effect c (on_vote (seat_in s c) t w v v.standing))) gone
+  vote_at w t x _ _ (alike (Some c)) =
+      sym (ap (λ v. reacted (Takes c (on_vote (seat_in s c) t w v v.standing))) (views c))
+  vote_at w t x _ _ (dead c of gone) =
+      ap (λ v. Does (row_effect c (on_vote (seat_in s c) t w v v.standing))) gone
 
   ack_at : (o : Outcome) (t : Ticket) (x : Txn) (k found : Option Case) → FoundAs s.place n x k found
       → Does (ack_for s.place (parent s) n t o k) ≡ reacted (ack_turn s o t found)
   ack_at o t x _ _ (alike None) = refl
-  ack_at o t x _ _ (alike (Some c)) = sym (ap (λ v. reacted (Takes c (on_ack (seat_in s c) t o v v.standing))) (views c))
-  ack_at o t x _ _ (dead c of gone) = ap (λ v. Does (row_effect c (on_ack (seat_in s c) t o v v.standing))) gone ∙ quiet_at o
+  ack_at o t x _ _ (alike (Some c)) =
+      sym (ap (λ v. reacted (Takes c (on_ack (seat_in s c) t o v v.standing))) (views c))
+  ack_at o t x _ _ (dead c of gone) =
+      ap (λ v. Does (row_effect c (on_ack (seat_in s c) t o v v.standing))) gone ∙ quiet_at o
     where
-      quiet_at : (o : Outcome) → Does (row_effect c (on_ack (seat_in s c) t o unknown_view unknown_view.standing)) ≡ Does no_effect
+      quiet_at : (o : Outcome)
+          → Does (row_effect c (on_ack (seat_in s c) t o unknown_view unknown_view.standing)) ≡ Does no_effect
       quiet_at Committed = refl
       quiet_at Aborted = refl
 
   inquiry_at : (t : Ticket) (x : Txn) (k found : Option Case) → FoundAs s.place n x k found
       → Does (inquiry_for s.place (parent s) n x t k) ≡ reacted (inquiry_turn s x t found)
   inquiry_at t x _ _ (alike None) = refl
-  inquiry_at t x _ _ (alike (Some c)) = sym (ap (λ v. reacted (Takes c (on_inquiry (seat_in s c) t v v.standing))) (views c))
+  inquiry_at t x _ _ (alike (Some c)) =
+      sym (ap (λ v. reacted (Takes c (on_inquiry (seat_in s c) t v v.standing))) (views c))
   inquiry_at t x _ _ (dead c of gone) =
       ap (λ v. Does (row_effect c (on_inquiry (seat_in s c) t v v.standing))) gone
-      ∙ ap (λ y. Does (sends_only (post s.place.me t.child (tells_outcome (presumed y.presumption) (child_case y t)) ∷ []))) of
+      ∙ ap (λ y. Does (sends_only (post s.place.me t.child
+      (tells_outcome (presumed y.presumption) (child_case y t)) ∷ []))) of
 
   child_at : (d : Case) (found : Option Case) (f : Ticket → Effect) (g : Ticket → Turn)
       → ((t : Ticket) → Finds s (Some (d.txn, t)) found → Does (f t) ≡ reacted (g t))
       → Finds s (asked_of d) found → Does (of_ticket d.ticket no_effect f) ≡ reacted (child_turn d g)
   child_at d found f g h finds = by_ticket d.ticket finds
     where
-      by_ticket : (o : Option Ticket) → Finds s (of_ticket o None (λ t. Some (d.txn, t))) found → Does (of_ticket o no_effect f) ≡ reacted (of_ticket o (Says []) g)
+      by_ticket : (o : Option Ticket) → Finds s (of_ticket o None (λ t. Some (d.txn, t))) found
+          → Does (of_ticket o no_effect f) ≡ reacted (of_ticket o (Says []) g)
       by_ticket None finds = refl
       by_ticket (Some t) finds = h t finds
 
-  pub child_hears : (found : Option Case) (m : Message) → Finds s (asked_in m) found → Does (hears_from_child s.place (parent s) n m) ≡ reacted (child_says s found m)
-  child_hears found (Joined d t) finds = sym (ap (λ v. reacted (Takes d (on_joined t v v.standing))) (views d))
+  pub child_hears : (found : Option Case) (m : Message) → Finds s (asked_in m) found
+      → Does (hears_from_child s.place (parent s) n m) ≡ reacted (child_says s found m)
+  child_hears found (Joined d t) finds =
+      sym (ap (λ v. reacted (Takes d (on_joined t v v.standing))) (views d))
   child_hears found (Yes d) finds =
-      child_at d found (λ t. vote_for s.place (parent s) n t VoteYes (case_of_child s.place n d.txn t)) (λ t. vote_turn s VoteYes t found)
+      child_at d found (λ t. vote_for s.place (parent s) n t VoteYes (case_of_child s.place n d.txn t))
+      (λ t. vote_turn s VoteYes t found)
       (λ t is. vote_at VoteYes t d.txn _ _ (found_as s.place n fit s views d.txn t found is)) finds
   child_hears found (No d) finds =
-      child_at d found (λ t. vote_for s.place (parent s) n t VoteNo (case_of_child s.place n d.txn t)) (λ t. vote_turn s VoteNo t found)
+      child_at d found (λ t. vote_for s.place (parent s) n t VoteNo (case_of_child s.place n d.txn t))
+      (λ t. vote_turn s VoteNo t found)
       (λ t is. vote_at VoteNo t d.txn _ _ (found_as s.place n fit s views d.txn t found is)) finds
   child_hears found (Read d) finds =
-      child_at d found (λ t. vote_for s.place (parent s) n t VoteRead (case_of_child s.place n d.txn t)) (λ t. vote_turn s VoteRead t found)
+      child_at d found (λ t. vote_for s.place (parent s) n t VoteRead (case_of_child s.place n d.txn t))
+      (λ t. vote_turn s VoteRead t found)
       (λ t is. vote_at VoteRead t d.txn _ _ (found_as s.place n fit s views d.txn t found is)) finds
   child_hears found (Ack d o) finds =
-      child_at d found (λ t. ack_for s.place (parent s) n t o (case_of_child s.place n d.txn t)) (λ t. ack_turn s o t found)
+      child_at d found (λ t. ack_for s.place (parent s) n t o
+      (case_of_child s.place n d.txn t)) (λ t. ack_turn s o t found)
       (λ t is. ack_at o t d.txn _ _ (found_as s.place n fit s views d.txn t found is)) finds
   child_hears found (Inquire d) finds =
-      child_at d found (λ t. inquiry_for s.place (parent s) n d.txn t (case_of_child s.place n d.txn t)) (λ t. inquiry_turn s d.txn t found)
+      child_at d found (λ t. inquiry_for s.place (parent s) n d.txn t (case_of_child s.place n d.txn t))
+      (λ t. inquiry_turn s d.txn t found)
       (λ t is. inquiry_at t d.txn _ _ (found_as s.place n fit s views d.txn t found is)) finds
   child_hears found (Join d) finds = refl
   child_hears found (Work d i op) finds = refl
@@ -101,34 +117,44 @@ module _ (s : CoreState) (n : Node) (fit : ChildrenFit s.place n) (views : (c : 
 
 -- Messages of the parent.
 
-module _ (s : CoreState) (n : Node) (boot : s.boot ≡ boot_of (kept n)) (given : (c : Case) → s.given ≡ (memory_of s.place n c).given)
+module _ (s : CoreState) (n : Node) (boot : s.boot ≡ boot_of (kept n))
+    (given : (c : Case) → s.given ≡ (memory_of s.place n c).given)
     (tickets : (d : Case) → s.ticket_for d ≡ active_ticket (memory_of s.place n d).active d) where
   next_is : (d : Case) → next_ticket_of s ≡ next_ticket s.place.me (boot_of (kept n)) (memory_of s.place n d)
   next_is d = (λ i. record { child = s.place.me; boot = boot i; number = given d i + 1 })
 
-  joined_at : (p : ProcessId) (d : Case) (o : Option Ticket) → Does (joins_with s.place p n d (memory_of s.place n d) o) ≡ reacted (joined_turn s p d o)
+  joined_at : (p : ProcessId) (d : Case) (o : Option Ticket)
+      → Does (joins_with s.place p n d (memory_of s.place n d) o) ≡ reacted (joined_turn s p d o)
   joined_at p d (Some t) = refl
   joined_at p d None = sym (ap (λ t. Does (sends_only (post s.place.me p (Joined d t) ∷ []))) (next_is d))
 
-  pub join_hears : (p : ProcessId) (d : Case) → Does (joins_with s.place p n d (memory_of s.place n d) (active_ticket (memory_of s.place n d).active d))
+  pub join_hears : (p : ProcessId) (d : Case) → Does
+      (joins_with s.place p n d (memory_of s.place n d) (active_ticket (memory_of s.place n d).active d))
       ≡ reacted (joined_turn s p d (s.ticket_for d))
-  join_hears p d = joined_at p d (active_ticket (memory_of s.place n d).active d) ∙ sym (ap (λ o. reacted (joined_turn s p d o)) (tickets d))
+  join_hears p d = joined_at p d (active_ticket (memory_of s.place n d).active d)
+      ∙ sym (ap (λ o. reacted (joined_turn s p d o)) (tickets d))
 
-  leaf_at : (p : ProcessId) (d : Case) (b : Bool) (o : Option Ticket) → Does (leaf_joins s.place p n d (memory_of s.place n d) b o) ≡ reacted (leaf_joined_turn s p d b o)
+  leaf_at : (p : ProcessId) (d : Case) (b : Bool) (o : Option Ticket)
+      → Does (leaf_joins s.place p n d (memory_of s.place n d) b o) ≡ reacted (leaf_joined_turn s p d b o)
   leaf_at p d b (Some t) = refl
   leaf_at p d true None = joined_at p d None
   leaf_at p d false None = refl
 
-  pub leaf_hears : (p : ProcessId) (d : Case) (b : Bool) → Does (leaf_joins s.place p n d (memory_of s.place n d) b (active_ticket (memory_of s.place n d).active d))
+  pub leaf_hears : (p : ProcessId) (d : Case) (b : Bool) → Does
+      (leaf_joins s.place p n d (memory_of s.place n d) b (active_ticket (memory_of s.place n d).active d))
       ≡ reacted (leaf_joined_turn s p d b (s.ticket_for d))
-  leaf_hears p d b = leaf_at p d b (active_ticket (memory_of s.place n d).active d) ∙ sym (ap (λ o. reacted (leaf_joined_turn s p d b o)) (tickets d))
+  leaf_hears p d b = leaf_at p d b (active_ticket (memory_of s.place n d).active d)
+      ∙ sym (ap (λ o. reacted (leaf_joined_turn s p d b o)) (tickets d))
 
 module _ (s : CoreState) (n : Node) (fit : ChildrenFit s.place n) (reads : Reads s n) where
-  from_child : (p : ProcessId) → parent s ≡ Some p → ((c : Case) → s.view_of c ≡ coordinator_view s.place n c) → (found : Option Case) (m : Message) → Finds s (asked_in m) found
+  from_child : (p : ProcessId) → parent s ≡ Some p → ((c : Case) → s.view_of c ≡ coordinator_view s.place n c)
+      → (found : Option Case) (m : Message) → Finds s (asked_in m) found
       → Does (hears_from_child s.place (Some p) n m) ≡ reacted (child_says s found m)
-  from_child p par views found m finds = ap (λ q. Does (hears_from_child s.place q n m)) (sym par) ∙ child_hears s n fit views found m finds
+  from_child p par views found m finds = ap (λ q. Does (hears_from_child s.place q n m)) (sym par)
+      ∙ child_hears s n fit views found m finds
 
-  cascaded_at : (p : ProcessId) → parent s ≡ Some p → ((c : Case) → s.view_of c ≡ coordinator_view s.place n c) → (found : Option Case) (m : Message) → Finds s (asked_in m) found
+  cascaded_at : (p : ProcessId) → parent s ≡ Some p → ((c : Case) → s.view_of c
+      ≡ coordinator_view s.place n c) → (found : Option Case) (m : Message) → Finds s (asked_in m) found
       → Does (cascaded_hears s.place p n m) ≡ reacted (cascaded_turn s p found m)
   cascaded_at p par views found (Join d) finds = join_hears s n reads.boot reads.given reads.tickets p d
   cascaded_at p par views found (Prepare d k) finds =
@@ -151,13 +177,18 @@ module _ (s : CoreState) (n : Node) (fit : ChildrenFit s.place n) (reads : Reads
   cascaded_at p par views found (Inquire d) finds = from_child p par views found (Inquire d) finds
   cascaded_at p par views found (Work d i op) finds = refl
 
-  manager_at : (p : ProcessId) (a : DataAnswer) → ((c : Case) → s.branch_of c ≡ manager_view s.place n c) → (m : Message)
+  manager_at : (p : ProcessId) (a : DataAnswer)
+      → ((c : Case) → s.branch_of c ≡ manager_view s.place n c) → (m : Message)
       → Does (manager_hears s.place p n a m) ≡ reacted (manager_turn s p a m)
   manager_at p a branches (Join d) = leaf_hears s n reads.boot reads.given reads.tickets p d a.starts
-  manager_at p a branches (Work d i op) = sym (ap (λ v. reacted (Handles d (leaf.on_work i a.does v v.standing))) (branches d))
-  manager_at p a branches (Prepare d k) = sym (ap (λ v. reacted (Handles d (leaf.on_prepare (leaf_of s.place p d) k a.holding v v.standing))) (branches d))
-  manager_at p a branches (Commit d) = sym (ap (λ v. reacted (Handles d (leaf.on_commit (leaf_of s.place p d) v v.standing))) (branches d))
-  manager_at p a branches (Abort d) = sym (ap (λ v. reacted (Handles d (leaf.on_abort (leaf_of s.place p d) v v.standing))) (branches d))
+  manager_at p a branches (Work d i op) = sym
+      (ap (λ v. reacted (Handles d (leaf.on_work i a.does v v.standing))) (branches d))
+  manager_at p a branches (Prepare d k) = sym (ap (λ v. reacted
+      (Handles d (leaf.on_prepare (leaf_of s.place p d) k a.holding v v.standing))) (branches d))
+  manager_at p a branches (Commit d) =
+      sym (ap (λ v. reacted (Handles d (leaf.on_commit (leaf_of s.place p d) v v.standing))) (branches d))
+  manager_at p a branches (Abort d) =
+      sym (ap (λ v. reacted (Handles d (leaf.on_abort (leaf_of s.place p d) v v.standing))) (branches d))
   manager_at p a branches (Joined d t) = refl
   manager_at p a branches (Yes d) = refl
   manager_at p a branches (No d) = refl
@@ -174,22 +205,29 @@ module _ (s : CoreState) (n : Node) (fit : ChildrenFit s.place n) (reads : Reads
   coordinates : ((c : Case) → s.view_of c ≡ coordinator_view s.place n c) → ReadsCoordinator s n
   coordinates views = record { boot = reads.boot; begun = reads.begun; views = views }
 
-  acts_at : (role : Role) → s.place.role ≡ role → (x : Act) → acts role s.place n x ≡ reacted (act_turn role s x)
-  acts_at AtRoot e x = ap (λ r. coordinator_acts s.place (parent_of r) n x) (sym e) ∙ coordinator_acts_as s n x (coordinates (views_at AtRoot e))
-  acts_at (Below p) e x = ap (λ r. coordinator_acts s.place (parent_of r) n x) (sym e) ∙ coordinator_acts_as s n x (coordinates (views_at (Below p) e))
+  acts_at : (role : Role) → s.place.role ≡ role → (x : Act)
+      → acts role s.place n x ≡ reacted (act_turn role s x)
+  acts_at AtRoot e x = ap (λ r. coordinator_acts s.place (parent_of r) n x) (sym e)
+      ∙ coordinator_acts_as s n x (coordinates (views_at AtRoot e))
+  acts_at (Below p) e x = ap (λ r. coordinator_acts s.place (parent_of r) n x) (sym e)
+      ∙ coordinator_acts_as s n x (coordinates (views_at (Below p) e))
   acts_at (AtLeaf p) e x = manager_acts_as s n p x (branches_at (AtLeaf p) e)
 
-  hears_at : (role : Role) → s.place.role ≡ role → (a : DataAnswer) (found : Option Case) (m : Message) → Finds s (asked_in m) found
+  hears_at : (role : Role) → s.place.role ≡ role → (a : DataAnswer) (found : Option Case) (m : Message)
+      → Finds s (asked_in m) found
       → Does (hears role s.place n a m) ≡ reacted (message_turn role s a found m)
-  hears_at AtRoot e a found m finds = ap (λ r. Does (hears_from_child s.place (parent_of r) n m)) (sym e) ∙ child_hears s n fit (views_at AtRoot e) found m finds
+  hears_at AtRoot e a found m finds = ap (λ r. Does (hears_from_child s.place (parent_of r) n m)) (sym e)
+      ∙ child_hears s n fit (views_at AtRoot e) found m finds
   hears_at (Below p) e a found m finds = cascaded_at p (ap parent_of e) (views_at (Below p) e) found m finds
   hears_at (AtLeaf p) e a found m finds = manager_at p a (branches_at (AtLeaf p) e) m
 
   up_at : (a : DataAnswer) (found : Option Case) (i : Input) → Finds s (asked_by i) found → n.failed ≡ false
       → handles s.place n (record { input = i; data_answer = a }) i ≡ reacted (up_turn s a found i)
-  up_at a found (ActInput x) finds runs = ap (λ b. if b then Refused Failed else acts s.place.role s.place n x) runs ∙ acts_at s.place.role refl x
+  up_at a found (ActInput x) finds runs = ap (λ b. if b then Refused Failed else acts s.place.role s.place n
+      x) runs ∙ acts_at s.place.role refl x
   up_at a found (MessageInput k m) finds runs =
-      ap (λ b. if b then Refused Failed else Does (hears s.place.role s.place n a m)) runs ∙ hears_at s.place.role refl a found m finds
+      ap (λ b. if b then Refused Failed else Does (hears s.place.role s.place n a m)) runs
+      ∙ hears_at s.place.role refl a found m finds
 
 -- what the process keeps, read off the lists
 abbrev read_off : CoreState → Node → CoreState
@@ -217,13 +255,24 @@ same_view-sym v w same =
       owed = λ t. sym (same.owed t);
     }
 
-module _ (n : Node) (s : CoreState) (a : DataAnswer) (found : Option Case) (i : Input) (fit : n.failed ≡ false → ChildrenFit s.place n)
+module _ (n : Node) (s : CoreState) (a : DataAnswer) (found : Option Case) (i : Input)
+    (fit : n.failed ≡ false → ChildrenFit s.place n)
     (finds : Finds s (asked_by i) found) where
   up_as : StandsUp n s → n.failed ≡ false → s.log.failed ≡ false → act_is_listed s.place.tree i ≡ true
-      → handles s.place n (record { input = i; data_answer = a }) i ≡ reacted (up_turn (read_off s n) a found i)
+      → handles s.place n (record { input = i; data_answer = a }) i
+      ≡ reacted (up_turn (read_off s n) a found i)
   up_as up runs works listed =
-      up_at (read_off s n) n (fit runs) (record { boot = refl; begun = refl; given = up.given; tickets = λ d. refl; views = λ c. refl; branches = λ c. refl })
-      a found i (finds-alike s (read_off s n) (asked_by i) found (λ c. same_view-sym (s.view_of c) (view_at s.place.role s.place n c) (up.views c)) finds) runs
+      up_at (read_off s n) n (fit runs) (record {
+        boot = refl;
+        begun = refl;
+        given = up.given;
+        tickets = λ d.
+            refl;
+        views = λ c. refl;
+        branches = λ c. refl;
+      })
+      a found i (finds-alike s (read_off s n) (asked_by i) found
+      (λ c. same_view-sym (s.view_of c) (view_at s.place.role s.place n c) (up.views c)) finds) runs
 
   same_as : StandsUp n s → SameCore (read_off s n) s
   same_as up =
@@ -240,17 +289,20 @@ module _ (n : Node) (s : CoreState) (a : DataAnswer) (found : Option Case) (i : 
         };
       }
 
-  pub meets_as : Stands n s → reacts s.place n (record { input = i; data_answer = a }) ≡ reacted (turn_of s a found i)
+  pub meets_as : Stands n s → reacts s.place n (record { input = i; data_answer = a })
+      ≡ reacted (turn_of s a found i)
   unfolding reacts turn_of
   meets_as stands = by_tests (act_is_listed s.place.tree i) refl n.failed refl
     where
       by_tests : (b : Bool) → act_is_listed s.place.tree i ≡ b → (f : Bool) → n.failed ≡ f
           → (if b then handles s.place n (record { input = i; data_answer = a }) i else Refused NoSuch)
-          ≡ reacted (if b then (if s.log.failed then Refuses Failed else up_turn s a found i) else Refuses NoSuch)
+          ≡ reacted
+          (if b then (if s.log.failed then Refuses Failed else up_turn s a found i) else Refuses NoSuch)
       by_tests false listed f failed = refl
       by_tests true listed true failed = rw (stands.failed ∙ failed) (failed_input i)
         where
-          failed_input : (j : Input) → handles s.place n (record { input = i; data_answer = a }) j ≡ Refused Failed
+          failed_input : (j : Input) → handles s.place n
+              (record { input = i; data_answer = a }) j ≡ Refused Failed
           failed_input (ActInput x) = rw failed refl
           failed_input (MessageInput k m) = rw failed refl
       by_tests true listed false failed =

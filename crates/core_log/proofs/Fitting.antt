@@ -7,7 +7,8 @@ use Rattle.log_text.specs.Payloads.{FitsFrame, payload_text, record_text}
 use Rattle.rec_log.specs.Sights.{LogState}
 use Rattle.core_log.specs.Writes.{HasRoom}
 
-pub room_for : (log : LogState) (l : LogRecord) → HasRoom log → FitsFrame l → length (record_text l) ≤ log.room
+pub room_for : (log : LogState) (l : LogRecord) → HasRoom log → FitsFrame l
+    → length (record_text l) ≤ log.room
 unfolding record_text frame_text
 room_for log l room fits = omega (
   arith,

@@ -8,7 +8,10 @@ use Rattle.log_rules.proofs.sound.Sizes.{records_fit_frames}
 use Rattle.rec_log.specs.Sights.{IsRecord}
 
 pub sound_is_record : (p : Kind) (l : LogRecord) → IsSound p l → IsRecord p l
-sound_is_record p l sound = record { fits = records_fit_frames p l sound; again = records_read_back p l sound }
+sound_is_record p l sound = record {
+  fits = records_fit_frames p l sound;
+  again = records_read_back p l sound;
+}
 
 pub sound_fits : (p : Kind) (l : LogRecord) → IsSound p l → FitsFrame l
 sound_fits p l sound = records_fit_frames p l sound

@@ -41,11 +41,13 @@ child-alike None f g h = refl
 child-alike (Some t) f g h = h t
 
 module _ (v w : CoordinatorView) (same : SameView v w) (s : Seat) where
-  join-at : (tree : List TreeEntry) (q : ProcessId) (st : Standing) → reacted (join_turn s tree q v st) ≡ reacted (join_turn s tree q w st)
+  join-at : (tree : List TreeEntry) (q : ProcessId) (st : Standing)
+      → reacted (join_turn s tree q v st) ≡ reacted (join_turn s tree q w st)
   join-at tree q Unknown = refl
   join-at tree q Active = by_test (is_child tree q s.me)
     where
-      by_test : (b : Bool) → reacted (if b then Takes s.own (active_join s q v) else Refuses NotAChild) ≡ reacted (if b then Takes s.own (active_join s q w) else Refuses NotAChild)
+      by_test : (b : Bool) → reacted (if b then Takes s.own (active_join s q v) else Refuses NotAChild)
+          ≡ reacted (if b then Takes s.own (active_join s q w) else Refuses NotAChild)
       by_test true = alike s.own _ _ (active_join-same v w same s q)
       by_test false = refl
   join-at tree q Collecting = refl
@@ -54,18 +56,22 @@ module _ (v w : CoordinatorView) (same : SameView v w) (s : Seat) where
   join-at tree q Aborting = refl
   join-at tree q Heuristic = refl
 
-  work-for : (tree : List TreeEntry) (op : Op) (o : Option Ticket) → reacted (work_for_turn s tree op v o) ≡ reacted (work_for_turn s tree op w o)
+  work-for : (tree : List TreeEntry) (op : Op) (o : Option Ticket)
+      → reacted (work_for_turn s tree op v o) ≡ reacted (work_for_turn s tree op w o)
   work-for tree op None = refl
   work-for tree op (Some t) = by_test (is_leaf (role_of tree t.child))
     where
-      by_test : (b : Bool) → reacted (if b then Takes s.own (active_work s t op v) else Refuses NotAChild) ≡ reacted (if b then Takes s.own (active_work s t op w) else Refuses NotAChild)
+      by_test : (b : Bool) → reacted (if b then Takes s.own (active_work s t op v) else Refuses NotAChild)
+          ≡ reacted (if b then Takes s.own (active_work s t op w) else Refuses NotAChild)
       by_test true = alike s.own _ _ (active_work-same v w same s t op)
       by_test false = refl
 
-  work-at : (tree : List TreeEntry) (q : ProcessId) (op : Op) (st : Standing) → reacted (work_turn s tree q op v st) ≡ reacted (work_turn s tree q op w st)
+  work-at : (tree : List TreeEntry) (q : ProcessId) (op : Op) (st : Standing)
+      → reacted (work_turn s tree q op v st) ≡ reacted (work_turn s tree q op w st)
   work-at tree q op Unknown = refl
   work-at tree q op Active =
-      work-for tree op (ticket_of_child v.accepted q) ∙ ap (λ ts. reacted (work_for_turn s tree op w (ticket_of_child ts q))) same.accepted
+      work-for tree op (ticket_of_child v.accepted q)
+      ∙ ap (λ ts. reacted (work_for_turn s tree op w (ticket_of_child ts q))) same.accepted
   work-at tree q op Collecting = refl
   work-at tree q op Prepared = refl
   work-at tree q op Committing = refl
@@ -104,40 +110,54 @@ abbrev showing : CoreState → (Case → CoordinatorView) → CoreState
 showing s f = record s { view_of = f }
 
 module _ (s : CoreState) (f g : Case → CoordinatorView) (same : (c : Case) → SameView (f c) (g c)) where
-  act-alike : (x : Act) → reacted (coordinator_act (showing s f) x) ≡ reacted (coordinator_act (showing s g) x)
+  act-alike : (x : Act) → reacted (coordinator_act (showing s f) x)
+      ≡ reacted (coordinator_act (showing s g) x)
   act-alike (Begin p) = refl
   act-alike (JoinAct c q) =
-      ap (λ st. reacted (join_turn (seat_in s c) s.place.tree q (f c) st)) (same c).standing ∙ join-at (f c) (g c) (same c) (seat_in s c) s.place.tree q (g c).standing
+      ap (λ st. reacted (join_turn (seat_in s c) s.place.tree q (f c) st)) (same c).standing
+      ∙ join-at (f c) (g c) (same c) (seat_in s c) s.place.tree q (g c).standing
   act-alike (WorkAct c q op) =
-      ap (λ st. reacted (work_turn (seat_in s c) s.place.tree q op (f c) st)) (same c).standing ∙ work-at (f c) (g c) (same c) (seat_in s c) s.place.tree q op (g c).standing
+      ap (λ st. reacted (work_turn (seat_in s c) s.place.tree q op (f c) st)) (same c).standing
+      ∙ work-at (f c) (g c) (same c) (seat_in s c) s.place.tree q op (g c).standing
   act-alike (CommitAct x) =
       let c = root_case x in
-      ap (λ st. reacted (commit_turn (seat_in s c) (f c) st)) (same c).standing ∙ commit-at (f c) (g c) (same c) (seat_in s c) (g c).standing
+      ap (λ st. reacted (commit_turn (seat_in s c) (f c) st)) (same c).standing
+      ∙ commit-at (f c) (g c) (same c) (seat_in s c) (g c).standing
   act-alike (AbortAct x) =
       let c = root_case x in
-      ap (λ st. reacted (abort_turn (seat_in s c) (f c) st)) (same c).standing ∙ abort-at (f c) (g c) (same c) (seat_in s c) (g c).standing
+      ap (λ st. reacted (abort_turn (seat_in s c) (f c) st)) (same c).standing
+      ∙ abort-at (f c) (g c) (same c) (seat_in s c) (g c).standing
   act-alike (Ask c) =
-      ap (λ st. reacted (ask_turn (seat_in s c) (f c) st)) (same c).standing ∙ ask-at (f c) (g c) (same c) (seat_in s c) (g c).standing
+      ap (λ st. reacted (ask_turn (seat_in s c) (f c) st)) (same c).standing
+      ∙ ask-at (f c) (g c) (same c) (seat_in s c) (g c).standing
   act-alike (Decide c o) = ap (λ st. reacted (live_turn NotInDoubt st)) (same c).standing
   act-alike (Forget c) = ap (λ st. reacted (live_turn NothingToForget st)) (same c).standing
 
-  vote-alike : (w : Vote) (found : Option Case) (t : Ticket) → reacted (vote_turn (showing s f) w t found) ≡ reacted (vote_turn (showing s g) w t found)
+  vote-alike : (w : Vote) (found : Option Case) (t : Ticket)
+      → reacted (vote_turn (showing s f) w t found) ≡ reacted (vote_turn (showing s g) w t found)
   vote-alike w None t = refl
   vote-alike w (Some c) t =
-      ap (λ st. reacted (Takes c (on_vote (seat_in s c) t w (f c) st))) (same c).standing ∙ alike c _ _ (on_vote-same (f c) (g c) (same c) (seat_in s c) t w (g c).standing)
+      ap (λ st. reacted (Takes c (on_vote (seat_in s c) t w (f c) st))) (same c).standing
+      ∙ alike c _ _ (on_vote-same (f c) (g c) (same c) (seat_in s c) t w (g c).standing)
 
-  ack-alike : (o : Outcome) (found : Option Case) (t : Ticket) → reacted (ack_turn (showing s f) o t found) ≡ reacted (ack_turn (showing s g) o t found)
+  ack-alike : (o : Outcome) (found : Option Case) (t : Ticket)
+      → reacted (ack_turn (showing s f) o t found) ≡ reacted (ack_turn (showing s g) o t found)
   ack-alike o None t = refl
   ack-alike o (Some c) t =
-      ap (λ st. reacted (Takes c (on_ack (seat_in s c) t o (f c) st))) (same c).standing ∙ alike c _ _ (on_ack-same (f c) (g c) (same c) (seat_in s c) t o (g c).standing)
+      ap (λ st. reacted (Takes c (on_ack (seat_in s c) t o (f c) st))) (same c).standing
+      ∙ alike c _ _ (on_ack-same (f c) (g c) (same c) (seat_in s c) t o (g c).standing)
 
-  inquiry-alike : (x : Txn) (found : Option Case) (t : Ticket) → reacted (inquiry_turn (showing s f) x t found) ≡ reacted (inquiry_turn (showing s g) x t found)
+  inquiry-alike : (x : Txn) (found : Option Case) (t : Ticket)
+      → reacted (inquiry_turn (showing s f) x t found) ≡ reacted (inquiry_turn (showing s g) x t found)
   inquiry-alike x None t = refl
   inquiry-alike x (Some c) t =
-      ap (λ st. reacted (Takes c (on_inquiry (seat_in s c) t (f c) st))) (same c).standing ∙ alike c _ _ (on_inquiry-same (f c) (g c) (same c) (seat_in s c) t (g c).standing)
+      ap (λ st. reacted (Takes c (on_inquiry (seat_in s c) t (f c) st))) (same c).standing
+      ∙ alike c _ _ (on_inquiry-same (f c) (g c) (same c) (seat_in s c) t (g c).standing)
 
-  child-says : (found : Option Case) (m : Message) → reacted (child_says (showing s f) found m) ≡ reacted (child_says (showing s g) found m)
-  child-says found (Joined d t) = ap (λ st. reacted (Takes d (on_joined t (f d) st))) (same d).standing ∙ alike d _ _ (on_joined-same (f d) (g d) (same d) t (g d).standing)
+  child-says : (found : Option Case) (m : Message)
+      → reacted (child_says (showing s f) found m) ≡ reacted (child_says (showing s g) found m)
+  child-says found (Joined d t) = ap (λ st. reacted (Takes d (on_joined t (f d) st))) (same d).standing
+      ∙ alike d _ _ (on_joined-same (f d) (g d) (same d) t (g d).standing)
   child-says found (Yes d) = child-alike d.ticket _ _ (vote-alike VoteYes found)
   child-says found (No d) = child-alike d.ticket _ _ (vote-alike VoteNo found)
   child-says found (Read d) = child-alike d.ticket _ _ (vote-alike VoteRead found)
@@ -149,14 +169,18 @@ module _ (s : CoreState) (f g : Case → CoordinatorView) (same : (c : Case) →
   child-says found (Commit d) = refl
   child-says found (Abort d) = refl
 
-  cascaded-alike : (p : ProcessId) (found : Option Case) (m : Message) → reacted (cascaded_turn (showing s f) p found m) ≡ reacted (cascaded_turn (showing s g) p found m)
+  cascaded-alike : (p : ProcessId) (found : Option Case) (m : Message)
+      → reacted (cascaded_turn (showing s f) p found m) ≡ reacted (cascaded_turn (showing s g) p found m)
   cascaded-alike p found (Join d) = refl
   cascaded-alike p found (Prepare d k) =
-      ap (λ st. reacted (Takes d (on_prepare (seat_in s d) (f d) st))) (same d).standing ∙ alike d _ _ (on_prepare-same (f d) (g d) (same d) (seat_in s d) (g d).standing)
+      ap (λ st. reacted (Takes d (on_prepare (seat_in s d) (f d) st))) (same d).standing
+      ∙ alike d _ _ (on_prepare-same (f d) (g d) (same d) (seat_in s d) (g d).standing)
   cascaded-alike p found (Commit d) =
-      ap (λ st. reacted (Takes d (on_commit (seat_in s d) (f d) st))) (same d).standing ∙ alike d _ _ (on_commit-same (f d) (g d) (same d) (seat_in s d) (g d).standing)
+      ap (λ st. reacted (Takes d (on_commit (seat_in s d) (f d) st))) (same d).standing
+      ∙ alike d _ _ (on_commit-same (f d) (g d) (same d) (seat_in s d) (g d).standing)
   cascaded-alike p found (Abort d) =
-      ap (λ st. reacted (Takes d (on_abort (seat_in s d) (f d) st))) (same d).standing ∙ alike d _ _ (on_abort-same (f d) (g d) (same d) (seat_in s d) (g d).standing)
+      ap (λ st. reacted (Takes d (on_abort (seat_in s d) (f d) st))) (same d).standing
+      ∙ alike d _ _ (on_abort-same (f d) (g d) (same d) (seat_in s d) (g d).standing)
   cascaded-alike p found (Joined d t) = child-says found (Joined d t)
   cascaded-alike p found (Yes d) = child-says found (Yes d)
   cascaded-alike p found (No d) = child-says found (No d)
@@ -165,26 +189,32 @@ module _ (s : CoreState) (f g : Case → CoordinatorView) (same : (c : Case) →
   cascaded-alike p found (Inquire d) = child-says found (Inquire d)
   cascaded-alike p found (Work d i op) = refl
 
-  up-alike : (role : Role) (a : DataAnswer) (found : Option Case) (m : Message) → reacted (message_turn role (showing s f) a found m) ≡ reacted (message_turn role (showing s g) a found m)
+  up-alike : (role : Role) (a : DataAnswer) (found : Option Case) (m : Message) → reacted
+      (message_turn role (showing s f) a found m) ≡ reacted (message_turn role (showing s g) a found m)
   up-alike AtRoot a found m = child-says found m
   up-alike (Below p) a found m = cascaded-alike p found m
   up-alike (AtLeaf p) a found m = refl
 
-  acts-alike : (role : Role) (x : Act) → reacted (act_turn role (showing s f) x) ≡ reacted (act_turn role (showing s g) x)
+  acts-alike : (role : Role) (x : Act) → reacted (act_turn role (showing s f) x)
+      ≡ reacted (act_turn role (showing s g) x)
   acts-alike AtRoot x = act-alike x
   acts-alike (Below p) x = act-alike x
   acts-alike (AtLeaf p) x = refl
 
-  turn-at : (a : DataAnswer) (found : Option Case) (i : Input) → reacted (up_turn (showing s f) a found i) ≡ reacted (up_turn (showing s g) a found i)
+  turn-at : (a : DataAnswer) (found : Option Case) (i : Input)
+      → reacted (up_turn (showing s f) a found i) ≡ reacted (up_turn (showing s g) a found i)
   turn-at a found (ActInput x) = acts-alike s.place.role x
   turn-at a found (MessageInput k m) = up-alike s.place.role a found m
 
-  pub turn-alike : (a : DataAnswer) (found : Option Case) (i : Input) → reacted (turn_of (showing s f) a found i) ≡ reacted (turn_of (showing s g) a found i)
+  pub turn-alike : (a : DataAnswer) (found : Option Case) (i : Input)
+      → reacted (turn_of (showing s f) a found i) ≡ reacted (turn_of (showing s g) a found i)
   unfolding turn_of
   turn-alike a found i = by_tests (act_is_listed s.place.tree i) s.log.failed
     where
-      by_tests : (b c : Bool) → reacted (if b then (if c then Refuses Failed else up_turn (showing s f) a found i) else Refuses NoSuch)
-          ≡ reacted (if b then (if c then Refuses Failed else up_turn (showing s g) a found i) else Refuses NoSuch)
+      by_tests : (b c : Bool) → reacted (if b
+          then (if c then Refuses Failed else up_turn (showing s f) a found i) else Refuses NoSuch)
+          ≡ reacted
+          (if b then (if c then Refuses Failed else up_turn (showing s g) a found i) else Refuses NoSuch)
       by_tests true true = refl
       by_tests true false = turn-at a found i
       by_tests false c = refl
@@ -210,21 +240,28 @@ showing-is s t same =
       branch_of = λ c. branches c i;
     })
 
-pub same_cores_react : (s t : CoreState) (a : DataAnswer) (found : Option Case) (i : Input) → SameCore s t → reacted (turn_of s a found i) ≡ reacted (turn_of t a found i)
+pub same_cores_react : (s t : CoreState) (a : DataAnswer) (found : Option Case) (i : Input) → SameCore s t
+    → reacted (turn_of s a found i) ≡ reacted (turn_of t a found i)
 same_cores_react s t a found i same =
-    sym (turn-alike s t.view_of s.view_of same.rest.views a found i) ∙ ap (λ u. reacted (turn_of u a found i)) (showing-is s t same)
+    sym (turn-alike s t.view_of s.view_of same.rest.views a found i)
+    ∙ ap (λ u. reacted (turn_of u a found i)) (showing-is s t same)
 
-pub is_case-alike : (s u : CoreState) (x : Txn) (t : Ticket) (c : Case) → SameView (u.view_of c) (s.view_of c) → is_case_of s x t c ≡ is_case_of u x t c
+pub is_case-alike : (s u : CoreState) (x : Txn) (t : Ticket) (c : Case) → SameView (u.view_of c) (s.view_of c)
+    → is_case_of s x t c ≡ is_case_of u x t c
 is_case-alike s u x t c same =
-    sym (λ i. same_txn c.txn x && (is_known (same.standing i) && (in_list (same.accepted i) t || same.named t i)))
+    sym (λ i. same_txn c.txn x && (is_known (same.standing i)
+    && (in_list (same.accepted i) t || same.named t i)))
 
-pub finds-alike : (s u : CoreState) (asked : Option (Txn × Ticket)) (found : Option Case) → ((c : Case) → SameView (u.view_of c) (s.view_of c))
+pub finds-alike : (s u : CoreState) (asked : Option (Txn × Ticket)) (found : Option Case)
+    → ((c : Case) → SameView (u.view_of c) (s.view_of c))
     → Finds s asked found → Finds u asked found
 finds-alike s u None found same finds = finds
 finds-alike s u (Some p) (Some c) same finds = sym (is_case-alike s u p.0 p.1 c (same c)) ∙ finds
 finds-alike s u (Some p) None same finds = λ c. sym (is_case-alike s u p.0 p.1 c (same c)) ∙ finds c
 
 -- the same of a process that is up
-pub same_cores_up : (s t : CoreState) (a : DataAnswer) (found : Option Case) (i : Input) → SameCore s t → reacted (up_turn s a found i) ≡ reacted (up_turn t a found i)
+pub same_cores_up : (s t : CoreState) (a : DataAnswer) (found : Option Case) (i : Input) → SameCore s t
+    → reacted (up_turn s a found i) ≡ reacted (up_turn t a found i)
 same_cores_up s t a found i same =
-    sym (turn-at s t.view_of s.view_of same.rest.views a found i) ∙ ap (λ u. reacted (up_turn u a found i)) (showing-is s t same)
+    sym (turn-at s t.view_of s.view_of same.rest.views a found i)
+    ∙ ap (λ u. reacted (up_turn u a found i)) (showing-is s t same)

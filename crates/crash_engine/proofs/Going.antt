@@ -18,12 +18,14 @@ leads_on : (s m e : WorldState) (xs ys : List Event) → Leads s xs m → Leads 
 leads_on s m e [] ys same led = subst (λ w. Leads w ys e) same led
 leads_on s m e (x ∷ xs) ys first led = (first.0, first.1, leads_on first.0 m e xs ys first.2 led)
 
-got_longer : (xs ys : List Event) (n : ℕ) (x : Event) → slice_get xs n ≡ Some x → slice_get (xs ++ ys) n ≡ Some x
+got_longer : (xs ys : List Event) (n : ℕ) (x : Event) → slice_get xs n ≡ Some x
+    → slice_get (xs ++ ys) n ≡ Some x
 got_longer [] ys n x is = absurd (cc)
 got_longer (y ∷ xs) ys zero x is = is
 got_longer (y ∷ xs) ys (suc n) x is = got_longer xs ys n x is
 
-taken_longer : (xs ys : List Event) (n : ℕ) (x : Event) → slice_get xs n ≡ Some x → take n (xs ++ ys) ≡ take n xs
+taken_longer : (xs ys : List Event) (n : ℕ) (x : Event) → slice_get xs n ≡ Some x
+    → take n (xs ++ ys) ≡ take n xs
 taken_longer [] ys n x is = absurd (cc)
 taken_longer (y ∷ xs) ys zero x is = refl
 taken_longer (y ∷ xs) ys (suc n) x is = ap (λ zs. y ∷ zs) (taken_longer xs ys n x is)
@@ -35,7 +37,8 @@ got_behind (x ∷ xs) ys n =
     rw at (got_behind xs ys n)
 
 -- the events behind a refused one change nothing
-until_stays : (s e : WorldState) (xs ys : List Event) (n : ℕ) (r : StepError) → LeadsUntil s xs n r e → LeadsUntil s (xs ++ ys) n r e
+until_stays : (s e : WorldState) (xs ys : List Event) (n : ℕ) (r : StepError) → LeadsUntil s xs n r e
+    → LeadsUntil s (xs ++ ys) n r e
 until_stays s e xs ys n r h = record {
   event = h.event;
   next = got_longer xs ys n h.event h.next;
@@ -44,13 +47,15 @@ until_stays s e xs ys n r h = record {
   stops = h.stops;
 }
 
-until_on : (s m e : WorldState) (xs ys : List Event) (n : ℕ) (r : StepError) → Leads s xs m → LeadsUntil m ys n r e
+until_on : (s m e : WorldState) (xs ys : List Event) (n : ℕ) (r : StepError)
+    → Leads s xs m → LeadsUntil m ys n r e
     → LeadsUntil s (xs ++ ys) (length xs + n) r e
 until_on s m e xs ys n r led h = record {
   event = h.event;
   next = got_behind xs ys n ∙ h.next;
   before = h.before;
-  leads = subst (λ zs. Leads s zs h.before) (sym (take-append-add xs ys n)) (leads_on s m h.before xs (take n ys) led h.leads);
+  leads = subst (λ zs. Leads s zs h.before) (sym (take-append-add xs ys n))
+      (leads_on s m h.before xs (take n ys) led h.leads);
   stops = h.stops;
 }
 
@@ -59,7 +64,8 @@ pub begins : (s : WorldState) → ComesTo s [] None 0 s
 begins s = record { leads = refl; number = λ none. refl; itself = tt }
 
 -- where an event was refused, none behind it is made
-pub none_more : (s now : WorldState) (given events : List Event) (refusal : Refusal) (n : ℕ) → is_some refusal ≡ true
+pub none_more : (s now : WorldState) (given events : List Event) (refusal : Refusal)
+    (n : ℕ) → is_some refusal ≡ true
     → ComesTo s given refusal n now → ComesTo s (given ++ events) refusal n now
 none_more s now given events None n is h = absurd (cc)
 none_more s now given events (Some r) n is h = record {
@@ -69,8 +75,10 @@ none_more s now given events (Some r) n is h = record {
 }
 
 -- all were made
-pub all_more : (s now new : WorldState) (given events : List Event) (refusal : Refusal) (n m : ℕ) → is_some refusal ≡ false
-    → ComesTo s given refusal n now → Leads now events new → m ≡ n + length events → ComesTo s (given ++ events) refusal m new
+pub all_more : (s now new : WorldState) (given events : List Event) (refusal : Refusal)
+    (n m : ℕ) → is_some refusal ≡ false
+    → ComesTo s given refusal n now → Leads now events new → m ≡ n + length events
+    → ComesTo s (given ++ events) refusal m new
 all_more s now new given events (Some r) n m is h led sum = absurd (cc)
 all_more s now new given events None n m is h led sum = record {
   leads = leads_on s now new given events h.leads led;
@@ -79,8 +87,10 @@ all_more s now new given events None n m is h led sum = record {
 }
 
 -- one was refused
-pub one_refused : (s now new : WorldState) (given events : List Event) (refusal : Refusal) (n k m : ℕ) (e : StepError)
-    → is_some refusal ≡ false → ComesTo s given refusal n now → LeadsUntil now events k e new → m ≡ n + k → e ≢ Memory
+pub one_refused : (s now new : WorldState) (given events : List Event)
+    (refusal : Refusal) (n k m : ℕ) (e : StepError)
+    → is_some refusal ≡ false → ComesTo s given refusal n now
+    → LeadsUntil now events k e new → m ≡ n + k → e ≢ Memory
     → e ≢ Device → ComesTo s (given ++ events) (Some (m, e)) n new
 one_refused s now new given events (Some r) n k m e is h until sum memory device = absurd (cc)
 one_refused s now new given events None n k m e is h until sum memory device = record {
@@ -91,7 +101,8 @@ one_refused s now new given events None n k m e is h until sum memory device = r
 }
 
 -- what a run comes to is a run of the model
-pub ran : (tree : List TreeEntry) (s now : WorldState) (given : List Event) (refusal : Refusal) (n : ℕ) → IsTree tree
+pub ran : (tree : List TreeEntry) (s now : WorldState) (given : List Event)
+    (refusal : Refusal) (n : ℕ) → IsTree tree
     → IsOpened s tree → ComesTo s given refusal n now → Ran tree given refusal now
 ran tree s now given refusal n is opens h = record {
   start = s;

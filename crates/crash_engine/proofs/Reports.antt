@@ -12,8 +12,10 @@ use Rattle.crash_engine.specs.declared.ending.Ending.{Ending}
 use Rattle.crash_engine.specs.declared.ending.Ending.TheVariants as ending
 
 -- one event more is gone through
-pub one_event_more : (tree : List TreeEntry) (events : List Event) (n : ℕ) (refusal : Refusal) (old new : List Trial) → is_some refusal ≡ false
-    → Adds tree (take (n + 1) events) refusal old new → GoesThrough tree events n old → GoesThrough tree events (n + 1) new
+pub one_event_more : (tree : List TreeEntry) (events : List Event) (n : ℕ) (refusal : Refusal)
+    (old new : List Trial) → is_some refusal ≡ false
+    → Adds tree (take (n + 1) events) refusal old new → GoesThrough tree events n old
+    → GoesThrough tree events (n + 1) new
 one_event_more tree events n (Some r) old new is adds goes = absurd (cc)
 one_event_more tree events n None old new is adds goes =
     let more : n + 1 ≡ suc n = omega arith in
@@ -21,16 +23,23 @@ one_event_more tree events n None old new is adds goes =
     (old, adds.0, adds.1, goes, subst (λ k. TriesAll tree (take k events) adds.0) more adds.2)
 
 -- an event is refused
-pub one_refused : (tree : List TreeEntry) (events : List Event) (n : ℕ) (refusal : Refusal) (old new : List Trial) → is_some refusal ≡ true
+pub one_refused : (tree : List TreeEntry) (events : List Event) (n : ℕ) (refusal : Refusal)
+    (old new : List Trial) → is_some refusal ≡ true
     → n < length events → Adds tree (take (n + 1) events) refusal old new → GoesThrough tree events n old
     → GoesOver tree events refusal new
 one_refused tree events n None old new is within adds goes = absurd (cc)
 one_refused tree events n (Some r) old new is within adds goes =
-    let more : n + 1 ≡ suc n = omega arith in
-    (n, within, subst (GoesThrough tree events n) (sym adds.0) goes, subst (λ k. IsRefused tree (take k events) r) more adds.1)
+    let more : n + 1 ≡ suc n = omega arith in (
+      n,
+      within,
+      subst (GoesThrough tree events n) (sym adds.0) goes,
+      subst
+          (λ k. IsRefused tree (take k events) r) more adds.1,
+    )
 
 -- all are gone through
-pub all_over : (tree : List TreeEntry) (events : List Event) (n : ℕ) (ts : List Trial) → length events ≤ n → n ≤ length events
+pub all_over : (tree : List TreeEntry) (events : List Event) (n : ℕ) (ts : List Trial)
+    → length events ≤ n → n ≤ length events
     → GoesThrough tree events n ts → GoesOver tree events None ts
 all_over tree events n ts past within goes =
     let all : n ≡ length events = omega arith in
@@ -44,7 +53,8 @@ never : (ts : List Trial) (refusal : Refusal) → ending.Refused ≡ ending_by t
 never ts None is = never_by (are_clean ts) is
 never ts (Some r) is = absurd (cc)
 
-ends_so : (e : Ending) (input text : List ℕ) (ts : List Trial) (refusal : Refusal) → e ≡ ending_by ts refusal → TriesScript e input text
+ends_so : (e : Ending) (input text : List ℕ) (ts : List Trial) (refusal : Refusal)
+    → e ≡ ending_by ts refusal → TriesScript e input text
     → IsCrashReport e input text
 ends_so ending.Clean input text ts refusal is tries = tries
 ends_so ending.Stopped input text ts refusal is tries = tries
@@ -52,8 +62,10 @@ ends_so ending.Finds input text ts refusal is tries = tries
 ends_so ending.Refused input text ts refusal is tries = absurd (never ts refusal is)
 
 -- the report of a script
-pub reported : (e : Ending) (input text : List ℕ) (tree : List TreeEntry) (events : List Event) (ts : List Trial) (refusal : Refusal)
-    → IsScript input tree events → GoesOver tree events refusal ts → e ≡ ending_by ts refusal → text ≡ crashes_text ts refusal
+pub reported : (e : Ending) (input text : List ℕ) (tree : List TreeEntry) (events : List Event)
+    (ts : List Trial) (refusal : Refusal)
+    → IsScript input tree events → GoesOver tree events refusal ts → e ≡ ending_by ts refusal
+    → text ≡ crashes_text ts refusal
     → IsCrashReport e input text
 reported e input text tree events ts refusal script goes ends is =
     ends_so e input text ts refusal ends (record {

@@ -21,46 +21,61 @@ use Rattle.crash_engine.specs.Points.{crash_of, points_in}
 use Rattle.crash_engine.specs.Trials.{Adds, AddsTrials, AreTried, EndsWith, Ran, Tries}
 
 -- what a run comes to is a run of the model
-pub comes_to : (tree : List TreeEntry) (start : WorldState) (given : List Event) (run : Run) → IsTree tree → IsOpened start tree
+pub comes_to : (tree : List TreeEntry) (start : WorldState) (given : List Event) (run : Run)
+    → IsTree tree → IsOpened start tree
     → HasCome start given run → Ran tree given run.refusal (state run.world)
-comes_to tree start given run is opens h = ran tree start (state run.world) given run.refusal run.given is opens h
+comes_to tree start given run is opens h = ran tree start (state run.world) given
+    run.refusal run.given is opens h
 
 -- its tree is still one
-pub still_tree : (tree : List TreeEntry) (start : WorldState) (given : List Event) (run : Run) → IsTree tree → IsOpened start tree
+pub still_tree : (tree : List TreeEntry) (start : WorldState) (given : List Event) (run : Run)
+    → IsTree tree → IsOpened start tree
     → HasCome start given run → IsTree run.world.tree
-still_tree tree start given run is opens h = subst IsTree (sym (comes_to tree start given run is opens h).run.tree_is) is
+still_tree tree start given run is opens h = subst IsTree
+    (sym (comes_to tree start given run is opens h).run.tree_is) is
 
 -- a crash was tried
-pub tried_so : (tree : List TreeEntry) (events : List Event) (p : Point) (a : Audited) (crash asks : List Event) (start : WorldState)
-    (middle end : Run) (f : Found) → IsTree tree → IsOpened start tree → HasCome start (events ++ crash) middle → crash ≡ crash_of p
-    → Audits (state middle.world) a → asks ≡ asks_by a → HasCome start (((events ++ crash) ++ asks) ++ Settle ∷ []) end
+pub tried_so : (tree : List TreeEntry) (events : List Event) (p : Point) (a : Audited)
+    (crash asks : List Event) (start : WorldState)
+    (middle end : Run) (f : Found) → IsTree tree → IsOpened start tree
+    → HasCome start (events ++ crash) middle → crash ≡ crash_of p
+    → Audits (state middle.world) a → asks ≡ asks_by a
+    → HasCome start (((events ++ crash) ++ asks) ++ Settle ∷ []) end
     → EndsWith (state end.world) end.refusal f → Tries tree events p f
-tried_so tree events p a crash asks start middle end f is opens crashes of_crash audits of_asks ends found = record {
-  early = middle.refusal;
-  middle = state middle.world;
-  crashes = comes_to tree start (events ++ crash_of p) middle is opens (subst (λ es. HasCome start (events ++ es) middle) of_crash crashes);
-  audit = a;
-  audits = audits;
-  refusal = end.refusal;
-  end = state end.world;
-  ran = comes_to tree start (((events ++ crash_of p) ++ asks_by a) ++ Settle ∷ []) end is opens
-      (subst (λ es. HasCome start (((events ++ es) ++ asks_by a) ++ Settle ∷ []) end) of_crash
-      (subst (λ es. HasCome start (((events ++ crash) ++ es) ++ Settle ∷ []) end) of_asks ends));
-  ends = found;
-}
+tried_so tree events p a crash asks start middle end f is opens crashes of_crash audits
+    of_asks ends found = record {
+      early = middle.refusal;
+      middle = state middle.world;
+      crashes = comes_to tree start (events ++ crash_of p) middle is opens
+          (subst (λ es. HasCome start (events ++ es) middle) of_crash crashes);
+      audit = a;
+      audits = audits;
+      refusal = end.refusal;
+      end = state end.world;
+      ran = comes_to tree start (((events ++ crash_of p) ++ asks_by a) ++ Settle ∷ []) end is opens
+          (subst (λ es. HasCome start (((events ++ es) ++ asks_by a) ++ Settle ∷ []) end) of_crash
+          (subst (λ es. HasCome start (((events ++ crash) ++ es) ++ Settle ∷ []) end) of_asks ends));
+      ends = found;
+    }
 
-one_more : (tree : List TreeEntry) (events : List Event) (ps : List Point) (ts : List Trial) (p : Point) (t : Trial) → AreTried tree events ps ts
-    → t.events ≡ length events → t.point ≡ p → Tries tree events p t.found → AreTried tree events (ps ++ p ∷ []) (ts ++ t ∷ [])
+one_more : (tree : List TreeEntry) (events : List Event) (ps : List Point) (ts : List Trial) (p : Point)
+    (t : Trial) → AreTried tree events ps ts
+    → t.events ≡ length events → t.point ≡ p → Tries tree events p t.found
+    → AreTried tree events (ps ++ p ∷ []) (ts ++ t ∷ [])
 one_more tree events [] [] p t are count at tries = (count, at, tries, tt)
 one_more tree events [] (u ∷ ts) p t are count at tries = absurd are
 one_more tree events (o ∷ ps) [] p t are count at tries = absurd are
-one_more tree events (o ∷ ps) (u ∷ ts) p t are count at tries = (are.0, are.1, are.2, one_more tree events ps ts p t are.3 count at tries)
+one_more tree events (o ∷ ps) (u ∷ ts) p t are count at tries =
+    (are.0, are.1, are.2, one_more tree events ps ts p t are.3 count at tries)
 
-pub none_tried : (tree : List TreeEntry) (events : List Event) (old : List Trial) → AddsTrials tree events [] old old
+pub none_tried : (tree : List TreeEntry) (events : List Event) (old : List Trial)
+    → AddsTrials tree events [] old old
 none_tried tree events old = ([], sym (append-nil old), tt)
 
-pub tried_more : (tree : List TreeEntry) (events : List Event) (ps : List Point) (i : ℕ) (p : Point) (t : Trial) (old mid new : List Trial)
-    → i < length ps → p ≡ get_or ps i p → new ≡ mid ++ t ∷ [] → t.events ≡ length events → t.point ≡ p → Tries tree events p t.found
+pub tried_more : (tree : List TreeEntry) (events : List Event) (ps : List Point) (i : ℕ) (p : Point)
+    (t : Trial) (old mid new : List Trial)
+    → i < length ps → p ≡ get_or ps i p → new ≡ mid ++ t ∷ [] → t.events ≡ length events → t.point ≡ p
+    → Tries tree events p t.found
     → AddsTrials tree events (take i ps) old mid → AddsTrials tree events (take (i + 1) ps) old new
 tried_more tree events ps i p t old mid new within is pushed count at tries before = (
   before.0 ++ t ∷ [],
@@ -71,7 +86,8 @@ tried_more tree events ps i p t old mid new within is pushed count at tries befo
 )
 
 -- all points behind these events were tried
-pub all_tried : (tree : List TreeEntry) (events : List Event) (now : WorldState) (refusal : Refusal) (ps : List Point) (old new : List Trial)
+pub all_tried : (tree : List TreeEntry) (events : List Event) (now : WorldState) (refusal : Refusal)
+    (ps : List Point) (old new : List Trial)
     → is_some refusal ≡ false → Ran tree events refusal now → ps ≡ points_in now
     → AddsTrials tree events ps old new → Adds tree events None old new
 all_tried tree events now (Some r) ps old new is ran points tried = absurd (cc)
@@ -86,12 +102,15 @@ all_tried tree events now None ps old new is ran points tried = (
 )
 
 -- an event was refused
-pub refused_adds : (tree : List TreeEntry) (events : List Event) (now : WorldState) (refusal : Refusal) (old : List Trial)
+pub refused_adds : (tree : List TreeEntry) (events : List Event) (now : WorldState)
+    (refusal : Refusal) (old : List Trial)
     → is_some refusal ≡ true → Ran tree events refusal now → Adds tree events refusal old old
 refused_adds tree events now None old is ran = absurd (cc)
 refused_adds tree events now (Some r) old is ran = (refl, (now, ran))
 
 -- all of these points were
-pub all_points : (tree : List TreeEntry) (events : List Event) (ps : List Point) (i : ℕ) (old new : List Trial) → length ps ≤ i
+pub all_points : (tree : List TreeEntry) (events : List Event) (ps : List Point) (i : ℕ)
+    (old new : List Trial) → length ps ≤ i
     → AddsTrials tree events (take i ps) old new → AddsTrials tree events ps old new
-all_points tree events ps i old new past tried = subst (λ qs. AddsTrials tree events qs old new) (take_all i ps past) tried
+all_points tree events ps i old new past tried =
+    subst (λ qs. AddsTrials tree events qs old new) (take_all i ps past) tried

@@ -8,7 +8,8 @@ use Rattle.tree_model.specs.Standings.{CoordinatorView}
 use Rattle.inquire_core.specs.Answers.{answer_of, answers_by}
 
 -- each standing's row is the one of its answer
-pub answers_are : (s : Seat) (t : Ticket) (v : CoordinatorView) (st : Standing) → on_inquiry s t v st ≡ answers_by s t v (answer_of st s.own.txn.presumption)
+pub answers_are : (s : Seat) (t : Ticket) (v : CoordinatorView) (st : Standing)
+    → on_inquiry s t v st ≡ answers_by s t v (answer_of st s.own.txn.presumption)
 answers_are s t v Unknown = refl
 answers_are s t v Active = refl
 answers_are s t v Collecting = refl

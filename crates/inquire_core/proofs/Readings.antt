@@ -45,7 +45,8 @@ apart_of false h = refl
 
 -- what is not one this way is not one the other way
 pub apart_back : (c d : Case) → same_case c d ≡ false → same_case d c ≡ false
-apart_back c d h = apart_of (same_case d c) (λ is. true_not_false (sym (subst (λ e. same_case e d ≡ true) (is_same d c is) (itself d)) ∙ h))
+apart_back c d h = apart_of (same_case d c) (λ is. true_not_false
+    (sym (subst (λ e. same_case e d ≡ true) (is_same d c is) (itself d)) ∙ h))
 
 -- Cases, each once.
 
@@ -56,7 +57,8 @@ Once (c ∷ cs) = (has_case cs c ≡ false) × Once cs
 
 has_more : (cs : List Case) (c d : Case) → has_case (cs ++ d ∷ []) c ≡ (has_case cs c || same_case d c)
 unfolding has_case
-has_more cs c d = list_any-append (λ e. same_case e c) cs (d ∷ []) ∙ ap (λ b. has_case cs c || b) (or_none (same_case d c))
+has_more cs c d = list_any-append (λ e. same_case e c) cs (d ∷ [])
+    ∙ ap (λ b. has_case cs c || b) (or_none (same_case d c))
   where
     or_none : (b : Bool) → (b || false) ≡ b
     or_none true = refl
@@ -78,12 +80,15 @@ once_more : (cs : List Case) (c : Case) → Once cs → has_case cs c ≡ false 
 unfolding Once has_case
 once_more [] c once none = (refl, tt)
 once_more (e ∷ cs) c once none =
-    let parts = or_parts (same_case e c) (has_case cs c) none in
-    (has_more cs e c ∙ or_false (has_case cs e) (same_case c e) once.0 (apart_back e c parts.0), once_more cs c once.1 parts.1)
+    let parts = or_parts (same_case e c) (has_case cs c) none in (
+      has_more cs e c ∙ or_false (has_case cs e) (same_case c e) once.0 (apart_back e c parts.0),
+      once_more cs c once.1 parts.1,
+    )
 
 -- An entry that is written.
 
-module _ (f g : Case → Summary) (d : Case) (v : Summary) (others : (c : Case) → same_case d c ≡ false → g c ≡ f c) (own : g d ≡ v) where
+module _ (f g : Case → Summary) (d : Case) (v : Summary)
+    (others : (c : Case) → same_case d c ≡ false → g c ≡ f c) (own : g d ≡ v) where
   -- the entries of cases that are not this one stay
   stay : (cs : List Case) → has_case cs d ≡ false → map (entry_by f) cs ≡ map (entry_by g) cs
   unfolding has_case
@@ -92,17 +97,21 @@ module _ (f g : Case → Summary) (d : Case) (v : Summary) (others : (c : Case) 
       let parts = or_parts (same_case e d) (has_case cs d) none in
       (λ i. (e, sym (others e (apart_back e d parts.0)) i) ∷ stay cs parts.1 i)
 
-  written : (cs : List Case) → Once cs → insert_entry same (map (entry_by f) cs) d v ≡ map (entry_by g) (with_case cs (Some d))
+  written : (cs : List Case) → Once cs → insert_entry same (map (entry_by f) cs) d v
+      ≡ map (entry_by g) (with_case cs (Some d))
   unfolding Once has_case
   written [] once = λ i. (d, sym own i) ∷ []
   written (e ∷ cs) once = by_test (written cs once.1) (same d e) refl
     where
-      behind : (h : Bool) (ds : List Case) → map (entry_by g) (if h then e ∷ cs else e ∷ ds) ≡ (e, g e) ∷ map (entry_by g) (if h then cs else ds)
+      behind : (h : Bool) (ds : List Case) → map (entry_by g) (if h then e ∷ cs else e ∷ ds) ≡ (e, g e)
+          ∷ map (entry_by g) (if h then cs else ds)
       behind true ds = refl
       behind false ds = refl
 
-      by_test : insert_entry same (map (entry_by f) cs) d v ≡ map (entry_by g) (with_case cs (Some d)) → (b : Bool) → same d e ≡ b
-          → (if b then (e, v) ∷ map (entry_by f) cs else (e, f e) ∷ insert_entry same (map (entry_by f) cs) d v)
+      by_test : insert_entry same (map (entry_by f) cs) d v
+          ≡ map (entry_by g) (with_case cs (Some d)) → (b : Bool) → same d e ≡ b
+          → (if b then (e, v) ∷ map (entry_by f) cs else (e, f e)
+          ∷ insert_entry same (map (entry_by f) cs) d v)
           ≡ map (entry_by g) (with_case (e ∷ cs) (Some d))
       by_test rest true is =
           let one : d ≡ e = same_is d e is in
@@ -114,32 +123,40 @@ module _ (f g : Case → Summary) (d : Case) (v : Summary) (others : (c : Case) 
           let differs : same_case d e ≡ false = sym (case_equality d e) ∙ is in
           (λ i. (e, sym (others e differs) i) ∷ rest i)
           ∙ sym (behind (has_case cs d) (cs ++ d ∷ []))
-          ∙ ap (λ b. map (entry_by g) (if b || has_case cs d then e ∷ cs else e ∷ cs ++ d ∷ [])) (sym (apart_back d e differs))
+          ∙ ap (λ b. map (entry_by g) (if b || has_case cs d then e ∷ cs else e ∷ cs ++ d ∷ []))
+          (sym (apart_back d e differs))
 
 -- a value that is written where the case is, is that of the entry that is put there
-pub put_there : (d : Case) (s w : Summary) (t : Table) → lookup (same d) t ≡ Some s → set_value (same d) t w ≡ insert_entry same t d w
+pub put_there : (d : Case) (s w : Summary) (t : Table) → lookup (same d) t ≡ Some s
+    → set_value (same d) t w ≡ insert_entry same t d w
 put_there d s w [] had = absurd (cc)
 put_there d s w (e ∷ t) had = by_test (λ h. put_there d s w t h) (same d e.0) had
   where
-    by_test : (lookup (same d) t ≡ Some s → set_value (same d) t w ≡ insert_entry same t d w) → (b : Bool) → (if b then Some e.1 else lookup (same d) t) ≡ Some s
-        → (if b then (e.0, w) ∷ t else e ∷ set_value (same d) t w) ≡ (if b then (e.0, w) ∷ t else e ∷ insert_entry same t d w)
+    by_test : (lookup (same d) t ≡ Some s → set_value (same d) t w ≡ insert_entry same t d w) → (b : Bool)
+        → (if b then Some e.1 else lookup (same d) t) ≡ Some s
+        → (if b then (e.0, w) ∷ t else e ∷ set_value (same d) t w)
+        ≡ (if b then (e.0, w) ∷ t else e ∷ insert_entry same t d w)
     by_test rest true h = refl
     by_test rest false h = ap (λ es. e ∷ es) (rest h)
 
 -- what is found of a case among entries
-pub found : (f : Case → Summary) (d : Case) (cs : List Case) → lookup (same d) (map (entry_by f) cs) ≡ (if has_case cs d then Some (f d) else None)
+pub found : (f : Case → Summary) (d : Case) (cs : List Case)
+    → lookup (same d) (map (entry_by f) cs) ≡ (if has_case cs d then Some (f d) else None)
 unfolding has_case
 found f d [] = refl
 found f d (e ∷ cs) = by_test (found f d cs) (same d e) refl
   where
-    by_test : lookup (same d) (map (entry_by f) cs) ≡ (if has_case cs d then Some (f d) else None) → (b : Bool) → same d e ≡ b
-        → (if b then Some (f e) else lookup (same d) (map (entry_by f) cs)) ≡ (if same_case e d || has_case cs d then Some (f d) else None)
+    by_test : lookup (same d) (map (entry_by f) cs)
+        ≡ (if has_case cs d then Some (f d) else None) → (b : Bool) → same d e ≡ b
+        → (if b then Some (f e) else lookup (same d) (map (entry_by f) cs))
+        ≡ (if same_case e d || has_case cs d then Some (f d) else None)
     by_test rest true is =
         let one : d ≡ e = same_is d e is in
         let here : same_case e d ≡ true = subst (λ c. same_case c d ≡ true) one (itself d) in
         ap (λ c. Some (f c)) (sym one) ∙ ap (λ b. if b || has_case cs d then Some (f d) else None) (sym here)
     by_test rest false is =
-        rest ∙ ap (λ b. if b || has_case cs d then Some (f d) else None) (sym (apart_back d e (sym (case_equality d e) ∙ is)))
+        rest ∙ ap (λ b. if b || has_case cs d then Some (f d) else None)
+        (sym (apart_back d e (sym (case_equality d e) ∙ is)))
 
 -- The pass.
 
@@ -158,22 +175,26 @@ change false s t h = absurd (cc)
 
 module _ (rs : List Record) (r : Record) where
   -- what is said of a case of which the record is not
-  other_stays : (o : Option Case) (c : Case) → record_case r ≡ o → is_case c o ≡ false → summary_of (rs ++ r ∷ []) c ≡ summary_of rs c
+  other_stays : (o : Option Case) (c : Case) → record_case r ≡ o → is_case c o ≡ false
+      → summary_of (rs ++ r ∷ []) c ≡ summary_of rs c
   other_stays o c is not_of = summary_more rs c r ∙ no_change (is_of c r) _ _ (ap (is_case c) is ∙ not_of)
 
-  own_changes : (c : Case) → record_case r ≡ Some c → summary_of (rs ++ r ∷ []) c ≡ summary_after (summary_of rs c) r
+  own_changes : (c : Case) → record_case r ≡ Some c
+      → summary_of (rs ++ r ∷ []) c ≡ summary_after (summary_of rs c) r
   own_changes c is = summary_more rs c r ∙ change (is_of c r) _ _ (ap (is_case c) is ∙ itself c)
 
   still_cases : (cs : List Case) → AreCases rs cs → AreCases (rs ++ r ∷ []) (with_record cs r)
   still_cases cs are = by_case (record_case r) refl
     where
-      by_test : (c : Case) → record_case r ≡ Some c → (b : Bool) → has_case cs c ≡ b → AreCases (rs ++ r ∷ []) (if b then cs else cs ++ c ∷ [])
+      by_test : (c : Case) → record_case r ≡ Some c → (b : Bool) → has_case cs c ≡ b
+          → AreCases (rs ++ r ∷ []) (if b then cs else cs ++ c ∷ [])
       by_test c is true there =
           record {
             once = are.once;
             absent = λ d none.
                 let differs : same_case c d ≡ false =
-                apart_of (same_case c d) (λ one. true_not_false (sym (subst (λ e. has_case cs e ≡ true) (is_same c d one) there) ∙ none)) in
+                apart_of (same_case c d) (λ one. true_not_false
+                (sym (subst (λ e. has_case cs e ≡ true) (is_same c d one) there) ∙ none)) in
                 other_stays (Some c) d is differs ∙ are.absent d none;
           }
       by_test c is false gone =
@@ -185,23 +206,31 @@ module _ (rs : List Record) (r : Record) where
           }
 
       by_case : (o : Option Case) → record_case r ≡ o → AreCases (rs ++ r ∷ []) (with_case cs o)
-      by_case None is = record { once = are.once; absent = λ d none. other_stays None d is refl ∙ are.absent d none }
+      by_case None is = record {
+        once = are.once;
+        absent = λ d none. other_stays None d
+            is refl ∙ are.absent d none;
+      }
       by_case (Some c) is = by_test c is (has_case cs c) refl
 
-  all_stay : record_case r ≡ None → (ds : List Case) → map (entry_by (summary_of rs)) ds ≡ map (entry_by (summary_of (rs ++ r ∷ []))) ds
+  all_stay : record_case r ≡ None → (ds : List Case)
+      → map (entry_by (summary_of rs)) ds ≡ map (entry_by (summary_of (rs ++ r ∷ []))) ds
   all_stay is [] = refl
   all_stay is (d ∷ ds) = λ i. (d, sym (other_stays None d is refl) i) ∷ all_stay is ds i
 
   same_table : (o : Option Case) → record_case r ≡ o → (cs : List Case) → AreCases rs cs
-      → noted_by (map (entry_by (summary_of rs)) cs) r o ≡ map (entry_by (summary_of (rs ++ r ∷ []))) (with_case cs o)
+      → noted_by (map (entry_by (summary_of rs)) cs) r o
+      ≡ map (entry_by (summary_of (rs ++ r ∷ []))) (with_case cs o)
   same_table None is cs are = all_stay is cs
   same_table (Some d) is cs are =
       ap (λ s. insert_entry same (map (entry_by (summary_of rs)) cs) d (summary_after s r))
       (ap (λ o. unwrap_or o no_records) (found (summary_of rs) d cs) ∙ by_test (has_case cs d) refl)
-      ∙ written (summary_of rs) (summary_of (rs ++ r ∷ [])) d (summary_after (summary_of rs d) r) (λ c differs. other_stays (Some d) c is differs)
+      ∙ written (summary_of rs) (summary_of (rs ++ r ∷ [])) d (summary_after (summary_of rs d) r)
+      (λ c differs. other_stays (Some d) c is differs)
       (own_changes d is) cs are.once
     where
-      by_test : (b : Bool) → has_case cs d ≡ b → unwrap_or (if b then Some (summary_of rs d) else None) no_records ≡ summary_of rs d
+      by_test : (b : Bool) → has_case cs d ≡ b
+          → unwrap_or (if b then Some (summary_of rs d) else None) no_records ≡ summary_of rs d
       by_test true there = refl
       by_test false gone = sym (are.absent d gone)
 
@@ -209,7 +238,8 @@ module _ (rs : List Record) (r : Record) where
 one_then : {A : Type 0} (ks : List A) (a : A) (bs : List A) → (ks ++ a ∷ []) ++ bs ≡ ks ++ a ∷ bs
 one_then ks a bs = append_assoc ks (a ∷ []) bs
 
-cases_from : (done rest : List Record) (cs : List Case) → AreCases done cs → AreCases (done ++ rest) (fold with_record cs rest)
+cases_from : (done rest : List Record) (cs : List Case) → AreCases done cs
+    → AreCases (done ++ rest) (fold with_record cs rest)
 cases_from done [] cs are = subst (λ rs. AreCases rs cs) (sym (append-nil done)) are
 cases_from done (r ∷ rest) cs are =
     subst (λ rs. AreCases rs (fold with_record (with_record cs r) rest)) (one_then done r rest)
@@ -243,7 +273,8 @@ noted_more rs r = λ i.
 pub read_more : (done rest : List Record) → fold noted (reading_of done) rest ≡ reading_of (done ++ rest)
 read_more done [] = ap reading_of (sym (append-nil done))
 read_more done (r ∷ rest) =
-    ap (λ s. fold noted s rest) (noted_more done r) ∙ read_more (done ++ r ∷ []) rest ∙ ap reading_of (one_then done r rest)
+    ap (λ s. fold noted s rest) (noted_more done r) ∙ read_more (done ++ r ∷ []) rest
+    ∙ ap reading_of (one_then done r rest)
 
 nothing_is : nothing_read ≡ reading_of []
 unfolding boot_of cases_in
@@ -255,7 +286,8 @@ read_all rs = ap (λ s. fold noted s rs) nothing_is ∙ read_more [] rs
 
 -- What a restart appends.
 
-aborts : (c : Case) (s : Summary) (st : Standing) → abort_by c s.named st ≡ restart_abort c (known_view st (restored_view st s)) (known_view st (restored_view st s)).standing
+aborts : (c : Case) (s : Summary) (st : Standing) → abort_by c s.named st
+    ≡ restart_abort c (known_view st (restored_view st s)) (known_view st (restored_view st s)).standing
 aborts c s Unknown = refl
 aborts c s Active = refl
 aborts c s Collecting = refl
@@ -265,24 +297,29 @@ aborts c s Aborting = refl
 aborts c s Heuristic = refl
 
 aborts_of : (rs : List Record) (c : Case) → abort_of (c, summary_of rs c) ≡ aborts_collecting rs c
-aborts_of rs c = aborts c (summary_of rs c) (standing_of (summary_of rs c)) ∙ ap (λ v. restart_abort c v v.standing) (sym (view_recorded rs c))
+aborts_of rs c = aborts c (summary_of rs c) (standing_of (summary_of rs c))
+    ∙ ap (λ v. restart_abort c v v.standing) (sym (view_recorded rs c))
 
-pub each_alike : {A B : Type 0} (f g : A → List B) → ((a : A) → f a ≡ g a) → (xs : List A) → flat_map f xs ≡ flat_map g xs
+pub each_alike : {A B : Type 0} (f g : A → List B) → ((a : A) → f a ≡ g a) → (xs : List A)
+    → flat_map f xs ≡ flat_map g xs
 each_alike f g alike [] = refl
 each_alike f g alike (a ∷ xs) = λ i. alike a i ++ each_alike f g alike xs i
 
 pub reopens_so : (rs : List Record) → reopened_by (reading_of rs) ≡ coordinator_reopens rs
 reopens_so rs =
     ap (λ more. Opened (boot_of rs + 1) ∷ more)
-    (flat_map-map abort_of (entry_by (summary_of rs)) (cases_in rs) ∙ each_alike (λ c. abort_of (entry_by (summary_of rs) c)) (aborts_collecting rs) (aborts_of rs) (cases_in rs))
+    (flat_map-map abort_of (entry_by (summary_of rs)) (cases_in rs) ∙ each_alike
+    (λ c. abort_of (entry_by (summary_of rs) c)) (aborts_collecting rs) (aborts_of rs) (cases_in rs))
 
 -- What the table says.
 
 -- of each case it says what the records say
 pub summary_is : (rs : List Record) (c : Case) → summary_in (reading_of rs).table c ≡ summary_of rs c
-summary_is rs c = ap (λ o. unwrap_or o no_records) (found (summary_of rs) c (cases_in rs)) ∙ by_test (has_case (cases_in rs) c) refl
+summary_is rs c = ap (λ o. unwrap_or o no_records) (found (summary_of rs) c (cases_in rs))
+    ∙ by_test (has_case (cases_in rs) c) refl
   where
-    by_test : (b : Bool) → has_case (cases_in rs) c ≡ b → unwrap_or (if b then Some (summary_of rs c) else None) no_records ≡ summary_of rs c
+    by_test : (b : Bool) → has_case (cases_in rs) c ≡ b
+        → unwrap_or (if b then Some (summary_of rs c) else None) no_records ≡ summary_of rs c
     by_test true there = refl
     by_test false gone = sym ((are_cases rs).absent c gone)
 
@@ -300,14 +337,20 @@ standing_known Aborting s = refl
 standing_known Heuristic s = refl
 
 -- so is where it says that a case stands
-pub standing_is : (rs : List Record) (c : Case) → standing_in (reading_of rs).table c ≡ (recorded_view rs c).standing
-standing_is rs c = standing_known (standing_of (summary_in (reading_of rs).table c)) (summary_in (reading_of rs).table c) ∙ ap (λ (v : CoordinatorView). v.standing) (view_is rs c)
+pub standing_is : (rs : List Record) (c : Case)
+    → standing_in (reading_of rs).table c ≡ (recorded_view rs c).standing
+standing_is rs c = standing_known (standing_of (summary_in (reading_of rs).table c))
+    (summary_in (reading_of rs).table c) ∙ ap (λ (v : CoordinatorView). v.standing) (view_is rs c)
 
 -- A plan.
 
 -- what is read behind what a restart appends
-pub planned : (rs new : List Record) (reading behind : ReadLog) → reading ≡ reading_of rs → new ≡ reopened_by reading → behind ≡ fold noted reading new
+pub planned : (rs new : List Record) (reading behind : ReadLog) → reading ≡ reading_of rs
+    → new ≡ reopened_by reading → behind ≡ fold noted reading new
     → (new ≡ coordinator_reopens rs) × (behind ≡ reading_of (rs ++ coordinator_reopens rs))
 planned rs new reading behind reads opens notes =
-    let appends : new ≡ coordinator_reopens rs = opens ∙ ap reopened_by reads ∙ reopens_so rs in
-    (appends, notes ∙ ap (λ s. fold noted s new) reads ∙ read_more rs new ∙ ap (λ more. reading_of (rs ++ more)) appends)
+    let appends : new ≡ coordinator_reopens rs = opens ∙ ap reopened_by reads ∙ reopens_so rs in (
+      appends,
+      notes ∙ ap (λ s. fold noted s new) reads ∙ read_more rs new
+          ∙ ap (λ more. reading_of (rs ++ more)) appends,
+    )

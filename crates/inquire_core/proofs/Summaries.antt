@@ -39,24 +39,29 @@ has_more : (q : Record → Bool) (rs : List Record) (r : Record) → has q (rs +
 unfolding has
 has_more q rs r = list_any-append q rs (r ∷ []) ∙ ap (λ b. has q rs || b) (or_none (q r))
 
-all_more : (f : Record → List Ticket) (rs : List Record) (r : Record) → flat_map f (rs ++ r ∷ []) ≡ flat_map f rs ++ f r
+all_more : (f : Record → List Ticket) (rs : List Record) (r : Record)
+    → flat_map f (rs ++ r ∷ []) ≡ flat_map f rs ++ f r
 all_more f rs r = flat_map-append f rs (r ∷ []) ∙ ap (λ ts. flat_map f rs ++ ts) (append-nil (f r))
 
-promised_more : (c : Case) (rs : List Record) (r : Record) → promised_by c (rs ++ r ∷ []) ≡ promised_by c rs ++ promised_in c r
+promised_more : (c : Case) (rs : List Record) (r : Record)
+    → promised_by c (rs ++ r ∷ []) ≡ promised_by c rs ++ promised_in c r
 unfolding promised_by
 promised_more c rs r = all_more (promised_in c) rs r
 
-named_more : (c : Case) (rs : List Record) (r : Record) → named_by c (rs ++ r ∷ []) ≡ named_by c rs ++ named_in c r
+named_more : (c : Case) (rs : List Record) (r : Record)
+    → named_by c (rs ++ r ∷ []) ≡ named_by c rs ++ named_in c r
 unfolding named_by
 named_more c rs r = all_more (named_in c) rs r
 
-owing_more : (c : Case) (rs : List Record) (r : Record) → owing_by c (rs ++ r ∷ []) ≡ owing_by c rs ++ owing_in c r
+owing_more : (c : Case) (rs : List Record) (r : Record)
+    → owing_by c (rs ++ r ∷ []) ≡ owing_by c rs ++ owing_in c r
 unfolding owing_by
 owing_more c rs r = all_more (owing_in c) rs r
 
 -- Stages.
 
-stage_same : (e co a p col : Bool) → stage_by (e || false) (co || false) (a || false) (p || false) (col || false) ≡ stage_by e co a p col
+stage_same : (e co a p col : Bool) → stage_by (e || false) (co || false) (a || false) (p || false)
+    (col || false) ≡ stage_by e co a p col
 stage_same true co a p col = refl
 stage_same false true a p col = refl
 stage_same false false true p col = refl
@@ -64,7 +69,8 @@ stage_same false false false true col = refl
 stage_same false false false false true = refl
 stage_same false false false false false = refl
 
-stage_collecting : (e co a p col : Bool) → stage_by (e || false) (co || false) (a || false) (p || false) (col || true) ≡ furthest (stage_by e co a p col) stage.Collecting
+stage_collecting : (e co a p col : Bool) → stage_by (e || false) (co || false) (a || false) (p || false)
+    (col || true) ≡ furthest (stage_by e co a p col) stage.Collecting
 stage_collecting true co a p col = refl
 stage_collecting false true a p col = refl
 stage_collecting false false true p col = refl
@@ -72,7 +78,8 @@ stage_collecting false false false true col = refl
 stage_collecting false false false false true = refl
 stage_collecting false false false false false = refl
 
-stage_prepared : (e co a p col : Bool) → stage_by (e || false) (co || false) (a || false) (p || true) (col || false) ≡ furthest (stage_by e co a p col) stage.Prepared
+stage_prepared : (e co a p col : Bool) → stage_by (e || false) (co || false) (a || false) (p || true)
+    (col || false) ≡ furthest (stage_by e co a p col) stage.Prepared
 stage_prepared true co a p col = refl
 stage_prepared false true a p col = refl
 stage_prepared false false true p col = refl
@@ -80,7 +87,8 @@ stage_prepared false false false true col = refl
 stage_prepared false false false false true = refl
 stage_prepared false false false false false = refl
 
-stage_aborted : (e co a p col : Bool) → stage_by (e || false) (co || false) (a || true) (p || false) (col || false) ≡ furthest (stage_by e co a p col) stage.Aborted
+stage_aborted : (e co a p col : Bool) → stage_by (e || false) (co || false) (a || true) (p || false)
+    (col || false) ≡ furthest (stage_by e co a p col) stage.Aborted
 stage_aborted true co a p col = refl
 stage_aborted false true a p col = refl
 stage_aborted false false true p col = refl
@@ -88,7 +96,8 @@ stage_aborted false false false true col = refl
 stage_aborted false false false false true = refl
 stage_aborted false false false false false = refl
 
-stage_committed : (e co a p col : Bool) → stage_by (e || false) (co || true) (a || false) (p || false) (col || false) ≡ furthest (stage_by e co a p col) stage.Committed
+stage_committed : (e co a p col : Bool) → stage_by (e || false) (co || true) (a || false) (p || false)
+    (col || false) ≡ furthest (stage_by e co a p col) stage.Committed
 stage_committed true co a p col = refl
 stage_committed false true a p col = refl
 stage_committed false false true p col = refl
@@ -96,7 +105,8 @@ stage_committed false false false true col = refl
 stage_committed false false false false true = refl
 stage_committed false false false false false = refl
 
-stage_ended : (e co a p col : Bool) → stage_by (e || true) (co || false) (a || false) (p || false) (col || false) ≡ furthest (stage_by e co a p col) stage.Ended
+stage_ended : (e co a p col : Bool) → stage_by (e || true) (co || false) (a || false) (p || false)
+    (col || false) ≡ furthest (stage_by e co a p col) stage.Ended
 stage_ended true co a p col = refl
 stage_ended false true a p col = refl
 stage_ended false false true p col = refl
@@ -113,54 +123,123 @@ module _ (e co a p col : Bool) (ps ns os : List Ticket) where
   behind : Case → Record → Summary
   behind c r =
       record {
-        stage = stage_by (e || is_end c r) (co || is_commit c r) (a || is_abort c r) (p || is_prepare c r) (col || is_collecting c r);
+        stage = stage_by (e || is_end c r) (co || is_commit c r) (a || is_abort c r)
+            (p || is_prepare c r) (col || is_collecting c r);
         promised = ps ++ promised_in c r;
         named = ns ++ named_in c r;
         owing = os ++ owing_in c r;
       }
 
-  nothing_more : record { stage = stage_by (e || false) (co || false) (a || false) (p || false) (col || false); promised = ps ++ []; named = ns ++ []; owing = os ++ [] } ≡ before
+  nothing_more : record {
+    stage = stage_by (e || false) (co || false) (a || false) (p || false)
+        (col || false);
+    promised = ps ++ [];
+    named = ns ++ [];
+    owing = os ++ [];
+  } ≡ before
   unfolding before
-  nothing_more = λ i. record { stage = stage_same e co a p col i; promised = append-nil ps i; named = append-nil ns i; owing = append-nil os i }
+  nothing_more = λ i. record {
+    stage = stage_same e co a p col i;
+    promised = append-nil ps i;
+    named = append-nil ns i;
+    owing = append-nil os i;
+  }
 
   collecting_more : (c : Case) (ts : List Ticket) (b : Bool)
-      → record { stage = stage_by (e || false) (co || false) (a || false) (p || false) (col || b); promised = ps ++ []; named = ns ++ (if b then ts else []); owing = os ++ [] }
+      → record {
+        stage = stage_by (e || false) (co || false) (a || false) (p || false) (col || b);
+        promised = ps ++ [];
+        named = ns ++ (if b then ts else []);
+        owing = os ++ [];
+      }
       ≡ (if b then summary_after before (Collecting c ts) else before)
   unfolding before
-  collecting_more c ts true = λ i. record { stage = stage_collecting e co a p col i; promised = append-nil ps i; named = ns ++ ts; owing = append-nil os i }
+  collecting_more c ts true = λ i. record {
+    stage = stage_collecting e co a p col i;
+    promised = append-nil ps
+        i;
+    named = ns ++ ts;
+    owing = append-nil os i;
+  }
   collecting_more c ts false = nothing_more
 
   prepare_more : (c : Case) (ts : List Ticket) (b : Bool)
-      → record { stage = stage_by (e || false) (co || false) (a || false) (p || b) (col || false); promised = ps ++ (if b then ts else []); named = ns ++ (if b then ts else []); owing = os ++ [] }
+      → record {
+        stage = stage_by (e || false) (co || false) (a || false) (p || b) (col || false);
+        promised = ps ++ (if b then ts else []);
+        named = ns ++ (if b then ts else []);
+        owing = os ++ [];
+      }
       ≡ (if b then summary_after before (Prepare c ts) else before)
   unfolding before
-  prepare_more c ts true = λ i. record { stage = stage_prepared e co a p col i; promised = ps ++ ts; named = ns ++ ts; owing = append-nil os i }
+  prepare_more c ts true = λ i. record {
+    stage = stage_prepared e co a p col i;
+    promised = ps
+        ++ ts;
+    named = ns ++ ts;
+    owing = append-nil os i;
+  }
   prepare_more c ts false = nothing_more
 
   commit_more : (c : Case) (ts : List Ticket) (b : Bool)
-      → record { stage = stage_by (e || false) (co || b) (a || false) (p || false) (col || false); promised = ps ++ []; named = ns ++ (if b then ts else []); owing = os ++ (if b then ts else []) }
+      → record {
+        stage = stage_by (e || false) (co || b) (a || false) (p || false) (col || false);
+        promised = ps ++ [];
+        named = ns ++ (if b then ts else []);
+        owing = os ++ (if b then ts else []);
+      }
       ≡ (if b then summary_after before (Commit c ts) else before)
   unfolding before
-  commit_more c ts true = λ i. record { stage = stage_committed e co a p col i; promised = append-nil ps i; named = ns ++ ts; owing = os ++ ts }
+  commit_more c ts true = λ i. record {
+    stage = stage_committed e co a p col i;
+    promised = append-nil ps i;
+    named = ns ++ ts;
+    owing = os ++ ts;
+  }
   commit_more c ts false = nothing_more
 
   abort_more : (c : Case) (ts : List Ticket) (b : Bool)
-      → record { stage = stage_by (e || false) (co || false) (a || b) (p || false) (col || false); promised = ps ++ []; named = ns ++ (if b then ts else []); owing = os ++ (if b then ts else []) }
+      → record {
+        stage = stage_by (e || false) (co || false) (a || b) (p || false) (col || false);
+        promised = ps ++ [];
+        named = ns ++ (if b then ts else []);
+        owing = os ++ (if b then ts else []);
+      }
       ≡ (if b then summary_after before (Abort c ts) else before)
   unfolding before
-  abort_more c ts true = λ i. record { stage = stage_aborted e co a p col i; promised = append-nil ps i; named = ns ++ ts; owing = os ++ ts }
+  abort_more c ts true = λ i. record {
+    stage = stage_aborted e co a p col i;
+    promised = append-nil ps i;
+    named = ns ++ ts;
+    owing = os ++ ts;
+  }
   abort_more c ts false = nothing_more
 
   end_more : (c : Case) (b : Bool)
-      → record { stage = stage_by (e || b) (co || false) (a || false) (p || false) (col || false); promised = ps ++ []; named = ns ++ []; owing = os ++ [] }
+      → record {
+        stage = stage_by (e || b) (co || false) (a || false) (p || false) (col || false);
+        promised = ps ++ [];
+        named = ns ++ [];
+        owing = os ++ [];
+      }
       ≡ (if b then summary_after before (End c) else before)
   unfolding before
-  end_more c true = λ i. record { stage = stage_ended e co a p col i; promised = append-nil ps i; named = append-nil ns i; owing = append-nil os i }
+  end_more c true = λ i. record {
+    stage = stage_ended e co a p col i;
+    promised = append-nil ps i;
+    named = append-nil ns i;
+    owing = append-nil os i;
+  }
   end_more c false = nothing_more
 
   -- a record that says nothing of the case's stage
   silent : (b : Bool)
-      → record { stage = stage_by (e || false) (co || false) (a || false) (p || false) (col || false); promised = ps ++ []; named = ns ++ []; owing = os ++ [] }
+      → record {
+        stage = stage_by (e || false) (co || false) (a || false) (p || false) (col || false);
+        promised = ps ++ [];
+        named = ns ++ [];
+        owing = os ++ [];
+      }
       ≡ (if b then before else before)
   silent true = nothing_more
   silent false = nothing_more
@@ -185,17 +264,20 @@ module _ (e co a p col : Bool) (ps ns os : List Ticket) where
   by_record c (Pair k v) = nothing_more
 
 -- what the records of a case say behind one more
-pub summary_more : (rs : List Record) (c : Case) (r : Record) → summary_of (rs ++ r ∷ []) c ≡ (if is_of c r then summary_after (summary_of rs c) r else summary_of rs c)
+pub summary_more : (rs : List Record) (c : Case) (r : Record)
+    → summary_of (rs ++ r ∷ []) c ≡ (if is_of c r then summary_after (summary_of rs c) r else summary_of rs c)
 unfolding before behind
 summary_more rs c r =
     (λ i. record {
-      stage = stage_by (has_more (is_end c) rs r i) (has_more (is_commit c) rs r i) (has_more (is_abort c) rs r i) (has_more (is_prepare c) rs r i)
+      stage = stage_by (has_more (is_end c) rs r i) (has_more (is_commit c) rs r i)
+          (has_more (is_abort c) rs r i) (has_more (is_prepare c) rs r i)
           (has_more (is_collecting c) rs r i);
       promised = promised_more c rs r i;
       named = named_more c rs r i;
       owing = owing_more c rs r i;
     })
-    ∙ by_record (has (is_end c) rs) (has (is_commit c) rs) (has (is_abort c) rs) (has (is_prepare c) rs) (has (is_collecting c) rs)
+    ∙ by_record (has (is_end c) rs) (has (is_commit c) rs) (has (is_abort c) rs)
+    (has (is_prepare c) rs) (has (is_collecting c) rs)
     (promised_by c rs) (named_by c rs) (owing_by c rs) c r
 
 pub summary_nothing : (c : Case) → summary_of [] c ≡ no_records
@@ -213,7 +295,8 @@ idle : (p : Presumption) → phase_standing p Idle ≡ Unknown
 idle PresumeAbort = refl
 idle PresumeCommit = refl
 
-standing_is : (e co a p col none : Bool) → standing_by e co a p col none Unknown ≡ standing_at (stage_by e co a p col) none
+standing_is : (e co a p col none : Bool) → standing_by e co a p col none Unknown
+    ≡ standing_at (stage_by e co a p col) none
 standing_is true co a p col none = refl
 standing_is false true a p col none = refl
 standing_is false false true p col none = refl
@@ -221,16 +304,20 @@ standing_is false false false true col none = refl
 standing_is false false false false true none = refl
 standing_is false false false false false none = refl
 
-standing_recorded : (rs : List Record) (c : Case) → coordinator_standing rs c fresh_memory ≡ standing_of (summary_of rs c)
+standing_recorded : (rs : List Record) (c : Case)
+    → coordinator_standing rs c fresh_memory ≡ standing_of (summary_of rs c)
 standing_recorded rs c =
-    ap (standing_by (has (is_end c) rs) (has (is_commit c) rs) (has (is_abort c) rs) (has (is_prepare c) rs) (has (is_collecting c) rs) (none_of (owing_by c rs)))
+    ap (standing_by (has (is_end c) rs) (has (is_commit c) rs) (has (is_abort c) rs) (has (is_prepare c) rs)
+    (has (is_collecting c) rs) (none_of (owing_by c rs)))
     (idle c.txn.presumption)
-    ∙ standing_is (has (is_end c) rs) (has (is_commit c) rs) (has (is_abort c) rs) (has (is_prepare c) rs) (has (is_collecting c) rs) (none_of (owing_by c rs))
+    ∙ standing_is (has (is_end c) rs) (has (is_commit c) rs) (has (is_abort c) rs) (has (is_prepare c) rs)
+    (has (is_collecting c) rs) (none_of (owing_by c rs))
 
 -- how a case stands by records alone
 pub view_recorded : (rs : List Record) (c : Case) → recorded_view rs c ≡ view_of (summary_of rs c)
 unfolding recorded_view
 view_recorded rs c =
     ap (λ s. view_at s rs c fresh_memory) (standing_recorded rs c)
-    ∙ ap (λ ts. known_view (standing_of (summary_of rs c)) (record (restored_view (standing_of (summary_of rs c)) (summary_of rs c)) { owed = ts }))
+    ∙ ap (λ ts. known_view (standing_of (summary_of rs c))
+    (record (restored_view (standing_of (summary_of rs c)) (summary_of rs c)) { owed = ts }))
     (none_acked (decided_outcome (standing_of (summary_of rs c))) (owing_by c rs))

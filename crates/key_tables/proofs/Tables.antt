@@ -12,7 +12,8 @@ key_test k q = same_key k q.items
 pub tests_key : (l : List ℕ) (q r : Vec ℕ) → key_test l q ≡ true → key_test l r ≡ same_key q.items r.items
 tests_key l q r e = let one : l ≡ q.items = search rules in ap (λ j. same_key j r.items) one
 
-pub apart_keys : (k l : List ℕ) → same_key k l ≡ false → (q : Vec ℕ) → key_test k q ≡ true → key_test l q ≡ false
+pub apart_keys : (k l : List ℕ) → same_key k l ≡ false → (q : Vec ℕ)
+    → key_test k q ≡ true → key_test l q ≡ false
 apart_keys k l differs q e = by_test (key_test l q) refl
   where
     by_test : (b : Bool) → key_test l q ≡ b → b ≡ false
@@ -38,7 +39,8 @@ module _ {X : Type 0} where
   list_at_key (e ∷ es) k = by_test (same_key k e.0.items) (list_at_key es k)
     where
       by_test : (b : Bool) → list_at (table_of es) k ≡ items_in (found es k)
-          → unwrap_or (cond b (Some e.1.items) (lookup (same_key k) (table_of es))) [] ≡ items_in (cond b (Some e.1) (found es k))
+          → unwrap_or (cond b (Some e.1.items) (lookup (same_key k) (table_of es))) []
+          ≡ items_in (cond b (Some e.1) (found es k))
       by_test true h = refl
       by_test false h = h
 
@@ -50,16 +52,19 @@ module _ {X : Type 0} where
   unfolding KeepsOthers
   becomes es fs k w xs keeps own now = record {
     own = list_at_key fs k ∙ ap items_in own ∙ now;
-    others = λ l differs. list_at_key fs l ∙ ap items_in (keeps (key_test l) (tests_key l) (apart_keys k l differs)) ∙ sym (list_at_key es l);
+    others = λ l differs. list_at_key fs l ∙ ap items_in
+        (keeps (key_test l) (tests_key l) (apart_keys k l differs)) ∙ sym (list_at_key es l);
   }
 
-  -- where the map does not change and has nothing at a key, the list there is what any change makes of an empty one
+  -- where the map does not change and has nothing at a key, the list there is what any change makes of an
+  -- empty one
   pub becomes_idle : (es fs : List (Vec ℕ × Vec X)) (k : List ℕ) (change : List X → List X) → fs ≡ es
       → found es k ≡ None → change [] ≡ []
       → Becomes (table_of es) (table_of fs) k (change (list_at (table_of es) k))
   becomes_idle es fs k change stays none idle =
       let nothing : list_at (table_of es) k ≡ [] = list_at_key es k ∙ ap items_in none in
-      subst (λ gs. Becomes (table_of es) (table_of gs) k (change (list_at (table_of es) k))) (sym stays) (record {
+      subst (λ gs. Becomes (table_of es) (table_of gs) k
+      (change (list_at (table_of es) k))) (sym stays) (record {
         own = nothing ∙ sym idle ∙ ap change (sym nothing);
         others = λ l apart. refl;
       })

@@ -47,12 +47,14 @@ moves_keep q old new x to apart moves y h = by_test (same x y) refl
         absurd (cc)
     by_test false e = ap q (sym (moves.others y e)) ∙ h
 
-reacts_keep : (q : BranchState → Bool) (old new : States) (t : ℕ) (x : Xid) (c : Call) (plan : Result Row Code)
+reacts_keep : (q : BranchState → Bool) (old new : States) (t : ℕ) (x : Xid)
+    (c : Call) (plan : Result Row Code)
     (to : BranchState) (answer : Code) → q to ≡ false → Reacts old new t x c plan to answer → Keeps q old new
 reacts_keep q old new t x c (Ok row) to answer apart walks = moves_keep q old new x to apart walks.branch
 reacts_keep q old new t x c (Err refusal) to answer apart refused = same_keeps q old new refused.1
 
-by_state_keeps : (q : BranchState → Bool) (old new : States) (s : BranchState) (Unknown Off : Type 0) (Does : Bool → Type 0)
+by_state_keeps : (q : BranchState → Bool) (old new : States) (s : BranchState)
+    (Unknown Off : Type 0) (Does : Bool → Type 0)
     → (Unknown → Keeps q old new) → ((lost : Bool) → Does lost → Keeps q old new) → (Off → Keeps q old new)
     → ByState s Unknown Does Off → Keeps q old new
 by_state_keeps q old new S0 Unknown Off Does u d o h = u h
@@ -71,28 +73,37 @@ left_apart q true active apart = apart.four
 left_apart q false true apart = apart.one
 left_apart q false false apart = apart.two
 
-does_keep : (q : BranchState → Bool) (wanted : Wanted) (old new : States) (c : Call) (t : ℕ) (x : Xid) (answer : Code)
+does_keep : (q : BranchState → Bool) (wanted : Wanted) (old new : States) (c : Call)
+    (t : ℕ) (x : Xid) (answer : Code)
     → IsApart q → is_work c ≡ true → Does wanted old new c t x answer → Keeps q old new
-does_keep q wanted old new call.Start t x answer apart w h = reacts_keep q old new t x call.Start _ S1 answer apart.one h
-does_keep q wanted old new call.StartJoin t x answer apart w h = reacts_keep q old new t x call.StartJoin _ S1 answer apart.one h
+does_keep q wanted old new call.Start t x answer apart w h =
+    reacts_keep q old new t x call.Start _ S1 answer apart.one h
+does_keep q wanted old new call.StartJoin t x answer apart w h =
+    reacts_keep q old new t x call.StartJoin _ S1 answer apart.one h
 does_keep q wanted old new call.StartResume t x answer apart w h =
     by_state_keeps q old new (state_at old x) _ _ _ (λ u. same_keeps q old new u.1)
-    (λ lost r. reacts_keep q old new t x call.StartResume _ (resumed lost) answer (resumed_apart q lost apart) r) (λ o. same_keeps q old new o.1) h
+    (λ lost r. reacts_keep q old new t x call.StartResume _ (resumed lost) answer (resumed_apart q lost apart)
+    r) (λ o. same_keeps q old new o.1) h
 does_keep q wanted old new call.EndSuspend t x answer apart w h =
     by_state_keeps q old new (state_at old x) _ _ _ (λ u. same_keeps q old new u.1)
-    (λ lost r. reacts_keep q old new t x call.EndSuspend _ (left_state new x lost) answer (left_apart q lost _ apart) r) (λ o. same_keeps q old new o.1) h
+    (λ lost r. reacts_keep q old new t x call.EndSuspend _ (left_state new x lost) answer
+    (left_apart q lost _ apart) r) (λ o. same_keeps q old new o.1) h
 does_keep q wanted old new call.EndMigrate t x answer apart w h =
     by_state_keeps q old new (state_at old x) _ _ _ (λ u. same_keeps q old new u.1)
-    (λ lost r. reacts_keep q old new t x call.EndMigrate _ (left_state new x lost) answer (left_apart q lost _ apart) r) (λ o. same_keeps q old new o.1) h
+    (λ lost r. reacts_keep q old new t x call.EndMigrate _ (left_state new x lost) answer
+    (left_apart q lost _ apart) r) (λ o. same_keeps q old new o.1) h
 does_keep q wanted old new call.EndSuccess t x answer apart w h =
     by_state_keeps q old new (state_at old x) _ _ _ (λ u. same_keeps q old new u.1)
-    (λ lost r. reacts_keep q old new t x call.EndSuccess _ _ answer (left_apart q _ _ apart) r) (λ o. same_keeps q old new o.1) h
+    (λ lost r. reacts_keep q old new t x call.EndSuccess _ _ answer (left_apart q _ _ apart) r)
+    (λ o. same_keeps q old new o.1) h
 does_keep q wanted old new call.EndFail t x answer apart w h =
     by_state_keeps q old new (state_at old x) _ _ _ (λ u. same_keeps q old new u.1)
-    (λ lost r. reacts_keep q old new t x call.EndFail _ _ answer (left_apart q _ _ apart) r) (λ o. same_keeps q old new o.1) h
+    (λ lost r. reacts_keep q old new t x call.EndFail _ _ answer (left_apart q _ _ apart) r)
+    (λ o. same_keeps q old new o.1) h
 does_keep q wanted old new _ t x answer apart w h = absurd cc
 
-checked_keep : (q : BranchState → Bool) (wanted : Wanted) (old new : States) (c : Call) (t : ℕ) (x : Xid) (answer : Code)
+checked_keep : (q : BranchState → Bool) (wanted : Wanted) (old new : States) (c : Call)
+    (t : ℕ) (x : Xid) (answer : Code)
     → IsApart q → is_work c ≡ true → Checked wanted old new c t x answer → Keeps q old new
 checked_keep q wanted old new c t x answer apart w checked = by_init old.init refl
   where
@@ -100,19 +111,22 @@ checked_keep q wanted old new c t x answer apart w checked = by_init old.init re
     by_name true e opened = same_keeps q old new (checked.null opened (same_is x null_xid e)).1
     by_name false e opened =
         does_keep q wanted old new c t x answer apart w
-        (checked.does opened (λ is. let never : false ≡ true = sym e ∙ ap (λ z. same z null_xid) is ∙ refl in absurd (cc)))
+        (checked.does opened (λ is. let never : false ≡ true = sym e
+        ∙ ap (λ z. same z null_xid) is ∙ refl in absurd (cc)))
 
     by_init : (i : InitState) → old.init ≡ i → Keeps q old new
     by_init R0 e = same_keeps q old new (checked.closed e).1
     by_init R1 e = by_name (same x null_xid) refl e
 
 -- a start or an end leads no branch into a state that is not at work
-pub works_keep : (q : BranchState → Bool) (wanted : Wanted) (old new : States) (v : Verb) (t : ℕ) (x : Xid) (flags : ℕ) (answer : Code)
+pub works_keep : (q : BranchState → Bool) (wanted : Wanted) (old new : States) (v : Verb) (t : ℕ)
+    (x : Xid) (flags : ℕ) (answer : Code)
     → IsApart q → is_work_verb v ≡ true → Answers wanted old new v t x flags answer → Keeps q old new
 works_keep q wanted old new v t x flags answer apart w answers = by_legal (legal v flags) refl answers
   where
     by_legal : (r : Result Call Code) → legal v flags ≡ r
-        → MatchResult r (λ c. Checked wanted old new c t x answer) (λ refusal. Refuses old new answer refusal) → Keeps q old new
+        → MatchResult r (λ c. Checked wanted old new c t x answer)
+        (λ refusal. Refuses old new answer refusal) → Keeps q old new
     by_legal (Ok c) e h = checked_keep q wanted old new c t x answer apart (works_as v flags c e ∙ w) h
     by_legal (Err refusal) e h = same_keeps q old new h.1
 
@@ -123,12 +137,14 @@ either_way P Q X (Ok a) ok err made refused = made a ok
 either_way P Q X (Err e) ok err made refused = refused err
 
 -- a scan moves no branch
-pub recovers_keep : (q : BranchState → Bool) (old new : States) (t count flags : ℕ) (answer : Result (List Xid) Code)
+pub recovers_keep : (q : BranchState → Bool) (old new : States) (t count flags : ℕ)
+    (answer : Result (List Xid) Code)
     → Recovers old new t count flags answer → Keeps q old new
 recovers_keep q old new t count flags answer recovers = by_legal (legal verb.Recover flags) recovers
   where
     by_answer : (c : Call) (r : Result (List Xid) Code)
-        → MatchResult r (λ given. Scans old.branches new.branches t count c given × (new.associations ≡ old.associations) × (new.init ≡ old.init))
+        → MatchResult r (λ given. Scans old.branches new.branches t count c given
+        × (new.associations ≡ old.associations) × (new.init ≡ old.init))
         (λ refusal. (scan_refusal old.branches.scans t c ≡ Some refusal) × Same old new) → Keeps q old new
     by_answer c (Ok given) h = λ y passes. ap (λ bs. q (state_in bs y)) (sym h.0.branches) ∙ passes
     by_answer c (Err refusal) h = same_keeps q old new h.1
@@ -138,6 +154,7 @@ recovers_keep q old new t count flags answer recovers = by_legal (legal verb.Rec
     by_init c R1 e h = by_answer c answer (h.given e)
 
     by_legal : (r : Result Call Code)
-        → MatchResult r (λ c. Scanned old new t count c answer) (λ refusal. (answer ≡ Err refusal) × Same old new) → Keeps q old new
+        → MatchResult r (λ c. Scanned old new t count c answer)
+        (λ refusal. (answer ≡ Err refusal) × Same old new) → Keeps q old new
     by_legal (Ok c) h = by_init c old.init refl h
     by_legal (Err refusal) h = same_keeps q old new h.1

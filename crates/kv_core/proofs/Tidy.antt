@@ -29,24 +29,29 @@ abbrev pub KnowsEach : KeySight → Type 0
 KnowsEach s = (x : Xid) → is_decided (state_of s x) ≡ true → is_some (decision_in s.decisions x) ≡ true
 
 -- where the tables change, and what operators decided
-pub tidy_moved : (s s' : KeySight) → IsTidy s → s'.writes ≡ s.writes → s'.locks ≡ s.locks → Keeps is_let_go s.tables s'.tables
+pub tidy_moved : (s s' : KeySight) → IsTidy s → s'.writes ≡ s.writes → s'.locks ≡ s.locks
+    → Keeps is_let_go s.tables s'.tables
     → KnowsEach s' → IsTidy s'
 tidy_moved s s' tidy writes locks keeps knows = record {
-  held = λ x k named. ap (λ l. holders_of l k) locks ∙ tidy.held x k (ap (λ w. names_key (writes_of w x) k) (sym writes) ∙ named);
+  held = λ x k named. ap (λ l. holders_of l k) locks
+      ∙ tidy.held x k (ap (λ w. names_key (writes_of w x) k) (sym writes) ∙ named);
   written = λ x gone. ap (λ w. writes_of w x) writes ∙ tidy.written x (keeps x gone);
   free = λ x k gone. ap (λ l. holds (holders_of l k) x) locks ∙ tidy.free x k (keeps x gone);
   decided = knows;
 }
 
 -- where the tables alone change
-pub tidy_called : (s s' : KeySight) → IsTidy s → s'.writes ≡ s.writes → s'.locks ≡ s.locks → s'.decisions ≡ s.decisions
+pub tidy_called : (s s' : KeySight) → IsTidy s → s'.writes ≡ s.writes → s'.locks ≡ s.locks
+    → s'.decisions ≡ s.decisions
     → Keeps is_let_go s.tables s'.tables → Keeps is_decided s.tables s'.tables → IsTidy s'
 tidy_called s s' tidy writes locks decisions keeps stays =
-    tidy_moved s s' tidy writes locks keeps (λ x is. ap (λ t. is_some (decision_in t x)) decisions ∙ tidy.decided x (stays x is))
+    tidy_moved s s' tidy writes locks keeps (λ x is. ap (λ t. is_some (decision_in t x)) decisions
+    ∙ tidy.decided x (stays x is))
 
 -- A lock that nobody is in the way of.
 
-one_held : (y x : Xid) (m : Mode) → blocked_by (record { xid = y; mode = Exclusive } ∷ []) x m ≡ None → same y x ≡ true
+one_held : (y x : Xid) (m : Mode) → blocked_by (record { xid = y; mode = Exclusive } ∷ [])
+    x m ≡ None → same y x ≡ true
 one_held y x m none = by_test (same y x) refl
   where
     by_test : (b : Bool) → same y x ≡ b → same y x ≡ true
@@ -71,22 +76,26 @@ held_took s locks x k m tidy clear took y l named = by_test (same_key k l) refl
     by_test : (b : Bool) → same_key k l ≡ b → holders_of locks l ≡ record { xid = y; mode = Exclusive } ∷ []
     by_test true e =
         let one : k ≡ l = search rules in
-        let had_here : holders_of s.locks k ≡ record { xid = y; mode = Exclusive } ∷ [] = ap (holders_of s.locks) one ∙ had in
+        let had_here : holders_of s.locks k ≡ record { xid = y; mode = Exclusive } ∷ [] =
+        ap (holders_of s.locks) one ∙ had in
         let own : same y x ≡ true = one_held y x m (ap (λ hs. blocked_by hs x m) (sym had_here) ∙ clear) in
         ap (holders_of locks) (sym one) ∙ took.own ∙ ap (λ hs. given hs x m) had_here ∙ given_own y x m own
     by_test false e = took.others l e ∙ had
 
 -- a branch that is let go holds no key that another takes
-free_took : (s : KeySight) (locks : LockTable) (x : Xid) (k : List ℕ) (m : Mode) → IsTidy s → is_let_go (state_of s x) ≡ false
+free_took : (s : KeySight) (locks : LockTable) (x : Xid) (k : List ℕ) (m : Mode) → IsTidy s
+    → is_let_go (state_of s x) ≡ false
     → Takes s.locks locks x k m
     → (y : Xid) (l : List ℕ) → is_let_go (state_of s y) ≡ true → holds (holders_of locks l) y ≡ false
 free_took s locks x k m tidy works took y l gone = by_test (same_key k l) refl
   where
-    none : (b : Bool) → holds (given (holders_of s.locks k) x m) y ≡ b → holds (given (holders_of s.locks k) x m) y ≡ false
+    none : (b : Bool) → holds (given (holders_of s.locks k) x m) y ≡ b
+        → holds (given (holders_of s.locks k) x m) y ≡ false
     none false e = e
     none true e = elim (holds_given (holders_of s.locks k) x y m e) [
       | inl before ↦ absurd (let never : true ≡ false = sym before ∙ tidy.free y k gone in cc)
-      | inr this ↦ absurd (let never : true ≡ false = sym gone ∙ ap (λ z. is_let_go (state_of s z)) (sym (locks_same x y this)) ∙ works in cc)
+      | inr this ↦ absurd (let never : true ≡ false = sym gone
+          ∙ ap (λ z. is_let_go (state_of s z)) (sym (locks_same x y this)) ∙ works in cc)
     ]
 
     by_test : (b : Bool) → same_key k l ≡ b → holds (holders_of locks l) y ≡ false
@@ -96,8 +105,10 @@ free_took s locks x k m tidy works took y l gone = by_test (same_key k l) refl
         ∙ none (holds (given (holders_of s.locks k) x m) y) refl
     by_test false e = ap (λ hs. holds hs y) (took.others l e) ∙ tidy.free y l gone
 
-pub tidy_read : (s : KeySight) (locks : LockTable) (x : Xid) (k : List ℕ) (m : Mode) → IsTidy s → is_let_go (state_of s x) ≡ false
-    → blocked_by (holders_of s.locks k) x m ≡ None → Takes s.locks locks x k m → IsTidy (record s { locks = locks })
+pub tidy_read : (s : KeySight) (locks : LockTable) (x : Xid) (k : List ℕ) (m : Mode) → IsTidy s
+    → is_let_go (state_of s x) ≡ false
+    → blocked_by (holders_of s.locks k) x m ≡ None → Takes s.locks locks x k m
+    → IsTidy (record s { locks = locks })
 tidy_read s locks x k m tidy works clear took = record {
   held = held_took s locks x k m tidy clear took;
   written = tidy.written;
@@ -114,7 +125,8 @@ named_before ws k l v named other = by_test (names_key ws l) refl
     by_test true e = e
     by_test false e = absurd (let never : true ≡ false = sym named ∙ with_write_names ws k l v e other in cc)
 
-pub tidy_wrote : (s : KeySight) (writes : WriteTable) (locks : LockTable) (x : Xid) (k : List ℕ) (v : Option (List ℕ)) → IsTidy s
+pub tidy_wrote : (s : KeySight) (writes : WriteTable) (locks : LockTable) (x : Xid) (k : List ℕ)
+    (v : Option (List ℕ)) → IsTidy s
     → is_let_go (state_of s x) ≡ false → blocked_by (holders_of s.locks k) x Exclusive ≡ None
     → Takes s.locks locks x k Exclusive → Leaves s.writes writes x (with_write (writes_of s.writes x) k v)
     → IsTidy (record s { writes = writes; locks = locks })
@@ -125,23 +137,29 @@ tidy_wrote s writes locks x k v tidy works clear took left = record {
   decided = tidy.decided;
 }
   where
-    own_key : (l : List ℕ) → names_key (with_write (writes_of s.writes x) k v) l ≡ true → (b : Bool) → same_bytes k l ≡ b
+    own_key : (l : List ℕ) → names_key (with_write (writes_of s.writes x) k v) l ≡ true
+        → (b : Bool) → same_bytes k l ≡ b
         → holders_of locks l ≡ record { xid = x; mode = Exclusive } ∷ []
     own_key l named true e = ap (holders_of locks) (sym (bytes_same k l e)) ∙ took.own
-    own_key l named false e = held_took s locks x k Exclusive tidy clear took x l (named_before (writes_of s.writes x) k l v named e)
+    own_key l named false e = held_took s locks x k Exclusive tidy clear took x l
+        (named_before (writes_of s.writes x) k l v named e)
 
     held : (y : Xid) (l : List ℕ) → names_key (writes_of writes y) l ≡ true → (b : Bool) → same x y ≡ b
         → holders_of locks l ≡ record { xid = y; mode = Exclusive } ∷ []
     held y l named true e =
         let one : x ≡ y = locks_same x y e in
-        let mine : names_key (with_write (writes_of s.writes x) k v) l ≡ true = ap (λ ws. names_key ws l) (sym left.own) ∙ ap (λ z. names_key (writes_of writes z) l) one ∙ named in
+        let mine : names_key (with_write (writes_of s.writes x) k v) l ≡ true = ap (λ ws. names_key ws l)
+        (sym left.own) ∙ ap (λ z. names_key (writes_of writes z) l) one ∙ named in
         own_key l mine (same_bytes k l) refl ∙ ap (λ z. record { xid = z; mode = Exclusive } ∷ []) one
-    held y l named false e = held_took s locks x k Exclusive tidy clear took y l (ap (λ ws. names_key ws l) (sym (left.others y e)) ∙ named)
+    held y l named false e = held_took s locks x k Exclusive tidy clear took y l
+        (ap (λ ws. names_key ws l) (sym (left.others y e)) ∙ named)
 
-    written : (y : Xid) → is_let_go (state_of s y) ≡ true → (b : Bool) → same x y ≡ b → writes_of writes y ≡ []
+    written : (y : Xid) → is_let_go (state_of s y) ≡ true → (b : Bool)
+        → same x y ≡ b → writes_of writes y ≡ []
     written y gone true e =
         let one : x ≡ y = locks_same x y e in
-        absurd (let never : true ≡ false = sym gone ∙ ap (λ z. is_let_go (state_of s z)) (sym one) ∙ works in cc)
+        absurd (let never : true ≡ false = sym gone
+        ∙ ap (λ z. is_let_go (state_of s z)) (sym one) ∙ works in cc)
     written y gone false e = left.others y e ∙ tidy.written y gone
 
 -- room was made for the writes before
@@ -172,7 +190,8 @@ other_way x y apart = by_test (same y x) refl
     by_test false e = e
     by_test true e =
         let one : y ≡ x = locks_same y x e in
-        absurd (let never : true ≡ false = sym (ap (λ z. same z y) (sym one) ∙ ap (same y) one ∙ e) ∙ apart in cc)
+        absurd (let never : true ≡ false = sym
+        (ap (λ z. same z y) (sym one) ∙ ap (same y) one ∙ e) ∙ apart in cc)
 
 tidy_ended : (s s' : KeySight) (x : Xid) (to : BranchState) → IsTidy s → TakesRow s.tables s'.tables x to
     → Leaves s.writes s'.writes x [] → Releases s.locks s'.locks x → KnowsEach s' → IsTidy s'
@@ -187,41 +206,50 @@ tidy_ended s s' x to tidy row left released knows = record {
     held : (y : Xid) (l : List ℕ) → names_key (writes_of s'.writes y) l ≡ true → (b : Bool) → same x y ≡ b
         → holders_of s'.locks l ≡ record { xid = y; mode = Exclusive } ∷ []
     held y l named true e =
-        let nothing : writes_of s'.writes y ≡ [] = ap (writes_of s'.writes) (sym (locks_same x y e)) ∙ left.own in
+        let nothing : writes_of s'.writes y ≡ [] =
+        ap (writes_of s'.writes) (sym (locks_same x y e)) ∙ left.own in
         absurd (let never : true ≡ false = sym named ∙ ap (λ ws. names_key ws l) nothing in cc)
     held y l named false e =
-        released.each l ∙ ap (λ hs. without hs x) (tidy.held y l (ap (λ ws. names_key ws l) (sym (left.others y e)) ∙ named))
+        released.each l ∙ ap (λ hs. without hs x)
+        (tidy.held y l (ap (λ ws. names_key ws l) (sym (left.others y e)) ∙ named))
         ∙ without_other y x (other_way x y e)
 
     before : (y : Xid) → is_let_go (state_of s' y) ≡ true → same x y ≡ false → is_let_go (state_of s y) ≡ true
     before y gone e = ap is_let_go (sym (row.branch.others y e)) ∙ gone
 
-    written : (y : Xid) → is_let_go (state_of s' y) ≡ true → (b : Bool) → same x y ≡ b → writes_of s'.writes y ≡ []
+    written : (y : Xid) → is_let_go (state_of s' y) ≡ true → (b : Bool) → same x y ≡ b
+        → writes_of s'.writes y ≡ []
     written y gone true e = ap (writes_of s'.writes) (sym (locks_same x y e)) ∙ left.own
     written y gone false e = left.others y e ∙ tidy.written y (before y gone e)
 
     free : (y : Xid) (l : List ℕ) → is_let_go (state_of s' y) ≡ true → (b : Bool) → same x y ≡ b
         → holds (without (holders_of s.locks l) x) y ≡ false
-    free y l gone true e = ap (holds (without (holders_of s.locks l) x)) (sym (locks_same x y e)) ∙ without_itself (holders_of s.locks l) x
+    free y l gone true e = ap (holds (without (holders_of s.locks l) x)) (sym (locks_same x y e))
+        ∙ without_itself (holders_of s.locks l) x
     free y l gone false e = still_free (holders_of s.locks l) x y (tidy.free y l (before y gone e))
 
 -- a branch that took a turn leaves the store tidy, where it is known how an operator decided it
 pub tidy_turned : (s s' : KeySight) (x : Xid) (turn : Turn) → IsTidy s → TakesTurn s s' x turn
-    → (is_decided turn.to ≡ true → is_some (known_behind turn.entry (decision_in s.decisions x)) ≡ true) → IsTidy s'
+    → (is_decided turn.to ≡ true → is_some (known_behind turn.entry (decision_in s.decisions x)) ≡ true)
+    → IsTidy s'
 tidy_turned s s' x turn tidy took known = by_end (is_let_go turn.to) refl took.keeps
   where
-    decided : (y : Xid) → is_decided (state_of s' y) ≡ true → (b : Bool) → same x y ≡ b → is_some (decision_in s'.decisions y) ≡ true
+    decided : (y : Xid) → is_decided (state_of s' y) ≡ true → (b : Bool) → same x y ≡ b
+        → is_some (decision_in s'.decisions y) ≡ true
     decided y is true e =
         let one : x ≡ y = locks_same x y e in
         ap (λ z. is_some (decision_in s'.decisions z)) (sym one) ∙ ap is_some took.decisions.own
         ∙ known (ap is_decided (sym took.tables.branch.own) ∙ ap (λ z. is_decided (state_of s' z)) one ∙ is)
     decided y is false e =
-        ap is_some (took.decisions.others y e) ∙ tidy.decided y (ap is_decided (sym (took.tables.branch.others y e)) ∙ is)
+        ap is_some (took.decisions.others y e)
+        ∙ tidy.decided y (ap is_decided (sym (took.tables.branch.others y e)) ∙ is)
 
     by_end : (b : Bool) → is_let_go turn.to ≡ b
-        → MatchBool b (Leaves s.writes s'.writes x [] × Releases s.locks s'.locks x) ((s'.writes ≡ s.writes) × (s'.locks ≡ s.locks))
+        → MatchBool b (Leaves s.writes s'.writes x [] × Releases s.locks s'.locks x)
+        ((s'.writes ≡ s.writes) × (s'.locks ≡ s.locks))
         → IsTidy s'
-    by_end true e h = tidy_ended s s' x turn.to tidy took.tables h.0 h.1 (λ y is. decided y is (same x y) refl)
+    by_end true e h = tidy_ended s s' x turn.to tidy took.tables h.0 h.1
+        (λ y is. decided y is (same x y) refl)
     by_end false e h =
         tidy_moved s s' tidy h.0 h.1 (moves_keep is_let_go s.tables s'.tables x turn.to e took.tables.branch)
         (λ y is. decided y is (same x y) refl)

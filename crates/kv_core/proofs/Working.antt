@@ -11,11 +11,13 @@ use Rattle.kv_core.specs.Stores.{KeySight, is_let_go, state_of}
 use Rattle.kv_core.specs.Works.{at_work, branch_refusal, is_spoiled, is_too_long, limit_refusal, unless_locked, worker_of, working}
 
 -- the state of a branch that a thread works for does not pass a test that no state at work passes
-pub works_apart : (q : BranchState → Bool) (s : KeySight) (t : ℕ) (x : Xid) → q S1 ≡ false → q S4 ≡ false → at_work s t ≡ Some x
+pub works_apart : (q : BranchState → Bool) (s : KeySight) (t : ℕ) (x : Xid) → q S1 ≡ false
+    → q S4 ≡ false → at_work s t ≡ Some x
     → q (state_of s x) ≡ false
 works_apart q s t x one four works = by_active (active_of s.tables.associations t) works
   where
-    by_state : (y : Xid) (b : BranchState) → state_of s y ≡ b → working b y ≡ Some x → q (state_of s x) ≡ false
+    by_state : (y : Xid) (b : BranchState) → state_of s y ≡ b
+        → working b y ≡ Some x → q (state_of s x) ≡ false
     by_state y S1 e h = let same : y ≡ x = cc in ap (λ z. q (state_of s z)) (sym same) ∙ ap q e ∙ one
     by_state y S4 e h = let same : y ≡ x = cc in ap (λ z. q (state_of s z)) (sym same) ∙ ap q e ∙ four
     by_state y S0 e h = absurd (cc)
@@ -32,13 +34,16 @@ pub is_at_work : (s : KeySight) (t : ℕ) (x : Xid) → at_work s t ≡ Some x �
 is_at_work s t x works = works_apart is_let_go s t x refl refl works
 
 -- nobody is in the way of a branch that may do its work
-pub none_blocks : (s : KeySight) (k : List ℕ) (v : Option (List ℕ)) (m : Mode) (x : Xid) → branch_refusal s k v m x ≡ None
+pub none_blocks : (s : KeySight) (k : List ℕ) (v : Option (List ℕ)) (m : Mode) (x : Xid)
+    → branch_refusal s k v m x ≡ None
     → blocked_by (holders_of s.locks k) x m ≡ None
 none_blocks s k v m x allowed =
-    by_checks (is_spoiled (state_of s x)) (is_too_long k v) (blocked_by (holders_of s.locks k) x m) refl allowed
+    by_checks (is_spoiled (state_of s x)) (is_too_long k v)
+    (blocked_by (holders_of s.locks k) x m) refl allowed
   where
     by_checks : (spoiled long : Bool) (o : Option Xid) → blocked_by (holders_of s.locks k) x m ≡ o
-        → cond spoiled (Some RollbackOnly) (cond long (Some TooLong) (unless_locked o (limit_refusal s x k m))) ≡ None
+        → cond spoiled (Some RollbackOnly) (cond long (Some TooLong)
+        (unless_locked o (limit_refusal s x k m))) ≡ None
         → blocked_by (holders_of s.locks k) x m ≡ None
     by_checks true long o e h = absurd (cc)
     by_checks false true o e h = absurd (cc)

@@ -21,7 +21,13 @@ all_filter p q (x ∷ xs) h = grind (arith, common_steps, all_filter p q xs)
 pub rule_without : (hs : List Holder) (x : Xid) → keeps_rule hs ≡ true → keeps_rule (without hs x) ≡ true
 unfolding keeps_rule
 rule_without [] x h = refl
-rule_without (g ∷ hs) x h = grind (arith, common_steps, rule_without hs x, all_filter (are_shared g) (λ h. not (same h.xid x)) hs)
+rule_without (g ∷ hs) x h = grind (
+  arith,
+  common_steps,
+  rule_without hs x,
+  all_filter (are_shared g)
+      (λ h. not (same h.xid x)) hs,
+)
 
 pub holds_without : (hs : List Holder) (x y : Xid) → holds (without hs x) y ≡ true → holds hs y ≡ true
 holds_without [] x y h = h
@@ -38,7 +44,8 @@ without_idle (g ∷ hs) x h = grind (arith, common_steps, without_idle hs x)
 pub without_twice : (hs : List Holder) (x : Xid) → without (without hs x) x ≡ without hs x
 without_twice hs x = without_idle (without hs x) x (without_itself hs x)
 
--- of holders of which none is in the way of a shared lock and none is the branch, each is shared and another one
+-- of holders of which none is in the way of a shared lock and none is the branch, each is shared and another
+-- one
 all_apart : (g : Holder) (hs : List Holder) (x : Xid) → list_all (are_shared g) hs ≡ true
     → not (same g.xid x) ≡ true → is_exclusive g.mode ≡ false
     → list_all (are_shared g) (hs ++ record { xid = x; mode = Shared } ∷ []) ≡ true
@@ -58,7 +65,8 @@ unfolding keeps_rule
 rule_given hs x Exclusive rule free = refl
 rule_given hs x Shared rule free = by_test (holds hs x) refl
   where
-    by_test : (b : Bool) → holds hs x ≡ b → keeps_rule (cond b hs (hs ++ record { xid = x; mode = Shared } ∷ [])) ≡ true
+    by_test : (b : Bool) → holds hs x ≡ b → keeps_rule
+        (cond b hs (hs ++ record { xid = x; mode = Shared } ∷ [])) ≡ true
     by_test true e = rule
     by_test false e = rule_push hs x rule e free
 
@@ -72,6 +80,7 @@ holds_given hs x y Shared h = by_test (holds hs x) h
     either false true e = inr refl
     either false false e = absurd (cc)
 
-    by_test : (b : Bool) → holds (cond b hs (hs ++ record { xid = x; mode = Shared } ∷ [])) y ≡ true → (holds hs y ≡ true) ⊎ (same x y ≡ true)
+    by_test : (b : Bool) → holds (cond b hs (hs ++ record { xid = x; mode = Shared } ∷ [])) y ≡ true
+        → (holds hs y ≡ true) ⊎ (same x y ≡ true)
     by_test true e = inl e
     by_test false e = either (holds hs y) (same x y) (grind (arith, common_steps, list_any-append))

@@ -15,10 +15,11 @@ use Rattle.kv_locks.proofs.Holding.{same_is, rule_given, holds_given, rule_witho
 pub kept_nothing : (es : List (Vec ℕ × Vec Holder)) (held : List (Xid × Vec (Vec ℕ))) → es ≡ [] → held ≡ []
     → IsKept (table_of es) held
 unfolding keeps_rule
-kept_nothing es held none free = subst (λ fs. IsKept (table_of fs) held) (sym none) (subst (λ ks. IsKept [] ks) (sym free) (record {
-  rule = λ k. refl;
-  listed = λ x k h. h;
-}))
+kept_nothing es held none free = subst (λ fs. IsKept (table_of fs) held) (sym none)
+    (subst (λ ks. IsKept [] ks) (sym free) (record {
+      rule = λ k. refl;
+      listed = λ x k h. h;
+    }))
 
 -- the list of a branch gets one key more
 pub keeps_keys : (es fs : List (Xid × Vec (Vec ℕ))) (x : Xid) (ls : Vec (Vec ℕ)) (k : Vec ℕ)
@@ -28,13 +29,17 @@ keeps_keys es fs x ls k writes pushed y l named = by_test (same x y) refl
   where
     by_test : (b : Bool) → same x y ≡ b → names_key (keys_of fs y) l ≡ true
     by_test true e =
-        let here : keys_of fs y ≡ ls.items = ap keys_in (writes y ∙ ap (λ b. cond b (Some ls) (lookup (same y) es)) e) in
+        let here : keys_of fs y ≡ ls.items = ap keys_in
+        (writes y ∙ ap (λ b. cond b (Some ls) (lookup (same y) es)) e) in
         let was : keys_of es x ≡ keys_of es y = ap (keys_of es) (same_is x y e) in
-        ap (λ ks. names_key ks l) (here ∙ pushed ∙ ap (λ ks. ks ++ k ∷ []) was) ∙ grind (arith, common_steps, list_any-append)
+        ap (λ ks. names_key ks l) (here ∙ pushed ∙ ap (λ ks. ks ++ k ∷ []) was)
+        ∙ grind (arith, common_steps, list_any-append)
     by_test false e =
-        ap (λ ks. names_key ks l) (ap keys_in (writes y ∙ ap (λ b. cond b (Some ls) (lookup (same y) es)) e)) ∙ named
+        ap (λ ks. names_key ks l) (ap keys_in (writes y ∙ ap (λ b. cond b (Some ls) (lookup (same y) es)) e))
+        ∙ named
 
-pub key_listed : (fs : List (Xid × Vec (Vec ℕ))) (x : Xid) (ls : Vec (Vec ℕ)) (ks : List (Vec ℕ)) (k : Vec ℕ) (l : List ℕ)
+pub key_listed : (fs : List (Xid × Vec (Vec ℕ))) (x : Xid) (ls : Vec (Vec ℕ))
+    (ks : List (Vec ℕ)) (k : Vec ℕ) (l : List ℕ)
     → lookup (same x) fs ≡ Some ls → ls.items ≡ ks ++ k ∷ [] → k.items ≡ l → names_key (keys_of fs x) l ≡ true
 key_listed fs x ls ks k l here pushed is =
     let itself : same_key k.items l ≡ true = search rules in
@@ -62,12 +67,16 @@ kept_given t u held more x k m kept free made more_names named = record {
         → names_key (keys_of more y) l ≡ true
     listed y l h true e =
         let one : k ≡ l = search rules in
-        let held_there : holds (given (holders_of t k) x m) y ≡ true = ap (λ hs. holds hs y) (sym made.own) ∙ ap (λ j. holds (holders_of u j) y) one ∙ h in
+        let held_there : holds (given (holders_of t k) x m) y ≡ true = ap (λ hs. holds hs y) (sym made.own)
+        ∙ ap (λ j. holds (holders_of u j) y) one ∙ h in
         elim (holds_given (holders_of t k) x y m held_there) [
-          | inl before ↦ more_names y l (kept.listed y l (ap (λ j. holds (holders_of t j) y) (sym one) ∙ before))
-          | inr this ↦ ap (λ z. names_key (keys_of more z) l) (sym (same_is x y this)) ∙ ap (names_key (keys_of more x)) (sym one) ∙ named
+          | inl before ↦ more_names y l (kept.listed y l
+              (ap (λ j. holds (holders_of t j) y) (sym one) ∙ before))
+          | inr this ↦ ap (λ z. names_key (keys_of more z) l) (sym (same_is x y this))
+              ∙ ap (names_key (keys_of more x)) (sym one) ∙ named
         ]
-    listed y l h false e = more_names y l (kept.listed y l (ap (λ hs. holds hs y) (sym (made.others l e)) ∙ h))
+    listed y l h false e = more_names y l (kept.listed y l
+        (ap (λ hs. holds hs y) (sym (made.others l e)) ∙ h))
 
 -- a release keeps the rule, and the keys of the others stay listed
 pub kept_released : (t u : LockTable) (held rest : List (Xid × Vec (Vec ℕ))) (x : Xid)
@@ -83,11 +92,14 @@ kept_released t u held rest x kept released others = record {
         → names_key (keys_of rest y) k ≡ true
     listed y k h true e =
         let one : x ≡ y = same_is x y e in
-        let gone : holds (without (holders_of t k) x) y ≡ false = ap (λ z. holds (without (holders_of t k) x) z) (sym one) ∙ without_itself (holders_of t k) x in
+        let gone : holds (without (holders_of t k) x) y ≡ false =
+        ap (λ z. holds (without (holders_of t k) x) z) (sym one) ∙ without_itself (holders_of t k) x in
         absurd (cc)
-    listed y k h false e = ap (λ ks. names_key ks k) (others y e) ∙ kept.listed y k (holds_without (holders_of t k) x y h)
+    listed y k h false e = ap (λ ks. names_key ks k) (others y e)
+        ∙ kept.listed y k (holds_without (holders_of t k) x y h)
 
--- while a branch's locks are released: the others hold what they held, and what it still holds is among these keys
+-- while a branch's locks are released: the others hold what they held, and what it still holds is among
+-- these keys
 pub record IsReleasing (t u : LockTable) (rest : List (Vec ℕ)) (x : Xid) : Type 0 where
   pub others : (k : List ℕ) → without (holders_of u k) x ≡ without (holders_of t k) x
   pub left : (k : List ℕ) → holds (holders_of u k) x ≡ true → names_key rest k ≡ true
@@ -117,16 +129,20 @@ releasing_goes_on t u v k rest x so_far out = record {
         → names_key rest l ≡ true
     left l h true e =
         let one : k.items ≡ l = search rules in
-        let held : holds (without (holders_of u k.items) x) x ≡ true = ap (λ hs. holds hs x) (sym out.own) ∙ ap (λ j. holds (holders_of v j) x) one ∙ h in
-        let gone : holds (without (holders_of u k.items) x) x ≡ false = without_itself (holders_of u k.items) x in
+        let held : holds (without (holders_of u k.items) x) x ≡ true = ap (λ hs. holds hs x) (sym out.own)
+        ∙ ap (λ j. holds (holders_of v j) x) one ∙ h in
+        let gone : holds (without (holders_of u k.items) x) x ≡ false =
+        without_itself (holders_of u k.items) x in
         absurd (cc)
     left l h false e =
-        let named : names_key (k ∷ rest) l ≡ true = so_far.left l (ap (λ hs. holds hs x) (sym (out.others l e)) ∙ h) in
+        let named : names_key (k ∷ rest) l ≡ true =
+        so_far.left l (ap (λ hs. holds hs x) (sym (out.others l e)) ∙ h) in
         grind (arith, common_steps)
 
 pub releasing_ends : (t u : LockTable) (x : Xid) → IsReleasing t u [] x → Releases t u x
 releasing_ends t u x so_far = record {
-  each = λ k. sym (without_idle (holders_of u k) x (idle k (holds (holders_of u k) x) refl)) ∙ so_far.others k;
+  each = λ k. sym (without_idle (holders_of u k) x (idle k (holds (holders_of u k) x) refl))
+      ∙ so_far.others k;
 }
   where
     idle : (k : List ℕ) (b : Bool) → holds (holders_of u k) x ≡ b → holds (holders_of u k) x ≡ false

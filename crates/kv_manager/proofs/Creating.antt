@@ -32,8 +32,10 @@ first_boot s b is e = one b (ap (λ (t : SeenLog). next_boot t.boot) is ∙ e)
 
 pub created : (forced failures : ℕ) (s : KvSight) → RestoredFrom [] forced failures s → IsNew (sight_of s)
 created forced failures s r =
-    let none : records_of r.log.sight.kept ≡ [] = sym (same_records [] (records_of r.log.sight.kept) 0 r.opens.torn (sym nothing_read ∙ r.opens.read)) in
-    let left : LeavesStore [] s.store s.boot = subst (λ ls. LeavesStore ls s.store s.boot) none r.starts.left in
+    let none : records_of r.log.sight.kept ≡ [] = sym
+    (same_records [] (records_of r.log.sight.kept) 0 r.opens.torn (sym nothing_read ∙ r.opens.read)) in
+    let left : LeavesStore [] s.store s.boot =
+    subst (λ ls. LeavesStore ls s.store s.boot) none r.starts.left in
     let boot : s.boot ≡ 1 = first_boot left.seen s.boot (nothing_said left.seen left.read) left.next in
     let kept : s.log.sight.kept.forced ≡ first_opened ∷ [] =
     r.starts.forced ∙ ap (λ ls. ls ++ opened s.boot ∷ []) none ∙ ap (λ b. opened b ∷ []) boot in
@@ -48,7 +50,9 @@ created forced failures s r =
       };
     }
 
-pub each_new : {E : Type 0} (bytes : List ℕ) (forced failures : ℕ) (r : Result KvSight E) → bytes ≡ [] → IfOk r (RestoredFrom bytes forced failures)
+pub each_new : {E : Type 0} (bytes : List ℕ) (forced failures : ℕ) (r : Result KvSight E) → bytes ≡ []
+    → IfOk r (RestoredFrom bytes forced failures)
     → IfOk r (λ m. IsNew (sight_of m))
-each_new bytes forced failures (Ok m) empty r = created forced failures m (subst (λ bs. RestoredFrom bs forced failures m) empty r)
+each_new bytes forced failures (Ok m) empty r =
+    created forced failures m (subst (λ bs. RestoredFrom bs forced failures m) empty r)
 each_new bytes forced failures (Err e) empty r = r

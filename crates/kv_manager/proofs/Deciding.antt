@@ -49,19 +49,23 @@ known_by None h = absurd (cc)
 known_by (Some s) h = refl
 
 -- a prepared branch can take the turn of a decision, where there is room
-pub can_decide : (s : KvSight) (x : Xid) (o : Outcome) → s.log.sight.failed ≡ false → state_of s.store x ≡ S3 → 1 ≤ s.store.decisions.room
+pub can_decide : (s : KvSight) (x : Xid) (o : Outcome) → s.log.sight.failed ≡ false → state_of s.store x ≡ S3
+    → 1 ≤ s.store.decisions.room
     → IsDueTurn s x call.Commit (decide_turn o)
 can_decide s x o works here room = record {
   works = works;
   known = known_by (lookup (same x) s.store.tables.branches.branches) here;
   due = OfOperator o here room refl;
-  listed = subst (λ b. Contains (branch_rows b call.Commit) ((decide_turn o).code, (decide_turn o).to)) (sym here) (listed_row o);
+  listed = subst (λ b. Contains (branch_rows b call.Commit)
+      ((decide_turn o).code, (decide_turn o).to)) (sym here) (listed_row o);
 }
 
 -- What it makes of a manager, behind the room that was made.
 
-module _ (old mid new : KvSight) (x : Xid) (o : Outcome) (works : old.log.sight.failed ≡ false) (here : state_of old.store x ≡ S3)
-    (room : Reserves old.store mid.store) (log : mid.log.sight ≡ old.log.sight) (boot : mid.boot ≡ old.boot) where
+module _ (old mid new : KvSight) (x : Xid) (o : Outcome) (works : old.log.sight.failed ≡ false)
+    (here : state_of old.store x ≡ S3)
+    (room : Reserves old.store mid.store) (log : mid.log.sight ≡ old.log.sight)
+    (boot : mid.boot ≡ old.boot) where
   known_same : (y : Xid) → known_of mid.store y ≡ known_of old.store y
   known_same y = ap (λ (ds : List (Xid × Decision)). decision_or (lookup (same y) ds)) room.decisions
 
@@ -74,7 +78,8 @@ module _ (old mid new : KvSight) (x : Xid) (o : Outcome) (works : old.log.sight.
       × ((y : Xid) → same x y ≡ false → writes_of new.store.writes y ≡ writes_of mid.store.writes y)
   let_go made = (made.keeps.0.own, made.keeps.0.others)
 
-  known_so : (o : Outcome) (known : Option Decision) → decision_or (known_behind (Some (heur_entry o)) known) ≡ decided_as o
+  known_so : (o : Outcome) (known : Option Decision)
+      → decision_or (known_behind (Some (heur_entry o)) known) ≡ decided_as o
   known_so Committed known = refl
   known_so Aborted known = refl
 
@@ -83,7 +88,8 @@ module _ (old mid new : KvSight) (x : Xid) (o : Outcome) (works : old.log.sight.
     works = works;
     prepared = here;
     tables = subst (λ t. TakesRow t new.store.tables x S5) room.tables made.tables;
-    log = wrote_as o made.log ∙ ap (λ k. wrote k (decision_writes x o) (logged_under x (decision_writes x o))) log;
+    log = wrote_as o made.log ∙ ap (λ k. wrote k (decision_writes x o)
+        (logged_under x (decision_writes x o))) log;
     own = (let_go made).0;
     others = λ y apart. (let_go made).1 y apart ∙ ap (λ w. writes_of w y) room.writes;
     decided = ap decision_or made.decisions.own ∙ known_so o (decision_in mid.store.decisions x);
@@ -94,7 +100,8 @@ module _ (old mid new : KvSight) (x : Xid) (o : Outcome) (works : old.log.sight.
   some_is : (e f : Entry) → Some e ≡ Some f → e ≡ f
   some_is e f h = cc
 
-  records_so : (o : Outcome) → entry_record (heur_entry o) x (writes_of mid.store.writes x) ∷ [] ≡ logged_under x (decision_writes x o)
+  records_so : (o : Outcome) → entry_record (heur_entry o) x (writes_of mid.store.writes x) ∷ []
+      ≡ logged_under x (decision_writes x o)
   records_so Committed = refl
   records_so Aborted = refl
 
@@ -102,7 +109,8 @@ module _ (old mid new : KvSight) (x : Xid) (o : Outcome) (works : old.log.sight.
   fails failed = record {
     works = works;
     prepared = here;
-    log = subst (λ k. Breaks (state_of_log k) (state_of_log new.log.sight) (logged_under x (decision_writes x o))) log
+    log = subst (λ k. Breaks (state_of_log k) (state_of_log new.log.sight)
+        (logged_under x (decision_writes x o))) log
         (subst (Breaks (state_of_log mid.log.sight) (state_of_log new.log.sight)) records (record {
           kind = refl;
           appended = failed.log.appended;
@@ -119,9 +127,11 @@ module _ (old mid new : KvSight) (x : Xid) (o : Outcome) (works : old.log.sight.
     boot = failed.boot ∙ boot;
   }
     where
-      records : entry_record failed.entry x (writes_of mid.store.writes x) ∷ [] ≡ logged_under x (decision_writes x o)
+      records : entry_record failed.entry x (writes_of mid.store.writes x) ∷ []
+          ≡ logged_under x (decision_writes x o)
       records =
-          ap (λ e. entry_record e x (writes_of mid.store.writes x) ∷ []) (sym (some_is (heur_entry o) failed.entry failed.writes_it)) ∙ records_so o
+          ap (λ e. entry_record e x (writes_of mid.store.writes x) ∷ [])
+          (sym (some_is (heur_entry o) failed.entry failed.writes_it)) ∙ records_so o
 
   stays_same : SameKv mid new → SameKv old new
   stays_same alike = record {
@@ -129,7 +139,8 @@ module _ (old mid new : KvSight) (x : Xid) (o : Outcome) (works : old.log.sight.
     writes = λ y. alike.writes y ∙ ap (λ w. writes_of w y) room.writes;
     locks = alike.locks ∙ room.locks;
     versions = subst (λ v. SameData v new.store.versions) room.versions alike.versions;
-    decisions = λ y. alike.decisions y ∙ ap (λ (ds : List (Xid × Decision)). lookup (same y) ds) room.decisions;
+    decisions = λ y. alike.decisions y ∙ ap (λ (ds : List (Xid × Decision)). lookup
+        (same y) ds) room.decisions;
     log = alike.log ∙ log;
     boot = alike.boot ∙ boot;
   }
@@ -148,13 +159,15 @@ module _ (old mid new : KvSight) (x : Xid) (o : Outcome) (works : old.log.sight.
   other_codes h = absurd (cc)
 
   -- it was decided
-  pub was_decided : (answer : Code) → KvTakes mid new x (decide_turn o) answer → is_refusal answer ≡ false → Decides (sight_of old) (sight_of new) x o
+  pub was_decided : (answer : Code) → KvTakes mid new x (decide_turn o) answer → is_refusal answer ≡ false
+      → Decides (sight_of old) (sight_of new) x o
   was_decided answer (kv.Made is made) h = decides made
   was_decided answer (kv.Broke is failed) h = never (ap is_refusal (sym is) ∙ h)
   was_decided answer (kv.Spent is commits few alike) h = never (ap is_refusal (sym is) ∙ h)
 
   -- or it was not
-  pub was_not : (answer : Code) → KvTakes mid new x (decide_turn o) answer → (e : DecideError) → IsRefusal answer e
+  pub was_not : (answer : Code) → KvTakes mid new x (decide_turn o) answer
+      → (e : DecideError) → IsRefusal answer e
       → NotDecided (sight_of old) (sight_of new) x o e
   was_not answer (kv.Made is made) Device h = never (ap is_refusal (sym h ∙ is) ∙ no_refusal o)
   was_not answer (kv.Made is made) Memory h = never (ap is_refusal (sym h ∙ is) ∙ no_refusal o)
@@ -170,6 +183,7 @@ module _ (old mid new : KvSight) (x : Xid) (o : Outcome) (works : old.log.sight.
   was_not answer (kv.Spent is commits few alike) NotInDoubt h = absurd h
 
 -- an error, said of in other words
-pub map_err : {A E : Type 0} (P Q : E → Type 0) (r : Result A E) → ((e : E) → P e → Q e) → IfErr r P → IfErr r Q
+pub map_err : {A E : Type 0} (P Q : E → Type 0) (r : Result A E)
+    → ((e : E) → P e → Q e) → IfErr r P → IfErr r Q
 map_err P Q (Ok a) each h = tt
 map_err P Q (Err e) each h = each e h

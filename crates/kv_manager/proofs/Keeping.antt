@@ -70,28 +70,35 @@ data_stay v v' d stays are = record {
 
 -- data that are the same say the same
 pub one_data : (v v' : VersionTable) → v' ≡ v → SameData v v'
-one_data v v' one = subst (λ w. SameData v w) (sym one) (record { base = refl; count = refl; is_staged = refl; values = λ n k. refl })
+one_data v v' one = subst (λ w. SameData v w) (sym one)
+    (record { base = refl; count = refl; is_staged = refl; values = λ n k. refl })
 
-pub kept_by : (s : KvSight) (store : KeySight) → IsKept s → KeepsPromises s.store store → IsKept (record s { store = store })
+pub kept_by : (s : KvSight) (store : KeySight) → IsKept s → KeepsPromises s.store store
+    → IsKept (record s { store = store })
 kept_by s store kept keeps = record {
   kind = kept.kind;
   stands = λ works. record {
-    are_data = data_stay s.store.versions store.versions (logged s) keeps.versions (kept.stands works).are_data;
+    are_data = data_stay s.store.versions store.versions (logged s) keeps.versions
+        (kept.stands works).are_data;
     rise = (kept.stands works).rise;
     promises = λ x is. keeps.writes x is ∙ (kept.stands works).promises x (keeps.prepared x is);
     marked = λ x is. (kept.stands works).marked x (keeps.prepared x is);
-    decided = λ x is. subst (SaysDecided (records_of s.log.sight.kept) x) (sym (keeps.known x is)) ((kept.stands works).decided x (keeps.decided x is));
+    decided = λ x is. subst (SaysDecided (records_of s.log.sight.kept) x) (sym (keeps.known x is))
+        ((kept.stands works).decided x (keeps.decided x is));
   };
 }
 
-prepared_by : (old new : States) → Keeps is_prepared old new → (s s' : KeySight) → s.tables ≡ old → s'.tables ≡ new
+prepared_by : (old new : States) → Keeps is_prepared old new → (s s' : KeySight)
+    → s.tables ≡ old → s'.tables ≡ new
     → (x : Xid) → state_of s' x ≡ S3 → state_of s x ≡ S3
 prepared_by old new keeps s s' is_old is_new x is =
     prepared_is (state_of s x)
     (ap (λ t. is_prepared (state_of (record s { tables = t }) x)) is_old
-    ∙ keeps x (ap (λ t. is_prepared (state_of (record s' { tables = t }) x)) (sym is_new) ∙ ap is_prepared is))
+    ∙ keeps x (ap (λ t. is_prepared (state_of (record s' { tables = t }) x))
+    (sym is_new) ∙ ap is_prepared is))
 
-decided_by : (old new : States) → Keeps is_decided old new → (s s' : KeySight) → s.tables ≡ old → s'.tables ≡ new
+decided_by : (old new : States) → Keeps is_decided old new → (s s' : KeySight)
+    → s.tables ≡ old → s'.tables ≡ new
     → (x : Xid) → state_of s' x ≡ S5 → state_of s x ≡ S5
 decided_by old new keeps s s' is_old is_new x is =
     decided_is (state_of s x)
@@ -101,14 +108,18 @@ decided_by old new keeps s s' is_old is_new x is =
 pub same_promises : (old new : KeySight) → SameStore old new → KeepsPromises old new
 same_promises old new stays = record {
   versions = one_data old.versions new.versions stays.versions;
-  prepared = prepared_by old.tables new.tables (same_keeps is_prepared old.tables new.tables stays.tables) old new refl refl;
+  prepared = prepared_by old.tables new.tables
+      (same_keeps is_prepared old.tables new.tables stays.tables) old new refl refl;
   writes = λ x is. stays.writes x;
-  decided = decided_by old.tables new.tables (same_keeps is_decided old.tables new.tables stays.tables) old new refl refl;
+  decided = decided_by old.tables new.tables (same_keeps is_decided old.tables new.tables
+      stays.tables) old new refl refl;
   known = λ x is. ap decision_or (stays.decisions x);
 }
 
-pub moved_promises : (old new : KeySight) → Keeps is_prepared old.tables new.tables → Keeps is_decided old.tables new.tables
-    → new.writes ≡ old.writes → new.versions ≡ old.versions → new.decisions ≡ old.decisions → KeepsPromises old new
+pub moved_promises : (old new : KeySight) → Keeps is_prepared old.tables new.tables
+    → Keeps is_decided old.tables new.tables
+    → new.writes ≡ old.writes → new.versions ≡ old.versions
+    → new.decisions ≡ old.decisions → KeepsPromises old new
 moved_promises old new keeps still writes versions decisions = record {
   versions = one_data old.versions new.versions versions;
   prepared = prepared_by old.tables new.tables keeps old new refl refl;
@@ -117,7 +128,8 @@ moved_promises old new keeps still writes versions decisions = record {
   known = λ x is. ap (λ t. decision_or (decision_in t x)) decisions;
 }
 
-pub refused_same : (old new : KeySight) (refusal : Option WorkError) (e : WorkError) → IsRefused old new refusal e → SameStore old new
+pub refused_same : (old new : KeySight) (refusal : Option WorkError) (e : WorkError)
+    → IsRefused old new refusal e → SameStore old new
 refused_same old new refusal Memory h = h.1
 refused_same old new refusal NotAssociated h = h.1
 refused_same old new refusal (Locked y) h = h.1
@@ -126,23 +138,29 @@ refused_same old new refusal TooManyWrites h = h.1
 refused_same old new refusal RmFail h = h.1
 refused_same old new refusal RollbackOnly h = h.1
 
-pub wrote_promises : (old new : KeySight) (t : ℕ) (k : List ℕ) (v : Option (List ℕ)) → Writes old new t k v → KeepsPromises old new
+pub wrote_promises : (old new : KeySight) (t : ℕ) (k : List ℕ) (v : Option (List ℕ))
+    → Writes old new t k v → KeepsPromises old new
 wrote_promises old new t k v wrote = record {
   versions = one_data old.versions new.versions wrote.versions;
   prepared = λ x is. ap (λ s. state_of (record old { tables = s }) x) (sym wrote.tables) ∙ is;
-  writes = λ x is. writes x (ap (λ s. state_of (record old { tables = s }) x) (sym wrote.tables) ∙ is) (same wrote.branch x) refl;
+  writes = λ x is. writes x (ap (λ s. state_of (record old { tables = s }) x) (sym wrote.tables)
+      ∙ is) (same wrote.branch x) refl;
   decided = λ x is. ap (λ s. state_of (record old { tables = s }) x) (sym wrote.tables) ∙ is;
   known = λ x is. ap (λ d. decision_or (decision_in d x)) wrote.decisions;
 }
   where
-    writes : (x : Xid) → state_of old x ≡ S3 → (b : Bool) → same wrote.branch x ≡ b → writes_of new.writes x ≡ writes_of old.writes x
+    writes : (x : Xid) → state_of old x ≡ S3 → (b : Bool) → same wrote.branch x ≡ b
+        → writes_of new.writes x ≡ writes_of old.writes x
     writes x is true e =
-        let apart : is_prepared (state_of old wrote.branch) ≡ false = works_apart is_prepared old t wrote.branch refl refl wrote.works in
-        absurd (let never : true ≡ false = sym (ap is_prepared is) ∙ ap (λ z. is_prepared (state_of old z)) (sym (same_is wrote.branch x e)) ∙ apart in cc)
+        let apart : is_prepared (state_of old wrote.branch) ≡ false =
+        works_apart is_prepared old t wrote.branch refl refl wrote.works in
+        absurd (let never : true ≡ false = sym (ap is_prepared is)
+        ∙ ap (λ z. is_prepared (state_of old z)) (sym (same_is wrote.branch x e)) ∙ apart in cc)
     writes x is false e = wrote.writes.others x e
 
 -- results, both ways
-pub either_way : {A E : Type 0} (P : A → Type 0) (Q : E → Type 0) (X : Type 0) (r : Result A E) → IfOk r P → IfErr r Q
+pub either_way : {A E : Type 0} (P : A → Type 0) (Q : E → Type 0) (X : Type 0)
+    (r : Result A E) → IfOk r P → IfErr r Q
     → ((a : A) → P a → X) → ((e : E) → Q e → X) → X
 either_way P Q X (Ok a) ok err made refused = made a ok
 either_way P Q X (Err e) ok err made refused = refused e err
@@ -152,7 +170,8 @@ map_ok P Q (Ok a) ok each = each a ok
 map_ok P Q (Err e) ok each = tt
 
 -- an error that another was turned into
-pub made_error : {A E : Type 0} (Q : E → Type 0) (e : E) (r : Result A E) → IsErrAnd r (λ f. f ≡ e) → Q e → IfErr r Q
+pub made_error : {A E : Type 0} (Q : E → Type 0) (e : E) (r : Result A E)
+    → IsErrAnd r (λ f. f ≡ e) → Q e → IfErr r Q
 made_error Q e (Ok a) is q = absurd is
 made_error Q e (Err f) is q = subst Q (sym is) q
 
@@ -173,7 +192,8 @@ room_alone old new stays = record {
   prepared = λ x is. ap (λ s. state_of (record old { tables = s }) x) (sym stays.tables) ∙ is;
   writes = λ x is. ap (λ w. writes_of w x) stays.writes;
   decided = λ x is. ap (λ s. state_of (record old { tables = s }) x) (sym stays.tables) ∙ is;
-  known = λ x is. ap (λ (ds : List (Xid × Decision)). decision_or (decision_in (record old.decisions { decisions = ds }) x)) stays.decisions;
+  known = λ x is. ap (λ (ds : List (Xid × Decision)). decision_or
+      (decision_in (record old.decisions { decisions = ds }) x)) stays.decisions;
 }
 
 -- Opening and closing move no branch.
@@ -182,34 +202,45 @@ not_zero : (n : ℕ) → (n == 0) ≡ false → n ≡ 0 → ⊥
 not_zero n e z = absurd (let f : (0 == 0) ≡ false = subst (λ (k : ℕ). (k == 0) ≡ false) z e in cc)
 
 closed_one : (old new : States) (c : Code) → Closed old new c → new.branches ≡ old.branches
-closed_one old new c h = by_tests (length old.associations.holders == 0) (length old.associations.moved == 0) refl refl
+closed_one old new c h = by_tests (length old.associations.holders == 0)
+    (length old.associations.moved == 0) refl refl
   where
     held : (IsBare old.associations → ⊥) → new.branches ≡ old.branches
     held n = ap (λ (m : States). m.branches) (h.held n).1
 
-    by_tests : (a b : Bool) → (length old.associations.holders == 0) ≡ a → (length old.associations.moved == 0) ≡ b → new.branches ≡ old.branches
-    by_tests true true e f = (h.done (record { holders = eqb-true (length old.associations.holders) 0 e; moved = eqb-true (length old.associations.moved) 0 f })).2
+    by_tests : (a b : Bool) → (length old.associations.holders == 0) ≡ a
+        → (length old.associations.moved == 0) ≡ b → new.branches ≡ old.branches
+    by_tests true true e f = (h.done (record {
+      holders = eqb-true (length old.associations.holders) 0 e;
+      moved = eqb-true (length old.associations.moved) 0 f;
+    })).2
     by_tests true false e f = held (λ bare. not_zero (length old.associations.moved) f bare.moved)
     by_tests false b e f = held (λ bare. not_zero (length old.associations.holders) e bare.holders)
 
-pub closes_one : (old new : States) (flags : ℕ) (c : Code) → Closes old new flags c → new.branches ≡ old.branches
+pub closes_one : (old new : States) (flags : ℕ) (c : Code) → Closes old new flags c
+    → new.branches ≡ old.branches
 closes_one old new flags c h = by_legal (legal verb.Close flags) h
   where
-    by_legal : (r : Result Call Code) → MatchResult r (λ _. Closed old new c) (λ refusal. (c ≡ refusal) × (new ≡ old)) → new.branches ≡ old.branches
+    by_legal : (r : Result Call Code) → MatchResult r (λ _. Closed old new c)
+        (λ refusal. (c ≡ refusal) × (new ≡ old)) → new.branches ≡ old.branches
     by_legal (Ok k) h = closed_one old new c h
     by_legal (Err e) h = ap (λ (m : States). m.branches) h.1
 
-pub opens_one : (old new : States) (flags : ℕ) (migrates : Bool) (c : Code) → Opens old new flags migrates c → new.branches ≡ old.branches
+pub opens_one : (old new : States) (flags : ℕ) (migrates : Bool) (c : Code) → Opens old new flags migrates c
+    → new.branches ≡ old.branches
 opens_one old new flags migrates c h = by_legal (legal verb.Open flags) h
   where
-    by_legal : (r : Result Call Code) → MatchResult r (λ _. Opened old new migrates c) (λ refusal. (c ≡ refusal) × (new ≡ old)) → new.branches ≡ old.branches
+    by_legal : (r : Result Call Code) → MatchResult r (λ _. Opened old new migrates c)
+        (λ refusal. (c ≡ refusal) × (new ≡ old)) → new.branches ≡ old.branches
     by_legal (Ok k) h = h.branches
     by_legal (Err e) h = ap (λ (m : States). m.branches) h.1
 
 -- a call that moves no branch keeps the promises
-pub called_promises : (old new : KeySight) → new.tables.branches ≡ old.tables.branches → new.writes ≡ old.writes
+pub called_promises : (old new : KeySight) → new.tables.branches
+    ≡ old.tables.branches → new.writes ≡ old.writes
     → new.versions ≡ old.versions → new.decisions ≡ old.decisions → KeepsPromises old new
-called_promises old new one writes versions decisions = moved_promises old new (keeps is_prepared) (keeps is_decided) writes versions decisions
+called_promises old new one writes versions decisions =
+    moved_promises old new (keeps is_prepared) (keeps is_decided) writes versions decisions
   where
     keeps : (q : BranchState → Bool) → Keeps q old.tables new.tables
     keeps q x h = ap (λ (b : BranchList). q (state_in b.branches x)) (sym one) ∙ h

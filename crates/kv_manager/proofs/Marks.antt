@@ -79,18 +79,25 @@ pub record Agrees (s : SeenLog) (m : Xid → Mark) (boot : ℕ) : Type 0 where
   pub states : (x : Xid) → state_by (found s x) ≡ marked_state (m x)
   pub last : boot_is s.boot ≡ boot
 
-agrees_stays : (s t : SeenLog) (m : Xid → Mark) (n k : ℕ) → t.live ≡ s.live → boot_is t.boot ≡ k → Agrees s m n → Agrees t m k
+agrees_stays : (s t : SeenLog) (m : Xid → Mark) (n k : ℕ) → t.live ≡ s.live → boot_is t.boot ≡ k
+    → Agrees s m n → Agrees t m k
 agrees_stays s t m n k live boot a =
-    record { states = λ x. subst (λ (es : List (Xid × Promise)). state_by (found (record t { live = es }) x) ≡ marked_state (m x)) (sym live) (a.states x); last = boot }
+    record {
+      states = λ x. subst (λ (es : List (Xid × Promise)). state_by (found (record t { live = es }) x)
+          ≡ marked_state (m x)) (sym live) (a.states x);
+      last = boot;
+    }
 
 -- the marks behind a record of one branch
 abbrev set_at : Xid → Mark → (Xid → Mark) → Xid → Mark
 set_at k v m x = cond (same_branch (Foreign k) (Foreign x)) v (m x)
 
-agrees_put : (s : SeenLog) (m : Xid → Mark) (n : ℕ) (k : Xid) (p : Promise) (v : Mark) → state_by (Some p) ≡ marked_state v → Agrees s m n
+agrees_put : (s : SeenLog) (m : Xid → Mark) (n : ℕ) (k : Xid) (p : Promise) (v : Mark)
+    → state_by (Some p) ≡ marked_state v → Agrees s m n
     → Agrees (with_promise s k p) (set_at k v m) n
 agrees_put s m n k p v is a = record {
-  states = λ x. ap state_by (found_put k x p s.live) ∙ by_test x (same x k) ∙ ap (λ t. marked_state (cond t v (m x))) (same_turns x k ∙ sym (branch_same k x));
+  states = λ x. ap state_by (found_put k x p s.live) ∙ by_test x (same x k)
+      ∙ ap (λ t. marked_state (cond t v (m x))) (same_turns x k ∙ sym (branch_same k x));
   last = a.last;
 }
   where
@@ -98,10 +105,12 @@ agrees_put s m n k p v is a = record {
     by_test x true = is
     by_test x false = a.states x
 
-agrees_out : (s : SeenLog) (m : Xid → Mark) (n : ℕ) (k : Xid) (v : Mark) → IsDistinct same (keys_of s.live) → marked_state v ≡ S0 → Agrees s m n
+agrees_out : (s : SeenLog) (m : Xid → Mark) (n : ℕ) (k : Xid) (v : Mark) → IsDistinct same (keys_of s.live)
+    → marked_state v ≡ S0 → Agrees s m n
     → Agrees (without_promise s k) (set_at k v m) n
 agrees_out s m n k v distinct is a = record {
-  states = λ x. ap state_by (found_out k x s.live distinct) ∙ by_test x (same k x) ∙ ap (λ t. marked_state (cond t v (m x))) (sym (branch_same k x));
+  states = λ x. ap state_by (found_out k x s.live distinct) ∙ by_test x (same k x)
+      ∙ ap (λ t. marked_state (cond t v (m x))) (sym (branch_same k x));
   last = a.last;
 }
   where
@@ -110,14 +119,20 @@ agrees_out s m n k v distinct is a = record {
     by_test x false = a.states x
 
 -- a branch that is not known is marked as finished
-agrees_off : (s : SeenLog) (m : Xid → Mark) (n : ℕ) (k : Xid) → is_some (found s k) ≡ false → Agrees s m n → Agrees s (set_at k Finished m) n
-agrees_off s m n k off a = record { states = λ x. by_test x (same k x) refl ∙ ap (λ t. marked_state (cond t Finished (m x))) (sym (branch_same k x)); last = a.last }
+agrees_off : (s : SeenLog) (m : Xid → Mark) (n : ℕ) (k : Xid) → is_some (found s k) ≡ false → Agrees s m n
+    → Agrees s (set_at k Finished m) n
+agrees_off s m n k off a = record {
+  states = λ x. by_test x (same k x) refl
+      ∙ ap (λ t. marked_state (cond t Finished (m x))) (sym (branch_same k x));
+  last = a.last;
+}
   where
     none : (o : Option Promise) → is_some o ≡ false → state_by o ≡ S0
     none None e = refl
     none (Some p) e = absurd (cc)
 
-    by_test : (x : Xid) (t : Bool) → same k x ≡ t → state_by (found s x) ≡ marked_state (cond t Finished (m x))
+    by_test : (x : Xid) (t : Bool) → same k x ≡ t
+        → state_by (found s x) ≡ marked_state (cond t Finished (m x))
     by_test x true e = none (found s x) (ap (λ y. is_some (found s y)) (sym (same_is k x e)) ∙ off)
     by_test x false e = a.states x
 
@@ -127,7 +142,8 @@ agrees_off s m n k off a = record { states = λ x. by_test x (same k x) refl ∙
 abbrev next_marks : Option ProcessId → Record → (Xid → Mark) → Xid → Mark
 next_marks q r m x = mark_after (Foreign x) (m x) (renamed_by q (record_branch r) r)
 
-module _ (s t : SeenLog) (m : Xid → Mark) (n : ℕ) (q : Option ProcessId) (distinct : IsDistinct same (keys_of s.live)) (a : Agrees s m n) where
+module _ (s t : SeenLog) (m : Xid → Mark) (n : ℕ) (q : Option ProcessId)
+    (distinct : IsDistinct same (keys_of s.live)) (a : Agrees s m n) where
   by_record : (r : Record) → followed s q r ≡ Some t → Agrees t (next_marks q r m) (boot_after n r)
   by_record (Opened b) h =
       let is = (taken (boot_rises s.boot b) _ t h).1 in
@@ -149,8 +165,10 @@ module _ (s t : SeenLog) (m : Xid → Mark) (n : ℕ) (q : Option ProcessId) (di
       agrees_stays s t m n n (ap (λ u. u.live) (sym is)) (ap (λ u. boot_is u.boot) (sym is) ∙ a.last) a
   by_record (Prepared b ws) h =
       let k = name_xid q b in
-      let is = (taken (not (is_some (found s k)) && nat_lt (length s.live) 1024 && keys_once ws && keys_free (promises s) ws) _ t h).1 in
-      subst (λ u. Agrees u (next_marks q (Prepared b ws) m) n) is (agrees_put s m n k (record { mark = Open; writes = ws }) Promised refl a)
+      let is = (taken (not (is_some (found s k)) && nat_lt (length s.live) 1024 && keys_once ws
+      && keys_free (promises s) ws) _ t h).1 in
+      subst (λ u. Agrees u (next_marks q (Prepared b ws) m) n) is
+      (agrees_put s m n k (record { mark = Open; writes = ws }) Promised refl a)
   by_record (Committed b) h =
       let k = name_xid q b in
       let is = (taken (is_open (found s k)) _ t h).1 in
@@ -162,20 +180,24 @@ module _ (s t : SeenLog) (m : Xid → Mark) (n : ℕ) (q : Option ProcessId) (di
   by_record (Direct b ws) h =
       let k = name_xid q b in
       let made = refused (is_some (found s k)) _ t h in
-      agrees_stays s t (set_at k Finished m) n n (ap (λ u. u.live) (sym made.1)) (ap (λ u. boot_is u.boot) (sym made.1) ∙ a.last)
+      agrees_stays s t (set_at k Finished m) n n (ap (λ u. u.live) (sym made.1))
+      (ap (λ u. boot_is u.boot) (sym made.1) ∙ a.last)
       (agrees_off s m n k made.0 a)
   by_record (HeurCommit b) h =
       let k = name_xid q b in
       let is = (taken (is_open (found s k)) _ t h).1 in
-      subst (λ u. Agrees u (next_marks q (HeurCommit b) m) n) is (agrees_put s m n k (record { mark = Decided; writes = [] }) DecidedMark refl a)
+      subst (λ u. Agrees u (next_marks q (HeurCommit b) m) n) is
+      (agrees_put s m n k (record { mark = Decided; writes = [] }) DecidedMark refl a)
   by_record (HeurRollback b) h =
       let k = name_xid q b in
       let is = (taken (is_open (found s k)) _ t h).1 in
-      subst (λ u. Agrees u (next_marks q (HeurRollback b) m) n) is (agrees_put s m n k (record { mark = Decided; writes = [] }) DecidedMark refl a)
+      subst (λ u. Agrees u (next_marks q (HeurRollback b) m) n) is
+      (agrees_put s m n k (record { mark = Decided; writes = [] }) DecidedMark refl a)
   by_record (ToldRecord b o) h =
       let k = name_xid q b in
       let is = (taken (is_untold (found s k)) _ t h).1 in
-      subst (λ u. Agrees u (next_marks q (ToldRecord b o) m) n) is (agrees_put s m n k (record { mark = Told; writes = [] }) (ToldOf o) refl a)
+      subst (λ u. Agrees u (next_marks q (ToldRecord b o) m) n) is
+      (agrees_put s m n k (record { mark = Told; writes = [] }) (ToldOf o) refl a)
   by_record (Forgot b) h =
       let k = name_xid q b in
       let is = (taken (is_heuristic (found s k)) _ t h).1 in
@@ -187,7 +209,8 @@ module _ (s t : SeenLog) (m : Xid → Mark) (n : ℕ) (q : Option ProcessId) (di
       let is = (taken (rises s.before k) _ t h).1 in
       agrees_stays s t m n n (ap (λ u. u.live) (sym is)) (ap (λ u. boot_is u.boot) (sym is) ∙ a.last) a
 
-agrees_after : (s t : SeenLog) (m : Xid → Mark) (n : ℕ) (l : LogRecord) → IsDistinct same (keys_of s.live) → Agrees s m n → after s l ≡ Some t
+agrees_after : (s t : SeenLog) (m : Xid → Mark) (n : ℕ) (l : LogRecord) → IsDistinct same (keys_of s.live)
+    → Agrees s m n → after s l ≡ Some t
     → Agrees t (next_marks l.parent l.entry m) (boot_after n l.entry)
 unfolding after
 agrees_after s t m n l distinct a h = by_test (is_some s.boot) (is_opened l.entry) h
@@ -198,22 +221,27 @@ agrees_after s t m n l distinct a h = by_test (is_some s.boot) (is_opened l.entr
     by_test false true h = by_record s t m n l.parent distinct a l.entry h
     by_test false false h = absurd (cc)
 
-agrees_from : (ls : List LogRecord) (s t : SeenLog) (d : Data) (m : Xid → Mark) (n : ℕ) → IsLawful s d → Agrees s m n
+agrees_from : (ls : List LogRecord) (s t : SeenLog) (d : Data) (m : Xid → Mark) (n : ℕ)
+    → IsLawful s d → Agrees s m n
     → seen_after (Some s) ls ≡ Some t
-    → Agrees t (λ x. fold (mark_after (Foreign x)) (m x) (map by_xid ls)) (fold boot_after n (map (λ l. l.entry) ls))
+    → Agrees t (λ x. fold (mark_after (Foreign x)) (m x) (map by_xid ls))
+    (fold boot_after n (map (λ l. l.entry) ls))
 unfolding seen_after
 agrees_from [] s t d m n l a h = subst (λ u. Agrees u m n) (some_is s t h) a
-agrees_from (r ∷ ls) s t d m n l a h = by_after (after s r) refl h (λ u e g. agrees_from ls u t (stored_after d (by_xid r)) (next_marks r.parent r.entry m) (boot_after n r.entry) e g)
+agrees_from (r ∷ ls) s t d m n l a h = by_after (after s r) refl h (λ u e g. agrees_from ls u t
+    (stored_after d (by_xid r)) (next_marks r.parent r.entry m) (boot_after n r.entry) e g)
   where
     by_after : (o : Option SeenLog) → after s r ≡ o → seen_after o ls ≡ Some t
-        → ((u : SeenLog) → IsLawful u (stored_after d (by_xid r)) → Agrees u (next_marks r.parent r.entry m) (boot_after n r.entry)
+        → ((u : SeenLog) → IsLawful u (stored_after d (by_xid r))
+        → Agrees u (next_marks r.parent r.entry m) (boot_after n r.entry)
         → seen_after (Some u) ls ≡ Some t
         → Agrees t (λ x. fold (mark_after (Foreign x)) (next_marks r.parent r.entry m x) (map by_xid ls))
         (fold boot_after (boot_after n r.entry) (map (λ l. l.entry) ls)))
         → Agrees t (λ x. fold (mark_after (Foreign x)) (next_marks r.parent r.entry m x) (map by_xid ls))
         (fold boot_after (boot_after n r.entry) (map (λ l. l.entry) ls))
     by_after None e g more = absurd (never_seen ls t g)
-    by_after (Some u) e g more = more u (lawful_after s u r d l e) (agrees_after s u m n r l.orderly.distinct a e) g
+    by_after (Some u) e g more = more u (lawful_after s u r d l e)
+        (agrees_after s u m n r l.orderly.distinct a e) g
 
 -- nothing was seen of an empty log
 nothing : IsLawful nothing_seen no_data → Agrees nothing_seen (λ x. Unmarked) 0
@@ -228,9 +256,11 @@ unfolding stored
 lawful_nothing = lawful_of [] nothing_seen seen_nothing
 
 -- each branch is in the state that its last record says, and the boot is the last one
-pub agrees_of : (ls : List LogRecord) (t : SeenLog) → seen_of ls ≡ Some t → Agrees t (mark_at ls) (boot_of (map (λ l. l.entry) ls))
+pub agrees_of : (ls : List LogRecord) (t : SeenLog) → seen_of ls ≡ Some t
+    → Agrees t (mark_at ls) (boot_of (map (λ l. l.entry) ls))
 unfolding mark_of boot_of
-agrees_of ls t h = agrees_from ls nothing_seen t no_data (λ x. Unmarked) 0 lawful_nothing (nothing lawful_nothing) h
+agrees_of ls t h = agrees_from ls nothing_seen t no_data (λ x. Unmarked) 0
+    lawful_nothing (nothing lawful_nothing) h
 
 -- a branch that is prepared promised last
 pub prepared_mark : (m : Mark) → marked_state m ≡ S3 → m ≡ Promised
@@ -241,7 +271,8 @@ prepared_mark (ToldOf o) e = absurd (cc)
 prepared_mark Finished e = absurd (cc)
 
 -- the next boot
-pub boot_next : (ls : List LogRecord) (t : SeenLog) (b : ℕ) → seen_of ls ≡ Some t → next_boot t.boot ≡ Some b → b ≡ boot_behind ls
+pub boot_next : (ls : List LogRecord) (t : SeenLog) (b : ℕ) → seen_of ls ≡ Some t
+    → next_boot t.boot ≡ Some b → b ≡ boot_behind ls
 boot_next ls t b h is = sym (by_boot t.boot is) ∙ ap (λ n. n + 1) (agrees_of ls t h).last
   where
     by_boot : (o : Option ℕ) → next_boot o ≡ Some b → boot_is o + 1 ≡ b
@@ -249,7 +280,8 @@ boot_next ls t b h is = sym (by_boot t.boot is) ∙ ap (λ n. n + 1) (agrees_of 
     by_boot (Some n) e = (taken (nat_lt n (2 ^ 63 - 1)) (n + 1) b e).1
 
 -- what each branch has written
-pub writes_as : (ls : List LogRecord) (t : SeenLog) (x : Xid) → seen_of ls ≡ Some t → promised t x ≡ writes_left ls x
+pub writes_as : (ls : List LogRecord) (t : SeenLog) (x : Xid) → seen_of ls ≡ Some t
+    → promised t x ≡ writes_left ls x
 writes_as ls t x h =
     by_found (found t x) (mark_at ls x) ((agrees_of ls t h).states x) ((lawful_of ls t h).tied.tied x)
   where
@@ -267,7 +299,8 @@ writes_as ls t x h =
     by_mark p false (ToldOf o) e tied = refl
     by_mark p false Finished e tied = refl
 
-    none : (v : Mark) → S0 ≡ marked_state v → [] ≡ marked_writes v (promised_of (Foreign x) (data_of ls).promised)
+    none : (v : Mark) → S0 ≡ marked_state v → []
+        ≡ marked_writes v (promised_of (Foreign x) (data_of ls).promised)
     none Unmarked e = refl
     none Promised e = absurd (cc)
     none DecidedMark e = refl

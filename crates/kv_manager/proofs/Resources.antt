@@ -60,16 +60,19 @@ use Rattle.kv_manager.specs.Resources.{data_refusal, obstacle_of, sight_of}
 
 limit_same : (old new : KeySight) → SameWrites old.writes new.writes → (x : Xid) (k : List ℕ) (m : Mode)
     → limit_refusal new x k m ≡ limit_refusal old x k m
-limit_same old new same x k Exclusive = ap (λ ws. if is_within_limit ws k then None else Some TooManyWrites) (same x)
+limit_same old new same x k Exclusive = ap (λ ws. if is_within_limit ws k then None
+    else Some TooManyWrites) (same x)
 limit_same old new same x k Shared = refl
 
-refusal_same : (old new : KeySight) → new.locks ≡ old.locks → SameWrites old.writes new.writes → (x : Xid) (k : List ℕ)
+refusal_same : (old new : KeySight) → new.locks ≡ old.locks
+    → SameWrites old.writes new.writes → (x : Xid) (k : List ℕ)
     (v : Option (List ℕ)) (m : Mode) → data_refusal new k v m x ≡ data_refusal old k v m x
 refusal_same old new locks same x k v m =
     λ i. if is_too_long k v then Some TooLong
     else unless_locked (blocked_by (holders_of (locks i) k) x m) (limit_same old new same x k m i)
 
-pub obstacle_same : (old new : KeySight) → new.locks ≡ old.locks → SameWrites old.writes new.writes → (x : Xid) (op : Op)
+pub obstacle_same : (old new : KeySight) → new.locks ≡ old.locks
+    → SameWrites old.writes new.writes → (x : Xid) (op : Op)
     → obstacle_of new x op ≡ obstacle_of old x op
 obstacle_same old new locks same x (Put k v) = refusal_same old new locks same x k (Some v) Exclusive
 obstacle_same old new locks same x (Get k) = refusal_same old new locks same x k None Shared
@@ -92,7 +95,8 @@ same_sight old new same =
 -- Calls on the tables alone.
 
 moved_rest : (old new : KeySight) (Moves : States → States → Type 0) → MovesTables old new Moves
-    → (not (has_numbers new) ≡ not (has_numbers old)) × SameWrites old.writes new.writes × ((x : Xid) → known_of new x ≡ known_of old x)
+    → (not (has_numbers new) ≡ not (has_numbers old)) × SameWrites old.writes new.writes
+    × ((x : Xid) → known_of new x ≡ known_of old x)
 moved_rest old new Moves made = (
   ap (λ v. not (nat_lt v.count (2 ^ 63 - 1))) made.versions,
   λ x. ap (λ w. writes_of w x) made.writes,
@@ -100,7 +104,8 @@ moved_rest old new Moves made = (
 )
 
 pub called : (old new : KvSight) (refuses : Type 0) (Moves : States → States → Type 0)
-    → KvCalls old new refuses (λ before behind. MovesTables before behind Moves) → Calls (sight_of old) (sight_of new) refuses Moves
+    → KvCalls old new refuses (λ before behind. MovesTables before behind Moves)
+    → Calls (sight_of old) (sight_of new) refuses Moves
 called old new refuses Moves made = by_failed old.log.sight.failed refl
   where
     by_failed : (b : Bool) → old.log.sight.failed ≡ b → Calls (sight_of old) (sight_of new) refuses Moves
@@ -131,13 +136,16 @@ called old new refuses Moves made = by_failed old.log.sight.failed refl
 
 -- Work.
 
-refused_as : (s : KeySight) (k : List ℕ) (v : Option (List ℕ)) (m : Mode) (x : Xid) (st : BranchState) → state_of s x ≡ st
+refused_as : (s : KeySight) (k : List ℕ) (v : Option (List ℕ)) (m : Mode) (x : Xid)
+    (st : BranchState) → state_of s x ≡ st
     → model.state_refusal st (data_refusal s k v m x) ≡ refusal_by s k v m (working st x)
 refused_as s k v m x S0 is = refl
-refused_as s k v m x S1 is = sym (ap (λ t. if is_spoiled t then Some RollbackOnly else data_refusal s k v m x) is)
+refused_as s k v m x S1 is =
+    sym (ap (λ t. if is_spoiled t then Some RollbackOnly else data_refusal s k v m x) is)
 refused_as s k v m x S2 is = refl
 refused_as s k v m x S3 is = refl
-refused_as s k v m x S4 is = sym (ap (λ t. if is_spoiled t then Some RollbackOnly else data_refusal s k v m x) is)
+refused_as s k v m x S4 is =
+    sym (ap (λ t. if is_spoiled t then Some RollbackOnly else data_refusal s k v m x) is)
 refused_as s k v m x S5 is = refl
 
 -- why an operation is refused, by its key, its value and its lock
@@ -148,26 +156,36 @@ op_refusal s t (Delete k) = core.work_refusal s t k None Exclusive
 
 by_thread : (s : KvSight) (t : ℕ) (op : Op) (o : Option Xid) → active_of s.store.tables.associations t ≡ o
     → model.refusal_by (sight_of s) op o ≡ op_refusal s.store t op
-by_thread s t (Put k v) None is = ap (λ a. refusal_by s.store k (Some v) Exclusive (worker_of s.store a)) (sym is)
+by_thread s t (Put k v) None is = ap (λ a. refusal_by s.store k (Some v) Exclusive
+    (worker_of s.store a)) (sym is)
 by_thread s t (Get k) None is = ap (λ a. refusal_by s.store k None Shared (worker_of s.store a)) (sym is)
-by_thread s t (Delete k) None is = ap (λ a. refusal_by s.store k None Exclusive (worker_of s.store a)) (sym is)
+by_thread s t (Delete k) None is = ap (λ a. refusal_by s.store k None Exclusive
+    (worker_of s.store a)) (sym is)
 by_thread s t (Put k v) (Some x) is =
-    refused_as s.store k (Some v) Exclusive x (state_of s.store x) refl ∙ ap (λ a. refusal_by s.store k (Some v) Exclusive (worker_of s.store a)) (sym is)
+    refused_as s.store k (Some v) Exclusive x (state_of s.store x) refl
+    ∙ ap (λ a. refusal_by s.store k (Some v) Exclusive (worker_of s.store a)) (sym is)
 by_thread s t (Get k) (Some x) is =
-    refused_as s.store k None Shared x (state_of s.store x) refl ∙ ap (λ a. refusal_by s.store k None Shared (worker_of s.store a)) (sym is)
+    refused_as s.store k None Shared x (state_of s.store x) refl
+    ∙ ap (λ a. refusal_by s.store k None Shared (worker_of s.store a)) (sym is)
 by_thread s t (Delete k) (Some x) is =
-    refused_as s.store k None Exclusive x (state_of s.store x) refl ∙ ap (λ a. refusal_by s.store k None Exclusive (worker_of s.store a)) (sym is)
+    refused_as s.store k None Exclusive x (state_of s.store x) refl
+    ∙ ap (λ a. refusal_by s.store k None Exclusive (worker_of s.store a)) (sym is)
 
-refusal_as : (s : KvSight) (t : ℕ) (op : Op) → s.log.sight.failed ≡ false → work_refusal (sight_of s) t op ≡ op_refusal s.store t op
+refusal_as : (s : KvSight) (t : ℕ) (op : Op) → s.log.sight.failed ≡ false
+    → work_refusal (sight_of s) t op ≡ op_refusal s.store t op
 refusal_as s t op works =
-    ap (λ b. if b then Some RmFail else model.refusal_by (sight_of s) op (active_of s.store.tables.associations t)) works
+    ap (λ b. if b then Some RmFail else model.refusal_by (sight_of s) op
+    (active_of s.store.tables.associations t)) works
     ∙ by_thread s t op (active_of s.store.tables.associations t) refl
 
-refusal_failed : (s : KvSight) (t : ℕ) (op : Op) → s.log.sight.failed ≡ true → work_refusal (sight_of s) t op ≡ Some RmFail
+refusal_failed : (s : KvSight) (t : ℕ) (op : Op) → s.log.sight.failed ≡ true
+    → work_refusal (sight_of s) t op ≡ Some RmFail
 refusal_failed s t op failed =
-    ap (λ b. if b then Some RmFail else model.refusal_by (sight_of s) op (active_of s.store.tables.associations t)) failed
+    ap (λ b. if b then Some RmFail else model.refusal_by (sight_of s) op
+    (active_of s.store.tables.associations t)) failed
 
-stayed : (old new : KvSight) → SameStore old.store new.store → new.log.sight ≡ old.log.sight → new.boot ≡ old.boot
+stayed : (old new : KvSight) → SameStore old.store new.store
+    → new.log.sight ≡ old.log.sight → new.boot ≡ old.boot
     → SameManager (sight_of old) (sight_of new)
 stayed old new same log boot =
     record {
@@ -182,16 +200,19 @@ stayed old new same log boot =
       };
     }
 
-pub work_refused : (old new : KvSight) (t : ℕ) (op : Op) (e : WorkError) → Refuses old new (op_refusal old.store t op) e
+pub work_refused : (old new : KvSight) (t : ℕ) (op : Op) (e : WorkError)
+    → Refuses old new (op_refusal old.store t op) e
     → WorkRefused (sight_of old) (sight_of new) t op e
 work_refused old new t op e made = by_failed old.log.sight.failed refl e made
   where
-    failed_so : (e : WorkError) → work_refusal (sight_of old) t op ≡ Some RmFail → e ≡ RmFail → SameManager (sight_of old) (sight_of new)
+    failed_so : (e : WorkError) → work_refusal (sight_of old) t op ≡ Some RmFail → e ≡ RmFail
+        → SameManager (sight_of old) (sight_of new)
         → WorkRefused (sight_of old) (sight_of new) t op e
     failed_so e is one same = subst (WorkRefused (sight_of old) (sight_of new) t op) (sym one) (is, same)
 
     refused_so : (e : WorkError) → work_refusal (sight_of old) t op ≡ op_refusal old.store t op
-        → IsRefused old.store new.store (op_refusal old.store t op) e → new.log.sight ≡ old.log.sight → new.boot ≡ old.boot
+        → IsRefused old.store new.store (op_refusal old.store t op) e
+        → new.log.sight ≡ old.log.sight → new.boot ≡ old.boot
         → WorkRefused (sight_of old) (sight_of new) t op e
     refused_so Memory as' why log boot = (as' ∙ why.0, stayed old new why.1 log boot)
     refused_so NotAssociated as' why log boot = (as' ∙ why.0, stayed old new why.1 log boot)
@@ -201,9 +222,11 @@ work_refused old new t op e made = by_failed old.log.sight.failed refl e made
     refused_so RmFail as' why log boot = (as' ∙ why.0, stayed old new why.1 log boot)
     refused_so RollbackOnly as' why log boot = (as' ∙ why.0, stayed old new why.1 log boot)
 
-    by_failed : (b : Bool) → old.log.sight.failed ≡ b → (e : WorkError) → Refuses old new (op_refusal old.store t op) e
+    by_failed : (b : Bool) → old.log.sight.failed ≡ b → (e : WorkError)
+        → Refuses old new (op_refusal old.store t op) e
         → WorkRefused (sight_of old) (sight_of new) t op e
-    by_failed true is e made = failed_so e (refusal_failed old t op is) (made.failed is).0 (same_sight old new (made.failed is).1)
+    by_failed true is e made = failed_so e (refusal_failed old t op is) (made.failed is).0
+        (same_sight old new (made.failed is).1)
     by_failed false is e made = refused_so e (refusal_as old t op is) (made.works is) made.log made.boot
 
 worker_is : (st : BranchState) (x y : Xid) → working st x ≡ Some y → x ≡ y
@@ -219,13 +242,17 @@ active_is s None x h = absurd (cc)
 active_is s (Some y) x h = ap Some (worker_is (state_of s y) y x h)
 
 pub same_tables : (a b : States) → b ≡ a → Same a b
-same_tables a b is = subst (Same a) (sym is) (record { init = refl; branches = stays a.branches a.branches refl; associations = refl })
+same_tables a b is = subst (Same a) (sym is)
+    (record { init = refl; branches = stays a.branches a.branches refl; associations = refl })
 
 -- an operation was done by the branch that the thread is active in
-worked : (old new : KvSight) (t : ℕ) (op : Op) (x : Xid) → old.log.sight.failed ≡ false → at_work old.store t ≡ Some x
-    → op_refusal old.store t op ≡ None → writes_of new.store.writes x ≡ op_writes (writes_of old.store.writes x) op
+worked : (old new : KvSight) (t : ℕ) (op : Op) (x : Xid) → old.log.sight.failed ≡ false
+    → at_work old.store t ≡ Some x
+    → op_refusal old.store t op ≡ None → writes_of new.store.writes x
+    ≡ op_writes (writes_of old.store.writes x) op
     → ((y : Xid) → same x y ≡ false → writes_of new.store.writes y ≡ writes_of old.store.writes y)
-    → new.store.tables ≡ old.store.tables → new.store.decisions ≡ old.store.decisions → new.log.sight ≡ old.log.sight → new.boot ≡ old.boot
+    → new.store.tables ≡ old.store.tables → new.store.decisions ≡ old.store.decisions
+    → new.log.sight ≡ old.log.sight → new.boot ≡ old.boot
     → Works (sight_of old) (sight_of new) t op
 worked old new t op x works at allowed own others tables decisions log boot =
     record {
@@ -241,17 +268,21 @@ worked old new t op x works at allowed own others tables decisions log boot =
     }
 
 pub did_read : (old new : KvSight) (t : ℕ) (k : List ℕ) (found : Option (List ℕ))
-    → KvCalls old new ⊥ (λ before behind. Reads before behind t k found) → Works (sight_of old) (sight_of new) t (Get k)
+    → KvCalls old new ⊥ (λ before behind. Reads before behind t k found)
+    → Works (sight_of old) (sight_of new) t (Get k)
 did_read old new t k found made = by_failed old.log.sight.failed refl
   where
     by_failed : (b : Bool) → old.log.sight.failed ≡ b → Works (sight_of old) (sight_of new) t (Get k)
     by_failed true is = absurd (made.failed is).0
     by_failed false is =
         let reads = made.works is in
-        worked old new t (Get k) reads.branch is reads.works (ap (refusal_by old.store k None Shared) reads.works ∙ reads.allowed)
-        (ap (λ w. writes_of w reads.branch) reads.writes) (λ y apart. ap (λ w. writes_of w y) reads.writes) reads.tables reads.decisions made.log made.boot
+        worked old new t (Get k) reads.branch is reads.works
+        (ap (refusal_by old.store k None Shared) reads.works ∙ reads.allowed)
+        (ap (λ w. writes_of w reads.branch) reads.writes) (λ y apart. ap (λ w. writes_of w y) reads.writes)
+        reads.tables reads.decisions made.log made.boot
 
-pub did_put : (old new : KvSight) (t : ℕ) (k v : List ℕ) → KvCalls old new ⊥ (λ before behind. Writes before behind t k (Some v))
+pub did_put : (old new : KvSight) (t : ℕ) (k v : List ℕ)
+    → KvCalls old new ⊥ (λ before behind. Writes before behind t k (Some v))
     → Works (sight_of old) (sight_of new) t (Put k v)
 did_put old new t k v made = by_failed old.log.sight.failed refl
   where
@@ -259,10 +290,12 @@ did_put old new t k v made = by_failed old.log.sight.failed refl
     by_failed true is = absurd (made.failed is).0
     by_failed false is =
         let wrote = made.works is in
-        worked old new t (Put k v) wrote.branch is wrote.works (ap (refusal_by old.store k (Some v) Exclusive) wrote.works ∙ wrote.allowed)
+        worked old new t (Put k v) wrote.branch is wrote.works
+        (ap (refusal_by old.store k (Some v) Exclusive) wrote.works ∙ wrote.allowed)
         wrote.writes.own wrote.writes.others wrote.tables wrote.decisions made.log made.boot
 
-pub did_delete : (old new : KvSight) (t : ℕ) (k : List ℕ) → KvCalls old new ⊥ (λ before behind. Writes before behind t k None)
+pub did_delete : (old new : KvSight) (t : ℕ) (k : List ℕ)
+    → KvCalls old new ⊥ (λ before behind. Writes before behind t k None)
     → Works (sight_of old) (sight_of new) t (Delete k)
 did_delete old new t k made = by_failed old.log.sight.failed refl
   where
@@ -270,7 +303,8 @@ did_delete old new t k made = by_failed old.log.sight.failed refl
     by_failed true is = absurd (made.failed is).0
     by_failed false is =
         let wrote = made.works is in
-        worked old new t (Delete k) wrote.branch is wrote.works (ap (refusal_by old.store k None Exclusive) wrote.works ∙ wrote.allowed)
+        worked old new t (Delete k) wrote.branch is wrote.works
+        (ap (refusal_by old.store k None Exclusive) wrote.works ∙ wrote.allowed)
         wrote.writes.own wrote.writes.others wrote.tables wrote.decisions made.log made.boot
 
 -- The calls that finish a branch: a turn is its row, and its record the row's.
@@ -313,7 +347,8 @@ told_written b o d (Some t) ws = refl
 
 written_as : (s : BranchState) (c : Call) (ws : List Write) (b : Branch) (d : Decision) → is_work c ≡ false
     → has_rows (branch_rows s c) ≡ true
-    → written_by c s b ws d ≡ recorded (turn_of s c (wrote_some ws) b d).entry (turn_of s c (wrote_some ws) b d).is_forced b ws
+    → written_by c s b ws d ≡ recorded (turn_of s c (wrote_some ws) b d).entry
+    (turn_of s c (wrote_some ws) b d).is_forced b ws
 written_as S0 call.Start ws b d w h = absurd (cc)
 written_as S0 _ ws b d w h = absurd (cc)
 written_as S1 call.Start ws b d w h = absurd (cc)
@@ -341,16 +376,21 @@ first_stays : (o : Outcome) (told : Option Outcome) (t : Outcome) → told ≡ S
 first_stays o None t is = absurd (cc)
 first_stays o (Some u) t is = refl
 
-told_known : (b : Branch) (o : Outcome) (known : Option Decision) (told : Option Outcome) → (decision_or known).told ≡ told
-    → decision_or (known_behind (tell_turn b o (decision_or known) told).entry known) ≡ told_behind o (decision_or known)
+told_known : (b : Branch) (o : Outcome) (known : Option Decision) (told : Option Outcome)
+    → (decision_or known).told ≡ told
+    → decision_or (known_behind (tell_turn b o (decision_or known) told).entry known)
+    ≡ told_behind o (decision_or known)
 told_known b o known None is = refl
 told_known b o known (Some t) is =
-    sym (ap (λ u. record { outcome = (decision_or known).outcome; told = u }) (first_stays o (decision_or known).told t is))
+    sym (ap (λ u. record { outcome = (decision_or known).outcome; told = u })
+    (first_stays o (decision_or known).told t is))
 
 -- what is known of a branch behind a turn that leaves it in S5
-known_as : (s : BranchState) (c : Call) (wrote : Bool) (b : Branch) (known : Option Decision) → is_work c ≡ false
+known_as : (s : BranchState) (c : Call) (wrote : Bool) (b : Branch)
+    (known : Option Decision) → is_work c ≡ false
     → has_rows (branch_rows s c) ≡ true → (turn_of s c wrote b (decision_or known)).to ≡ S5
-    → decision_or (known_behind (turn_of s c wrote b (decision_or known)).entry known) ≡ decided_behind c (decision_or known)
+    → decision_or (known_behind (turn_of s c wrote b (decision_or known)).entry known)
+    ≡ decided_behind c (decision_or known)
 known_as S0 call.Start wrote b known w h to = absurd (cc)
 known_as S0 _ wrote b known w h to = absurd (cc)
 known_as S1 call.Start wrote b known w h to = absurd (cc)
@@ -366,8 +406,10 @@ known_as S3 call.Rollback wrote b known w h to = absurd (cc)
 known_as S3 _ wrote b known w h to = absurd (cc)
 known_as S4 call.Rollback wrote b known w h to = absurd (cc)
 known_as S4 _ wrote b known w h to = absurd (cc)
-known_as S5 call.Commit wrote b known w h to = told_known b CommittedOutcome known (decision_or known).told refl
-known_as S5 call.Rollback wrote b known w h to = told_known b AbortedOutcome known (decision_or known).told refl
+known_as S5 call.Commit wrote b known w h to =
+    told_known b CommittedOutcome known (decision_or known).told refl
+known_as S5 call.Rollback wrote b known w h to =
+    told_known b AbortedOutcome known (decision_or known).told refl
 known_as S5 call.Forget wrote b known w h to = absurd (cc)
 known_as S5 _ wrote b known w h to = absurd (cc)
 
@@ -375,10 +417,16 @@ log_as : (old new : KvSight) (x : Xid) (is_forced : Bool) (o : Option Entry) →
     → let ws = recorded o is_forced (name_in x).1 (writes_of old.store.writes x) in
     new.log.sight ≡ wrote old.log.sight ws (logged_under x ws)
 log_as old new x is_forced None is =
-    is ∙ sym (ap (λ us. record old.log.sight { kept = record { forced = old.log.sight.kept.forced; unforced = us } }) (append-nil old.log.sight.kept.unforced))
+    is ∙ sym (ap (λ us. record old.log.sight {
+      kept = record {
+        forced = old.log.sight.kept.forced;
+        unforced = us;
+      };
+    }) (append-nil old.log.sight.kept.unforced))
 log_as old new x is_forced (Some e) is = is
 
-left_own : (old new : KeySight) (x : Xid) (to : BranchState) → LetsGo old new x to → writes_of new.writes x ≡ left_with to (writes_of old.writes x)
+left_own : (old new : KeySight) (x : Xid) (to : BranchState) → LetsGo old new x to
+    → writes_of new.writes x ≡ left_with to (writes_of old.writes x)
 left_own old new x S0 goes = goes.0.own
 left_own old new x S1 goes = ap (λ w. writes_of w x) goes.0
 left_own old new x S2 goes = ap (λ w. writes_of w x) goes.0
@@ -386,7 +434,8 @@ left_own old new x S3 goes = ap (λ w. writes_of w x) goes.0
 left_own old new x S4 goes = ap (λ w. writes_of w x) goes.0
 left_own old new x S5 goes = goes.0.own
 
-left_others : (old new : KeySight) (x : Xid) (to : BranchState) → LetsGo old new x to → (y : Xid) → same x y ≡ false
+left_others : (old new : KeySight) (x : Xid) (to : BranchState) → LetsGo old new x to
+    → (y : Xid) → same x y ≡ false
     → writes_of new.writes y ≡ writes_of old.writes y
 left_others old new x S0 goes y apart = goes.0.others y apart
 left_others old new x S1 goes y apart = ap (λ w. writes_of w y) goes.0
@@ -395,7 +444,8 @@ left_others old new x S3 goes y apart = ap (λ w. writes_of w y) goes.0
 left_others old new x S4 goes y apart = ap (λ w. writes_of w y) goes.0
 left_others old new x S5 goes y apart = goes.0.others y apart
 
-module _ (old new : KvSight) (x : Xid) (c : Call) (w : is_work c ≡ false) (h : has_rows (branch_rows (state_of old.store x) c) ≡ true)
+module _ (old new : KvSight) (x : Xid) (c : Call) (w : is_work c ≡ false)
+    (h : has_rows (branch_rows (state_of old.store x) c) ≡ true)
     (due : IsListed old.store x c (turn_for old.store x c)) where
   abbrev ws : List Write
   ws = writes_of old.store.writes x
@@ -422,9 +472,12 @@ module _ (old new : KvSight) (x : Xid) (c : Call) (w : is_work c ≡ false) (h :
   made_row made =
       record {
         listed = listed;
-        tables = subst (λ (r : Code × BranchState). TakesRow old.store.tables new.store.tables x r.1) is_row made.tables;
-        log = log_as old new x turn.is_forced turn.entry made.log ∙ ap (λ rs. wrote old.log.sight rs (logged_under x rs)) (sym is_written);
-        own = left_own old.store new.store x turn.to made.keeps ∙ ap (λ (r : Code × BranchState). left_with r.1 ws) is_row;
+        tables = subst (λ (r : Code × BranchState). TakesRow old.store.tables
+            new.store.tables x r.1) is_row made.tables;
+        log = log_as old new x turn.is_forced turn.entry made.log
+            ∙ ap (λ rs. wrote old.log.sight rs (logged_under x rs)) (sym is_written);
+        own = left_own old.store new.store x turn.to made.keeps
+            ∙ ap (λ (r : Code × BranchState). left_with r.1 ws) is_row;
         others = left_others old.store new.store x turn.to made.keeps;
         decided = λ to. ap decision_or made.decisions.own
             ∙ known_as (state_of old.store x) c (wrote_some ws) b (decision_in old.store.decisions x) w h
@@ -438,16 +491,17 @@ module _ (old new : KvSight) (x : Xid) (c : Call) (w : is_work c ≡ false) (h :
       let entered : written_for (sight_of old) x c ≡ recorded (Some failed.entry) turn.is_forced b ws =
       is_written ∙ ap (λ o. recorded o turn.is_forced b ws) failed.writes_it in
       record {
-        log = subst (λ rs. Breaks (state_of_log old.log.sight) (state_of_log new.log.sight) (logged_under x rs)) (sym entered) (record {
-          kind = refl;
-          appended = failed.log.appended;
-          stand = failed.log.stand;
-          no_less = failed.log.no_less;
-          more = failed.log.more;
-          leaves = failed.log.leaves;
-          failed = failed.log.failed;
-          cause = failed.log.cause;
-        });
+        log = subst (λ rs. Breaks (state_of_log old.log.sight) (state_of_log new.log.sight)
+            (logged_under x rs)) (sym entered) (record {
+              kind = refl;
+              appended = failed.log.appended;
+              stand = failed.log.stand;
+              no_less = failed.log.no_less;
+              more = failed.log.more;
+              leaves = failed.log.leaves;
+              failed = failed.log.failed;
+              cause = failed.log.cause;
+            });
         tables = same_tables old.store.tables new.store.tables failed.tables;
         writes = λ y. ap (λ u. writes_of u y) failed.writes;
         decided = λ y. ap (λ t. decision_or (decision_in t y)) failed.decisions;
@@ -460,11 +514,14 @@ spent_so b is = ap not is
 pub finished : (old new : KvSight) (v : Verb) (x : Xid) (flags : ℕ) (answer : Code) → is_work_verb v ≡ false
     → KvFinishes old new v x flags answer → Finishes (sight_of old) (sight_of new) v x flags answer
 finished old new v x flags answer n (kv.Failed failed is same) = Failed failed is (same_sight old new same)
-finished old new v x flags answer n (kv.Refused works (OffRefused checked) same) = Refused works checked (same_sight old new same)
+finished old new v x flags answer n (kv.Refused works (OffRefused checked) same) =
+    Refused works checked (same_sight old new same)
 finished old new v x flags answer n (kv.Refused works (OffUnlisted c ready_is none off) same) =
     Unlisted works c ready_is
-    (λ listed. none (subst (Contains (branch_rows (state_of old.store x) c)) (sym (row_as (state_of old.store x) c (writes_of old.store.writes x) _ _)) listed))
-    (off ∙ off_is c (works_as v flags c (passed old.store.tables v x flags c ready_is).by_flags ∙ n)) (same_sight old new same)
+    (λ listed. none (subst (Contains (branch_rows (state_of old.store x) c))
+    (sym (row_as (state_of old.store x) c (writes_of old.store.writes x) _ _)) listed))
+    (off ∙ off_is c (works_as v flags c (passed old.store.tables v x flags c ready_is).by_flags ∙ n))
+    (same_sight old new same)
   where
     off_is : (c : Call) → is_work c ≡ false → off_row c ≡ code.Proto
     off_is call.Start h = absurd (cc)
@@ -473,7 +530,8 @@ finished old new v x flags answer n (kv.Taken works due is_due taken) =
     let checked = passed old.store.tables v x flags due.0 is_due.checked in
     let w : is_work due.0 ≡ false = works_as v flags due.0 checked.by_flags ∙ n in
     let h : has_rows (branch_rows (state_of old.store x) due.0) ≡ true = free_rows _ _ checked.passes.free in
-    let listed : IsListed old.store x due.0 (turn_for old.store x due.0) = subst (IsListed old.store x due.0) is_due.turn is_due.listed in
+    let listed : IsListed old.store x due.0 (turn_for old.store x due.0) =
+    subst (IsListed old.store x due.0) is_due.turn is_due.listed in
     by_taken w h listed (subst (λ t. KvTakes old new x t answer) is_due.turn taken)
   where
     free_rows : (held has : Bool) → (held || not has) ≡ false → has ≡ true
@@ -481,10 +539,15 @@ finished old new v x flags answer n (kv.Taken works due is_due taken) =
     free_rows true false h = absurd cc
     free_rows false false h = absurd cc
 
-    by_taken : is_work due.0 ≡ false → has_rows (branch_rows (state_of old.store x) due.0) ≡ true → IsListed old.store x due.0 (turn_for old.store x due.0)
-        → KvTakes old new x (turn_for old.store x due.0) answer → Finishes (sight_of old) (sight_of new) v x flags answer
+    by_taken : is_work due.0 ≡ false → has_rows (branch_rows (state_of old.store x) due.0) ≡ true
+        → IsListed old.store x due.0 (turn_for old.store x due.0)
+        → KvTakes old new x (turn_for old.store x due.0) answer
+        → Finishes (sight_of old) (sight_of new) v x flags answer
     by_taken w h listed (kv.Made is made) =
-        Made works due.0 is_due.checked (is ∙ ap (λ (r : Code × BranchState). r.0) (row_as (state_of old.store x) due.0 (writes_of old.store.writes x) _ _))
+        Made works due.0 is_due.checked (is ∙ ap (λ (r : Code × BranchState). r.0)
+        (row_as (state_of old.store x) due.0 (writes_of old.store.writes x) _ _))
         (made_row old new x due.0 w h listed made)
-    by_taken w h listed (kv.Broke is failed) = Broke works due.0 is_due.checked is (broke_under old new x due.0 w h listed failed)
-    by_taken w h listed (kv.Spent is commits few same) = Limited works (spent_so (has_numbers old.store) few) is (same_sight old new same)
+    by_taken w h listed (kv.Broke is failed) =
+        Broke works due.0 is_due.checked is (broke_under old new x due.0 w h listed failed)
+    by_taken w h listed (kv.Spent is commits few same) =
+        Limited works (spent_so (has_numbers old.store) few) is (same_sight old new same)

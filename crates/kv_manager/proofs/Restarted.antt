@@ -30,36 +30,43 @@ log_of old new keep rs made = λ i. record {
   failures = made.failures i;
 }
 
-pub restarted : (old new : KvSight) (keep : ℕ) (given : List Xid) → Restarted old new keep given → Restarts (sight_of old) (sight_of new) keep
+pub restarted : (old new : KvSight) (keep : ℕ) (given : List Xid) → Restarted old new keep given
+    → Restarts (sight_of old) (sight_of new) keep
 restarted old new keep given made =
     let left = made.left in
     let ls = left_by old.log.sight keep in
     let boot : new.boot ≡ next_boot ls = boot_next ls left.seen new.boot left.read left.next in
     record {
       closed = left.tables.init;
-      states = λ x. restored_state left.seen new.store.tables x left.tables ∙ (agrees_of ls left.seen left.read).states x;
+      states = λ x. restored_state left.seen new.store.tables x left.tables
+          ∙ (agrees_of ls left.seen left.read).states x;
       scans = left.tables.scans;
       associations = left.tables.associations;
       seats = left.tables.seats;
       writes = λ x. left.promises x ∙ writes_as ls left.seen x left.read;
       decided = λ x here. left.decided.each x;
       boot = boot;
-      log = log_of old.log new.log keep (opened new.boot ∷ []) made.log ∙ ap (λ n. forced_sight (ls ++ boot_record n ∷ []) old.log.sight.failures) boot;
+      log = log_of old.log new.log keep (opened new.boot ∷ []) made.log
+          ∙ ap (λ n. forced_sight (ls ++ boot_record n ∷ []) old.log.sight.failures) boot;
     }
 
 same_tables : (a b : States) → b ≡ a → Same a b
-same_tables a b is = subst (Same a) (sym is) (record { init = refl; branches = stays a.branches a.branches refl; associations = refl })
+same_tables a b is = subst (Same a) (sym is)
+    (record { init = refl; branches = stays a.branches a.branches refl; associations = refl })
 
 broken : (old new : LogState) (keep : ℕ) (rs : List LogRecord) → RestartBreaks old new keep rs
     → RestartBreaks (state_of old.sight) (state_of new.sight) keep rs
 broken old new keep rs b = record { kind = refl; either = b.either; failed = b.failed; cause = b.cause }
 
-fails : (old new : KvSight) (keep : ℕ) → KvFails old new keep → RestartFails (sight_of old) (sight_of new) keep
+fails : (old new : KvSight) (keep : ℕ) → KvFails old new keep
+    → RestartFails (sight_of old) (sight_of new) keep
 fails old new keep made =
     let ls = left_by old.log.sight keep in
-    let boot : made.next ≡ next_boot ls = boot_next ls made.comes.seen made.next made.comes.read made.comes.next in
+    let boot : made.next ≡ next_boot ls = boot_next ls made.comes.seen made.next
+    made.comes.read made.comes.next in
     record {
-      log = subst (λ n. RestartBreaks (state_of old.log.sight) (state_of new.log.sight) keep (boot_record n ∷ [])) boot
+      log = subst (λ n. RestartBreaks (state_of old.log.sight) (state_of new.log.sight)
+          keep (boot_record n ∷ [])) boot
           (broken old.log new.log keep (opened made.next ∷ []) made.log);
       tables = same_tables old.store.tables new.store.tables (ap (λ s. s.tables) made.store);
       boot = made.boot;

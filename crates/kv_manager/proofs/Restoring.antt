@@ -50,18 +50,22 @@ Live : Type 0
 Live = List (Xid × Promise)
 
 state_found : (es : List (Xid × Promise)) (x : Xid)
-    → unwrap_or (lookup (same x) (states_left (map (λ e. (e.0, not (opens e.1.mark))) es))) S0 ≡ state_by (lookup (same x) es)
+    → unwrap_or (lookup (same x) (states_left (map (λ e. (e.0, not (opens e.1.mark))) es))) S0
+    ≡ state_by (lookup (same x) es)
 state_found [] x = refl
 state_found (e ∷ es) x = by_test (same x e.0) (state_found es x)
   where
     by_test : (b : Bool)
-        → unwrap_or (lookup (same x) (states_left (map (λ e. (e.0, not (opens e.1.mark))) es))) S0 ≡ state_by (lookup (same x) es)
-        → unwrap_or (cond b (Some (state_left (not (opens e.1.mark)))) (lookup (same x) (states_left (map (λ e. (e.0, not (opens e.1.mark))) es)))) S0
+        → unwrap_or (lookup (same x) (states_left (map (λ e. (e.0, not (opens e.1.mark))) es))) S0
+        ≡ state_by (lookup (same x) es)
+        → unwrap_or (cond b (Some (state_left (not (opens e.1.mark))))
+        (lookup (same x) (states_left (map (λ e. (e.0, not (opens e.1.mark))) es)))) S0
         ≡ state_by (cond b (Some e.1) (lookup (same x) es))
     by_test true h = refl
     by_test false h = h
 
-pub restored_state : (s : SeenLog) (t : States) (x : Xid) → Restored (left_by s) t → state_at t x ≡ state_by (found s x)
+pub restored_state : (s : SeenLog) (t : States) (x : Xid) → Restored (left_by s) t
+    → state_at t x ≡ state_by (found s x)
 restored_state s t x left = ap (λ bs. unwrap_or (lookup (same x) bs) S0) left.branches ∙ state_found s.live x
 
 open_by_state : (o : Option Promise) → state_by o ≡ S3 → is_open o ≡ true
@@ -84,26 +88,31 @@ none_by_state (Some p) h = by_mark (opens p.mark) h
 
 -- the key is of a branch of these, or of none
 candidates : (s : SeenLog) (k : List ℕ) (es : List (Xid × Promise))
-    → ((y : Xid) × names_key (promised s y) k ≡ true) ⊎ AllByRecursion (λ e. names_key (promised s e.0) k ≡ false) es
+    → ((y : Xid) × names_key (promised s y) k ≡ true) ⊎ AllByRecursion
+    (λ e. names_key (promised s e.0) k ≡ false) es
 candidates s k [] = inr tt
 candidates s k (e ∷ es) = by_test (names_key (promised s e.0) k) refl (candidates s k es)
   where
     by_test : (b : Bool) → names_key (promised s e.0) k ≡ b
-        → ((y : Xid) × names_key (promised s y) k ≡ true) ⊎ AllByRecursion (λ e. names_key (promised s e.0) k ≡ false) es
-        → ((y : Xid) × names_key (promised s y) k ≡ true) ⊎ AllByRecursion (λ e. names_key (promised s e.0) k ≡ false) (e ∷ es)
+        → ((y : Xid) × names_key (promised s y) k ≡ true) ⊎ AllByRecursion
+        (λ e. names_key (promised s e.0) k ≡ false) es
+        → ((y : Xid) × names_key (promised s y) k ≡ true) ⊎ AllByRecursion
+        (λ e. names_key (promised s e.0) k ≡ false) (e ∷ es)
     by_test true h rest = inl (e.0, h)
     by_test false h rest = elim rest [
       | inl some ↦ inl some
       | inr none ↦ inr (h, none)
     ]
 
-none_found : (s : SeenLog) (k : List ℕ) (es : List (Xid × Promise)) → AllByRecursion (λ e. names_key (promised s e.0) k ≡ false) es
+none_found : (s : SeenLog) (k : List ℕ) (es : List (Xid × Promise))
+    → AllByRecursion (λ e. names_key (promised s e.0) k ≡ false) es
     → (y : Xid) → is_some (lookup (same y) es) ≡ true → names_key (promised s y) k ≡ false
 none_found s k [] all y h = absurd (cc)
 none_found s k (e ∷ es) all y h = by_test (same y e.0) refl h (none_found s k es all.1 y)
   where
     by_test : (b : Bool) → same y e.0 ≡ b → is_some (cond b (Some e.1) (lookup (same y) es)) ≡ true
-        → (is_some (lookup (same y) es) ≡ true → names_key (promised s y) k ≡ false) → names_key (promised s y) k ≡ false
+        → (is_some (lookup (same y) es) ≡ true → names_key (promised s y) k ≡ false)
+        → names_key (promised s y) k ≡ false
     by_test true t g rest = ap (λ z. names_key (promised s z) k) (same_is y e.0 t) ∙ all.0
     by_test false t g rest = rest g
 
@@ -120,14 +129,16 @@ not_held : (s : SeenLog) (locks : LockTable) (x : Xid) (k : List ℕ) → HoldPr
     → holds (holders_of locks k) x ≡ false
 unfolding names_key
 not_held s locks x k kept none = elim (candidates s k s.live) [
-  | inl some ↦ (ap (λ hs. holds hs x) (kept.held some.0 k some.1) ∙ by_test some.0 some.1 (same some.0 x) refl)
+  | inl some ↦ (ap (λ hs. holds hs x) (kept.held some.0 k some.1)
+      ∙ by_test some.0 some.1 (same some.0 x) refl)
   | inr all ↦ ap (λ hs. holds hs x) (kept.free k (nobody s k all))
 ]
   where
     by_test : (y : Xid) → names_key (promised s y) k ≡ true → (b : Bool) → same y x ≡ b
         → holds (record { xid = y; mode = Exclusive } ∷ []) x ≡ false
     by_test y named true t =
-        absurd (let never : true ≡ false = sym named ∙ ap (λ z. names_key (promised s z) k) (same_is y x t) ∙ ap (λ ws. names_key ws k) none in cc)
+        absurd (let never : true ≡ false = sym named ∙ ap (λ z. names_key (promised s z) k) (same_is y x t)
+        ∙ ap (λ ws. names_key ws k) none in cc)
     by_test y named false t = ap (λ b. b || false) t
 
 -- a branch is in S5 whose last record says that an operator decided it
@@ -139,39 +150,49 @@ says_marked (ToldOf o) = refl
 says_marked Finished = refl
 
 -- what the records leave is tidy
-pub tidy_restored : (ls : List LogRecord) (s : SeenLog) (t : States) (writes : WriteTable) (locks : LockTable) (versions : VersionTable)
+pub tidy_restored : (ls : List LogRecord) (s : SeenLog) (t : States) (writes : WriteTable)
+    (locks : LockTable) (versions : VersionTable)
     (decisions : DecisionTable) → seen_of ls ≡ Some s → Restored (left_by s) t
     → ((x : Xid) → writes_of writes x ≡ promised s x) → HoldPromises s locks → KnowDecided ls decisions
-    → IsTidy (record { tables = t; writes = writes; locks = locks; versions = versions; decisions = decisions })
+    → IsTidy
+    (record { tables = t; writes = writes; locks = locks; versions = versions; decisions = decisions })
 tidy_restored ls s t writes locks versions decisions read left promises kept decided = record {
   held = λ x k named. kept.held x k (ap (λ ws. names_key ws k) (sym (promises x)) ∙ named);
   written = λ x gone. promises x ∙ none x gone;
   free = λ x k gone. not_held s locks x k kept (none x gone);
-  decided = λ x is. decided.known x (sym (says_marked (mark_at ls x)) ∙ ap is_decided (sym ((agrees_of ls s read).states x) ∙ sym (restored_state s t x left)) ∙ is);
+  decided = λ x is. decided.known x (sym (says_marked (mark_at ls x))
+      ∙ ap is_decided (sym ((agrees_of ls s read).states x) ∙ sym (restored_state s t x left)) ∙ is);
 }
   where
     none : (x : Xid) → is_let_go (state_at t x) ≡ true → promised s x ≡ []
     none x gone = none_by_state (found s x) (ap is_let_go (sym (restored_state s t x left)) ∙ gone)
 
 -- and of a decision
-decided_behind_boot : (s : KvSight) (ls : List LogRecord) (boot : ℕ) → s.log.sight.kept.forced ≡ ls ++ opened boot ∷ []
-    → s.log.sight.kept.unforced ≡ [] → (x : Xid) → decided_in (records_of s.log.sight.kept) x ≡ decided_in ls x
+decided_behind_boot : (s : KvSight) (ls : List LogRecord) (boot : ℕ)
+    → s.log.sight.kept.forced ≡ ls ++ opened boot ∷ []
+    → s.log.sight.kept.unforced ≡ [] → (x : Xid)
+    → decided_in (records_of s.log.sight.kept) x ≡ decided_in ls x
 decided_behind_boot s ls boot forced unforced x =
-    ap (λ us. decided_in (s.log.sight.kept.forced ++ us) x) unforced ∙ ap (λ rs. decided_in rs x) (append-nil s.log.sight.kept.forced ∙ forced)
+    ap (λ us. decided_in (s.log.sight.kept.forced ++ us) x) unforced
+    ∙ ap (λ rs. decided_in rs x) (append-nil s.log.sight.kept.forced ∙ forced)
     ∙ decided_behind ls (opened boot) x
 
 -- a record of a boot changes no data
-logged_behind_boot : (s : KvSight) (ls : List LogRecord) (boot : ℕ) → s.log.sight.kept.forced ≡ ls ++ opened boot ∷ []
+logged_behind_boot : (s : KvSight) (ls : List LogRecord) (boot : ℕ)
+    → s.log.sight.kept.forced ≡ ls ++ opened boot ∷ []
     → s.log.sight.kept.unforced ≡ [] → logged s ≡ data_of ls
 logged_behind_boot s ls boot forced unforced =
-    ap (λ us. data_of (s.log.sight.kept.forced ++ us)) unforced ∙ ap data_of (append-nil s.log.sight.kept.forced ∙ forced)
+    ap (λ us. data_of (s.log.sight.kept.forced ++ us)) unforced
+    ∙ ap data_of (append-nil s.log.sight.kept.forced ∙ forced)
     ∙ data_behind ls (opened boot)
 
 -- and says nothing of a branch
-marked_behind_boot : (s : KvSight) (ls : List LogRecord) (boot : ℕ) → s.log.sight.kept.forced ≡ ls ++ opened boot ∷ []
+marked_behind_boot : (s : KvSight) (ls : List LogRecord) (boot : ℕ)
+    → s.log.sight.kept.forced ≡ ls ++ opened boot ∷ []
     → s.log.sight.kept.unforced ≡ [] → (x : Xid) → mark_at (records_of s.log.sight.kept) x ≡ mark_at ls x
 marked_behind_boot s ls boot forced unforced x =
-    ap (λ us. mark_at (s.log.sight.kept.forced ++ us) x) unforced ∙ ap (λ rs. mark_at rs x) (append-nil s.log.sight.kept.forced ∙ forced)
+    ap (λ us. mark_at (s.log.sight.kept.forced ++ us) x) unforced
+    ∙ ap (λ rs. mark_at rs x) (append-nil s.log.sight.kept.forced ∙ forced)
     ∙ mark_behind ls (opened boot) x
 
 -- a manager that is what the records leave stands with them
@@ -182,13 +203,16 @@ logged_left s ls left is marks decisions = record {
   are_data = subst (AreData s.store.versions) (sym is) left.stored;
   rise = ap (λ (d : Data). keys_rise d.pairs) is ∙ (lawful_of ls left.seen left.read).tied.rise;
   promises = λ x here. left.promises x
-      ∙ sym ((lawful_of ls left.seen left.read).tied.tied x (open_by_state (found left.seen x) (sym (restored_state left.seen s.store.tables x left.tables) ∙ here)))
+      ∙ sym ((lawful_of ls left.seen left.read).tied.tied x (open_by_state (found left.seen x)
+      (sym (restored_state left.seen s.store.tables x left.tables) ∙ here)))
       ∙ ap (λ (d : Data). promised_of (Foreign x) d.promised) (sym is);
   marked = λ x here. marks x
-      ∙ prepared_mark (mark_at ls x) (sym ((agrees_of ls left.seen left.read).states x) ∙ sym (restored_state left.seen s.store.tables x left.tables) ∙ here);
+      ∙ prepared_mark (mark_at ls x) (sym ((agrees_of ls left.seen left.read).states x)
+      ∙ sym (restored_state left.seen s.store.tables x left.tables) ∙ here);
   decided = λ x here. record {
     says = ap says_decided (marks x) ∙ sym (says_marked (mark_at ls x))
-        ∙ ap is_decided (sym ((agrees_of ls left.seen left.read).states x) ∙ sym (restored_state left.seen s.store.tables x left.tables) ∙ here);
+        ∙ ap is_decided (sym ((agrees_of ls left.seen left.read).states x)
+        ∙ sym (restored_state left.seen s.store.tables x left.tables) ∙ here);
     how = left.decided.each x ∙ sym (decisions x);
   };
 }
@@ -199,24 +223,31 @@ kept_left : (s : KvSight) (ls : List LogRecord) → s.log.kind ≡ Manager → L
 kept_left s ls kind left forced unforced =
     record {
       kind = kind;
-      stands = λ _. logged_left s ls left (logged_behind_boot s ls s.boot forced unforced) (marked_behind_boot s ls s.boot forced unforced)
+      stands = λ _. logged_left s ls left (logged_behind_boot s ls s.boot forced unforced)
+          (marked_behind_boot s ls s.boot forced unforced)
           (decided_behind_boot s ls s.boot forced unforced);
     }
 
-pub kept_restarted : (old log : LogState) (keep : ℕ) (r : Ready) → old.kind ≡ Manager → IsReady (left_by_crash old.sight keep) r
-    → Restarts old log keep (frame_record r.opened ∷ []) → IsKept (record { store = r.store; log = log; boot = r.boot })
+pub kept_restarted : (old log : LogState) (keep : ℕ) (r : Ready) → old.kind ≡ Manager
+    → IsReady (left_by_crash old.sight keep) r
+    → Restarts old log keep (frame_record r.opened ∷ [])
+    → IsKept (record { store = r.store; log = log; boot = r.boot })
 kept_restarted old log keep r kind ready made =
-    kept_left (record { store = r.store; log = log; boot = r.boot }) (left_by_crash old.sight keep) (made.kind ∙ kind) ready.left
+    kept_left (record { store = r.store; log = log; boot = r.boot }) (left_by_crash old.sight keep)
+    (made.kind ∙ kind) ready.left
     (made.forced ∙ ap (λ l. left_by_crash old.sight keep ++ l ∷ []) ready.spells) made.unforced
 
 -- a log that was opened, with the record of the boot behind its own
 pub kept_over : (log new : LogState) (store : KeySight) (boot : ℕ) → log.kind ≡ Manager → new.kind ≡ log.kind
-    → StartsOver log (record { store = store; log = new; boot = boot }) → IsKept (record { store = store; log = new; boot = boot })
+    → StartsOver log (record { store = store; log = new; boot = boot })
+    → IsKept (record { store = store; log = new; boot = boot })
 kept_over log new store boot kind same starts =
-    kept_left (record { store = store; log = new; boot = boot }) (records_of log.sight.kept) (same ∙ kind) starts.left starts.forced starts.unforced
+    kept_left (record { store = store; log = new; boot = boot }) (records_of log.sight.kept) (same ∙ kind)
+    starts.left starts.forced starts.unforced
 
 -- the record of the boot was written behind those of a log that was opened
-pub starts_over : (log new : LogState) (store : KeySight) (boot : ℕ) → log.sight.failed ≡ false → LeavesStore (records_of log.sight.kept) store boot
+pub starts_over : (log new : LogState) (store : KeySight) (boot : ℕ) → log.sight.failed ≡ false
+    → LeavesStore (records_of log.sight.kept) store boot
     → Writes log new (opened boot) true → StartsOver log (record { store = store; log = new; boot = boot })
 starts_over log new store boot works left made = record {
   left = left;
@@ -228,15 +259,18 @@ starts_over log new store boot works left made = record {
 }
 
 -- or it was not
-pub starts_none : (log new : LogState) (store : KeySight) (boot : ℕ) (e : RestartError) → LeavesStore (records_of log.sight.kept) store boot
+pub starts_none : (log new : LogState) (store : KeySight) (boot : ℕ) (e : RestartError)
+    → LeavesStore (records_of log.sight.kept) store boot
     → NotBegun log new boot e → LeavesNone log new e
 starts_none log new store boot MemoryRestart left same = (tt, same)
-starts_none log new store boot Device left broke = (boot, record { seen = left.seen; read = left.read; next = left.next }, broke)
+starts_none log new store boot Device left broke =
+    (boot, record { seen = left.seen; read = left.read; next = left.next }, broke)
 starts_none log new store boot Unfit left never = absurd never
 starts_none log new store boot ExhaustedRestart left never = absurd never
 
 -- a record is written behind room that was made
-pub writes_behind : (log mid new : LogState) (l m : LogRecord) → mid.kind ≡ log.kind → mid.sight ≡ log.sight → l ≡ m → Writes mid new l true
+pub writes_behind : (log mid new : LogState) (l m : LogRecord) → mid.kind ≡ log.kind → mid.sight ≡ log.sight
+    → l ≡ m → Writes mid new l true
     → Writes log new m true
 writes_behind log mid new l m kind same is made = subst (λ k. Writes log new k true) is (record {
   kind = made.kind ∙ kind;
@@ -244,11 +278,13 @@ writes_behind log mid new l m kind same is made = subst (λ k. Writes log new k 
 })
 
 -- and so it fails
-pub breaks_behind : (log mid new : LogState) (l m : LogRecord) → mid.kind ≡ log.kind → mid.sight ≡ log.sight → l ≡ m → Breaks mid new (l ∷ [])
+pub breaks_behind : (log mid new : LogState) (l m : LogRecord) → mid.kind ≡ log.kind → mid.sight ≡ log.sight
+    → l ≡ m → Breaks mid new (l ∷ [])
     → Breaks log new (m ∷ [])
 breaks_behind log mid new l m kind same is broke = subst (λ k. Breaks log new (k ∷ [])) is
     (subst (λ k. Breaks (record { kind = k; sight = log.sight; room = log.room }) new (l ∷ [])) kind
-    (subst (λ (s : LogSight). Breaks (record { kind = mid.kind; sight = s; room = log.room }) new (l ∷ [])) same (record {
+    (subst (λ (s : LogSight). Breaks (record { kind = mid.kind; sight = s; room = log.room })
+    new (l ∷ [])) same (record {
       kind = broke.kind;
       appended = broke.appended;
       stand = broke.stand;
@@ -260,24 +296,29 @@ breaks_behind log mid new l m kind same is broke = subst (λ k. Breaks log new (
     })))
 
 -- the records of a log that was opened leave no manager
-pub none_left : (log : LogState) (e : RestartError) → NotRebuilt (records_of log.sight.kept) e → LeavesNone log log e
+pub none_left : (log : LogState) (e : RestartError)
+    → NotRebuilt (records_of log.sight.kept) e → LeavesNone log log e
 none_left log MemoryRestart why = (why, refl)
 none_left log Device never = absurd never
 none_left log Unfit why = (why, refl)
 none_left log ExhaustedRestart why = (why, refl)
 
 -- a log that did not restart leaves a manager that stands, or that has failed
-pub kept_unstarted : (s : KvSight) (log : LogState) (keep : ℕ) (l : LogRecord) (e : RestartError) → IsKept s → log.kind ≡ s.log.kind
+pub kept_unstarted : (s : KvSight) (log : LogState) (keep : ℕ) (l : LogRecord) (e : RestartError)
+    → IsKept s → log.kind ≡ s.log.kind
     → FailsToRestart s.log log keep l e → IsKept (record s { log = log })
 kept_unstarted s log keep l MemoryRestart kept kind stays = record {
   kind = kind ∙ kept.kind;
   stands = λ works. record {
-    are_data = subst (λ (k : LogSight). AreData s.store.versions (data_of (records_of k.kept))) (sym stays) (stands works).are_data;
+    are_data = subst (λ (k : LogSight). AreData s.store.versions (data_of (records_of k.kept)))
+        (sym stays) (stands works).are_data;
     rise = ap (λ (k : LogSight). keys_rise (data_of (records_of k.kept)).pairs) stays ∙ (stands works).rise;
     promises = λ x here. (stands works).promises x here
         ∙ ap (λ (k : LogSight). promised_of (Foreign x) (data_of (records_of k.kept)).promised) (sym stays);
-    marked = λ x here. ap (λ (k : LogSight). mark_at (records_of k.kept) x) stays ∙ (stands works).marked x here;
-    decided = λ x here. subst (λ (k : LogSight). SaysDecided (records_of k.kept) x (known_of s.store x)) (sym stays) ((stands works).decided x here);
+    marked = λ x here. ap (λ (k : LogSight). mark_at (records_of k.kept) x) stays
+        ∙ (stands works).marked x here;
+    decided = λ x here. subst (λ (k : LogSight). SaysDecided (records_of k.kept) x (known_of s.store x))
+        (sym stays) ((stands works).decided x here);
   };
 }
   where
@@ -291,9 +332,11 @@ kept_unstarted s log keep l Unfit kept kind never = absurd never
 kept_unstarted s log keep l ExhaustedRestart kept kind never = absurd never
 
 -- what replays and what is rebuilt of it
-pub left_store : (ls : List LogRecord) (last : Option ℕ) (left : List (Xid × Bool)) (versions : VersionTable) (writes : WriteTable)
+pub left_store : (ls : List LogRecord) (last : Option ℕ) (left : List (Xid × Bool))
+    (versions : VersionTable) (writes : WriteTable)
     (locks : LockTable) (decisions : DecisionTable) (listed : List (Xid × Bool)) (s : KeySight) (boot : ℕ)
-    → Leaves ls last left versions writes locks decisions → listed ≡ left → Rebuilt s listed writes locks versions decisions → next_boot last ≡ Some boot → LeavesStore ls s boot
+    → Leaves ls last left versions writes locks decisions → listed ≡ left → Rebuilt s listed writes locks
+    versions decisions → next_boot last ≡ Some boot → LeavesStore ls s boot
 left_store ls last left versions writes locks decisions listed s boot leaves is rebuilt next = record {
   seen = leaves.seen;
   read = leaves.read;
@@ -312,7 +355,8 @@ not_rebuilt ls Malformed why = inl why
 not_rebuilt ls Exhausted why = inl why
 
 -- nor is what makes no store
-pub not_stored : (ls : List LogRecord) (s : SeenLog) (left : List (Xid × Bool)) (e : RestartError) → seen_of ls ≡ Some s → left ≡ left_by s
+pub not_stored : (ls : List LogRecord) (s : SeenLog) (left : List (Xid × Bool)) (e : RestartError)
+    → seen_of ls ≡ Some s → left ≡ left_by s
     → NotStored left e → NotRebuilt ls e
 not_stored ls s left MemoryRestart read is why = tt
 not_stored ls s left Device read is never = never

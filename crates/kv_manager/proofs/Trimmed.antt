@@ -52,7 +52,8 @@ of_manager q (Forgot b) h = refl
 of_manager q (Base n) h = refl
 of_manager q (Pair k v) h = refl
 
-all_of_manager : (ls : List LogRecord) → AllByRecursion (IsSound Manager) ls → AllByRecursion (λ l. is_managers l.entry ≡ true) ls
+all_of_manager : (ls : List LogRecord) → AllByRecursion (IsSound Manager) ls
+    → AllByRecursion (λ l. is_managers l.entry ≡ true) ls
 all_of_manager [] h = tt
 all_of_manager (l ∷ ls) h = (of_manager l.parent l.entry h.0, all_of_manager ls h.1)
 
@@ -62,27 +63,35 @@ all_of_manager (l ∷ ls) h = (of_manager l.parent l.entry h.0, all_of_manager l
 abbrev pub AreOfData : KvSight → List LogRecord → Type 0
 AreOfData s rs = rs ≡ map unnamed (base_records (logged s))
 
-pairs_unnamed : (ps : List (List ℕ × List ℕ)) → map (λ p. unnamed (pair_record p)) ps ≡ map unnamed (map pair_record ps)
+pairs_unnamed : (ps : List (List ℕ × List ℕ))
+    → map (λ p. unnamed (pair_record p)) ps ≡ map unnamed (map pair_record ps)
 pairs_unnamed [] = refl
 pairs_unnamed (p ∷ ps) = ap (λ rs. unnamed (pair_record p) ∷ rs) (pairs_unnamed ps)
 
 -- what a base and its pairs spell are the data, where their parts are
-pub of_data : (ls rs : List LogRecord) (v : VersionTable) (count : ℕ) (ps : List (List ℕ × List ℕ)) → AreData v (data_of ls)
-    → count ≡ v.count → ps ≡ (data_of ls).pairs → rs ≡ unnamed (Base count) ∷ map (λ p. unnamed (pair_record p)) ps
+pub of_data : (ls rs : List LogRecord) (v : VersionTable) (count : ℕ)
+    (ps : List (List ℕ × List ℕ)) → AreData v (data_of ls)
+    → count ≡ v.count → ps ≡ (data_of ls).pairs
+    → rs ≡ unnamed (Base count) ∷ map (λ p. unnamed (pair_record p)) ps
     → rs ≡ map unnamed (base_records (data_of ls))
 of_data ls rs v count ps are counted is made =
     made ∙ (λ i. unnamed (Base ((counted ∙ are.count) i)) ∷ map (λ p. unnamed (pair_record p)) (is i))
     ∙ ap (λ ks. unnamed (Base (data_of ls).count) ∷ ks) (pairs_unnamed (data_of ls).pairs)
 
 -- the keys of the data rise where records leave a manager
-pub rise_left : (ls : List LogRecord) (boot : Option ℕ) (left : List (Xid × Bool)) (versions : VersionTable) (writes : WriteTable)
-    (locks : LockTable) (decisions : DecisionTable) → Leaves ls boot left versions writes locks decisions → keys_rise (data_of ls).pairs ≡ true
-rise_left ls boot left versions writes locks decisions leaves = (lawful_of ls leaves.seen leaves.read).tied.rise
+pub rise_left : (ls : List LogRecord) (boot : Option ℕ) (left : List (Xid × Bool))
+    (versions : VersionTable) (writes : WriteTable)
+    (locks : LockTable) (decisions : DecisionTable) → Leaves ls boot left versions writes locks decisions
+    → keys_rise (data_of ls).pairs ≡ true
+rise_left ls boot left versions writes locks decisions leaves =
+    (lawful_of ls leaves.seen leaves.read).tied.rise
 
-records_behind : (s : KvSight) (log : LogState) (rs : List LogRecord) (n : ℕ) → AreOfData s rs → Trimmed s.log log rs n
+records_behind : (s : KvSight) (log : LogState) (rs : List LogRecord) (n : ℕ)
+    → AreOfData s rs → Trimmed s.log log rs n
     → records_of log.sight.kept ≡ trim_of (records_of s.log.sight.kept)
 records_behind s log rs n of made =
-    ap (λ us. log.sight.kept.forced ++ us) made.log.unforced ∙ append-nil log.sight.kept.forced ∙ made.log.forced
+    ap (λ us. log.sight.kept.forced ++ us) made.log.unforced
+    ∙ append-nil log.sight.kept.forced ∙ made.log.forced
     ∙ ap (rec_log.trim_of s.log) of
 
 -- a branch that an operator decided is open
@@ -94,18 +103,21 @@ decided_open (ToldOf o) h = refl
 decided_open Finished h = absurd (cc)
 
 -- the data of the log stand behind a trim, and so do the branches that are prepared or that operators decided
-pub kept_trimmed : (s : KvSight) (log : LogState) (rs : List LogRecord) (n : ℕ) → IsKept s → s.log.sight.failed ≡ false
+pub kept_trimmed : (s : KvSight) (log : LogState) (rs : List LogRecord) (n : ℕ) → IsKept s
+    → s.log.sight.failed ≡ false
     → AllByRecursion (IsSound Manager) (records_of s.log.sight.kept) → AreOfData s rs → Trimmed s.log log rs n
     → IsKept (record s { log = log })
 kept_trimmed s log rs n kept works sound of made = record {
   kind = made.log.kind ∙ kept.kind;
   stands = λ _. record {
     are_data = subst (λ ks. AreData s.store.versions (data_of ks)) (sym is)
-        (same_data s.store.versions (data_of ls) (data_of (trim_of ls)) keeps.count keeps.pairs stands.are_data);
+        (same_data s.store.versions (data_of ls) (data_of (trim_of ls)) keeps.count
+        keeps.pairs stands.are_data);
     rise = ap (λ ks. keys_rise (data_of ks).pairs) is ∙ ap keys_rise keeps.pairs ∙ stands.rise;
     promises = λ x here. stands.promises x here ∙ sym (keeps.promises x (ap is_open (stands.marked x here)))
         ∙ sym (ap (λ ks. promised_of (Foreign x) (data_of ks).promised) is);
-    marked = λ x here. ap (λ ks. mark_at ks x) is ∙ keeps.marks x (ap is_open (stands.marked x here)) ∙ stands.marked x here;
+    marked = λ x here. ap (λ ks. mark_at ks x) is
+        ∙ keeps.marks x (ap is_open (stands.marked x here)) ∙ stands.marked x here;
     decided = λ x here.
         let before = stands.decided x here in
         let still : is_open (mark_at ls x) ≡ true = decided_open (mark_at ls x) before.says in

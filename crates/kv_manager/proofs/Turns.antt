@@ -81,28 +81,37 @@ module _ (P : Entry → BranchState → Type 0) where
   silent_so : (a : Code) (to : BranchState) → HoldsOf (silent a to)
   silent_so a to e is = absurd (cc)
 
-  told_so : (b : Branch) (o : Outcome) (d : Decision) (told : Option Outcome) → P (Told o) S5 → HoldsOf (tell_turn b o d told)
+  told_so : (b : Branch) (o : Outcome) (d : Decision) (told : Option Outcome) → P (Told o) S5
+      → HoldsOf (tell_turn b o d told)
   told_so b o d None h e is = subst (λ g. P g S5) (some_is (Told o) e is) h
   told_so b o d (Some t) h e is = absurd (cc)
 
   -- of each turn that a call takes
-  pub each_call : (s : BranchState) (c : Call) (wrote : Bool) (b : Branch) (d : Decision) → (wrote ≡ true → P Prepared S3)
-      → P Committed S0 → P RolledBack S0 → (wrote ≡ true → P Direct S0) → ((o : Outcome) → P (Told o) S5) → P Forgot S0
+  pub each_call : (s : BranchState) (c : Call) (wrote : Bool) (b : Branch) (d : Decision)
+      → (wrote ≡ true → P Prepared S3)
+      → P Committed S0 → P RolledBack S0 → (wrote ≡ true → P Direct S0)
+      → ((o : Outcome) → P (Told o) S5) → P Forgot S0
       → HoldsOf (turn_of s c wrote b d)
   each_call s call.Prepare true b d p c r i t f = written_so Prepared true S3 (p refl)
   each_call s call.Prepare false b d p c r i t f = silent_so code.RdOnly S0
-  each_call S0 call.Commit wrote b d p c r i t f = written_so Committed (is_acknowledged (presumption_of b) CommittedOutcome) S0 c
-  each_call S1 call.Commit wrote b d p c r i t f = written_so Committed (is_acknowledged (presumption_of b) CommittedOutcome) S0 c
-  each_call S2 call.Commit wrote b d p c r i t f = written_so Committed (is_acknowledged (presumption_of b) CommittedOutcome) S0 c
-  each_call S3 call.Commit wrote b d p c r i t f = written_so Committed (is_acknowledged (presumption_of b) CommittedOutcome) S0 c
-  each_call S4 call.Commit wrote b d p c r i t f = written_so Committed (is_acknowledged (presumption_of b) CommittedOutcome) S0 c
+  each_call S0 call.Commit wrote b d p c r i t f =
+      written_so Committed (is_acknowledged (presumption_of b) CommittedOutcome) S0 c
+  each_call S1 call.Commit wrote b d p c r i t f =
+      written_so Committed (is_acknowledged (presumption_of b) CommittedOutcome) S0 c
+  each_call S2 call.Commit wrote b d p c r i t f =
+      written_so Committed (is_acknowledged (presumption_of b) CommittedOutcome) S0 c
+  each_call S3 call.Commit wrote b d p c r i t f =
+      written_so Committed (is_acknowledged (presumption_of b) CommittedOutcome) S0 c
+  each_call S4 call.Commit wrote b d p c r i t f =
+      written_so Committed (is_acknowledged (presumption_of b) CommittedOutcome) S0 c
   each_call S5 call.Commit wrote b d p c r i t f = told_so b CommittedOutcome d d.told (t CommittedOutcome)
   each_call s call.CommitOnePhase true b d p c r i t f = written_so Direct true S0 (i refl)
   each_call s call.CommitOnePhase false b d p c r i t f = silent_so code.Ok S0
   each_call S0 call.Rollback wrote b d p c r i t f = silent_so code.Ok S0
   each_call S1 call.Rollback wrote b d p c r i t f = silent_so code.Ok S0
   each_call S2 call.Rollback wrote b d p c r i t f = silent_so code.Ok S0
-  each_call S3 call.Rollback wrote b d p c r i t f = written_so RolledBack (is_acknowledged (presumption_of b) AbortedOutcome) S0 r
+  each_call S3 call.Rollback wrote b d p c r i t f =
+      written_so RolledBack (is_acknowledged (presumption_of b) AbortedOutcome) S0 r
   each_call S4 call.Rollback wrote b d p c r i t f = silent_so code.Ok S0
   each_call S5 call.Rollback wrote b d p c r i t f = told_so b AbortedOutcome d d.told (t AbortedOutcome)
   each_call s _ wrote b d p c r i t f = written_so Forgot true S0 f
@@ -113,12 +122,14 @@ module _ (P : Entry → BranchState → Type 0) where
   each_decision AbortedOutcome c r e is = subst (λ g. P g S5) (some_is HeurRollback e is) r
 
 -- a turn without a record ends its branch, or answers by an operator's decision
-silent_told : (b : Branch) (o : Outcome) (d : Decision) (told : Option Outcome) → (tell_turn b o d told).entry ≡ None
+silent_told : (b : Branch) (o : Outcome) (d : Decision) (told : Option Outcome)
+    → (tell_turn b o d told).entry ≡ None
     → (tell_turn b o d told).to ≡ S5
 silent_told b o d None h = absurd (cc)
 silent_told b o d (Some t) h = refl
 
-pub silent_ends : (s : BranchState) (c : Call) (wrote : Bool) (b : Branch) (d : Decision) → (turn_of s c wrote b d).entry ≡ None
+pub silent_ends : (s : BranchState) (c : Call) (wrote : Bool) (b : Branch) (d : Decision)
+    → (turn_of s c wrote b d).entry ≡ None
     → ((turn_of s c wrote b d).to ≡ S0) ⊎ (((turn_of s c wrote b d).to ≡ S5) × (s ≡ S5))
 silent_ends s call.Prepare true b d h = absurd (cc)
 silent_ends s call.Prepare false b d h = inl refl
@@ -153,7 +164,8 @@ is_entry (Told o) ws has limits = tt
 is_entry Forgot ws has limits = tt
 
 all_decided : All (λ (r : Code × BranchState). r.1 ≡ S5) heuristic
-all_decided = All-from_recursion (λ (r : Code × BranchState). r.1 ≡ S5) heuristic (refl, (refl, (refl, (refl, tt))))
+all_decided = All-from_recursion (λ (r : Code × BranchState). r.1 ≡ S5) heuristic
+    (refl, (refl, (refl, (refl, tt))))
 
 -- a branch that commits was prepared
 commit_prepared : (s : BranchState) → Contains (branch_rows s call.Commit) (code.Ok, S0) → s ≡ S3
@@ -162,7 +174,8 @@ commit_prepared S0 h = absurd (let none = h.1 in omega arith)
 commit_prepared S1 h = absurd (let none = h.1 in omega arith)
 commit_prepared S2 h = absurd (let none = h.1 in omega arith)
 commit_prepared S4 h = absurd (let none = h.1 in omega arith)
-commit_prepared S5 h = absurd (let never : S0 ≡ S5 = All-contains (λ (r : Code × BranchState). r.1 ≡ S5) heuristic (code.Ok, S0) all_decided h in cc)
+commit_prepared S5 h = absurd (let never : S0 ≡ S5 = All-contains (λ (r : Code × BranchState). r.1 ≡ S5)
+    heuristic (code.Ok, S0) all_decided h in cc)
 
 -- it makes what a prepared branch promised data
 abbrev pub settles : Entry → Bool
@@ -170,32 +183,40 @@ settles Committed = true
 settles HeurCommit = true
 settles _ = false
 
-told_settles : (b : Branch) (o : Outcome) (d : Decision) (told : Option Outcome) (e : Entry) → (tell_turn b o d told).entry ≡ Some e
+told_settles : (b : Branch) (o : Outcome) (d : Decision) (told : Option Outcome) (e : Entry)
+    → (tell_turn b o d told).entry ≡ Some e
     → settles e ≡ true → S5 ≡ S3
-told_settles b o d None e h is = absurd (let never : false ≡ true = ap settles (some_is (Told o) e h) ∙ is in cc)
+told_settles b o d None e h is = absurd (let never : false
+    ≡ true = ap settles (some_is (Told o) e h) ∙ is in cc)
 told_settles b o d (Some t) e h is = absurd (cc)
 
 -- a branch that a call commits was prepared
-pub committed_was_prepared : (s : BranchState) (c : Call) (wrote : Bool) (b : Branch) (d : Decision) (e : Entry)
+pub committed_was_prepared : (s : BranchState) (c : Call) (wrote : Bool)
+    (b : Branch) (d : Decision) (e : Entry)
     → (turn_of s c wrote b d).entry ≡ Some e → settles e ≡ true
     → Contains (branch_rows s c) ((turn_of s c wrote b d).code, (turn_of s c wrote b d).to) → s ≡ S3
-committed_was_prepared s call.Prepare true b d e h is listed = absurd (let never : false ≡ true = ap settles (some_is Prepared e h) ∙ is in cc)
+committed_was_prepared s call.Prepare true b d e h is listed =
+    absurd (let never : false ≡ true = ap settles (some_is Prepared e h) ∙ is in cc)
 committed_was_prepared s call.Prepare false b d e h is listed = absurd (cc)
 committed_was_prepared S0 call.Commit wrote b d e h is listed = commit_prepared S0 listed
 committed_was_prepared S1 call.Commit wrote b d e h is listed = commit_prepared S1 listed
 committed_was_prepared S2 call.Commit wrote b d e h is listed = commit_prepared S2 listed
 committed_was_prepared S3 call.Commit wrote b d e h is listed = refl
 committed_was_prepared S4 call.Commit wrote b d e h is listed = commit_prepared S4 listed
-committed_was_prepared S5 call.Commit wrote b d e h is listed = told_settles b CommittedOutcome d d.told e h is
-committed_was_prepared s call.CommitOnePhase true b d e h is listed = absurd (let never : false ≡ true = ap settles (some_is Direct e h) ∙ is in cc)
+committed_was_prepared S5 call.Commit wrote b d e h is listed =
+    told_settles b CommittedOutcome d d.told e h is
+committed_was_prepared s call.CommitOnePhase true b d e h is listed =
+    absurd (let never : false ≡ true = ap settles (some_is Direct e h) ∙ is in cc)
 committed_was_prepared s call.CommitOnePhase false b d e h is listed = absurd (cc)
 committed_was_prepared S0 call.Rollback wrote b d e h is listed = absurd (cc)
 committed_was_prepared S1 call.Rollback wrote b d e h is listed = absurd (cc)
 committed_was_prepared S2 call.Rollback wrote b d e h is listed = absurd (cc)
 committed_was_prepared S3 call.Rollback wrote b d e h is listed = refl
 committed_was_prepared S4 call.Rollback wrote b d e h is listed = absurd (cc)
-committed_was_prepared S5 call.Rollback wrote b d e h is listed = told_settles b AbortedOutcome d d.told e h is
-committed_was_prepared s _ wrote b d e h is listed = absurd (let never : false ≡ true = ap settles (some_is Forgot e h) ∙ is in cc)
+committed_was_prepared S5 call.Rollback wrote b d e h is listed =
+    told_settles b AbortedOutcome d d.told e h is
+committed_was_prepared s _ wrote b d e h is listed =
+    absurd (let never : false ≡ true = ap settles (some_is Forgot e h) ∙ is in cc)
 
 -- a branch that is told of an outcome was decided by an operator, and told nothing yet
 abbrev pub IsUntold : BranchState → Decision → Entry → Type 0
@@ -227,7 +248,8 @@ untold S4 call.Rollback wrote b d e h = absurd (cc)
 untold S5 call.Rollback wrote b d e h = told_untold b AbortedOutcome d d.told e refl h
 untold s _ wrote b d e h = subst (IsUntold s d) (some_is Forgot e h) tt
 
-untold_decision : (s : BranchState) (d : Decision) (o : Outcome) (e : Entry) → (decide_turn o).entry ≡ Some e → IsUntold s d e
+untold_decision : (s : BranchState) (d : Decision) (o : Outcome) (e : Entry)
+    → (decide_turn o).entry ≡ Some e → IsUntold s d e
 untold_decision s d CommittedOutcome e h = subst (IsUntold s d) (some_is HeurCommit e h) tt
 untold_decision s d AbortedOutcome e h = subst (IsUntold s d) (some_is HeurRollback e h) tt
 
@@ -238,7 +260,8 @@ fold_last : {A B C : Type 0} (f : B → C → B) (g : A → C) (z : B) (xs : Lis
 fold_last f g z [] y = refl
 fold_last f g z (x ∷ xs) y = fold_last f g (f z (g x)) xs y
 
-pub data_behind : (ls : List LogRecord) (l : LogRecord) → data_of (ls ++ l ∷ []) ≡ stored_after (data_of ls) (by_xid l)
+pub data_behind : (ls : List LogRecord) (l : LogRecord)
+    → data_of (ls ++ l ∷ []) ≡ stored_after (data_of ls) (by_xid l)
 unfolding stored
 data_behind ls l = fold_last stored_after by_xid _ ls l
 
@@ -247,7 +270,8 @@ pub mark_behind : (ls : List LogRecord) (l : LogRecord) (x : Xid)
 unfolding mark_of
 mark_behind ls l x = fold_last (mark_after (Foreign x)) by_xid Unmarked ls l
 
-pub entry_by_xid : (e : Entry) (x : XidParts) (ws : List Write) → by_xid (entry_record e x ws) ≡ entry_of e (Foreign x) ws
+pub entry_by_xid : (e : Entry) (x : XidParts) (ws : List Write)
+    → by_xid (entry_record e x ws) ≡ entry_of e (Foreign x) ws
 entry_by_xid Prepared x ws = ap (λ y. entry_of Prepared (Foreign y) ws) (name_again x)
 entry_by_xid Committed x ws = ap (λ y. entry_of Committed (Foreign y) ws) (name_again x)
 entry_by_xid RolledBack x ws = ap (λ y. entry_of RolledBack (Foreign y) ws) (name_again x)
@@ -274,7 +298,8 @@ logged_behind s s' e x ws is_forced made =
     ∙ data_behind (records_of s.log.sight.kept) (entry_record e x ws)
     ∙ ap (stored_after (logged s)) (entry_by_xid e x ws)
 
-marked_logged : (s s' : KvSight) (e : Entry) (x : Xid) (ws : List Write) (is_forced : Bool) → Writes s.log s'.log (entry_record e x ws) is_forced
+marked_logged : (s s' : KvSight) (e : Entry) (x : Xid) (ws : List Write) (is_forced : Bool)
+    → Writes s.log s'.log (entry_record e x ws) is_forced
     → (y : Xid) → mark_at (records_of s'.log.sight.kept) y
     ≡ mark_after (Foreign y) (mark_at (records_of s.log.sight.kept) y) (entry_of e (Foreign x) ws)
 marked_logged s s' e x ws is_forced made y =
@@ -288,7 +313,8 @@ marks_other : (m : Mark) (e : Entry) (x y : Xid) (ws : List Write) → same x y 
     → mark_after (Foreign y) m (entry_of e (Foreign x) ws) ≡ m
 marks_other m e x y ws apart = by_entry e (branch_same x y ∙ apart)
   where
-    by_entry : (e : Entry) → same_branch (Foreign x) (Foreign y) ≡ false → mark_after (Foreign y) m (entry_of e (Foreign x) ws) ≡ m
+    by_entry : (e : Entry) → same_branch (Foreign x) (Foreign y) ≡ false
+        → mark_after (Foreign y) m (entry_of e (Foreign x) ws) ≡ m
     by_entry Prepared t = ap (λ b. cond b Promised m) t
     by_entry Committed t = ap (λ b. cond b Finished m) t
     by_entry RolledBack t = ap (λ b. cond b Finished m) t
@@ -298,7 +324,8 @@ marks_other m e x y ws apart = by_entry e (branch_same x y ∙ apart)
     by_entry (Told o) t = ap (λ b. cond b (ToldOf o) m) t
     by_entry Forgot t = ap (λ b. cond b Finished m) t
 
-marks_own : (m : Mark) (x : Xid) (ws : List Write) → mark_after (Foreign x) m (entry_of Prepared (Foreign x) ws) ≡ Promised
+marks_own : (m : Mark) (x : Xid) (ws : List Write)
+    → mark_after (Foreign x) m (entry_of Prepared (Foreign x) ws) ≡ Promised
 unfolding same_branch
 marks_own m x ws = ap (λ b. cond b Promised m) (same_xid_refl x)
 
@@ -309,7 +336,8 @@ pub decided_behind : (ls : List LogRecord) (l : LogRecord) (x : Xid)
 unfolding decision_of
 decided_behind ls l x = fold_last (decision_after (Foreign x)) by_xid (decided_as AbortedOutcome) ls l
 
-decided_logged : (s s' : KvSight) (e : Entry) (x : Xid) (ws : List Write) (is_forced : Bool) → Writes s.log s'.log (entry_record e x ws) is_forced
+decided_logged : (s s' : KvSight) (e : Entry) (x : Xid) (ws : List Write) (is_forced : Bool)
+    → Writes s.log s'.log (entry_record e x ws) is_forced
     → (y : Xid) → decided_in (records_of s'.log.sight.kept) y
     ≡ decision_after (Foreign y) (decided_in (records_of s.log.sight.kept) y) (entry_of e (Foreign x) ws)
 decided_logged s s' e x ws is_forced made y =
@@ -322,7 +350,8 @@ decides_other : (d : Decision) (e : Entry) (x y : Xid) (ws : List Write) → sam
     → decision_after (Foreign y) d (entry_of e (Foreign x) ws) ≡ d
 decides_other d e x y ws apart = by_entry e (branch_same x y ∙ apart)
   where
-    by_entry : (e : Entry) → same_branch (Foreign x) (Foreign y) ≡ false → decision_after (Foreign y) d (entry_of e (Foreign x) ws) ≡ d
+    by_entry : (e : Entry) → same_branch (Foreign x) (Foreign y) ≡ false
+        → decision_after (Foreign y) d (entry_of e (Foreign x) ws) ≡ d
     by_entry Prepared t = ap (λ b. cond b (decided_as AbortedOutcome) d) t
     by_entry Committed t = refl
     by_entry RolledBack t = refl
@@ -338,7 +367,8 @@ IsTold (Told o) = Unit {0}
 IsTold _ = ⊥
 
 -- a record that leads to S5 says that an operator decided its branch, as it is known then
-decides_own : (m : Mark) (d : Decision) (known : Option Decision) (e : Entry) (x : Xid) (ws : List Write) → leads e ≡ S5 → IsUntold S5 d e
+decides_own : (m : Mark) (d : Decision) (known : Option Decision) (e : Entry) (x : Xid) (ws : List Write)
+    → leads e ≡ S5 → IsUntold S5 d e
     → (IsTold e → decision_or known ≡ d)
     → (says_decided (mark_after (Foreign x) m (entry_of e (Foreign x) ws)) ≡ true)
     × (decision_or (known_behind (Some e) known) ≡ decision_after (Foreign x) d (entry_of e (Foreign x) ws))
@@ -348,10 +378,16 @@ decides_own m d known Committed x ws h n same = absurd (cc)
 decides_own m d known RolledBack x ws h n same = absurd (cc)
 decides_own m d known Direct x ws h n same = absurd (cc)
 decides_own m d known Forgot x ws h n same = absurd (cc)
-decides_own m d known HeurCommit x ws h n same =
-    (ap (λ b. says_decided (cond b Decided m)) (same_xid_refl x), sym (ap (λ b. cond b (decided_as CommittedOutcome) d) (same_xid_refl x)))
-decides_own m d known HeurRollback x ws h n same =
-    (ap (λ b. says_decided (cond b Decided m)) (same_xid_refl x), sym (ap (λ b. cond b (decided_as AbortedOutcome) d) (same_xid_refl x)))
+decides_own m d known HeurCommit x ws h n same = (
+  ap (λ b. says_decided (cond b Decided m)) (same_xid_refl x),
+  sym
+      (ap (λ b. cond b (decided_as CommittedOutcome) d) (same_xid_refl x)),
+)
+decides_own m d known HeurRollback x ws h n same = (
+  ap (λ b. says_decided (cond b Decided m)) (same_xid_refl x),
+  sym
+      (ap (λ b. cond b (decided_as AbortedOutcome) d) (same_xid_refl x)),
+)
 decides_own m d known (Told o) x ws h n same = (
   ap (λ b. says_decided (cond b (ToldOf o) m)) (same_xid_refl x),
   ap (told_behind o) (same tt) ∙ ap (λ t. record { outcome = d.outcome; told = first_told o t }) n.1
@@ -364,8 +400,10 @@ pub promised_other : (d : Data) (e : Entry) (x y : Xid) (ws : List Write) → sa
 unfolding promised_of same_branch
 promised_other d Prepared x y ws apart = by_test (same_xid x y) refl
   where
-    by_test : (b : Bool) → same_xid x y ≡ b → cond b ws (promised_of (Foreign y) d.promised) ≡ promised_of (Foreign y) d.promised
-    by_test true e = absurd (let never : false ≡ true = sym apart ∙ ap (same x) (sym (same_xid_is x y e)) ∙ same_itself x in cc)
+    by_test : (b : Bool) → same_xid x y ≡ b → cond b ws (promised_of (Foreign y) d.promised)
+        ≡ promised_of (Foreign y) d.promised
+    by_test true e = absurd (let never : false ≡ true = sym apart
+        ∙ ap (same x) (sym (same_xid_is x y e)) ∙ same_itself x in cc)
       where
         same_itself : (z : Xid) → same z z ≡ true
         same_itself z = search rules
@@ -378,12 +416,14 @@ promised_other d HeurRollback x y ws apart = refl
 promised_other d (Told o) x y ws apart = refl
 promised_other d Forgot x y ws apart = refl
 
-pub promised_own : (d : Data) (x : Xid) (ws : List Write) → promised_of (Foreign x) (after_entry d Prepared x ws).promised ≡ ws
+pub promised_own : (d : Data) (x : Xid) (ws : List Write)
+    → promised_of (Foreign x) (after_entry d Prepared x ws).promised ≡ ws
 unfolding promised_of same_branch
 promised_own d x ws = ap (λ b. cond b ws (promised_of (Foreign x) d.promised)) (same_xid_refl x)
 
 -- a record that makes no data
-pub noted_pairs : (d : Data) (e : Entry) (x : Xid) (ws : List Write) → applies e ≡ false → (after_entry d e x ws).pairs ≡ d.pairs
+pub noted_pairs : (d : Data) (e : Entry) (x : Xid) (ws : List Write) → applies e ≡ false
+    → (after_entry d e x ws).pairs ≡ d.pairs
 noted_pairs d Prepared x ws h = refl
 noted_pairs d Committed x ws h = absurd (cc)
 noted_pairs d RolledBack x ws h = refl
@@ -393,7 +433,8 @@ noted_pairs d HeurRollback x ws h = refl
 noted_pairs d (Told o) x ws h = refl
 noted_pairs d Forgot x ws h = refl
 
-pub noted_count : (d : Data) (e : Entry) (x : Xid) (ws : List Write) → applies e ≡ false → (after_entry d e x ws).count ≡ d.count
+pub noted_count : (d : Data) (e : Entry) (x : Xid) (ws : List Write) → applies e ≡ false
+    → (after_entry d e x ws).count ≡ d.count
 noted_count d Prepared x ws h = refl
 noted_count d Committed x ws h = absurd (cc)
 noted_count d RolledBack x ws h = refl
@@ -403,7 +444,8 @@ noted_count d HeurRollback x ws h = refl
 noted_count d (Told o) x ws h = refl
 noted_count d Forgot x ws h = refl
 
-pub same_data : (v : VersionTable) (d d' : Data) → d'.count ≡ d.count → d'.pairs ≡ d.pairs → AreData v d → AreData v d'
+pub same_data : (v : VersionTable) (d d' : Data) → d'.count ≡ d.count → d'.pairs ≡ d.pairs
+    → AreData v d → AreData v d'
 same_data v d d' count pairs are = record {
   count = are.count ∙ sym count;
   unstaged = are.unstaged;
@@ -422,27 +464,33 @@ committed_data d HeurRollback x ws h was = absurd (cc)
 committed_data d (Told o) x ws h was = absurd (cc)
 committed_data d Forgot x ws h was = absurd (cc)
 
-pub applies_data : (old new : VersionTable) (d : Data) (ws : List Write) → keys_rise d.pairs ≡ true → AreData old d
+pub applies_data : (old new : VersionTable) (d : Data) (ws : List Write)
+    → keys_rise d.pairs ≡ true → AreData old d
     → Applies old new ws → AreData new (commits ws d)
 applies_data old new d ws rise are made = record {
   count = made.count ∙ ap (λ n. n + 1) are.count;
   unstaged = made.is_staged;
-  values = λ k. made.next k ∙ ap (written ws k) (are.values k) ∙ sym ((writes_pairs d.pairs ws rise).values k);
+  values = λ k. made.next k ∙ ap (written ws k) (are.values k)
+      ∙ sym ((writes_pairs d.pairs ws rise).values k);
 }
 
 -- What a turn that is due is.
 
-pub due_leads : (s : KvSight) (x : Xid) (c : Call) (turn : Turn) (e : Entry) → IsDueTurn s x c turn → turn.entry ≡ Some e → turn.to ≡ leads e
+pub due_leads : (s : KvSight) (x : Xid) (c : Call) (turn : Turn) (e : Entry) → IsDueTurn s x c turn
+    → turn.entry ≡ Some e → turn.to ≡ leads e
 due_leads s x c turn e due is = by_turn due.due
   where
     by_turn : IsTurn s.store x c turn → turn.to ≡ leads e
     by_turn (OfCall one) =
         subst (λ (t : Turn). HoldsOf (λ f to. to ≡ leads f) t) (sym one)
-        (each_call (λ f to. to ≡ leads f) (state_of s.store x) c _ _ _ (λ h. refl) refl refl (λ h. refl) (λ o. refl) refl) e is
+        (each_call (λ f to. to ≡ leads f) (state_of s.store x) c _ _ _ (λ h. refl) refl refl
+        (λ h. refl) (λ o. refl) refl) e is
     by_turn (OfOperator o here room one) =
-        subst (λ (t : Turn). HoldsOf (λ f to. to ≡ leads f) t) (sym one) (each_decision (λ f to. to ≡ leads f) o refl refl) e is
+        subst (λ (t : Turn). HoldsOf (λ f to. to ≡ leads f) t) (sym one)
+        (each_decision (λ f to. to ≡ leads f) o refl refl) e is
 
-pub due_has : (s : KvSight) (x : Xid) (c : Call) (turn : Turn) (e : Entry) → IsDueTurn s x c turn → turn.entry ≡ Some e
+pub due_has : (s : KvSight) (x : Xid) (c : Call) (turn : Turn) (e : Entry)
+    → IsDueTurn s x c turn → turn.entry ≡ Some e
     → HasWrites e (writes_of s.store.writes x)
 due_has s x c turn e due is = by_turn due.due
   where
@@ -452,27 +500,34 @@ due_has s x c turn e due is = by_turn due.due
     by_turn : IsTurn s.store x c turn → HasWrites e ws
     by_turn (OfCall one) =
         subst (λ (t : Turn). HoldsOf (λ f to. HasWrites f ws) t) (sym one)
-        (each_call (λ f to. HasWrites f ws) (state_of s.store x) c _ _ _ (λ h. h) tt tt (λ h. h) (λ o. tt) tt) e is
+        (each_call (λ f to. HasWrites f ws) (state_of s.store x) c _ _ _ (λ h. h) tt
+        tt (λ h. h) (λ o. tt) tt) e is
     by_turn (OfOperator o here room one) =
-        subst (λ (t : Turn). HoldsOf (λ f to. HasWrites f ws) t) (sym one) (each_decision (λ f to. HasWrites f ws) o tt tt) e is
+        subst (λ (t : Turn). HoldsOf (λ f to. HasWrites f ws) t) (sym one)
+        (each_decision (λ f to. HasWrites f ws) o tt tt) e is
 
-due_prepared : (s : KvSight) (x : Xid) (c : Call) (turn : Turn) (e : Entry) → IsDueTurn s x c turn → turn.entry ≡ Some e
+due_prepared : (s : KvSight) (x : Xid) (c : Call) (turn : Turn) (e : Entry)
+    → IsDueTurn s x c turn → turn.entry ≡ Some e
     → settles e ≡ true → state_of s.store x ≡ S3
 due_prepared s x c turn e due is h = by_turn due.due
   where
     by_turn : IsTurn s.store x c turn → state_of s.store x ≡ S3
     by_turn (OfCall one) =
-        committed_was_prepared (state_of s.store x) c _ _ _ e (ap (λ (t : Turn). t.entry) (sym one) ∙ is) h (subst (IsListed s.store x c) one due.listed)
+        committed_was_prepared (state_of s.store x) c _ _ _ e (ap (λ (t : Turn). t.entry) (sym one) ∙ is) h
+        (subst (IsListed s.store x c) one due.listed)
     by_turn (OfOperator o here room one) = here
 
-due_untold : (s : KvSight) (x : Xid) (c : Call) (turn : Turn) (e : Entry) → IsDueTurn s x c turn → turn.entry ≡ Some e
+due_untold : (s : KvSight) (x : Xid) (c : Call) (turn : Turn) (e : Entry)
+    → IsDueTurn s x c turn → turn.entry ≡ Some e
     → IsUntold (state_of s.store x) (known_of s.store x) e
 due_untold s x c turn e due is = by_turn due.due
   where
     by_turn : IsTurn s.store x c turn → IsUntold (state_of s.store x) (known_of s.store x) e
-    by_turn (OfCall one) = untold (state_of s.store x) c _ _ (known_of s.store x) e (ap (λ (t : Turn). t.entry) (sym one) ∙ is)
+    by_turn (OfCall one) = untold (state_of s.store x) c _ _ (known_of s.store x) e
+        (ap (λ (t : Turn). t.entry) (sym one) ∙ is)
     by_turn (OfOperator o here room one) =
-        untold_decision (state_of s.store x) (known_of s.store x) o e (ap (λ (t : Turn). t.entry) (sym one) ∙ is)
+        untold_decision (state_of s.store x) (known_of s.store x) o e
+        (ap (λ (t : Turn). t.entry) (sym one) ∙ is)
 
 -- What a turn makes of a manager.
 
@@ -491,35 +546,44 @@ writes_other : (old new : KeySight) (x y : Xid) (to : BranchState) → LetsGo ol
 writes_other old new x y to goes apart = by_end (is_let_go to) goes
   where
     by_end : (b : Bool)
-        → MatchBool b (Leaves old.writes new.writes x [] × Releases old.locks new.locks x) ((new.writes ≡ old.writes) × (new.locks ≡ old.locks))
+        → MatchBool b (Leaves old.writes new.writes x [] × Releases old.locks new.locks x)
+        ((new.writes ≡ old.writes) × (new.locks ≡ old.locks))
         → writes_of new.writes y ≡ writes_of old.writes y
     by_end true h = h.0.others y apart
     by_end false h = ap (λ w. writes_of w y) h.0
 
-writes_kept : (old new : KeySight) (x : Xid) (to : BranchState) → LetsGo old new x to → to ≡ S3 → writes_of new.writes x ≡ writes_of old.writes x
+writes_kept : (old new : KeySight) (x : Xid) (to : BranchState) → LetsGo old new x to → to ≡ S3
+    → writes_of new.writes x ≡ writes_of old.writes x
 writes_kept old new x to goes promises =
-    ap (λ w. writes_of w x) (subst (λ b. MatchBool b (Leaves old.writes new.writes x [] × Releases old.locks new.locks x) ((new.writes ≡ old.writes) × (new.locks ≡ old.locks))) (ap is_let_go promises) goes).0
+    ap (λ w. writes_of w x) (subst (λ b. MatchBool b (Leaves old.writes new.writes x [] × Releases old.locks
+    new.locks x) ((new.writes ≡ old.writes) × (new.locks ≡ old.locks))) (ap is_let_go promises) goes).0
 
 -- a branch that is prepared behind a turn has the writes that the log says it promised
 promises_behind : (s s' : KvSight) (x : Xid) (e : Entry) (to : BranchState) → IsLogged s → to ≡ leads e
     → TakesRow s.store.tables s'.store.tables x to → LetsGo s.store s'.store x to
     → (y : Xid) → state_of s'.store y ≡ S3
-    → writes_of s'.store.writes y ≡ promised_of (Foreign y) (after_entry (logged s) e x (writes_of s.store.writes x)).promised
+    → writes_of s'.store.writes y ≡ promised_of (Foreign y)
+    (after_entry (logged s) e x (writes_of s.store.writes x)).promised
 promises_behind s s' x e to stands is_to row goes y is = by_test (same x y) refl
   where
     own : state_of s'.store x ≡ S3
-        → writes_of s'.store.writes x ≡ promised_of (Foreign x) (after_entry (logged s) e x (writes_of s.store.writes x)).promised
+        → writes_of s'.store.writes x ≡ promised_of (Foreign x)
+        (after_entry (logged s) e x (writes_of s.store.writes x)).promised
     own here =
         let three : to ≡ S3 = sym row.branch.own ∙ here in
         let prepares : e ≡ Prepared = leads_prepared e (sym is_to ∙ three) in
-        writes_kept s.store s'.store x to goes three ∙ sym (promised_own (logged s) x (writes_of s.store.writes x))
-        ∙ ap (λ f. promised_of (Foreign x) (after_entry (logged s) f x (writes_of s.store.writes x)).promised) (sym prepares)
+        writes_kept s.store s'.store x to goes three
+        ∙ sym (promised_own (logged s) x (writes_of s.store.writes x))
+        ∙ ap (λ f. promised_of (Foreign x) (after_entry (logged s) f x (writes_of s.store.writes x)).promised)
+        (sym prepares)
 
     by_test : (b : Bool) → same x y ≡ b
-        → writes_of s'.store.writes y ≡ promised_of (Foreign y) (after_entry (logged s) e x (writes_of s.store.writes x)).promised
+        → writes_of s'.store.writes y ≡ promised_of (Foreign y)
+        (after_entry (logged s) e x (writes_of s.store.writes x)).promised
     by_test true t =
         let one : x ≡ y = same_is x y t in
-        subst (λ z. writes_of s'.store.writes z ≡ promised_of (Foreign z) (after_entry (logged s) e x (writes_of s.store.writes x)).promised) one
+        subst (λ z. writes_of s'.store.writes z
+        ≡ promised_of (Foreign z) (after_entry (logged s) e x (writes_of s.store.writes x)).promised) one
         (own (ap (state_of s'.store) one ∙ is))
     by_test false t =
         writes_other s.store s'.store x y to goes t
@@ -527,7 +591,8 @@ promises_behind s s' x e to stands is_to row goes y is = by_test (same x y) refl
         ∙ sym (promised_other (logged s) e x y (writes_of s.store.writes x) t)
 
 -- and that is its last record
-marked_behind : (s s' : KvSight) (x : Xid) (e : Entry) (to : BranchState) (ws : List Write) → IsLogged s → to ≡ leads e
+marked_behind : (s s' : KvSight) (x : Xid) (e : Entry) (to : BranchState)
+    (ws : List Write) → IsLogged s → to ≡ leads e
     → TakesRow s.store.tables s'.store.tables x to → (y : Xid) → state_of s'.store y ≡ S3
     → mark_after (Foreign y) (mark_at (records_of s.log.sight.kept) y) (entry_of e (Foreign x) ws) ≡ Promised
 marked_behind s s' x e to ws stands is_to row y is = by_test (same x y) refl
@@ -537,30 +602,37 @@ marked_behind s s' x e to ws stands is_to row y is = by_test (same x y) refl
 
     own : state_of s'.store x ≡ S3 → mark_after (Foreign x) (said x) (entry_of e (Foreign x) ws) ≡ Promised
     own here =
-        ap (λ f. mark_after (Foreign x) (said x) (entry_of f (Foreign x) ws)) (leads_prepared e (sym is_to ∙ sym row.branch.own ∙ here))
+        ap (λ f. mark_after (Foreign x) (said x) (entry_of f (Foreign x) ws))
+        (leads_prepared e (sym is_to ∙ sym row.branch.own ∙ here))
         ∙ marks_own (said x) x ws
 
-    by_test : (b : Bool) → same x y ≡ b → mark_after (Foreign y) (said y) (entry_of e (Foreign x) ws) ≡ Promised
+    by_test : (b : Bool) → same x y ≡ b → mark_after (Foreign y) (said y)
+        (entry_of e (Foreign x) ws) ≡ Promised
     by_test true t =
         let one : x ≡ y = same_is x y t in
-        subst (λ z. mark_after (Foreign z) (said z) (entry_of e (Foreign x) ws) ≡ Promised) one (own (ap (state_of s'.store) one ∙ is))
+        subst (λ z. mark_after (Foreign z) (said z) (entry_of e (Foreign x) ws) ≡ Promised) one
+        (own (ap (state_of s'.store) one ∙ is))
     by_test false t = marks_other (said y) e x y ws t ∙ stands.marked y (sym (row.branch.others y t) ∙ is)
 
 -- of each branch that an operator decided the log says so behind a turn
-still_decided : (s s' : KvSight) (x : Xid) (c : Call) (turn : Turn) (e : Entry) → IsLogged s → IsDueTurn s x c turn → turn.entry ≡ Some e
+still_decided : (s s' : KvSight) (x : Xid) (c : Call) (turn : Turn) (e : Entry) → IsLogged s
+    → IsDueTurn s x c turn → turn.entry ≡ Some e
     → TakesRow s.store.tables s'.store.tables x turn.to
     → Notes s.store.decisions s'.store.decisions x (known_behind turn.entry (decision_in s.store.decisions x))
     → Writes s.log s'.log (entry_record e x (writes_of s.store.writes x)) turn.is_forced
-    → (y : Xid) → state_of s'.store y ≡ S5 → SaysDecided (records_of s'.log.sight.kept) y (known_of s'.store y)
+    → (y : Xid) → state_of s'.store y ≡ S5 → SaysDecided
+    (records_of s'.log.sight.kept) y (known_of s'.store y)
 still_decided s s' x c turn e stands due is row notes made y here = by_test (same x y) refl
   where
     ws : List Write
     ws = writes_of s.store.writes x
 
-    by_state : IsUntold (state_of s.store x) (known_of s.store x) e → IsTold e → known_of s.store x ≡ decided_in (records_of s.log.sight.kept) x
+    by_state : IsUntold (state_of s.store x) (known_of s.store x) e → IsTold e
+        → known_of s.store x ≡ decided_in (records_of s.log.sight.kept) x
     by_state n t = (stands.decided x (was e n t)).how
       where
-        was : (e : Entry) → IsUntold (state_of s.store x) (known_of s.store x) e → IsTold e → state_of s.store x ≡ S5
+        was : (e : Entry) → IsUntold (state_of s.store x) (known_of s.store x) e
+            → IsTold e → state_of s.store x ≡ S5
         was (Told o) n t = n.0
         was Prepared n t = absurd t
         was Committed n t = absurd t
@@ -571,7 +643,8 @@ still_decided s s' x c turn e stands due is row notes made y here = by_test (sam
         was Forgot n t = absurd t
 
     logs_untold : (e : Entry) → IsUntold (state_of s.store x) (known_of s.store x) e
-        → (IsTold e → known_of s.store x ≡ decided_in (records_of s.log.sight.kept) x) → IsUntold S5 (decided_in (records_of s.log.sight.kept) x) e
+        → (IsTold e → known_of s.store x ≡ decided_in (records_of s.log.sight.kept) x)
+        → IsUntold S5 (decided_in (records_of s.log.sight.kept) x) e
     logs_untold (Told o) n how = (refl, ap (λ (d : Decision). d.told) (sym (how tt)) ∙ n.1)
     logs_untold Prepared n how = tt
     logs_untold Committed n how = tt
@@ -585,38 +658,46 @@ still_decided s s' x c turn e stands due is row notes made y here = by_test (sam
     own at =
         let n : IsUntold (state_of s.store x) (known_of s.store x) e = due_untold s x c turn e due is in
         let leads_on : leads e ≡ S5 = sym (due_leads s x c turn e due is) ∙ sym row.branch.own ∙ at in
-        let said = decides_own (mark_at (records_of s.log.sight.kept) x) (decided_in (records_of s.log.sight.kept) x) (decision_in s.store.decisions x) e x ws leads_on
+        let said = decides_own (mark_at (records_of s.log.sight.kept) x)
+        (decided_in (records_of s.log.sight.kept) x) (decision_in s.store.decisions x) e x ws leads_on
         (logs_untold e n (by_state n)) (by_state n) in
         record {
           says = ap says_decided (marked_logged s s' e x ws turn.is_forced made x) ∙ said.0;
-          how = ap decision_or (notes.own ∙ ap (λ o. known_behind o (decision_in s.store.decisions x)) is) ∙ said.1
+          how = ap decision_or (notes.own ∙ ap (λ o. known_behind o (decision_in s.store.decisions x)) is)
+              ∙ said.1
               ∙ sym (decided_logged s s' e x ws turn.is_forced made x);
         }
 
     by_test : (b : Bool) → same x y ≡ b → SaysDecided (records_of s'.log.sight.kept) y (known_of s'.store y)
     by_test true t =
         let one : x ≡ y = same_is x y t in
-        subst (λ z. SaysDecided (records_of s'.log.sight.kept) z (known_of s'.store z)) one (own (ap (state_of s'.store) one ∙ here))
+        subst (λ z. SaysDecided (records_of s'.log.sight.kept) z (known_of s'.store z)) one
+        (own (ap (state_of s'.store) one ∙ here))
     by_test false t =
         let before = stands.decided y (sym (row.branch.others y t) ∙ here) in
         record {
           says = ap says_decided (marked_logged s s' e x ws turn.is_forced made y
               ∙ marks_other (mark_at (records_of s.log.sight.kept) y) e x y ws t) ∙ before.says;
           how = ap decision_or (notes.others y t) ∙ before.how
-              ∙ sym (decided_logged s s' e x ws turn.is_forced made y ∙ decides_other (decided_in (records_of s.log.sight.kept) y) e x y ws t);
+              ∙ sym (decided_logged s s' e x ws turn.is_forced made y
+              ∙ decides_other (decided_in (records_of s.log.sight.kept) y) e x y ws t);
         }
 
-pub kept_noted : (s s' : KvSight) (x : Xid) (c : Call) (turn : Turn) (e : Entry) → IsKept s → IsDueTurn s x c turn
+pub kept_noted : (s s' : KvSight) (x : Xid) (c : Call) (turn : Turn) (e : Entry)
+    → IsKept s → IsDueTurn s x c turn
     → turn.entry ≡ Some e → applies e ≡ false → TakesTurn s.store s'.store x turn
     → Writes s.log s'.log (entry_record e x (writes_of s.store.writes x)) turn.is_forced → IsKept s'
 kept_noted s s' x c turn e kept due is notes takes made = record {
   kind = made.kind ∙ kept.kind;
   stands = λ works. record {
     are_data = subst (AreData s'.store.versions) (sym behind)
-        (same_data s'.store.versions (logged s) _ (noted_count (logged s) e x ws notes) (noted_pairs (logged s) e x ws notes)
+        (same_data s'.store.versions (logged s) _ (noted_count (logged s) e x ws notes)
+        (noted_pairs (logged s) e x ws notes)
         (subst (λ v. AreData v (logged s)) (sym takes.versions) stands.are_data));
-    rise = ap (λ (d : Data). keys_rise d.pairs) behind ∙ ap keys_rise (noted_pairs (logged s) e x ws notes) ∙ stands.rise;
-    promises = λ y here. promises_behind s s' x e turn.to stands (due_leads s x c turn e due is) takes.tables takes.keeps y here
+    rise = ap (λ (d : Data). keys_rise d.pairs) behind
+        ∙ ap keys_rise (noted_pairs (logged s) e x ws notes) ∙ stands.rise;
+    promises = λ y here. promises_behind s s' x e turn.to stands (due_leads s x c turn e due is)
+        takes.tables takes.keeps y here
         ∙ ap (λ (d : Data). promised_of (Foreign y) d.promised) (sym behind);
     marked = λ y here. marked_logged s s' e x ws turn.is_forced made y
         ∙ marked_behind s s' x e turn.to ws stands (due_leads s x c turn e due is) takes.tables y here;
@@ -640,26 +721,35 @@ pub record Commits (old new : KeySight) (x : Xid) (turn : Turn) : Type 0 where
   pub versions : Applies old.versions new.versions (writes_of old.writes x)
   pub decisions : Notes old.decisions new.decisions x (known_behind turn.entry (decision_in old.decisions x))
 
-pub commits_by : (a b c d : KeySight) (x : Xid) (turn : Turn) → StagesWrites a b x → PublishesWrites b c → TakesTurn c d x turn
+pub commits_by : (a b c d : KeySight) (x : Xid) (turn : Turn) → StagesWrites a b x
+    → PublishesWrites b c → TakesTurn c d x turn
     → Commits a d x turn
 commits_by a b c d x turn staged published takes = record {
   tables = subst (λ t. TakesRow t d.tables x turn.to) (published.tables ∙ staged.tables) takes.tables;
-  keeps = subst (λ w. MatchBool (is_let_go turn.to) (Leaves w d.writes x [] × Releases a.locks d.locks x) ((d.writes ≡ w) × (d.locks ≡ a.locks))) (published.writes ∙ staged.writes)
-      (subst (λ l. MatchBool (is_let_go turn.to) (Leaves c.writes d.writes x [] × Releases l d.locks x) ((d.writes ≡ c.writes) × (d.locks ≡ l))) (published.locks ∙ staged.locks) takes.keeps);
+  keeps = subst (λ w. MatchBool (is_let_go turn.to) (Leaves w d.writes x [] × Releases a.locks d.locks x)
+      ((d.writes ≡ w) × (d.locks ≡ a.locks))) (published.writes ∙ staged.writes)
+      (subst (λ l. MatchBool (is_let_go turn.to) (Leaves c.writes d.writes x [] × Releases l d.locks x)
+      ((d.writes ≡ c.writes) × (d.locks ≡ l))) (published.locks ∙ staged.locks) takes.keeps);
   versions = subst (λ v. Applies a.versions v (writes_of a.writes x)) (sym takes.versions)
-      (applies_staged a.versions b.versions c.versions (writes_of a.writes x) staged.versions published.versions);
-  decisions = subst (λ t. Notes t d.decisions x (known_behind turn.entry (decision_in t x))) (published.decisions ∙ staged.decisions) takes.decisions;
+      (applies_staged a.versions b.versions c.versions (writes_of a.writes x)
+      staged.versions published.versions);
+  decisions = subst (λ t. Notes t d.decisions x (known_behind turn.entry (decision_in t x)))
+      (published.decisions ∙ staged.decisions) takes.decisions;
 }
 
-pub kept_committed : (s s' : KvSight) (x : Xid) (c : Call) (turn : Turn) (e : Entry) → IsKept s → IsDueTurn s x c turn
+pub kept_committed : (s s' : KvSight) (x : Xid) (c : Call) (turn : Turn) (e : Entry)
+    → IsKept s → IsDueTurn s x c turn
     → turn.entry ≡ Some e → applies e ≡ true → Commits s.store s'.store x turn
     → Writes s.log s'.log (entry_record e x (writes_of s.store.writes x)) turn.is_forced → IsKept s'
 kept_committed s s' x c turn e kept due is makes takes made = record {
   kind = made.kind ∙ kept.kind;
   stands = λ works. record {
-    are_data = subst (AreData s'.store.versions) (sym committed) (applies_data s.store.versions s'.store.versions (logged s) ws stands.rise stands.are_data takes.versions);
-    rise = ap (λ (d : Data). keys_rise d.pairs) committed ∙ (writes_pairs (logged s).pairs ws stands.rise).rise;
-    promises = λ y here. promises_behind s s' x e turn.to stands (due_leads s x c turn e due is) takes.tables takes.keeps y here
+    are_data = subst (AreData s'.store.versions) (sym committed) (applies_data s.store.versions
+        s'.store.versions (logged s) ws stands.rise stands.are_data takes.versions);
+    rise = ap (λ (d : Data). keys_rise d.pairs) committed
+        ∙ (writes_pairs (logged s).pairs ws stands.rise).rise;
+    promises = λ y here. promises_behind s s' x e turn.to stands (due_leads s x c turn e due is)
+        takes.tables takes.keeps y here
         ∙ ap (λ (d : Data). promised_of (Foreign y) d.promised) (sym behind);
     marked = λ y here. marked_logged s s' e x ws turn.is_forced made y
         ∙ marked_behind s s' x e turn.to ws stands (due_leads s x c turn e due is) takes.tables y here;
@@ -693,14 +783,18 @@ kept_broken s s' ls kept broke = record {
 -- From the room that was made first.
 
 -- a turn stays one where neither the tables nor the writes nor the decisions change
-pub turn_same : (a b : KeySight) (x : Xid) (c : Call) (turn : Turn) → b.tables ≡ a.tables → b.writes ≡ a.writes → b.decisions ≡ a.decisions
+pub turn_same : (a b : KeySight) (x : Xid) (c : Call) (turn : Turn) → b.tables ≡ a.tables
+    → b.writes ≡ a.writes → b.decisions ≡ a.decisions
     → IsTurn a x c turn → IsTurn b x c turn
 turn_same a b x c turn tables writes decisions (OfCall one) =
-    OfCall (one ∙ sym (λ i. turn_of (state_at (tables i) x) c (wrote_some (writes_of (writes i) x)) (name_in x).1 (decision_or (decision_in (decisions i) x))))
+    OfCall (one ∙ sym (λ i. turn_of (state_at (tables i) x) c (wrote_some (writes_of (writes i) x))
+    (name_in x).1 (decision_or (decision_in (decisions i) x))))
 turn_same a b x c turn tables writes decisions (OfOperator o here room one) =
-    OfOperator o (ap (λ t. state_at t x) tables ∙ here) (subst (λ (t : DecisionTable). 1 ≤ t.room) (sym decisions) room) one
+    OfOperator o (ap (λ t. state_at t x) tables ∙ here)
+    (subst (λ (t : DecisionTable). 1 ≤ t.room) (sym decisions) room) one
 
-pub due_same : (a b : KvSight) (x : Xid) (c : Call) (turn : Turn) → OnlyRoom a b → IsDueTurn a x c turn → IsDueTurn b x c turn
+pub due_same : (a b : KvSight) (x : Xid) (c : Call) (turn : Turn) → OnlyRoom a b
+    → IsDueTurn a x c turn → IsDueTurn b x c turn
 due_same a b x c turn room due = record {
   works = ap (λ (k : LogSight). k.failed) room.sight ∙ due.works;
   known = subst (λ (s : KeySight). is_known s.tables.branches.branches x ≡ true) (sym room.store) due.known;
@@ -708,19 +802,23 @@ due_same a b x c turn room due = record {
   listed = subst (λ (s : KeySight). IsListed s x c turn) (sym room.store) due.listed;
 }
 
-pub made_committed : (old s s' : KvSight) (x : Xid) (turn : Turn) (e : Entry) → OnlyRoom old s → turn.entry ≡ Some e
+pub made_committed : (old s s' : KvSight) (x : Xid) (turn : Turn) (e : Entry)
+    → OnlyRoom old s → turn.entry ≡ Some e
     → applies e ≡ true → Commits s.store s'.store x turn
     → Writes s.log s'.log (entry_record e x (writes_of s.store.writes x)) turn.is_forced → s'.boot ≡ s.boot
     → Makes old s' x turn
 made_committed old s s' x turn e room is makes done made boot = record {
   tables = commits_old.tables;
   keeps = commits_old.keeps;
-  versions = subst (λ b. MatchBool b (Applies old.store.versions s'.store.versions (writes_of old.store.writes x)) (s'.store.versions ≡ old.store.versions))
+  versions = subst (λ b. MatchBool b (Applies old.store.versions s'.store.versions
+      (writes_of old.store.writes x)) (s'.store.versions ≡ old.store.versions))
       (sym (ap commits_data is ∙ makes)) commits_old.versions;
   decisions = commits_old.decisions;
   log = subst (λ o. Logs old s' x turn.is_forced o) (sym is)
-      (made.sight ∙ ap (λ (k : LogSight). with_record k (entry_record e x (writes_of s.store.writes x)) turn.is_forced) room.sight
-      ∙ ap (λ (v : KeySight). with_record old.log.sight (entry_record e x (writes_of v.writes x)) turn.is_forced) room.store);
+      (made.sight ∙ ap (λ (k : LogSight). with_record k
+      (entry_record e x (writes_of s.store.writes x)) turn.is_forced) room.sight
+      ∙ ap (λ (v : KeySight). with_record old.log.sight (entry_record e x (writes_of v.writes x))
+      turn.is_forced) room.store);
   boot = boot ∙ room.boot;
 }
   where
@@ -734,16 +832,19 @@ pub fails_by : (old s s' : KvSight) (x : Xid) (turn : Turn) (e : Entry) → Only
 fails_by old s s' x turn e room is broke tables writes locks decisions boot = record {
   entry = e;
   writes_it = is;
-  log = subst (λ (v : KeySight). Breaks old.log s'.log (entry_record e x (writes_of v.writes x) ∷ [])) room.store (record {
-    kind = broke.kind ∙ room.kind;
-    appended = broke.appended;
-    stand = broke.stand ∙ ap (λ (k : LogSight). records_of k.kept ++ take broke.appended (l ∷ [])) room.sight;
-    no_less = subst (λ (k : LogSight). length k.kept.forced ≤ length s'.log.sight.kept.forced) room.sight broke.no_less;
-    more = broke.more;
-    leaves = λ keep. broke.leaves keep ∙ ap (λ (k : LogSight). left_by (longer k (take broke.appended (l ∷ []))) (broke.more + keep)) room.sight;
-    failed = broke.failed;
-    cause = subst (λ (k : LogSight). k.failures < s'.log.sight.failures) room.sight broke.cause;
-  });
+  log = subst (λ (v : KeySight). Breaks old.log s'.log
+      (entry_record e x (writes_of v.writes x) ∷ [])) room.store (record {
+        kind = broke.kind ∙ room.kind;
+        appended = broke.appended;
+        stand = broke.stand ∙ ap (λ (k : LogSight). records_of k.kept ++ take broke.appended (l ∷ [])) room.sight;
+        no_less = subst (λ (k : LogSight). length k.kept.forced
+            ≤ length s'.log.sight.kept.forced) room.sight broke.no_less;
+        more = broke.more;
+        leaves = λ keep. broke.leaves keep ∙ ap (λ (k : LogSight). left_by
+            (longer k (take broke.appended (l ∷ []))) (broke.more + keep)) room.sight;
+        failed = broke.failed;
+        cause = subst (λ (k : LogSight). k.failures < s'.log.sight.failures) room.sight broke.cause;
+      });
   tables = tables ∙ ap (λ (v : KeySight). v.tables) room.store;
   writes = writes ∙ ap (λ (v : KeySight). v.writes) room.store;
   locks = locks ∙ ap (λ (v : KeySight). v.locks) room.store;
@@ -760,7 +861,8 @@ fails_by old s s' x turn e room is broke tables writes locks decisions boot = re
 abbrev pub StaysDecided : KeySight → Xid → Turn → Type 0
 StaysDecided old x turn = (turn.to ≡ S0) ⊎ ((turn.to ≡ S5) × (state_of old x ≡ S5))
 
-pub silent_promises : (old new : KeySight) (x : Xid) (turn : Turn) → TakesTurn old new x turn → turn.entry ≡ None → StaysDecided old x turn
+pub silent_promises : (old new : KeySight) (x : Xid) (turn : Turn) → TakesTurn old new x turn
+    → turn.entry ≡ None → StaysDecided old x turn
     → KeepsPromises old new
 silent_promises old new x turn takes none so = record {
   versions = one_data old.versions new.versions takes.versions;
@@ -783,7 +885,8 @@ silent_promises old new x turn takes none so = record {
     prepared y is true t = absurd (never_own y is t)
     prepared y is false t = sym (takes.tables.branch.others y t) ∙ is
 
-    writes : (y : Xid) → state_of new y ≡ S3 → (b : Bool) → same x y ≡ b → writes_of new.writes y ≡ writes_of old.writes y
+    writes : (y : Xid) → state_of new y ≡ S3 → (b : Bool) → same x y ≡ b
+        → writes_of new.writes y ≡ writes_of old.writes y
     writes y is true t = absurd (never_own y is t)
     writes y is false t = writes_other old new x y turn.to takes.keeps t
 
@@ -801,7 +904,8 @@ silent_promises old new x turn takes none so = record {
         (ap decision_or (takes.decisions.own ∙ ap (λ o. known_behind o (decision_in old.decisions x)) none))
     known y false t = ap decision_or (takes.decisions.others y t)
 
-pub due_ends : (s : KvSight) (x : Xid) (c : Call) (turn : Turn) → IsDueTurn s x c turn → turn.entry ≡ None → StaysDecided s.store x turn
+pub due_ends : (s : KvSight) (x : Xid) (c : Call) (turn : Turn) → IsDueTurn s x c turn → turn.entry ≡ None
+    → StaysDecided s.store x turn
 due_ends s x c turn due is = by_turn due.due
   where
     none_decides : (o : Outcome) → (decide_turn o).entry ≡ None → ⊥
@@ -817,7 +921,12 @@ due_ends s x c turn due is = by_turn due.due
 -- nothing changed
 pub same_self : (s : KvSight) → SameManager s s
 same_self s = record {
-  tables = record { init = refl; branches = stays s.store.tables.branches s.store.tables.branches refl; associations = refl };
+  tables = record {
+    init = refl;
+    branches = stays s.store.tables.branches s.store.tables.branches
+        refl;
+    associations = refl;
+  };
   writes = λ x. refl;
   locks = refl;
   versions = record { base = refl; count = refl; is_staged = refl; values = λ n k. refl };

@@ -27,7 +27,8 @@ neither true b h = absurd (cc)
 abbrev pub Lacks : List ℕ → List (List ℕ) → Type 0
 Lacks k ks = list_any (same_bytes k) ks ≡ false
 
-none_with : (k j v : List ℕ) (ps : Pairs) → same_bytes k j ≡ false → found_in ps k ≡ None → found_in (with_pair j v ps) k ≡ None
+none_with : (k j v : List ℕ) (ps : Pairs) → same_bytes k j ≡ false → found_in ps k ≡ None
+    → found_in (with_pair j v ps) k ≡ None
 unfolding with_pair
 none_with k j v [] other none = ap (λ b. cond b (Some v) None) other
 none_with k j v (p ∷ ps) other none =
@@ -39,14 +40,16 @@ none_with k j v (p ∷ ps) other none =
     by_tests a b true e h rest = absurd (cc)
     by_tests true b false e h rest = ap (λ t. cond t (Some v) (found_in ps k)) other ∙ h
     by_tests false true false e h rest =
-        ap (λ t. cond t (Some v) (found_in (p ∷ ps) k)) other ∙ ap (λ t. cond t (Some p.1) (found_in ps k)) e ∙ h
+        ap (λ t. cond t (Some v) (found_in (p ∷ ps) k)) other
+        ∙ ap (λ t. cond t (Some p.1) (found_in ps k)) e ∙ h
     by_tests false false false e h rest =
         ap (λ t. cond t (Some p.1) (found_in (with_pair j v ps) k)) e ∙ rest h
 
 none_without : (k j : List ℕ) (ps : Pairs) → found_in ps k ≡ None → found_in (without_key j ps) k ≡ None
 unfolding without_key
 none_without k j [] none = refl
-none_without k j (p ∷ ps) none = by_tests (same_bytes j p.0) (same_bytes k p.0) refl none (none_without k j ps)
+none_without k j (p ∷ ps) none = by_tests (same_bytes j p.0) (same_bytes k p.0)
+    refl none (none_without k j ps)
   where
     by_tests : (a c : Bool) → same_bytes k p.0 ≡ c → cond c (Some p.1) (found_in ps k) ≡ None
         → (found_in ps k ≡ None → found_in (without_key j ps) k ≡ None)
@@ -73,12 +76,14 @@ none_applied k (w ∷ ws) ps lacks none =
 abbrev Promises : List ℕ → List (Branch × List Write) → Type 0
 Promises k ps = AllByRecursion (λ p. Lacks k (written_keys p.1)) ps
 
-lacks_promised : (k : List ℕ) (b : Branch) (ps : List (Branch × List Write)) → Promises k ps → Lacks k (written_keys (writes_of b ps))
+lacks_promised : (k : List ℕ) (b : Branch) (ps : List (Branch × List Write)) → Promises k ps
+    → Lacks k (written_keys (writes_of b ps))
 unfolding writes_of
 lacks_promised k b [] h = refl
 lacks_promised k b (p ∷ ps) h = by_test (same_branch p.0 b) (lacks_promised k b ps h.1)
   where
-    by_test : (t : Bool) → Lacks k (written_keys (writes_of b ps)) → Lacks k (written_keys (cond t p.1 (writes_of b ps)))
+    by_test : (t : Bool) → Lacks k (written_keys (writes_of b ps))
+        → Lacks k (written_keys (cond t p.1 (writes_of b ps)))
     by_test true rest = h.0
     by_test false rest = rest
 
@@ -87,16 +92,30 @@ record IsWithout (k : List ℕ) (d : Data) : Type 0 where
   none : found_in d.pairs k ≡ None
   promises : Promises k d.promised
 
-stays_without : (k : List ℕ) (d : Data) (r : Record) → IsWithout k d → Lacks k (keys_of r) → IsWithout k (stored_after d r)
+stays_without : (k : List ℕ) (d : Data) (r : Record) → IsWithout k d → Lacks k (keys_of r)
+    → IsWithout k (stored_after d r)
 stays_without k d (entry.Prepared b ws) h lacks = record { none = h.none; promises = (lacks, h.promises) }
 stays_without k d (entry.Committed b) h lacks =
-    record { none = none_applied k (writes_of b d.promised) d.pairs (lacks_promised k b d.promised h.promises) h.none; promises = h.promises }
+    record {
+      none = none_applied k (writes_of b d.promised) d.pairs (lacks_promised k b d.promised h.promises)
+          h.none;
+      promises = h.promises;
+    }
 stays_without k d (entry.HeurCommit b) h lacks =
-    record { none = none_applied k (writes_of b d.promised) d.pairs (lacks_promised k b d.promised h.promises) h.none; promises = h.promises }
-stays_without k d (entry.Direct b ws) h lacks = record { none = none_applied k ws d.pairs lacks h.none; promises = h.promises }
+    record {
+      none = none_applied k (writes_of b d.promised) d.pairs (lacks_promised k b d.promised h.promises)
+          h.none;
+      promises = h.promises;
+    }
+stays_without k d (entry.Direct b ws) h lacks =
+    record { none = none_applied k ws d.pairs lacks h.none; promises = h.promises }
 stays_without k d (entry.Base n) h lacks = record { none = refl; promises = h.promises }
 stays_without k d (entry.Pair j v) h lacks =
-    record { none = none_with k j v d.pairs (neither (same_bytes k j) false lacks).0 h.none; promises = h.promises }
+    record {
+      none = none_with k j v d.pairs (neither (same_bytes k j) false lacks).0
+          h.none;
+      promises = h.promises;
+    }
 stays_without k d (entry.Opened n) h lacks = h
 stays_without k d (entry.Collecting c ts) h lacks = h
 stays_without k d (entry.Prepare c ts) h lacks = h
@@ -112,7 +131,8 @@ stays_without k d (entry.Forgot b) h lacks = h
 same_keys : (l : LogRecord) → keys_of (by_xid l) ≡ keys_of l.entry
 same_keys l = of_entry l.parent l.entry
   where
-    of_entry : (p : Option ProcessId) (r : Record) → keys_of (by_xid (record { entry = r; parent = p })) ≡ keys_of r
+    of_entry : (p : Option ProcessId) (r : Record)
+        → keys_of (by_xid (record { entry = r; parent = p })) ≡ keys_of r
     of_entry p (entry.Opened n) = refl
     of_entry p (entry.Collecting c ts) = refl
     of_entry p (entry.Prepare c ts) = refl
@@ -141,6 +161,7 @@ without_behind k (l ∷ ls) d h lacks =
     without_behind k ls (stored_after d (by_xid l)) (stays_without k d (by_xid l) h own) parts.1
 
 -- a key that is not named has no value
-pub unnamed_is_none : (k : List ℕ) (ls : List LogRecord) → Lacks k (keys_in ls) → found_in (data_of ls).pairs k ≡ None
+pub unnamed_is_none : (k : List ℕ) (ls : List LogRecord) → Lacks k (keys_in ls)
+    → found_in (data_of ls).pairs k ≡ None
 unfolding stored
 unnamed_is_none k ls lacks = (without_behind k ls no_data (record { none = refl; promises = tt }) lacks).none

@@ -77,15 +77,18 @@ pairs_rise s (k ∷ ks) stay =
     let parts = both (goes_on k ks) (keys_stay ks) stay in
     by_next (is_next k ks) refl (value_at s s.count k) parts.0 parts.1 (pairs_rise s ks parts.1)
   where
-    by_next : (b : Bool) → is_next k ks ≡ b → (v : Option (List ℕ)) → goes_on k ks ≡ true → keys_stay ks ≡ true
+    by_next : (b : Bool) → is_next k ks ≡ b → (v : Option (List ℕ))
+        → goes_on k ks ≡ true → keys_stay ks ≡ true
         → keys_rise (pairs_at s ks) ≡ true → keys_rise (cond b [] (pair_if k v) ++ pairs_at s ks) ≡ true
     by_next true e v on stays rest = rest
     by_next false e None on stays rest = rest
     by_next false e (Some v) on stays rest =
-        joined (is_behind k (pairs_at s ks)) (keys_rise (pairs_at s ks)) (behind_pairs s k ks stays (leads_next k ks on e)) rest
+        joined (is_behind k (pairs_at s ks)) (keys_rise (pairs_at s ks))
+        (behind_pairs s k ks stays (leads_next k ks on e)) rest
 
 -- a key without a value has none among the pairs
-pub none_at : (s : VersionTable) (ks : Keys) (j : List ℕ) → value_at s s.count j ≡ None → found_in (pairs_at s ks) j ≡ None
+pub none_at : (s : VersionTable) (ks : Keys) (j : List ℕ) → value_at s s.count j ≡ None
+    → found_in (pairs_at s ks) j ≡ None
 unfolding pairs_at
 none_at s [] j h = refl
 none_at s (k ∷ ks) j h = by_next (is_next k ks) (value_at s s.count k) refl (none_at s ks j h)
@@ -118,19 +121,24 @@ found_at s (k ∷ ks) j h = by_same (same_bytes j k) refl (found_at s ks j)
 
     next_is : (ls : Keys) → is_next k ls ≡ true → same_bytes j k ≡ true → list_any (same_bytes j) ls ≡ true
     next_is [] e same = absurd (cc)
-    next_is (l ∷ ls) e same = ap (λ b. b || list_any (same_bytes j) ls) (ap (same_bytes j) (same_is l k e) ∙ same)
+    next_is (l ∷ ls) e same = ap (λ b. b || list_any (same_bytes j) ls)
+        (ap (same_bytes j) (same_is l k e) ∙ same)
 
-    by_own : same_bytes j k ≡ true → (b : Bool) → is_next k ks ≡ b → (v : Option (List ℕ)) → value_at s s.count k ≡ v
-        → (list_any (same_bytes j) ks ≡ true → found_in (pairs_at s ks) j ≡ value_at s s.count j) → goal_of b v
+    by_own : same_bytes j k ≡ true → (b : Bool) → is_next k ks ≡ b
+        → (v : Option (List ℕ)) → value_at s s.count k ≡ v
+        → (list_any (same_bytes j) ks ≡ true → found_in (pairs_at s ks) j
+        ≡ value_at s s.count j) → goal_of b v
     by_own same true e v is rest = rest (next_is ks e same)
     by_own same false e None is rest =
         let none : value_at s s.count j ≡ None = ap (value_at s s.count) (same_is j k same) ∙ is in
         none_at s ks j none ∙ sym none
     by_own same false e (Some v) is rest =
-        ap (λ b. cond b (Some v) (found_in (pairs_at s ks) j)) same ∙ sym (ap (value_at s s.count) (same_is j k same) ∙ is)
+        ap (λ b. cond b (Some v) (found_in (pairs_at s ks) j)) same
+        ∙ sym (ap (value_at s s.count) (same_is j k same) ∙ is)
 
     by_other : same_bytes j k ≡ false → (b : Bool) (v : Option (List ℕ))
-        → (list_any (same_bytes j) ks ≡ true → found_in (pairs_at s ks) j ≡ value_at s s.count j) → goal_of b v
+        → (list_any (same_bytes j) ks ≡ true → found_in (pairs_at s ks) j
+        ≡ value_at s s.count j) → goal_of b v
     by_other other true v rest = rest (elsewhere other)
     by_other other false None rest = rest (elsewhere other)
     by_other other false (Some v) rest =
@@ -148,4 +156,5 @@ pub pairs_on : (s : VersionTable) (done more now : List (List ℕ × List ℕ)) 
     → now ++ pairs_at s ks ≡ done ++ pairs_at s (k ∷ ks)
 unfolding pairs_at
 pairs_on s done more now k ks is grown =
-    ap (λ ps. ps ++ pairs_at s ks) grown ∙ append_assoc done more (pairs_at s ks) ∙ ap (λ ps. done ++ (ps ++ pairs_at s ks)) is
+    ap (λ ps. ps ++ pairs_at s ks) grown ∙ append_assoc done more (pairs_at s ks)
+    ∙ ap (λ ps. done ++ (ps ++ pairs_at s ks)) is

@@ -39,11 +39,15 @@ branch_same k x = by_test (same x k) refl
         other true f = true_is_false (sym (same_itself x) ∙ ap (same x) (sym (same_xid_is k x f)) ∙ e)
 
 -- the name of a record of a branch
-named : (r : Branch → Record) (q : Option ProcessId) (b : Branch) → ((c : Branch) → record_case (r c) ≡ branch_case c)
-    → ((c : Branch) → record_branch (r c) ≡ Some c) → log_name (record { entry = r b; parent = q }) ≡ Some (name_xid q b)
-named r q (CaseBranch d) case branch = ap (λ o. option_map (name_xid q) (name_by o (record_branch (r (CaseBranch d))))) (case (CaseBranch d))
+named : (r : Branch → Record) (q : Option ProcessId) (b : Branch)
+    → ((c : Branch) → record_case (r c) ≡ branch_case c)
+    → ((c : Branch) → record_branch (r c) ≡ Some c)
+    → log_name (record { entry = r b; parent = q }) ≡ Some (name_xid q b)
+named r q (CaseBranch d) case branch = ap (λ o. option_map (name_xid q)
+    (name_by o (record_branch (r (CaseBranch d))))) (case (CaseBranch d))
 named r q (Foreign y) case branch =
-    ap (λ o. option_map (name_xid q) (name_by o (record_branch (r (Foreign y))))) (case (Foreign y)) ∙ ap (option_map (name_xid q)) (branch (Foreign y))
+    ap (λ o. option_map (name_xid q) (name_by o (record_branch (r (Foreign y))))) (case (Foreign y))
+    ∙ ap (option_map (name_xid q)) (branch (Foreign y))
 
 -- What is said, and the mark.
 
@@ -61,23 +65,28 @@ live_is_open Decided = refl
 live_is_open (ToldOf o) = refl
 live_is_open Finished = refl
 
--- one record of a manager's log, as it is read by XIDs: what it says of a branch, which mark it sets where it is of the
--- branch, and what it makes of its promise
+-- one record of a manager's log, as it is read by XIDs: what it says of a branch, which mark it sets where
+-- it is of the branch, and what it makes of its promise
 pub record One (x : Xid) (l : LogRecord) : Type 0 where
   pub sets_mark : Mark
   pub marks : (m : Mark) → mark_after (Foreign x) m (by_xid l) ≡ cond (is_of x l) sets_mark m
   pub says : (m : Mark) → said_behind x (said_so m) l ≡ said_so (mark_after (Foreign x) m (by_xid l))
-  pub promises : (d : Data) → prepares x l ≡ false → writes_of (Foreign x) (stored_after d (by_xid l)).promised ≡ writes_of (Foreign x) d.promised
+  pub promises : (d : Data) → prepares x l ≡ false
+      → writes_of (Foreign x) (stored_after d (by_xid l)).promised ≡ writes_of (Foreign x) d.promised
   pub sets : (d e : Data) → prepares x l ≡ true
-      → writes_of (Foreign x) (stored_after d (by_xid l)).promised ≡ writes_of (Foreign x) (stored_after e (by_xid l)).promised
+      → writes_of (Foreign x) (stored_after d (by_xid l)).promised
+      ≡ writes_of (Foreign x) (stored_after e (by_xid l)).promised
 
-marked : (t u : Bool) (v m : Mark) (s : Said) → t ≡ u → said_so v ≡ s → cond t s (said_so m) ≡ said_so (cond u v m)
+marked : (t u : Bool) (v m : Mark) (s : Said) → t ≡ u → said_so v ≡ s
+    → cond t s (said_so m) ≡ said_so (cond u v m)
 marked t true v m s e f = ap (λ b. cond b s (said_so m)) e ∙ sym f
 marked t false v m s e f = ap (λ b. cond b s (said_so m)) e
 
 module _ (x : Xid) where
-  pub of_name : (q : Option ProcessId) (r : Branch → Record) (b : Branch) → ((c : Branch) → record_case (r c) ≡ branch_case c)
-      → ((c : Branch) → record_branch (r c) ≡ Some c) → is_of x (record { entry = r b; parent = q }) ≡ same x (name_xid q b)
+  pub of_name : (q : Option ProcessId) (r : Branch → Record) (b : Branch)
+      → ((c : Branch) → record_case (r c) ≡ branch_case c)
+      → ((c : Branch) → record_branch (r c) ≡ Some c)
+      → is_of x (record { entry = r b; parent = q }) ≡ same x (name_xid q b)
   of_name q r b case branch = ap (is_name x) (named r q b case branch)
 
   -- a record that is no promise
@@ -86,18 +95,22 @@ module _ (x : Xid) where
       → by_xid (record { entry = r b; parent = q }) ≡ r (Foreign (name_xid q b))
       → ((c : Branch) (m : Mark) → mark_after (Foreign x) m (r c) ≡ cond (same_branch c (Foreign x)) v m)
       → ((m : Mark) → said_after (said_so m) (r b) ≡ s) → said_so v ≡ s → is_prepared (r b) ≡ false
-      → ((d : Data) (c : Branch) → (stored_after d (r c)).promised ≡ d.promised) → One x (record { entry = r b; parent = q })
+      → ((d : Data) (c : Branch) → (stored_after d (r c)).promised ≡ d.promised)
+      → One x (record { entry = r b; parent = q })
   one_mark q r b v s case branch read mark said is plain keeps = record {
     sets_mark = v;
     marks = λ m. ap (mark_after (Foreign x) m) read ∙ mark (Foreign (name_xid q b)) m
         ∙ ap (λ t. cond t v m) (branch_same (name_xid q b) x ∙ sym (of_name q r b case branch));
     says = λ m. ap (λ z. cond (is_of x (record { entry = r b; parent = q })) z (said_so m)) (said m)
-        ∙ marked (is_of x (record { entry = r b; parent = q })) (same_branch (Foreign (name_xid q b)) (Foreign x)) v m s
+        ∙ marked (is_of x (record { entry = r b; parent = q }))
+        (same_branch (Foreign (name_xid q b)) (Foreign x)) v m s
         (of_name q r b case branch ∙ sym (branch_same (name_xid q b) x)) is
-        ∙ ap said_so (sym (mark (Foreign (name_xid q b)) m)) ∙ ap (λ k. said_so (mark_after (Foreign x) m k)) (sym read);
+        ∙ ap said_so (sym (mark (Foreign (name_xid q b)) m))
+        ∙ ap (λ k. said_so (mark_after (Foreign x) m k)) (sym read);
     promises = λ d none. ap (λ k. writes_of (Foreign x) (stored_after d k).promised) read
         ∙ ap (writes_of (Foreign x)) (keeps d (Foreign (name_xid q b)));
-    sets = λ d e some. true_is_false (sym some ∙ both (is_of x (record { entry = r b; parent = q })) (is_prepared (r b)) plain);
+    sets = λ d e some. true_is_false (sym some
+        ∙ both (is_of x (record { entry = r b; parent = q })) (is_prepared (r b)) plain);
   }
     where
       both : (s t : Bool) → t ≡ false → (s && t) ≡ false
@@ -105,18 +118,24 @@ module _ (x : Xid) where
       both false t h = refl
 
   -- a promise
-  one_promise : (q : Option ProcessId) (b : Branch) (ws : List Write) → One x (record { entry = Prepared b ws; parent = q })
+  one_promise : (q : Option ProcessId) (b : Branch) (ws : List Write)
+      → One x (record { entry = Prepared b ws; parent = q })
   unfolding writes_of
   one_promise q b ws =
-      let t : is_of x (record { entry = Prepared b ws; parent = q }) ≡ same_branch (Foreign (name_xid q b)) (Foreign x) =
+      let t : is_of x (record { entry = Prepared b ws; parent = q })
+      ≡ same_branch (Foreign (name_xid q b)) (Foreign x) =
       of_name q (λ c. Prepared c ws) b (λ c. refl) (λ c. refl) ∙ sym (branch_same (name_xid q b) x) in
       record {
         sets_mark = Promised;
         marks = λ m. ap (λ k. cond k Promised m) (sym t);
-        says = λ m. marked (is_of x (record { entry = Prepared b ws; parent = q })) (same_branch (Foreign (name_xid q b)) (Foreign x)) Promised m Waits t refl;
-        promises = λ d none. ap (λ k. cond k ws (writes_of (Foreign x) d.promised)) (sym t ∙ only (is_of x (record { entry = Prepared b ws; parent = q })) none);
-        sets = λ d e some. ap (λ k. cond k ws (writes_of (Foreign x) d.promised)) (sym t ∙ first (is_of x (record { entry = Prepared b ws; parent = q })) some)
-            ∙ sym (ap (λ k. cond k ws (writes_of (Foreign x) e.promised)) (sym t ∙ first (is_of x (record { entry = Prepared b ws; parent = q })) some));
+        says = λ m. marked (is_of x (record { entry = Prepared b ws; parent = q }))
+            (same_branch (Foreign (name_xid q b)) (Foreign x)) Promised m Waits t refl;
+        promises = λ d none. ap (λ k. cond k ws (writes_of (Foreign x) d.promised))
+            (sym t ∙ only (is_of x (record { entry = Prepared b ws; parent = q })) none);
+        sets = λ d e some. ap (λ k. cond k ws (writes_of (Foreign x) d.promised))
+            (sym t ∙ first (is_of x (record { entry = Prepared b ws; parent = q })) some)
+            ∙ sym (ap (λ k. cond k ws (writes_of (Foreign x) e.promised))
+            (sym t ∙ first (is_of x (record { entry = Prepared b ws; parent = q })) some));
       }
     where
       only : (s : Bool) → (s && true) ≡ false → s ≡ false
@@ -133,25 +152,35 @@ module _ (x : Xid) where
       → ((d : Data) → (stored_after d r).promised ≡ d.promised) → One x (record { entry = r; parent = q })
   one_plain q r none read mark keeps = record {
     sets_mark = Unmarked;
-    marks = λ m. ap (mark_after (Foreign x) m) read ∙ mark m ∙ ap (λ o. cond (is_name x o) Unmarked m) (sym none);
+    marks = λ m. ap (mark_after (Foreign x) m) read ∙ mark m
+        ∙ ap (λ o. cond (is_name x o) Unmarked m) (sym none);
     says = λ m. ap (λ o. cond (is_name x o) (said_after (said_so m) r) (said_so m)) none
         ∙ ap said_so (sym (mark m)) ∙ ap (λ k. said_so (mark_after (Foreign x) m k)) (sym read);
-    promises = λ d no. ap (λ k. writes_of (Foreign x) (stored_after d k).promised) read ∙ ap (writes_of (Foreign x)) (keeps d);
+    promises = λ d no. ap (λ k. writes_of (Foreign x) (stored_after d k).promised) read
+        ∙ ap (writes_of (Foreign x)) (keeps d);
     sets = λ d e some. true_is_false (sym some ∙ ap (λ o. is_name x o && is_prepared r) none);
   }
 
-  pub one : (r : Record) (q : Option ProcessId) → is_managers r ≡ true → One x (record { entry = r; parent = q })
+  pub one : (r : Record) (q : Option ProcessId) → is_managers r ≡ true
+      → One x (record { entry = r; parent = q })
   one (Opened n) q h = one_plain q (Opened n) refl refl (λ m. refl) (λ d. refl)
   one (Base n) q h = one_plain q (Base n) refl refl (λ m. refl) (λ d. refl)
   one (Pair k v) q h = one_plain q (Pair k v) refl refl (λ m. refl) (λ d. refl)
   one (Prepared b ws) q h = one_promise q b ws
-  one (Committed b) q h = one_mark q Committed b Finished Over (λ c. refl) (λ c. refl) refl (λ c m. refl) (λ m. refl) refl refl (λ d c. refl)
-  one (RolledBack b) q h = one_mark q RolledBack b Finished Over (λ c. refl) (λ c. refl) refl (λ c m. refl) (λ m. refl) refl refl (λ d c. refl)
-  one (Direct b ws) q h = one_mark q (λ c. Direct c ws) b Finished Over (λ c. refl) (λ c. refl) refl (λ c m. refl) (λ m. refl) refl refl (λ d c. refl)
-  one (HeurCommit b) q h = one_mark q HeurCommit b Decided Waits (λ c. refl) (λ c. refl) refl (λ c m. refl) (λ m. refl) refl refl (λ d c. refl)
-  one (HeurRollback b) q h = one_mark q HeurRollback b Decided Waits (λ c. refl) (λ c. refl) refl (λ c m. refl) (λ m. refl) refl refl (λ d c. refl)
-  one (Told b o) q h = one_mark q (λ c. Told c o) b (ToldOf o) Waits (λ c. refl) (λ c. refl) refl (λ c m. refl) (λ m. refl) refl refl (λ d c. refl)
-  one (Forgot b) q h = one_mark q Forgot b Finished Over (λ c. refl) (λ c. refl) refl (λ c m. refl) (λ m. refl) refl refl (λ d c. refl)
+  one (Committed b) q h = one_mark q Committed b Finished Over (λ c. refl) (λ c. refl) refl (λ c m. refl)
+      (λ m. refl) refl refl (λ d c. refl)
+  one (RolledBack b) q h = one_mark q RolledBack b Finished Over (λ c. refl) (λ c. refl) refl (λ c m. refl)
+      (λ m. refl) refl refl (λ d c. refl)
+  one (Direct b ws) q h = one_mark q (λ c. Direct c ws) b Finished Over (λ c. refl) (λ c. refl) refl
+      (λ c m. refl) (λ m. refl) refl refl (λ d c. refl)
+  one (HeurCommit b) q h = one_mark q HeurCommit b Decided Waits (λ c. refl) (λ c. refl) refl (λ c m. refl)
+      (λ m. refl) refl refl (λ d c. refl)
+  one (HeurRollback b) q h = one_mark q HeurRollback b Decided Waits (λ c. refl) (λ c. refl) refl
+      (λ c m. refl) (λ m. refl) refl refl (λ d c. refl)
+  one (Told b o) q h = one_mark q (λ c. Told c o) b (ToldOf o) Waits (λ c. refl) (λ c. refl) refl
+      (λ c m. refl) (λ m. refl) refl refl (λ d c. refl)
+  one (Forgot b) q h = one_mark q Forgot b Finished Over (λ c. refl) (λ c. refl) refl (λ c m. refl)
+      (λ m. refl) refl refl (λ d c. refl)
   one (Collecting c ts) q h = absurd (cc)
   one (Prepare c ts) q h = absurd (cc)
   one (Commit c ts) q h = absurd (cc)
@@ -164,12 +193,15 @@ module _ (x : Xid) where
       → fold (said_behind x) (said_so m) ls ≡ said_so (fold (mark_after (Foreign x)) m (map by_xid ls))
   says_from [] m h = refl
   says_from (l ∷ ls) m h =
-      ap (λ s. fold (said_behind x) s ls) ((one l.entry l.parent h.0).says m) ∙ says_from ls (mark_after (Foreign x) m (by_xid l)) h.1
+      ap (λ s. fold (said_behind x) s ls) ((one l.entry l.parent h.0).says m)
+      ∙ says_from ls (mark_after (Foreign x) m (by_xid l)) h.1
 
   -- a branch that is open is live
-  pub live : (ls : List LogRecord) → AllByRecursion (λ l. is_managers l.entry ≡ true) ls → is_open (mark_at ls x) ≡ true → is_live (said_of x ls) ≡ true
+  pub live : (ls : List LogRecord) → AllByRecursion (λ l. is_managers l.entry ≡ true) ls
+      → is_open (mark_at ls x) ≡ true → is_live (said_of x ls) ≡ true
   unfolding said_of mark_of
-  live ls h stands = ap is_live (says_from ls Unmarked h) ∙ live_is_open (mark_of (Foreign x) (map by_xid ls)) ∙ stands
+  live ls h stands = ap is_live (says_from ls Unmarked h)
+      ∙ live_is_open (mark_of (Foreign x) (map by_xid ls)) ∙ stands
 
   -- the data behind more records
   abbrev pub data_from : Data → List LogRecord → Data
@@ -194,7 +226,8 @@ module _ (x : Xid) where
 
   module _ (ls : List LogRecord) (stands : is_live (said_of x ls) ≡ true) where
     -- the last promise stays
-    last_stays : (l : LogRecord) (behind : List LogRecord) → prepares x l ≡ true → is_prepared_in behind ≡ false → stays ls behind l ≡ true
+    last_stays : (l : LogRecord) (behind : List LogRecord) → prepares x l ≡ true
+        → is_prepared_in behind ≡ false → stays ls behind l ≡ true
     last_stays l behind of last = by_name (log_name l) of
       where
         by_name : (o : Option Xid) → (is_name x o && is_prepared l.entry) ≡ true → stays_by ls behind o ≡ true
@@ -205,15 +238,19 @@ module _ (x : Xid) where
             ∙ ap (λ b. b && not (list_any (prepares x) behind)) stands ∙ ap not last
 
     -- what one record makes of two data, where none behind it is a promise of the branch
-    both_take : (l : LogRecord) (d e : Data) → is_managers l.entry ≡ true → (prepares x l ≡ false → promise_in d ≡ promise_in e)
+    both_take : (l : LogRecord) (d e : Data) → is_managers l.entry ≡ true
+        → (prepares x l ≡ false → promise_in d ≡ promise_in e)
         → promise_in (stored_after d (by_xid l)) ≡ promise_in (stored_after e (by_xid l))
     both_take l d e h same = by_test (prepares x l) refl
       where
-        by_test : (t : Bool) → prepares x l ≡ t → promise_in (stored_after d (by_xid l)) ≡ promise_in (stored_after e (by_xid l))
+        by_test : (t : Bool) → prepares x l ≡ t
+            → promise_in (stored_after d (by_xid l)) ≡ promise_in (stored_after e (by_xid l))
         by_test true f = (one l.entry l.parent h).sets d e f
-        by_test false f = (one l.entry l.parent h).promises d f ∙ same f ∙ sym ((one l.entry l.parent h).promises e f)
+        by_test false f = (one l.entry l.parent h).promises d f ∙ same f
+            ∙ sym ((one l.entry l.parent h).promises e f)
 
-    one_takes : (l : LogRecord) (behind : List LogRecord) (d e : Data) → is_managers l.entry ≡ true → stays ls behind l ≡ false
+    one_takes : (l : LogRecord) (behind : List LogRecord) (d e : Data)
+        → is_managers l.entry ≡ true → stays ls behind l ≡ false
         → is_prepared_in behind ≡ false → (prepares x l ≡ false → promise_in d ≡ promise_in e)
         → promise_in d ≡ promise_in (stored_after e (by_xid l))
     one_takes l behind d e h gone last same = by_test (prepares x l) refl
@@ -222,21 +259,26 @@ module _ (x : Xid) where
         by_test true f = true_is_false (sym (last_stays l behind f last) ∙ gone)
         by_test false f = same f ∙ sym ((one l.entry l.parent h).promises e f)
 
-    pub kept_from : (rest : List LogRecord) → AllByRecursion (λ l. is_managers l.entry ≡ true) rest → (d e : Data)
-        → (is_prepared_in rest ≡ false → promise_in d ≡ promise_in e) → promise_in (data_from d (staying ls rest)) ≡ promise_in (data_from e rest)
+    pub kept_from : (rest : List LogRecord) → AllByRecursion
+        (λ l. is_managers l.entry ≡ true) rest → (d e : Data)
+        → (is_prepared_in rest ≡ false → promise_in d ≡ promise_in e)
+        → promise_in (data_from d (staying ls rest)) ≡ promise_in (data_from e rest)
     unfolding staying
     kept_from [] h d e same = same refl
     kept_from (l ∷ rest) h d e same = by_stay (stays ls rest l) refl (kept_from rest h.1)
       where
         by_stay : (t : Bool) → stays ls rest l ≡ t
-            → ((d e : Data) → (is_prepared_in rest ≡ false → promise_in d ≡ promise_in e) → promise_in (data_from d (staying ls rest)) ≡ promise_in (data_from e rest))
-            → promise_in (data_from d (cond t (l ∷ staying ls rest) (staying ls rest))) ≡ promise_in (data_from (stored_after e (by_xid l)) rest)
+            → ((d e : Data) → (is_prepared_in rest ≡ false → promise_in d ≡ promise_in e)
+            → promise_in (data_from d (staying ls rest)) ≡ promise_in (data_from e rest))
+            → promise_in (data_from d (cond t (l ∷ staying ls rest) (staying ls rest)))
+            ≡ promise_in (data_from (stored_after e (by_xid l)) rest)
         by_stay true f more =
             more (stored_after d (by_xid l)) (stored_after e (by_xid l))
             (λ none. both_take l d e h.0 (λ g. same (ap (λ b. b || is_prepared_in rest) g ∙ none)))
         by_stay false f more =
             more d (stored_after e (by_xid l))
-            (λ none. one_takes l rest d e h.0 f none (λ g. same (ap (λ b. b || is_prepared_in rest) g ∙ none)))
+            (λ none. one_takes l rest d e h.0 f none
+            (λ g. same (ap (λ b. b || is_prepared_in rest) g ∙ none)))
 
     -- The mark.
 
@@ -254,7 +296,8 @@ module _ (x : Xid) where
         ap (λ b. (b && is_prepared l.entry) || is_prepared_in behind) parts.0 ∙ none_prepared behind parts.1
 
     -- the last record of the branch stays
-    last_of_stays : (l : LogRecord) (behind : List LogRecord) → is_of x l ≡ true → is_named_in behind ≡ false → stays ls behind l ≡ true
+    last_of_stays : (l : LogRecord) (behind : List LogRecord) → is_of x l ≡ true
+        → is_named_in behind ≡ false → stays ls behind l ≡ true
     last_of_stays l behind of last = by_name (log_name l) of
       where
         by_name : (o : Option Xid) → is_name x o ≡ true → stays_by ls behind o ≡ true
@@ -266,30 +309,39 @@ module _ (x : Xid) where
     -- the marks behind one record of two, which are one where no record is of the branch
     both_marked : (l : LogRecord) (m n : Mark) → is_managers l.entry ≡ true → (is_of x l ≡ false → m ≡ n)
         → mark_after (Foreign x) m (by_xid l) ≡ mark_after (Foreign x) n (by_xid l)
-    both_marked l m n h same = (one l.entry l.parent h).marks m ∙ by_test (is_of x l) refl ∙ sym ((one l.entry l.parent h).marks n)
+    both_marked l m n h same = (one l.entry l.parent h).marks m ∙ by_test (is_of x l) refl
+        ∙ sym ((one l.entry l.parent h).marks n)
       where
         by_test : (t : Bool) → is_of x l ≡ t
-            → cond (is_of x l) (one l.entry l.parent h).sets_mark m ≡ cond (is_of x l) (one l.entry l.parent h).sets_mark n
-        by_test true f = ap (λ t. cond t (one l.entry l.parent h).sets_mark m) f ∙ sym (ap (λ t. cond t (one l.entry l.parent h).sets_mark n) f)
-        by_test false f = ap (λ t. cond t (one l.entry l.parent h).sets_mark m) f ∙ same f ∙ sym (ap (λ t. cond t (one l.entry l.parent h).sets_mark n) f)
+            → cond (is_of x l) (one l.entry l.parent h).sets_mark m
+            ≡ cond (is_of x l) (one l.entry l.parent h).sets_mark n
+        by_test true f = ap (λ t. cond t (one l.entry l.parent h).sets_mark m) f
+            ∙ sym (ap (λ t. cond t (one l.entry l.parent h).sets_mark n) f)
+        by_test false f = ap (λ t. cond t (one l.entry l.parent h).sets_mark m) f ∙ same f
+            ∙ sym (ap (λ t. cond t (one l.entry l.parent h).sets_mark n) f)
 
-    one_marked : (l : LogRecord) (behind : List LogRecord) (m n : Mark) → is_managers l.entry ≡ true → stays ls behind l ≡ false
+    one_marked : (l : LogRecord) (behind : List LogRecord) (m n : Mark)
+        → is_managers l.entry ≡ true → stays ls behind l ≡ false
         → is_named_in behind ≡ false → (is_of x l ≡ false → m ≡ n) → m ≡ mark_after (Foreign x) n (by_xid l)
     one_marked l behind m n h gone last same = by_test (is_of x l) refl
       where
         by_test : (t : Bool) → is_of x l ≡ t → m ≡ mark_after (Foreign x) n (by_xid l)
         by_test true f = true_is_false (sym (last_of_stays l behind f last) ∙ gone)
-        by_test false f = same f ∙ sym ((one l.entry l.parent h).marks n ∙ ap (λ t. cond t (one l.entry l.parent h).sets_mark n) f)
+        by_test false f = same f ∙ sym ((one l.entry l.parent h).marks n
+            ∙ ap (λ t. cond t (one l.entry l.parent h).sets_mark n) f)
 
-    pub marks_from : (rest : List LogRecord) → AllByRecursion (λ l. is_managers l.entry ≡ true) rest → (m n : Mark)
+    pub marks_from : (rest : List LogRecord) → AllByRecursion
+        (λ l. is_managers l.entry ≡ true) rest → (m n : Mark)
         → (is_named_in rest ≡ false → m ≡ n) → marks_in m (staying ls rest) ≡ marks_in n rest
     unfolding staying
     marks_from [] h m n same = same refl
     marks_from (l ∷ rest) h m n same = by_stay (stays ls rest l) refl (marks_from rest h.1)
       where
         by_stay : (t : Bool) → stays ls rest l ≡ t
-            → ((m n : Mark) → (is_named_in rest ≡ false → m ≡ n) → marks_in m (staying ls rest) ≡ marks_in n rest)
-            → marks_in m (cond t (l ∷ staying ls rest) (staying ls rest)) ≡ marks_in (mark_after (Foreign x) n (by_xid l)) rest
+            → ((m n : Mark) → (is_named_in rest ≡ false → m ≡ n)
+            → marks_in m (staying ls rest) ≡ marks_in n rest)
+            → marks_in m (cond t (l ∷ staying ls rest) (staying ls rest))
+            ≡ marks_in (mark_after (Foreign x) n (by_xid l)) rest
         by_stay true f more =
             more (mark_after (Foreign x) m (by_xid l)) (mark_after (Foreign x) n (by_xid l))
             (λ none. both_marked l m n h.0 (λ g. same (ap (λ b. b || is_named_in rest) g ∙ none)))

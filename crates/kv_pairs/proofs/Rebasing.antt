@@ -44,11 +44,13 @@ put_last : (k v : List ℕ) (qs : Pairs) → AllBelow k qs → with_pair k v qs 
 unfolding with_pair
 put_last k v [] h = refl
 put_last k v (q ∷ qs) h =
-    ap (λ b. cond b ((k, v) ∷ qs) (cond (key_below k q.0) ((k, v) ∷ (q ∷ qs)) (q ∷ with_pair k v qs))) (not_same q.0 k h.0)
+    ap (λ b. cond b ((k, v) ∷ qs) (cond (key_below k q.0) ((k, v) ∷ (q ∷ qs)) (q ∷ with_pair k v qs)))
+    (not_same q.0 k h.0)
     ∙ ap (λ b. cond b ((k, v) ∷ (q ∷ qs)) (q ∷ with_pair k v qs)) (not_before q.0 k h.0)
     ∙ ap (λ ps. q ∷ ps) (put_last k v qs h.1)
 
-more_below : (k j v : List ℕ) (qs : Pairs) → AllBelow k qs → key_below k j ≡ true → AllBelow j (qs ++ (k, v) ∷ [])
+more_below : (k j v : List ℕ) (qs : Pairs) → AllBelow k qs → key_below k j ≡ true
+    → AllBelow j (qs ++ (k, v) ∷ [])
 more_below k j v [] h below = (below, tt)
 more_below k j v (q ∷ qs) h below = (below_both q.0 k j h.0 below, more_below k j v qs h.1 below)
 
@@ -73,8 +75,13 @@ rebuilt (p ∷ ps) qs d rise behind =
 
 -- the base and its pairs make these data, and leave the promises
 pub rebased : (d e : Data) → keys_rise d.pairs ≡ true
-    → fold stored_after e (base_records d) ≡ record { count = d.count; pairs = d.pairs; promised = e.promised }
-rebased d e rise = rebuilt d.pairs [] (record { count = d.count; pairs = []; promised = e.promised }) rise (first d.pairs)
+    → fold stored_after e (base_records d) ≡ record {
+      count = d.count;
+      pairs = d.pairs;
+      promised = e.promised;
+    }
+rebased d e rise =
+    rebuilt d.pairs [] (record { count = d.count; pairs = []; promised = e.promised }) rise (first d.pairs)
   where
     first : (ps : Pairs) → HeadBehind [] ps
     first [] = tt

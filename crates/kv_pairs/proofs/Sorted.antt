@@ -34,17 +34,20 @@ abbrev pub order : Held → Held → Ordering
 order a b = slice_cmp nat_cmp a.now b.now
 
 -- the test whether a key is the first of these
-pub tests_next : (b : Bool) (key : List ℕ) (x : Held) (xs : List Held) → b ≡ bytes_eq x.now key → 0 < length xs → x ≡ get_or xs 0 x
+pub tests_next : (b : Bool) (key : List ℕ) (x : Held) (xs : List Held) → b ≡ bytes_eq x.now key
+    → 0 < length xs → x ≡ get_or xs 0 x
     → b ≡ is_next key (keys xs)
 tests_next b key x [] is some at = absurd (omega (arith, some))
-tests_next b key x (y ∷ ys) is some at = is ∙ bytes_are_same x.now key ∙ ap (λ (z : Held). same_bytes z.now key) at
+tests_next b key x (y ∷ ys) is some at = is ∙ bytes_are_same x.now key
+    ∙ ap (λ (z : Held). same_bytes z.now key) at
 
 -- the key at an index
 abbrev pub key_at : List Held → ℕ → List ℕ
 key_at xs i = (get_or xs i (record { ref_ptr = (0, 0); now = [] })).now
 
 -- the pairs of one key more, where these stand behind it
-pub pairs_walk : (s : VersionTable) (xs : List Held) (i : ℕ) (b : Bool) (done now : List (List ℕ × List ℕ)) → i < length xs
+pub pairs_walk : (s : VersionTable) (xs : List Held) (i : ℕ) (b : Bool)
+    (done now : List (List ℕ × List ℕ)) → i < length xs
     → b ≡ is_next (key_at xs i) (keys (take (length xs - (i + 1)) (drop (i + 1) xs)))
     → now ≡ done ++ cond b [] (pair_if (key_at xs i) (value_at s s.count (key_at xs i)))
     → done ++ pairs_at s (keys (drop i xs)) ≡ pairs_at s (keys xs)
@@ -55,9 +58,12 @@ pairs_walk s xs i b done now within is grown walked =
     let all : take (length xs - (i + 1)) (drop (i + 1) xs) ≡ drop (i + 1) xs =
     take_all (length xs - (i + 1)) (drop (i + 1) xs) (omega (arith, count)) in
     let next : suc i ≡ i + 1 = omega arith in
-    pairs_on s done (cond b [] (pair_if (key_at xs i) (value_at s s.count (key_at xs i)))) now (key_at xs i) (keys (drop (i + 1) xs))
-    (ap (λ t. cond t [] (pair_if (key_at xs i) (value_at s s.count (key_at xs i)))) (is ∙ ap (λ ys. is_next (key_at xs i) (keys ys)) all)) grown
-    ∙ ap (λ ys. done ++ pairs_at s (keys ys)) (sym (drop-cons xs i blank within ∙ ap (λ n. get_or xs i blank ∷ drop n xs) next)) ∙ walked
+    pairs_on s done (cond b [] (pair_if (key_at xs i) (value_at s s.count (key_at xs i)))) now
+    (key_at xs i) (keys (drop (i + 1) xs))
+    (ap (λ t. cond t [] (pair_if (key_at xs i) (value_at s s.count (key_at xs i))))
+    (is ∙ ap (λ ys. is_next (key_at xs i) (keys ys)) all)) grown
+    ∙ ap (λ ys. done ++ pairs_at s (keys ys))
+    (sym (drop-cons xs i blank within ∙ ap (λ n. get_or xs i blank ∷ drop n xs) next)) ∙ walked
 
 pub pairs_all : (s : VersionTable) (xs : List Held) (i : ℕ) (done : List (List ℕ × List ℕ)) → length xs ≤ i
     → done ++ pairs_at s (keys (drop i xs)) ≡ pairs_at s (keys xs) → done ≡ pairs_at s (keys xs)
@@ -67,19 +73,22 @@ pairs_all s xs i done past walked =
 
 less_as : (a b : List ℕ) (o : Ordering) → o ≡ slice_cmp nat_cmp a b → is_lt o ≡ key_below a b
 unfolding key_below
-less_as = same_from_slice_cmp nat_cmp is_lt key_below refl (λ _ _. refl) (λ _ _. refl) (λ x y xs ys o h. grind (arith, nat_tests))
+less_as = same_from_slice_cmp nat_cmp is_lt key_below refl (λ _ _. refl) (λ _ _. refl)
+    (λ x y xs ys o h. grind (arith, nat_tests))
 
 sorted_behind : (x : Held) (xs : List Held) → IsSorted order (x ∷ xs) → IsSorted order xs
 sorted_behind x xs h = λ k d low below.
     let next : suc k + 1 ≡ suc (k + 1) = omega arith in
     let within : suc k + 1 < length (x ∷ xs) = omega arith in
-    subst (λ n. is_lt (order (get_or (x ∷ xs) n d) (get_or xs k d)) ≡ false) next (h (suc k) d (omega arith) within)
+    subst (λ n. is_lt (order (get_or (x ∷ xs) n d) (get_or xs k d)) ≡ false) next
+    (h (suc k) d (omega arith) within)
 
 -- sorted keys do not fall
 sorted_stay : (xs : List Held) → IsSorted order xs → keys_stay (keys xs) ≡ true
 unfolding keys_stay
 sorted_stay [] h = refl
-sorted_stay (x ∷ xs) h = joined (goes_on x.now (keys xs)) (keys_stay (keys xs)) (first xs h) (sorted_stay xs (sorted_behind x xs h))
+sorted_stay (x ∷ xs) h = joined (goes_on x.now (keys xs)) (keys_stay (keys xs)) (first xs h)
+    (sorted_stay xs (sorted_behind x xs h))
   where
     first : (ys : List Held) → IsSorted order (x ∷ ys) → goes_on x.now (keys ys) ≡ true
     first [] g = refl
@@ -90,12 +99,15 @@ pub sorted_pairs : (s : VersionTable) (ls : List LogRecord) (old new : List Held
     → keys_rise (data_of ls).pairs ≡ true → keys old ≡ keys_in ls → IsPermutation old new → IsSorted order new
     → pairs_at s (keys new) ≡ (data_of ls).pairs
 sorted_pairs s ls old new are rise named moved sorted =
-    same_pairs (pairs_at s (keys new)) (data_of ls).pairs (pairs_rise s (keys new) (sorted_stay new sorted)) rise
+    same_pairs (pairs_at s (keys new)) (data_of ls).pairs
+    (pairs_rise s (keys new) (sorted_stay new sorted)) rise
     (λ k. by_name k (list_any (same_bytes k) (keys_in ls)) refl)
   where
-    stands : (k : List ℕ) (b : Bool) → list_any (same_bytes k) (keys_in ls) ≡ b → list_any (same_bytes k) (keys new) ≡ b
+    stands : (k : List ℕ) (b : Bool) → list_any (same_bytes k) (keys_in ls) ≡ b
+        → list_any (same_bytes k) (keys new) ≡ b
     stands k b is =
-        sym (list_any-IsPermutation (same_bytes k) (keys old) (keys new) (IsPermutation-map (λ (j : Held). j.now) old new moved))
+        sym (list_any-IsPermutation (same_bytes k) (keys old) (keys new)
+        (IsPermutation-map (λ (j : Held). j.now) old new moved))
         ∙ ap (list_any (same_bytes k)) named ∙ is
 
     by_name : (k : List ℕ) (b : Bool) → list_any (same_bytes k) (keys_in ls) ≡ b

@@ -30,11 +30,13 @@ abbrev behind : Data → List LogRecord → Data
 behind d ls = fold stored_after d (map by_xid ls)
 
 both_parts : (d : Data) (xs ys : List LogRecord) → behind d (xs ++ ys) ≡ behind (behind d xs) ys
-both_parts d xs ys = ap (fold stored_after d) (map-append by_xid xs ys) ∙ fold-append stored_after d (map by_xid xs) (map by_xid ys)
+both_parts d xs ys = ap (fold stored_after d) (map-append by_xid xs ys)
+    ∙ fold-append stored_after d (map by_xid xs) (map by_xid ys)
 
 -- the last Opened makes no data
 
-opened_makes : (d : Data) (q : Option ProcessId) (r : Record) → is_opened r ≡ true → stored_after d (renamed_by q (record_branch r) r) ≡ d
+opened_makes : (d : Data) (q : Option ProcessId) (r : Record) → is_opened r ≡ true
+    → stored_after d (renamed_by q (record_branch r) r) ≡ d
 opened_makes d q (Opened n) h = refl
 opened_makes d q r h = absurd (cc)
 
@@ -43,11 +45,13 @@ all_opened : (ls os : List LogRecord) → AllByRecursion (λ l. is_opened l.entr
 all_opened [] os h = h
 all_opened (l ∷ ls) os h = all_opened ls (opened_after os l) (by_test (is_opened l.entry) refl)
   where
-    by_test : (t : Bool) → is_opened l.entry ≡ t → AllByRecursion (λ l. is_opened l.entry ≡ true) (cond t (l ∷ []) os)
+    by_test : (t : Bool) → is_opened l.entry ≡ t
+        → AllByRecursion (λ l. is_opened l.entry ≡ true) (cond t (l ∷ []) os)
     by_test true e = (e, tt)
     by_test false e = h
 
-they_make : (os : List LogRecord) (d : Data) → AllByRecursion (λ l. is_opened l.entry ≡ true) os → behind d os ≡ d
+they_make : (os : List LogRecord) (d : Data) → AllByRecursion
+    (λ l. is_opened l.entry ≡ true) os → behind d os ≡ d
 they_make [] d h = refl
 they_make (l ∷ os) d h = ap (λ e. behind e os) (opened_makes d l.parent l.entry h.0) ∙ they_make os d h.1
 
@@ -58,27 +62,39 @@ none_made ls = they_make (fold opened_after [] ls) no_data (all_opened ls [] tt)
 -- what the records that stay make
 front_made : (ls : List LogRecord) → behind no_data (front_of_trim ls) ≡ behind no_data (staying ls ls)
 unfolding front_of_trim
-front_made ls = both_parts no_data (last_opened ls) (staying ls ls) ∙ ap (λ d. behind d (staying ls ls)) (none_made ls)
+front_made ls = both_parts no_data (last_opened ls) (staying ls ls)
+    ∙ ap (λ d. behind d (staying ls ls)) (none_made ls)
 
 trimmed_data : (ls : List LogRecord) → keys_rise (data_of ls).pairs ≡ true
-    → data_of (trim_of ls) ≡ record { count = (data_of ls).count; pairs = (data_of ls).pairs; promised = (behind no_data (staying ls ls)).promised }
+    → data_of (trim_of ls) ≡ record {
+      count = (data_of ls).count;
+      pairs = (data_of ls).pairs;
+      promised = (behind no_data (staying ls ls)).promised;
+    }
 unfolding stored
 trimmed_data ls rise =
     both_parts no_data (front_of_trim ls) (map unnamed (base_records (data_of ls)))
     ∙ ap (fold stored_after (behind no_data (front_of_trim ls))) (bases_read (data_of ls))
     ∙ rebased (data_of ls) (behind no_data (front_of_trim ls)) rise
-    ∙ ap (λ (d : Data). record { count = (data_of ls).count; pairs = (data_of ls).pairs; promised = d.promised }) (front_made ls)
+    ∙ ap (λ (d : Data). record {
+      count = (data_of ls).count;
+      pairs = (data_of ls).pairs;
+      promised = d.promised;
+    }) (front_made ls)
 
 -- what the records say of a branch
 
 module _ {S : Type 0} (step : S → Record → S)
-    (opened : (s : S) (q : Option ProcessId) (r : Record) → is_opened r ≡ true → step s (renamed_by q (record_branch r) r) ≡ s)
-    (base : (s : S) (n : ℕ) → step s (Base n) ≡ s) (pair : (s : S) (p : List ℕ × List ℕ) → step s (pair_record p) ≡ s) where
+    (opened : (s : S) (q : Option ProcessId) (r : Record) → is_opened r ≡ true
+    → step s (renamed_by q (record_branch r) r) ≡ s)
+    (base : (s : S) (n : ℕ) → step s (Base n) ≡ s)
+    (pair : (s : S) (p : List ℕ × List ℕ) → step s (pair_record p) ≡ s) where
   abbrev said : S → List LogRecord → S
   said s ls = fold step s (map by_xid ls)
 
   said_parts : (s : S) (xs ys : List LogRecord) → said s (xs ++ ys) ≡ said (said s xs) ys
-  said_parts s xs ys = ap (fold step s) (map-append by_xid xs ys) ∙ fold-append step s (map by_xid xs) (map by_xid ys)
+  said_parts s xs ys = ap (fold step s) (map-append by_xid xs ys)
+      ∙ fold-append step s (map by_xid xs) (map by_xid ys)
 
   they_say : (os : List LogRecord) (s : S) → AllByRecursion (λ l. is_opened l.entry ≡ true) os → said s os ≡ s
   they_say [] s h = refl
@@ -90,7 +106,8 @@ module _ {S : Type 0} (step : S → Record → S)
 
   bases_say : (d : Data) (s : S) → said s (map unnamed (base_records d)) ≡ s
   bases_say d s =
-      ap (fold step s) (bases_read d) ∙ ap (λ n. fold step n (map pair_record d.pairs)) (base s d.count) ∙ pairs_say d.pairs s
+      ap (fold step s) (bases_read d) ∙ ap (λ n. fold step n (map pair_record d.pairs))
+      (base s d.count) ∙ pairs_say d.pairs s
 
   front_says : (ls : List LogRecord) (s : S) → said s (front_of_trim ls) ≡ said s (staying ls ls)
   unfolding front_of_trim last_opened
@@ -115,19 +132,23 @@ module _ (x : Xid) where
   opened_decides d q (Opened n) h = refl
   opened_decides d q r h = absurd (cc)
 
-  trimmed_marks : (ls : List LogRecord) → AllByRecursion (λ l. is_managers l.entry ≡ true) ls → is_open (mark_at ls x) ≡ true
+  trimmed_marks : (ls : List LogRecord) → AllByRecursion (λ l. is_managers l.entry ≡ true) ls
+      → is_open (mark_at ls x) ≡ true
       → mark_at (trim_of ls) x ≡ mark_at ls x
   unfolding mark_of
   trimmed_marks ls managers stands =
       trimmed_says (mark_after (Foreign x)) opened_marks (λ m n. refl) (λ m p. refl) ls Unmarked
       ∙ marks_from x ls (live x ls managers stands) ls managers Unmarked Unmarked (λ none. refl)
 
-  trimmed_decides : (ls : List LogRecord) → AllByRecursion (λ l. is_managers l.entry ≡ true) ls → is_open (mark_at ls x) ≡ true
+  trimmed_decides : (ls : List LogRecord) → AllByRecursion (λ l. is_managers l.entry ≡ true) ls
+      → is_open (mark_at ls x) ≡ true
       → decided_in (trim_of ls) x ≡ decided_in ls x
   unfolding decision_of
   trimmed_decides ls managers stands =
-      trimmed_says (decision_after (Foreign x)) opened_decides (λ d n. refl) (λ d p. refl) ls (decided_as Aborted)
-      ∙ decisions_from x ls (live x ls managers stands) ls (decided_as Aborted) (decided_as Aborted) (λ none. refl)
+      trimmed_says (decision_after (Foreign x)) opened_decides (λ d n. refl)
+      (λ d p. refl) ls (decided_as Aborted)
+      ∙ decisions_from x ls (live x ls managers stands) ls (decided_as Aborted)
+      (decided_as Aborted) (λ none. refl)
 
 pub trims_keep_data : TrimsKeepData
 unfolding stored

@@ -267,7 +267,8 @@ restoring_fails s x Malformed fails = record { branch = x; breaks = fails }
 restoring_fails s x Exhausted fails = fails
 
 -- what the open branches cannot hold leaves nothing
-pub restore_fails : (ls : List LogRecord) (s : SeenLog) → seen_of ls ≡ Some s → (e : ReplayError) → RestoreFails s e → Fails ls e
+pub restore_fails : (ls : List LogRecord) (s : SeenLog) → seen_of ls ≡ Some s → (e : ReplayError)
+    → RestoreFails s e → Fails ls e
 restore_fails ls s read Memory fails = tt
 restore_fails ls s read Malformed fails = inr (s, read, fails)
 restore_fails ls s read Exhausted fails = absurd fails

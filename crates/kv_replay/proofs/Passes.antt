@@ -162,7 +162,8 @@ reading_ends ls s v reading = record {
 }
 
 -- a record that may not follow is not taken
-pub refused_take : (s : SeenLog) (l : LogRecord) (v : VersionTable) (f : ReadFault) → (f ≡ fault.Malformed → after s l ≡ None)
+pub refused_take : (s : SeenLog) (l : LogRecord) (v : VersionTable) (f : ReadFault)
+    → (f ≡ fault.Malformed → after s l ≡ None)
     → TakeFails s l v (error_of f)
 refused_take s l v fault.Memory never = tt
 refused_take s l v fault.Malformed never = never refl

@@ -41,7 +41,8 @@ unfolding keys_rise
 not_among k [] behind rise = refl
 not_among k (p ∷ ps) behind rise =
     let parts = both (is_behind p.0 ps) (keys_rise ps) rise in
-    ap (λ b. cond b (Some p.1) (found_in ps k)) (apart k p.0 behind) ∙ not_among k ps (behind_all k p ps behind parts.0) parts.1
+    ap (λ b. cond b (Some p.1) (found_in ps k)) (apart k p.0 behind)
+    ∙ not_among k ps (behind_all k p ps behind parts.0) parts.1
 
 -- A pair is put in.
 
@@ -61,13 +62,16 @@ rise_with : (k v : List ℕ) (ps : Pairs) → keys_rise ps ≡ true → keys_ris
 unfolding with_pair keys_rise
 rise_with k v [] rise = refl
 rise_with k v (p ∷ ps) rise =
-    by_tests (same_bytes k p.0) (key_below k p.0) refl refl (rise_with k v ps (both (is_behind p.0 ps) (keys_rise ps) rise).1)
+    by_tests (same_bytes k p.0) (key_below k p.0) refl refl
+    (rise_with k v ps (both (is_behind p.0 ps) (keys_rise ps) rise).1)
   where
     by_tests : (a b : Bool) → same_bytes k p.0 ≡ a → key_below k p.0 ≡ b → keys_rise (with_pair k v ps) ≡ true
         → keys_rise (cond a ((k, v) ∷ ps) (cond b ((k, v) ∷ (p ∷ ps)) (p ∷ with_pair k v ps))) ≡ true
-    by_tests true b e f rest = subst (λ j. (is_behind j ps && keys_rise ps) ≡ true) (sym (same_is k p.0 e)) rise
+    by_tests true b e f rest = subst (λ j. (is_behind j ps && keys_rise ps) ≡ true)
+        (sym (same_is k p.0 e)) rise
     by_tests false true e f rest = joined f rise
-    by_tests false false e f rest = joined (behind_with p.0 k v ps (both (is_behind p.0 ps) (keys_rise ps) rise).0 (below_either k p.0 e f)) rest
+    by_tests false false e f rest = joined (behind_with p.0 k v ps
+        (both (is_behind p.0 ps) (keys_rise ps) rise).0 (below_either k p.0 e f)) rest
 
 found_with : (k v : List ℕ) (ps : Pairs) (l : List ℕ)
     → found_in (with_pair k v ps) l ≡ cond (same_bytes l k) (Some v) (found_in ps l)
@@ -82,16 +86,20 @@ found_with k v (p ∷ ps) l = by_tests (same_bytes k p.0) (key_below k p.0) refl
     by_tests true b e rest = by_own (same_bytes l k) refl
       where
         by_own : (c : Bool) → same_bytes l k ≡ c
-            → cond c (Some v) (found_in ps l) ≡ cond c (Some v) (cond (same_bytes l p.0) (Some p.1) (found_in ps l))
+            → cond c (Some v) (found_in ps l)
+            ≡ cond c (Some v) (cond (same_bytes l p.0) (Some p.1) (found_in ps l))
         by_own true f = refl
-        by_own false f = ap (λ c. cond c (Some p.1) (found_in ps l)) (sym (ap (same_bytes l) (sym (same_is k p.0 e)) ∙ f))
+        by_own false f = ap (λ c. cond c (Some p.1) (found_in ps l))
+            (sym (ap (same_bytes l) (sym (same_is k p.0 e)) ∙ f))
     by_tests false true e rest = refl
     by_tests false false e rest = by_own (same_bytes l p.0) refl
       where
         by_own : (c : Bool) → same_bytes l p.0 ≡ c
-            → cond c (Some p.1) (found_in (with_pair k v ps) l) ≡ cond (same_bytes l k) (Some v) (cond c (Some p.1) (found_in ps l))
+            → cond c (Some p.1) (found_in (with_pair k v ps) l)
+            ≡ cond (same_bytes l k) (Some v) (cond c (Some p.1) (found_in ps l))
         by_own true f =
-            let other : same_bytes l k ≡ false = ap (λ j. same_bytes j k) (same_is l p.0 f) ∙ same_other_way p.0 k ∙ e in
+            let other : same_bytes l k ≡ false = ap (λ j. same_bytes j k) (same_is l p.0 f)
+            ∙ same_other_way p.0 k ∙ e in
             ap (λ c. cond c (Some v) (Some p.1)) (sym other)
         by_own false f = rest
 
@@ -134,19 +142,23 @@ found_without k (p ∷ ps) l rise =
   where
     by_test : (a : Bool) → same_bytes k p.0 ≡ a → found_in ps p.0 ≡ None
         → found_in (without_key k ps) l ≡ cond (same_bytes l k) None (found_in ps l)
-        → found_in (cond a ps (p ∷ without_key k ps)) l ≡ cond (same_bytes l k) None (cond (same_bytes l p.0) (Some p.1) (found_in ps l))
+        → found_in (cond a ps (p ∷ without_key k ps)) l
+        ≡ cond (same_bytes l k) None (cond (same_bytes l p.0) (Some p.1) (found_in ps l))
     by_test true e none rest = by_own (same_bytes l k) refl
       where
         by_own : (c : Bool) → same_bytes l k ≡ c
             → found_in ps l ≡ cond c None (cond (same_bytes l p.0) (Some p.1) (found_in ps l))
         by_own true f = ap (found_in ps) (same_is l k f ∙ same_is k p.0 e) ∙ none
-        by_own false f = ap (λ c. cond c (Some p.1) (found_in ps l)) (sym (ap (same_bytes l) (sym (same_is k p.0 e)) ∙ f))
+        by_own false f = ap (λ c. cond c (Some p.1) (found_in ps l))
+            (sym (ap (same_bytes l) (sym (same_is k p.0 e)) ∙ f))
     by_test false e none rest = by_own (same_bytes l p.0) refl
       where
         by_own : (c : Bool) → same_bytes l p.0 ≡ c
-            → cond c (Some p.1) (found_in (without_key k ps) l) ≡ cond (same_bytes l k) None (cond c (Some p.1) (found_in ps l))
+            → cond c (Some p.1) (found_in (without_key k ps) l)
+            ≡ cond (same_bytes l k) None (cond c (Some p.1) (found_in ps l))
         by_own true f =
-            let other : same_bytes l k ≡ false = ap (λ j. same_bytes j k) (same_is l p.0 f) ∙ same_other_way p.0 k ∙ e in
+            let other : same_bytes l k ≡ false = ap (λ j. same_bytes j k) (same_is l p.0 f)
+            ∙ same_other_way p.0 k ∙ e in
             ap (λ c. cond c None (Some p.1)) (sym other)
         by_own false f = rest
 
@@ -166,7 +178,8 @@ pub writes_pairs : (ps : Pairs) (ws : List Write) → keys_rise ps ≡ true → 
 unfolding applied written
 writes_pairs ps [] rise = record { rise = rise; values = λ k. refl }
 writes_pairs ps (w ∷ ws) rise =
-    let rest : WritesPairs (set_key w.key w.value ps) ws = writes_pairs (set_key w.key w.value ps) ws (rise_set w.key w.value ps rise) in
+    let rest : WritesPairs (set_key w.key w.value ps) ws =
+    writes_pairs (set_key w.key w.value ps) ws (rise_set w.key w.value ps rise) in
     record {
       rise = rest.rise;
       values = λ k. rest.values k ∙ ap (written ws k) (found_set w.key w.value ps k rise
@@ -193,7 +206,8 @@ first_is_one p q ps qs rise rise' same = by_tests (same_bytes p.0 q.0) (key_belo
     by_tests false true e f =
         absurd (some_none p.1 (sym (found_here p ps) ∙ same p.0 ∙ not_among p.0 (q ∷ qs) f rise'))
     by_tests false false e f =
-        absurd (some_none q.1 (sym (found_here q qs) ∙ sym (same q.0) ∙ not_among q.0 (p ∷ ps) (below_either p.0 q.0 e f) rise))
+        absurd (some_none q.1 (sym (found_here q qs) ∙ sym (same q.0)
+        ∙ not_among q.0 (p ∷ ps) (below_either p.0 q.0 e f) rise))
 
 found_behind : (p q : List ℕ × List ℕ) (ps qs : Pairs) (k : List ℕ) → p.0 ≡ q.0 → is_behind p.0 ps ≡ true
     → keys_rise ps ≡ true
@@ -201,7 +215,8 @@ found_behind : (p q : List ℕ × List ℕ) (ps qs : Pairs) (k : List ℕ) → p
     → (c : Bool) → same_bytes k p.0 ≡ c → found_in ps k ≡ found_in qs k
 found_behind p q ps qs k key behind rise behind' rise' same true e =
     let here : k ≡ p.0 = same_is k p.0 e in
-    ap (found_in ps) here ∙ not_among p.0 ps behind rise ∙ sym (not_among q.0 qs behind' rise') ∙ ap (found_in qs) (sym (here ∙ key))
+    ap (found_in ps) here ∙ not_among p.0 ps behind rise ∙ sym (not_among q.0 qs behind' rise')
+    ∙ ap (found_in qs) (sym (here ∙ key))
 found_behind p q ps qs k key behind rise behind' rise' same false e =
     sym (ap (λ c. cond c (Some p.1) (found_in ps k)) e) ∙ same
     ∙ ap (λ c. cond c (Some q.1) (found_in qs k)) (ap (same_bytes k) (sym key) ∙ e)

@@ -40,27 +40,32 @@ adding_begins t n ws = record { done = []; front = refl; adds = λ k. sym (appen
 
 pub adding_goes_on : (t u v : Table) (n : ℕ) (ws : List Write) (w : Write) (rest : List Write)
     → IsAdding t u n ws (w ∷ rest)
-    → Becomes u v w.key (list_at u w.key ++ record { count = n; value = w.value } ∷ []) → IsAdding t v n ws rest
+    → Becomes u v w.key (list_at u w.key ++ record { count = n; value = w.value }
+    ∷ []) → IsAdding t v n ws rest
 unfolding made
 adding_goes_on t u v n ws w rest so_far one = record {
   done = so_far.done ++ w ∷ [];
   front = so_far.front ∙ append_one so_far.done w rest;
-  adds = λ k. added k (same_key w.key k) refl ∙ ap (λ vs. list_at t k ++ vs) (sym (made_append n so_far.done (w ∷ []) k));
+  adds = λ k. added k (same_key w.key k) refl
+      ∙ ap (λ vs. list_at t k ++ vs) (sym (made_append n so_far.done (w ∷ []) k));
 }
   where
     added : (k : List ℕ) (b : Bool) → same_key w.key k ≡ b
         → list_at v k ≡ list_at t k ++ (made n so_far.done k ++ made n (w ∷ []) k)
     added k true e =
         let same : w.key ≡ k = search rules in
-        let one_more : made n (w ∷ []) k ≡ record { count = n; value = w.value } ∷ [] = ap (λ b. cond b (record { count = n; value = w.value } ∷ []) []) e in
+        let one_more : made n (w ∷ []) k ≡ record { count = n; value = w.value } ∷ [] =
+        ap (λ b. cond b (record { count = n; value = w.value } ∷ []) []) e in
         let at_key : list_at v k ≡ list_at u k ++ record { count = n; value = w.value } ∷ [] =
         subst (λ j. list_at v j ≡ list_at u j ++ record { count = n; value = w.value } ∷ []) same one.own in
         at_key ∙ ap (λ vs. vs ++ record { count = n; value = w.value } ∷ []) (so_far.adds k)
         ∙ append_three (list_at t k) (made n so_far.done k) (record { count = n; value = w.value } ∷ [])
         ∙ ap (λ vs. list_at t k ++ (made n so_far.done k ++ vs)) (sym one_more)
     added k false e =
-        let none : made n (w ∷ []) k ≡ [] = ap (λ b. cond b (record { count = n; value = w.value } ∷ []) []) e in
-        one.others k e ∙ so_far.adds k ∙ ap (λ vs. list_at t k ++ vs) (sym (append_none (made n so_far.done k)))
+        let none : made n (w ∷ []) k ≡ [] = ap
+        (λ b. cond b (record { count = n; value = w.value } ∷ []) []) e in
+        one.others k e ∙ so_far.adds k ∙ ap (λ vs. list_at t k ++ vs)
+        (sym (append_none (made n so_far.done k)))
         ∙ ap (λ vs. list_at t k ++ (made n so_far.done k ++ vs)) (sym none)
 
 pub adding_stops : (t u v : Table) (n : ℕ) (ws rest : List Write) → IsAdding t u n ws rest → SameLists u v
@@ -92,7 +97,11 @@ up_to_twice n [] = refl
 up_to_twice n (v ∷ vs) = grind (arith, common_steps, up_to_twice n vs)
 
 pub taking_begins : (t : Table) (n : ℕ) (ws : List Write) → IsTakingBack t t n ws ws
-taking_begins t n ws = record { done = []; front = refl; takes = record { own = λ k no. absurd (cc); others = λ k yes. refl } }
+taking_begins t n ws = record {
+  done = [];
+  front = refl;
+  takes = record { own = λ k no. absurd (cc); others = λ k yes. refl };
+}
 
 pub taking_goes_on : (t u v : Table) (n : ℕ) (ws : List Write) (w : Write) (rest : List Write)
     → IsTakingBack t u n ws (w ∷ rest)
@@ -107,7 +116,8 @@ taking_goes_on t u v n ws w rest so_far one = record {
 }
   where
     taken : (k : List ℕ) → same_key w.key k ≡ true → list_at v k ≡ up_to n (list_at u k)
-    taken k e = let same : w.key ≡ k = search rules in subst (λ j. list_at v j ≡ up_to n (list_at u j)) same one.own
+    taken k e = let same : w.key ≡ k = search rules in subst
+        (λ j. list_at v j ≡ up_to n (list_at u j)) same one.own
 
     before : (k : List ℕ) (b : Bool) → names_key so_far.done k ≡ b
         → up_to n (list_at u k) ≡ up_to n (list_at t k)
@@ -125,7 +135,8 @@ taking_goes_on t u v n ws w rest so_far one = record {
     others k false e other = one.others k e ∙ so_far.takes.others k (grind (arith, common_steps))
 
 pub taking_ends : (t u : Table) (n : ℕ) (ws : List Write) → IsTakingBack t u n ws [] → TakesBack t u n ws
-taking_ends t u n ws so_far = subst (λ us. TakesBack t u n us) (sym (so_far.front ∙ append_none so_far.done)) so_far.takes
+taking_ends t u n ws so_far = subst (λ us. TakesBack t u n us)
+    (sym (so_far.front ∙ append_none so_far.done)) so_far.takes
 
 -- what a front of the writes added is taken back, so that each key has what it had
 pub taken_back : (t u v : Table) (n : ℕ) (ws : List Write)
@@ -135,12 +146,15 @@ taken_back t u v n ws settled some back k = by_test (names_key ws k) refl
   where
     none_done : names_key ws k ≡ false → names_key some.done k ≡ false
     none_done e =
-        let parts : names_key (some.done ++ some.behind) k ≡ false = ap (λ us. names_key us k) (sym some.front) ∙ e in
+        let parts : names_key (some.done ++ some.behind) k ≡ false =
+        ap (λ us. names_key us k) (sym some.front) ∙ e in
         grind (arith, common_steps, list_any-append)
 
     by_test : (b : Bool) → names_key ws k ≡ b → list_at v k ≡ list_at t k
-    by_test true e = back.own k e ∙ ap (up_to n) (some.adds k) ∙ made_go n (list_at t k) some.done k (settled k)
-    by_test false e = back.others k e ∙ some.adds k ∙ ap (λ vs. list_at t k ++ vs) (made_none (n + 1) some.done k (none_done e)) ∙ append_none (list_at t k)
+    by_test true e = back.own k e ∙ ap (up_to n) (some.adds k)
+        ∙ made_go n (list_at t k) some.done k (settled k)
+    by_test false e = back.others k e ∙ some.adds k ∙ ap (λ vs. list_at t k ++ vs)
+        (made_none (n + 1) some.done k (none_done e)) ∙ append_none (list_at t k)
 
 pub kept_same : (base n : ℕ) (t u : Table) → IsKept base n false t → SameLists t u → IsKept base n false u
 kept_same base n t u kept stays = record {
@@ -154,21 +168,26 @@ pub kept_staged : (base n : ℕ) (t u : Table) (ws : List Write) → IsKept base
     → IsKept base n true u
 kept_staged base n t u ws kept adds = record {
   starts = kept.starts;
-  rises = λ k. ap (λ vs. rises_from 0 vs) (adds k) ∙ rises_made (n + 1) 0 (list_at t k) ws k (kept.rises k) (kept.next k) (omega arith);
+  rises = λ k. ap (λ vs. rises_from 0 vs) (adds k)
+      ∙ rises_made (n + 1) 0 (list_at t k) ws k (kept.rises k) (kept.next k) (omega arith);
   settled = λ no k. absurd (cc);
   next = λ k. ap (none_above (n + 1)) (adds k) ∙ none_above_made (n + 1) (list_at t k) ws k (kept.next k);
 }
 
 pub stages : (s s' : VersionTable) (ws : List Write) → IsKept s.base s.count false s.versions
-    → s'.base ≡ s.base → s'.count ≡ s.count → s'.is_staged ≡ true → Adds s.versions s'.versions (s.count + 1) ws → Stages s s' ws
+    → s'.base ≡ s.base → s'.count ≡ s.count → s'.is_staged ≡ true
+    → Adds s.versions s'.versions (s.count + 1) ws → Stages s s' ws
 stages s s' ws kept base count staged adds = record {
   base = base;
   count = count;
   is_staged = staged;
-  before = λ m k le. ap (value_by m None) (adds k) ∙ value_front (s.count + 1) None (list_at s.versions k) ws k m (omega arith);
-  next = λ k. ap (value_by (s.count + 1) None) (adds k) ∙ value_behind (s.count + 1) None (list_at s.versions k) (made (s.count + 1) ws k) (kept.next k)
+  before = λ m k le. ap (value_by m None) (adds k)
+      ∙ value_front (s.count + 1) None (list_at s.versions k) ws k m (omega arith);
+  next = λ k. ap (value_by (s.count + 1) None) (adds k)
+      ∙ value_behind (s.count + 1) None (list_at s.versions k) (made (s.count + 1) ws k) (kept.next k)
       ∙ value_made (s.count + 1) (value_by (s.count + 1) None (list_at s.versions k)) ws k
-      ∙ ap (written ws k) (value_later s.count (s.count + 1) None (list_at s.versions k) (kept.settled refl k) (omega arith));
+      ∙ ap (written ws k) (value_later s.count (s.count + 1) None (list_at s.versions k)
+      (kept.settled refl k) (omega arith));
 }
 
 pub same_data : (s s' : VersionTable) → s'.base ≡ s.base → s'.count ≡ s.count → s'.is_staged ≡ s.is_staged
@@ -186,7 +205,8 @@ applies s t u ws staged seen = record {
   count = seen.count ∙ ap (λ n. n + 1) staged.count;
   is_staged = seen.is_staged;
   before = λ n k le. seen.values n k ∙ staged.before n k le;
-  next = λ k. ap (λ n. value_at u n k) (seen.count ∙ ap (λ n. n + 1) staged.count) ∙ seen.values (s.count + 1) k ∙ staged.next k;
+  next = λ k. ap (λ n. value_at u n k) (seen.count ∙ ap (λ n. n + 1) staged.count)
+      ∙ seen.values (s.count + 1) k ∙ staged.next k;
 }
 
 -- a list that becomes what it was
@@ -220,10 +240,12 @@ pub adds_one : (t u : Table) (n : ℕ) (w : Write)
 adds_one t u n w one =
     adding_ends t u n (w ∷ []) (adding_goes_on t t u n (w ∷ []) w [] (adding_begins t n (w ∷ [])) one)
 
-pub kept_set : (base n : ℕ) (t u : Table) (ws : List Write) → IsKept base n false t → Adds t u n ws → IsKept base n false u
+pub kept_set : (base n : ℕ) (t u : Table) (ws : List Write) → IsKept base n false t
+    → Adds t u n ws → IsKept base n false u
 kept_set base n t u ws kept adds = record {
   starts = kept.starts;
-  rises = λ k. ap (rises_from 0) (adds k) ∙ rises_made n 0 (list_at t k) ws k (kept.rises k) (kept.settled refl k) (omega arith);
+  rises = λ k. ap (rises_from 0) (adds k) ∙ rises_made n 0 (list_at t k) ws k (kept.rises k)
+      (kept.settled refl k) (omega arith);
   settled = λ unstaged k. all k;
   next = λ k. none_above_later n (list_at u k) (all k);
 }
@@ -232,12 +254,15 @@ kept_set base n t u ws kept adds = record {
     all k = ap (none_above n) (adds k) ∙ none_above_made n (list_at t k) ws k (kept.settled refl k)
 
 pub sets : (s s' : VersionTable) (w : Write) → IsKept s.base s.count false s.versions
-    → s'.base ≡ s.base → s'.count ≡ s.count → s'.is_staged ≡ false → Adds s.versions s'.versions s.count (w ∷ []) → Sets s s' w
+    → s'.base ≡ s.base → s'.count ≡ s.count → s'.is_staged ≡ false
+    → Adds s.versions s'.versions s.count (w ∷ []) → Sets s s' w
 sets s s' w kept base count unstaged adds = record {
   base = base;
   count = count;
   is_staged = unstaged;
-  before = λ m k below. ap (value_by m None) (adds k) ∙ value_front s.count None (list_at s.versions k) (w ∷ []) k m below;
-  now = λ k. ap (value_by s.count None) (adds k) ∙ value_behind s.count None (list_at s.versions k) (made s.count (w ∷ []) k) (kept.settled refl k)
+  before = λ m k below. ap (value_by m None) (adds k)
+      ∙ value_front s.count None (list_at s.versions k) (w ∷ []) k m below;
+  now = λ k. ap (value_by s.count None) (adds k)
+      ∙ value_behind s.count None (list_at s.versions k) (made s.count (w ∷ []) k) (kept.settled refl k)
       ∙ value_made s.count (value_by s.count None (list_at s.versions k)) (w ∷ []) k;
 }

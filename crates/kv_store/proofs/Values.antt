@@ -27,7 +27,8 @@ pub value_front : (n : ℕ) (b : Option (List ℕ)) (vs : List Version) (ws : Li
 unfolding made value_by
 value_front n b [] [] k m below = refl
 value_front n b [] (w ∷ ws) k m below = grind (arith, common_steps, nat_tests, value_front n b [] ws k m)
-value_front n b (v ∷ vs) ws k m below = grind (arith, common_steps, nat_tests, value_front n v.value vs ws k m)
+value_front n b (v ∷ vs) ws k m below = grind
+    (arith, common_steps, nat_tests, value_front n v.value vs ws k m)
 
 -- the value behind versions none of which is above is that of the last of those behind them
 pub value_behind : (n : ℕ) (b : Option (List ℕ)) (vs us : List Version) → none_above n vs ≡ true
@@ -41,7 +42,14 @@ pub value_made : (n : ℕ) (b : Option (List ℕ)) (ws : List Write) (k : List �
     → value_by n b (made n ws k) ≡ written ws k b
 unfolding made written value_by
 value_made n b [] k = refl
-value_made n b (w ∷ ws) k = grind (arith, common_steps, nat_tests, value_made n b ws k, value_made n w.value ws k)
+value_made n b (w ∷ ws) k = grind (
+  arith,
+  common_steps,
+  nat_tests,
+  value_made n b ws
+      k,
+  value_made n w.value ws k,
+)
 
 -- a value does not change where more commits are counted of which there is no version
 pub value_later : (n m : ℕ) (b : Option (List ℕ)) (vs : List Version) → none_above n vs ≡ true → n ≤ m
@@ -55,7 +63,8 @@ pub rises_made : (n m : ℕ) (vs : List Version) (ws : List Write) (k : List ℕ
     → rises_from m (vs ++ made n ws k) ≡ true
 unfolding rises_from made
 rises_made n m [] [] k h all le = refl
-rises_made n m [] (w ∷ ws) k h all le = grind (arith, common_steps, nat_tests, rises_made n m [] ws k, rises_made n n [] ws k)
+rises_made n m [] (w ∷ ws) k h all le = grind
+    (arith, common_steps, nat_tests, rises_made n m [] ws k, rises_made n n [] ws k)
 rises_made n m (v ∷ vs) ws k h all le = grind (arith, common_steps, nat_tests, rises_made n v.count vs ws k)
 
 pub none_above_made : (n : ℕ) (vs : List Version) (ws : List Write) (k : List ℕ) → none_above n vs ≡ true
@@ -86,7 +95,8 @@ all_from : (m : ℕ) (vs : List Version) (j : ℕ) (d : Version) → rises_from 
 unfolding rises_from
 all_from m [] j d h within = absurd (omega arith)
 all_from m (v ∷ vs) zero d h within = grind (arith, common_steps, nat_tests)
-all_from m (v ∷ vs) (suc j) d h within = all_from m vs j d (rises_down m v.count vs (grind (arith, common_steps, nat_tests)) (grind (arith, common_steps, nat_tests))) (omega arith)
+all_from m (v ∷ vs) (suc j) d h within = all_from m vs j d (rises_down m v.count vs
+    (grind (arith, common_steps, nat_tests)) (grind (arith, common_steps, nat_tests))) (omega arith)
 
 pub rising_is_partitioned : (n m : ℕ) (vs : List Version) → rises_from m vs ≡ true
     → IsPartitionedBy (is_up_to n) vs
@@ -94,11 +104,13 @@ unfolding rises_from
 rising_is_partitioned n m [] h i j d le within up = absurd (omega arith)
 rising_is_partitioned n m (v ∷ vs) h zero zero d le within up = up
 rising_is_partitioned n m (v ∷ vs) h zero (suc j) d le within up =
-    let least : v.count ≤ (slice_index_or vs j d).count = all_from v.count vs j d (grind (arith, common_steps, nat_tests)) (omega arith) in
+    let least : v.count ≤ (slice_index_or vs j d).count =
+    all_from v.count vs j d (grind (arith, common_steps, nat_tests)) (omega arith) in
     grind (arith, common_steps, nat_tests)
 rising_is_partitioned n m (v ∷ vs) h (suc i) zero d le within up = absurd (omega arith)
 rising_is_partitioned n m (v ∷ vs) h (suc i) (suc j) d le within up =
-    rising_is_partitioned n v.count vs (grind (arith, common_steps, nat_tests)) i j d (omega arith) (omega arith) up
+    rising_is_partitioned n v.count vs (grind (arith, common_steps, nat_tests)) i j d
+    (omega arith) (omega arith) up
 
 -- the value of the version before a place, or what was before all
 abbrev pub before_place : Option (List ℕ) → List Version → ℕ → Version → Option (List ℕ)
@@ -116,7 +128,13 @@ value_at_place n b (v ∷ vs) zero d h =
 value_at_place n b (v ∷ vs) (suc i) d h =
     let within : is_up_to n v ≡ true = h.1.0 0 d (omega arith) (omega arith) in
     let le : suc i ≤ length (v ∷ vs) = h.0 in
-    let rest : IsPlace n vs i = (omega arith, ((λ k e low high. h.1.0 (suc k) e (omega arith) (omega arith)), (λ k e low high. h.1.1 (suc k) e (omega arith) (omega arith)))) in
+    let rest : IsPlace n vs i = (
+      omega arith,
+      (
+        (λ k e low high. h.1.0 (suc k) e (omega arith) (omega arith)),
+        (λ k e low high. h.1.1 (suc k) e (omega arith) (omega arith)),
+      ),
+    ) in
     let here : value_by n b (v ∷ vs) ≡ value_by n v.value vs = grind (arith, common_steps, nat_tests) in
     here ∙ value_at_place n v.value vs i d rest ∙ by_place i
   where

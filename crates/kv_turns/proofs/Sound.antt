@@ -12,7 +12,8 @@ use Rattle.kv_turns.specs.Turns.{AreSome, IsEntry, entry_record}
 sound_writes : (ws : List Write) → AreSome ws → AreSoundWrites ws
 sound_writes ws some = record { some = some.1; few = some.0.few; each = some.0.each }
 
-pub sound_entry : (e : Entry) (x : XidParts) (ws : List Write) → IsSoundName (name_in x).0 (name_in x).1 → IsEntry e ws
+pub sound_entry : (e : Entry) (x : XidParts) (ws : List Write)
+    → IsSoundName (name_in x).0 (name_in x).1 → IsEntry e ws
     → IsSound Manager (entry_record e x ws)
 sound_entry Prepared x ws name some = (name, sound_writes ws some)
 sound_entry Committed x ws name some = name

@@ -27,7 +27,8 @@ pub held_text : (p : Kind) (ls : List LogRecord) → AreRecords p ls → Holds p
 held_text p ls are = record { whole = whole_text p ls are; read = written p ls are }
 
 -- a copy of the text reads as the records that stand
-pub copied : (p : Kind) (text : List ℕ) (forced failures room : ℕ) (failed : Bool) (s : LogState) (copy : List ℕ)
+pub copied : (p : Kind) (text : List ℕ) (forced failures room : ℕ) (failed : Bool)
+    (s : LogState) (copy : List ℕ)
     → log_state p text forced failures room failed ≡ s → IsLogText p text forced failed → copy ≡ text
     → ReadsAs s.kind copy (records_of s.sight.kept) s.sight.failed
 copied p text forced failures room failed s copy view is e =

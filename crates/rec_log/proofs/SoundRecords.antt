@@ -24,7 +24,8 @@ payload_bytes (a ∷ b ∷ d ∷ rest) c h e = by_size (nat_lt (length rest) (b 
     by_size false f = subst (λ (k : Cut). AreBytes k.1) (some_is _ c f)
         (first_bytes (b * 256 + d) rest (bytes_behind 3 (a ∷ b ∷ d ∷ rest) h))
 
-and_sound : (p : Kind) (o : Option LogRecord) (more : List LogRecord) → ((l : LogRecord) → o ≡ Some l → IsSound p l)
+and_sound : (p : Kind) (o : Option LogRecord) (more : List LogRecord)
+    → ((l : LogRecord) → o ≡ Some l → IsSound p l)
     → AllByRecursion (IsSound p) more → AllByRecursion (IsSound p) (and_records o more)
 and_sound p None more is all = tt
 and_sound p (Some l) more is all = (is l refl, all)
@@ -33,7 +34,8 @@ by_sound : (p : Kind) (o : Option Cut) (more : ℕ → List LogRecord) → ((c :
     → ((k : ℕ) → AllByRecursion (IsSound p) (more k)) → AllByRecursion (IsSound p) (records_by p o more)
 by_sound p None more is all = tt
 by_sound p (Some c) more is all =
-    and_sound p (read_record p c.0 c.1) (more (suc (suc (length c.1)))) (λ l e. read_is_sound p c.0 c.1 l (is c refl) e)
+    and_sound p (read_record p c.0 c.1) (more (suc (suc (length c.1))))
+    (λ l e. read_is_sound p c.0 c.1 l (is c refl) e)
     (all (suc (suc (length c.1))))
 
 -- so are all that are read off a text

@@ -226,7 +226,8 @@ force_breaks p text text' forced forced' failures failures' room room' failed he
           ∙ left_records p text forced (forced' - forced + keep) failures room failed header within
           ∙ ap (λ t. records_in p 0 (front text forced)
           ++ whole_within (bytes_behind p text forced + (forced' - forced + keep)) t)
-          (sym (append-nil (drop (length (records_in p 0 (front text forced))) (records_in p 0 (body text)))));
+          (sym
+          (append-nil (drop (length (records_in p 0 (front text forced))) (records_in p 0 (body text)))));
       failed = refl;
       cause = cause;
     }

@@ -27,7 +27,8 @@ unfolding WholeSteps
 first_steps [] ys h = (tt, h)
 first_steps (x ∷ xs) ys h = let rest = first_steps xs ys h.1 in ((h.0, rest.0), rest.1)
 
-one_more : (old new : List Entry) (q : ProcessId) (happening : Happening) (reaction : Reaction) → WholeSteps old
+one_more : (old new : List Entry) (q : ProcessId) (happening : Happening)
+    (reaction : Reaction) → WholeSteps old
     → new ≡ old ++ step_entry q happening reaction ∷ [] → WholeSteps new
 unfolding WholeSteps
 one_more old new q happening reaction h is =
@@ -38,7 +39,8 @@ abbrev IsWhole : WorldState → Type 0
 IsWhole w = WholeSteps w.entries
 
 settled_by : (old new : WorldState) (again : WorldState → Type 0) (o : Option ℕ)
-    → ((mid : WorldState) → IsWhole mid → again mid → IsWhole new) → IsWhole old → settles_by old new again o → IsWhole new
+    → ((mid : WorldState) → IsWhole mid → again mid → IsWhole new) → IsWhole old
+    → settles_by old new again o → IsWhole new
 settled_by old new again None rest h is = subst IsWhole (sym is) h
 settled_by old new again (Some k) rest h made =
     let e = made.1.steps.enters in
@@ -47,7 +49,8 @@ settled_by old new again (Some k) rest h made =
 settled : (n : ℕ) (old new : WorldState) → IsWhole old → Settles n old new → IsWhole new
 settled zero old new h is = subst IsWhole (sym is) h
 settled (suc n) old new h made =
-    settled_by old new (λ mid. Settles n mid new) (least_open 1 old.delivered) (λ mid g rest. settled n mid new g rest) h made
+    settled_by old new (λ mid. Settles n mid new) (least_open 1 old.delivered)
+    (λ mid g rest. settled n mid new g rest) h made
 
 applied : (old new : WorldState) (e : Event) → IsWhole old → Applies old e new → IsWhole new
 applied old new (Act a) h made = one_more old.entries new.entries _ _ _ h made.enters.entries

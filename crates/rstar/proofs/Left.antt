@@ -22,7 +22,8 @@ some_entry a b e = cc
 
 -- the log of a listed process spells what it keeps
 pub spells_at : (w : WorldState) (es : List TreeEntry) (ls : List ProcessLog) (q : ProcessId) (e : TreeEntry)
-    → AreLogs w es ls → find (λ x. same_process x.id q) es ≡ Some e → SpellsLogBy (w.node_at e.id) (bytes_of ls q)
+    → AreLogs w es ls → find (λ x. same_process x.id q) es ≡ Some e
+    → SpellsLogBy (w.node_at e.id) (bytes_of ls q)
 unfolding bytes_of
 spells_at w [] [] q e are found = absurd (cc)
 spells_at w [] (l ∷ ls) q e are found = absurd are
@@ -35,7 +36,8 @@ spells_at w (x ∷ es) (l ∷ ls) q e are found =
     by_name : (b : Bool) → (if b then Some x else find (λ x. same_process x.id q) es) ≡ Some e
         → (find (λ x. same_process x.id q) es ≡ Some e → SpellsLogBy (w.node_at e.id) (bytes_of ls q))
         → SpellsLogBy (w.node_at e.id) (if b then l.bytes else bytes_of ls q)
-    by_name true is rest = subst (λ (y : TreeEntry). SpellsLogBy (w.node_at y.id) l.bytes) (some_entry x e is) are.1
+    by_name true is rest = subst (λ (y : TreeEntry). SpellsLogBy (w.node_at y.id)
+        l.bytes) (some_entry x e is) are.1
     by_name false is rest = rest is
 
 -- Each process once.
@@ -45,7 +47,8 @@ unfoldable NewBehind : List TreeEntry → List TreeEntry → Type 0
 NewBehind fs [] = Unit {0}
 NewBehind fs (e ∷ es) = (is_listed fs e.id ≡ false) × NewBehind (fs ++ e ∷ []) es
 
-none_listed : (fs : List TreeEntry) (q : ProcessId) → how_many (λ x. same_process x.id q) fs ≡ 0 → is_listed fs q ≡ false
+none_listed : (fs : List TreeEntry) (q : ProcessId)
+    → how_many (λ x. same_process x.id q) fs ≡ 0 → is_listed fs q ≡ false
 unfolding how_many is_listed
 none_listed [] q h = refl
 none_listed (x ∷ fs) q h = by_test (same_process x.id q) h (none_listed fs q)
@@ -75,7 +78,8 @@ new_from fs (e ∷ es) h = (
       (ap (nat_lt 1) (counted (λ x. same_process x.id e.id) (fs ++ e ∷ es)) ∙ first_false _ _ h)
       (times_both (λ x. same_process x.id e.id) fs (e ∷ es)) (here_once e es)),
   new_from (fs ++ e ∷ []) es
-      (subst (λ tree. list_any (λ x. nat_lt 1 (times_listed tree x.id)) es ≡ false) (sym (append_assoc fs (e ∷ []) es))
+      (subst (λ tree. list_any (λ x. nat_lt 1 (times_listed tree x.id)) es ≡ false)
+      (sym (append_assoc fs (e ∷ []) es))
       (second_false _ _ h)),
 )
 
@@ -92,7 +96,8 @@ Names [] (l ∷ ls) = ⊥
 Names (e ∷ es) [] = ⊥
 Names (e ∷ es) (l ∷ ls) = (l.process ≡ e.id) × Names es ls
 
-has_named : (es : List TreeEntry) (ls : List ProcessLog) (q : ProcessId) → Names es ls → has_log ls q ≡ is_listed es q
+has_named : (es : List TreeEntry) (ls : List ProcessLog) (q : ProcessId) → Names es ls
+    → has_log ls q ≡ is_listed es q
 unfolding Names has_log is_listed
 has_named [] [] q are = refl
 has_named [] (l ∷ ls) q are = absurd are
@@ -112,7 +117,8 @@ one_named (f ∷ es) (m ∷ ls) e l are is = (are.0, one_named es ls e l are.1 i
 listed_behind : (fs es : List TreeEntry) (e : TreeEntry) → is_listed (fs ++ e ∷ es) e.id ≡ true
 unfolding is_listed
 listed_behind [] es e = ap (λ b. b || list_any (λ x. same_process x.id e.id) es) (itself e.id)
-listed_behind (x ∷ fs) es e = later (same_process x.id e.id) (list_any (λ y. same_process y.id e.id) (fs ++ e ∷ es))
+listed_behind (x ∷ fs) es e = later (same_process x.id e.id)
+    (list_any (λ y. same_process y.id e.id) (fs ++ e ∷ es))
     (listed_behind fs es e)
   where
     later : (a b : Bool) → b ≡ true → (a || b) ≡ true
@@ -125,7 +131,8 @@ both_so true true h k = absurd (cc)
 both_so false b h k = absurd (cc)
 
 module _ (w : WorldState) where
-  first_each : (fs es : List TreeEntry) (seen ls : List ProcessLog) → NewBehind fs es → AllByRecursion FitsEntry es
+  first_each : (fs es : List TreeEntry) (seen ls : List ProcessLog) → NewBehind fs es
+      → AllByRecursion FitsEntry es
       → AreByteLogs ls → Names fs seen → AreLogs w es ls → AreFirst (fs ++ es) seen ls
   unfolding NewBehind
   first_each fs [] seen [] new fit bytes names are = tt
@@ -139,7 +146,8 @@ module _ (w : WorldState) where
     subst (λ p. (is_listed (fs ++ e ∷ es) p && not (has_log seen p)) ≡ true) (sym are.0)
         (both_so _ _ (listed_behind fs es e) (has_named fs seen e.id names ∙ new.0)),
     subst (λ tree. AreFirst tree (seen ++ l ∷ []) ls) (append_assoc fs (e ∷ []) es)
-        (first_each (fs ++ e ∷ []) es (seen ++ l ∷ []) ls new.1 fit.1 bytes.1 (one_named fs seen e l names are.0) are.2),
+        (first_each (fs ++ e ∷ []) es (seen ++ l ∷ []) ls new.1 fit.1 bytes.1
+        (one_named fs seen e l names are.0) are.2),
   )
 
   all_named : (es : List TreeEntry) (ls : List ProcessLog) → AreLogs w es ls → Names es ls
@@ -160,7 +168,8 @@ each_listed fs (e ∷ es) =
     both_true true b h k = k
     both_true false b h k = absurd (cc)
 
-logged_each : (ls : List ProcessLog) (tree es : List TreeEntry) → ((q : ProcessId) → has_log ls q ≡ is_listed tree q)
+logged_each : (ls : List ProcessLog) (tree es : List TreeEntry)
+    → ((q : ProcessId) → has_log ls q ≡ is_listed tree q)
     → list_all (λ e. is_listed tree e.id) es ≡ true → list_all (λ e. has_log ls e.id) es ≡ true
 logged_each ls tree [] same h = refl
 logged_each ls tree (e ∷ es) same h =
@@ -178,5 +187,6 @@ pub logs_fit : (w : WorldState) (tree : List TreeEntry) (ls : List ProcessLog) �
 unfolding Names each_has_log
 logs_fit w tree ls t fit bytes are = record {
   are_first = first_each w [] tree [] ls (new_all tree t) fit bytes tt are;
-  each_has_one = logged_each ls tree tree (λ q. has_named tree ls q (all_named w tree ls are)) (each_listed [] tree);
+  each_has_one = logged_each ls tree tree (λ q. has_named tree ls q
+      (all_named w tree ls are)) (each_listed [] tree);
 }

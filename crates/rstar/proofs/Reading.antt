@@ -33,7 +33,8 @@ read_by p place None places more same = refl
 read_by p place (Some c) places more same =
     read_and place (read_record p c.0 c.1) _ _ (same (place + 3 + length c.1) (suc (suc (length c.1))))
 
-same_records : (p : Kind) (place k : ℕ) (bytes : List ℕ) → reads (placed_in p place k bytes) ≡ records_in p k bytes
+same_records : (p : Kind) (place k : ℕ) (bytes : List ℕ)
+    → reads (placed_in p place k bytes) ≡ records_in p k bytes
 unfolding placed_in records_in
 same_records p place k [] = refl
 same_records p place (suc k) (b ∷ bs) = same_records p place k bs
@@ -42,7 +43,8 @@ same_records p place zero (b ∷ bs) =
     (λ at k. same_records p at k bs)
 
 -- the records of a sound log are those in its bytes
-pub sound_records : (p : Kind) (bytes : List ℕ) (ls : List LogRecord) (torn : ℕ) → read_log p bytes ≡ Whole ls torn
+pub sound_records : (p : Kind) (bytes : List ℕ) (ls : List LogRecord) (torn : ℕ)
+    → read_log p bytes ≡ Whole ls torn
     → whole_records (read_log p bytes) ≡ records_in p 0 (body bytes)
 sound_records p bytes ls torn is =
     ap whole_records is ∙ sym (places_tell p bytes ls torn is) ∙ same_records p 5 0 (body bytes)
@@ -60,7 +62,8 @@ some_entry a b e = cc
 
 -- where no log is damaged, that of a listed process is sound
 pub sound_at : (logs : List ProcessLog) (es : List TreeEntry) (q : ProcessId) (e : TreeEntry)
-    → first_damage es logs ≡ None → find (λ x. same_process x.id q) es ≡ Some e → IsSoundLog e.kind (bytes_of logs e.id)
+    → first_damage es logs ≡ None → find (λ x. same_process x.id q) es ≡ Some e
+    → IsSoundLog e.kind (bytes_of logs e.id)
 unfolding first_damage
 sound_at logs [] q e none found = absurd (cc)
 sound_at logs (x ∷ es) q e none found =
@@ -68,8 +71,10 @@ sound_at logs (x ∷ es) q e none found =
   where
     by_found : IsSoundLog x.kind (bytes_of logs x.id)
         → (find (λ x. same_process x.id q) es ≡ Some e → IsSoundLog e.kind (bytes_of logs e.id)) → (b : Bool)
-        → (if b then Some x else find (λ x. same_process x.id q) es) ≡ Some e → IsSoundLog e.kind (bytes_of logs e.id)
-    by_found here rest true is = subst (λ (y : TreeEntry). IsSoundLog y.kind (bytes_of logs y.id)) (some_entry x e is) here
+        → (if b then Some x else find (λ x. same_process x.id q) es) ≡ Some e
+        → IsSoundLog e.kind (bytes_of logs e.id)
+    by_found here rest true is = subst (λ (y : TreeEntry). IsSoundLog y.kind
+        (bytes_of logs y.id)) (some_entry x e is) here
     by_found here rest false is = rest is
 
     by_reading : (r : LogReading) → read_log x.kind (bytes_of logs x.id) ≡ r

@@ -52,7 +52,8 @@ use Rattle.rstar.proofs.Unfailed.{NoneFailed, all_up}
 
 -- What a run left.
 
-kind_again : (k : Kind) (o : Option ProcessId) → (is_none o && is_manager_kind k) ≡ false → log_kind (role_by k o) ≡ k
+kind_again : (k : Kind) (o : Option ProcessId) → (is_none o && is_manager_kind k) ≡ false
+    → log_kind (role_by k o) ≡ k
 kind_again Coordinator None h = refl
 kind_again Coordinator (Some p) h = refl
 kind_again Manager (Some p) h = refl
@@ -78,7 +79,8 @@ some_node None h = absurd (cc)
 some_node (Some c) h = (c, refl)
 
 module _ (end : WorldState) (t : IsTree end.tree) (es : List Made) (w : World) (follows : Follows es w end)
-    (logs : List ProcessLog) (left : AreLogs end end.tree logs) (none : first_damage end.tree logs ≡ None) where
+    (logs : List ProcessLog) (left : AreLogs end end.tree logs)
+    (none : first_damage end.tree logs ≡ None) where
   abbrev tree : List TreeEntry
   tree = end.tree
 
@@ -92,9 +94,12 @@ module _ (end : WorldState) (t : IsTree end.tree) (es : List Made) (w : World) (
         ap (λ (p : Place). log_kind p.role) at.place ∙ entry_log end.tree t q e found in
         let spells : SpellsLogBy (Some c) (bytes_of logs q) =
         subst (λ o. SpellsLogBy o (bytes_of logs q)) there
-        (subst (λ p. SpellsLogBy (end.node_at p) (bytes_of logs q)) here (spells_at end end.tree logs q e left found)) in
-        let sound = subst (λ p. IsSoundLog e.kind (bytes_of logs p)) here (sound_at logs end.tree q e none found) in
-        ap (λ o. own_records (place_of end.tree q) (whole_records (read_log (entry_kind o) (bytes_of logs q)))) found
+        (subst (λ p. SpellsLogBy (end.node_at p) (bytes_of logs q)) here
+        (spells_at end end.tree logs q e left found)) in
+        let sound = subst (λ p. IsSoundLog e.kind (bytes_of logs p)) here
+        (sound_at logs end.tree q e none found) in
+        ap (λ o. own_records (place_of end.tree q)
+        (whole_records (read_log (entry_kind o) (bytes_of logs q)))) found
         ∙ ap (own_records (place_of end.tree q))
         (sound_records e.kind (bytes_of logs q) sound.records sound.torn sound.read
         ∙ ap (λ k. records_in k 0 (body (bytes_of logs q))) (sym kind)
@@ -179,26 +184,32 @@ script_fits : (input : List ℕ) (tree : List TreeEntry) (events : List Event) �
 script_fits input tree events script =
     let parsed = script.2.tree_text in (table_fits parsed.0 tree parsed.2, script.3)
 
-left_audit : (end : WorldState) → IsTree end.tree → AllByRecursion FitsEntry end.tree → (es : List Made) (w : World)
-    → Follows es w end → NoneFailed es → (text report : List ℕ) (d : Detail) (e : Ending) (left : LeavesLogs end text)
+left_audit : (end : WorldState) → IsTree end.tree → AllByRecursion FitsEntry end.tree
+    → (es : List Made) (w : World)
+    → Follows es w end → NoneFailed es → (text report : List ℕ) (d : Detail) (e : Ending)
+    (left : LeavesLogs end text)
     → IsAuditReport d e text report → AuditsTruly d end.tree w text e report
 left_audit end t fit es w follows whole text report d e left a =
     let fits : FitsTree end.tree = record { entries_fit = fit; is_tree = t } in
     let says = subst (λ x. IsLogsText x end.tree left.logs) (sym left.is)
     (written_is_read end.tree left.logs fits (logs_fit end end.tree left.logs t fit left.bytes left.are)) in
     of_report d end.tree left.logs w text report says
-    (λ none. true_of_runs end.tree t left.logs es w (left_behind end t es w follows left.logs left.are none whole)) e a
+    (λ none. true_of_runs end.tree t left.logs es w
+    (left_behind end t es w follows left.logs left.are none whole)) e a
 
-ended : (start end : WorldState) (tree : List TreeEntry) (events : List Event) → IsOpened start tree → IsTree end.tree
+ended : (start end : WorldState) (tree : List TreeEntry) (events : List Event)
+    → IsOpened start tree → IsTree end.tree
     → AllByRecursion FitsEntry end.tree → (es : List Made) (w : World) → Follows es w end
     → (refusal : Refusal) → LeadsTo start events refusal end → Ended ≡ ending refusal
     → (text report : List ℕ) (d : Detail) (e : Ending)
     → (tells : Tells Logs end refusal text) → IsAuditReport d e text report
     → AuditsTruly d end.tree w text e report
 ended start end tree events opens t fit es w follows None leads status text report d e tells a =
-    left_audit end t fit es w follows (none_failed tree start end events es opens leads follows.shown) text report d
+    left_audit end t fit es w follows (none_failed tree start end events es opens leads
+    follows.shown) text report d
     e tells a
-ended start end tree events opens t fit es w follows (Some refused) leads status text report d e tells a = absurd (cc)
+ended start end tree events opens t fit es w follows (Some refused) leads status text
+    report d e tells a = absurd (cc)
 
 pub audits_true : (Holds : Saying) → AuditsOfLeftLogsAreTrue Holds
 audits_true Holds input text report d e script a =
@@ -206,5 +217,6 @@ audits_true Holds input text report d e script a =
     let fits = script_fits input script.tree script.events script.script in
     subst (λ tree. AuditsTruly d tree runs.world text e report) runs.tree_is
     (ended runs.start runs.end script.tree script.events runs.opens (subst IsTree (sym runs.tree_is) fits.1)
-    (subst (AllByRecursion FitsEntry) (sym runs.tree_is) fits.0) runs.moves runs.world runs.follows runs.refusal runs.leads
+    (subst (AllByRecursion FitsEntry) (sym runs.tree_is) fits.0) runs.moves runs.world
+    runs.follows runs.refusal runs.leads
     runs.status_is text report d e runs.tells a)

@@ -30,7 +30,8 @@ up_behind : (n : Node) (new : List Record) (b : Bool) → n.failed ≡ false
 up_behind n new true up = up
 up_behind n new false up = up
 
-stays_up : (place : Place) (n : Node) (m : Move) (e : Effect) (k : Node) → n.failed ≡ false → m.step.fault ≡ None
+stays_up : (place : Place) (n : Node) (m : Move) (e : Effect) (k : Node)
+    → n.failed ≡ false → m.step.fault ≡ None
     → StepOf place n m e k → k.failed ≡ false
 stays_up place n m _ _ up none (handled i g happens heard does) =
     up_behind n (entries_written g.written) (is_any_forced g.written) up
@@ -42,7 +43,8 @@ stays_up place n m _ _ up none (failed_reopening k f fault happens) = no_fault m
 stays_up place n m _ _ up none (trimmed happens was) = was
 stays_up place n m _ _ up none (failed_trimming f fault happens was) = no_fault m f none fault
 
-pub all_up : (tree : List TreeEntry) (es : List Made) (w : World) → IsRun tree es w → NoneFailed es → (q : ProcessId)
+pub all_up : (tree : List TreeEntry) (es : List Made) (w : World) → IsRun tree es w
+    → NoneFailed es → (q : ProcessId)
     → (w.at q).failed ≡ false
 unfolding NoneFailed
 all_up tree _ _ opens none q = refl

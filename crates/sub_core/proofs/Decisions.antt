@@ -55,7 +55,8 @@ decision_is : (s : SubState) (c : Case) (x : Xid) (o : Outcome) → IsNamed s.pa
 decision_is s c x Committed named = ap (λ (n : Name). forced (HeurCommit n.1)) named.reads
 decision_is s c x Aborted named = ap (λ (n : Name). forced (HeurRollback n.1)) named.reads
 
-decision_of : (s : SubState) (c : Case) (o : Outcome) → AreOf c (prepared_decide (leaf_in (core_of s) s.parent c) o).written
+decision_of : (s : SubState) (c : Case) (o : Outcome)
+    → AreOf c (prepared_decide (leaf_in (core_of s) s.parent c) o).written
 decision_of s c Committed = (refl, tt)
 decision_of s c Aborted = (refl, tt)
 
@@ -64,73 +65,100 @@ decision_shown : (s : SubState) (c : Case) (o : Outcome)
 decision_shown s c Committed = refl
 decision_shown s c Aborted = refl
 
-module _ (s : SubState) (key : ℕ) (c : Case) (x : Xid) (o : Outcome) (tied : IsTied s) (at : IsAt s.table key c (prepared x)) where
+module _ (s : SubState) (key : ℕ) (c : Case) (x : Xid) (o : Outcome) (tied : IsTied s)
+    (at : IsAt s.table key c (prepared x)) where
   decide_is : turn_at s (Decide c o) ≡ Handles c (prepared_decide (leaf_in (core_of s) s.parent c) o)
-  decide_is = ap (λ (k : Option Branch). decide_turn (leaf_in (core_of s) s.parent c) o (kept_view k).standing) at.live
+  decide_is = ap (λ (k : Option Branch). decide_turn (leaf_in (core_of s) s.parent c) o
+      (kept_view k).standing) at.live
 
-  pub decides : (t : BranchTable) (m : ManagerSight) → Notes s.table t key (Heuristic None) → Decides s.manager m x o
+  pub decides : (t : BranchTable) (m : ManagerSight)
+      → Notes s.table t key (Heuristic None) → Decides s.manager m x o
       → Acts s (behind s t m) (Decide c o) (logged_alone (decision_kind o) c)
   decides t m notes made =
       let named = tied.named c (prepared x) at.live in
       let row : LeafRow = prepared_decide (leaf_in (core_of s) s.parent c) o in
       let r = notes_at s.table t key (Heuristic None) c (prepared x) at notes in
       record {
-        turns = subst (λ (q : Reaction). Turns s (behind s t m) (ActInput (Decide c o)) (turn_at s (Decide c o)) q) (decision_shown s c o)
-            (subst (λ (turn : Turn). Turns s (behind s t m) (ActInput (Decide c o)) turn (shown row.written [])) (sym decide_is)
+        turns = subst (λ (q : Reaction). Turns s (behind s t m) (ActInput (Decide c o))
+            (turn_at s (Decide c o)) q) (decision_shown s c o)
+            (subst (λ (turn : Turn). Turns s (behind s t m) (ActInput (Decide c o)) turn
+            (shown row.written [])) (sym decide_is)
             (handled s t m (ActInput (Decide c o)) c row
-            (log_by s c x named (tied.given_before c (prepared x) at.live) m (decision_writes x o) row.written (decision_is s c x o named)
+            (log_by s c x named (tied.given_before c (prepared x) at.live) m (decision_writes x o)
+            row.written (decision_is s c x o named)
             (decision_of s c o) made.log)
             (ap kept_view r.branches.own) (λ d apart. ap kept_view (r.branches.others d apart))
-            (λ d. ap (λ ts. ticket_in (record { tickets = ts; branches = t.branches }) d) r.tickets ∙ no_retire (Decide c o) d (ticket_in s.table d))
+            (λ d. ap (λ ts. ticket_in (record { tickets = ts; branches = t.branches }) d) r.tickets
+            ∙ no_retire (Decide c o) d (ticket_in s.table d))
             made.comes.boot));
         writes = subst (λ (y : Xid). Wrote s.manager m y []) named.is made.wrote;
       }
 
-  pub decides_tied : (t : BranchTable) (m : ManagerSight) → Notes s.table t key (Heuristic None) → Decides s.manager m x o → IsTied (behind s t m)
+  pub decides_tied : (t : BranchTable) (m : ManagerSight) → Notes s.table t key (Heuristic None)
+      → Decides s.manager m x o → IsTied (behind s t m)
   decides_tied t m notes made =
       moved_tied s t m c (prepared x) (Some (decided x None)) S5 tied at.live
       (notes_at s.table t key (Heuristic None) c (prepared x) at notes).branches
       (refl, refl, ap (λ (d : Decision). d.told) made.decided) made.comes
 
-  pub not_decided : (m : ManagerSight) (e : StepError) → NotDecided s.manager m x o e → NotActed s (behind s s.table m) (Decide c o) e
+  pub not_decided : (m : ManagerSight) (e : StepError) → NotDecided s.manager m x o e
+      → NotActed s (behind s s.table m) (Decide c o) e
   not_decided m e h =
       let named = tied.named c (prepared x) at.live in
       subst (λ (t : Turn). NotTurned s (behind s s.table m) t e) (sym decide_is)
-      (not_done s c x named (tied.given_before c (prepared x) at.live) m (decision_writes x o) (prepared_decide (leaf_in (core_of s) s.parent c) o) e
+      (not_done s c x named (tied.given_before c (prepared x) at.live) m (decision_writes x o)
+      (prepared_decide (leaf_in (core_of s) s.parent c) o) e
       (decision_is s c x o named) (decision_of s c o) h)
 
 -- An outcome behind it.
 
-module _ (s : SubState) (key : ℕ) (c : Case) (x : Xid) (told : Option Outcome) (kept : IsKept s.table) (at : IsAt s.table key c (decided x told)) where
-  outcome_is : (o : Outcome) → turn_for s (tells_outcome o c) ≡ Handles c (heuristic_outcome (leaf_in (core_of s) s.parent c) o (view_in s.table c) told)
+module _ (s : SubState) (key : ℕ) (c : Case) (x : Xid) (told : Option Outcome) (kept : IsKept s.table)
+    (at : IsAt s.table key c (decided x told)) where
+  outcome_is : (o : Outcome) → turn_for s (tells_outcome o c)
+      ≡ Handles c (heuristic_outcome (leaf_in (core_of s) s.parent c) o (view_in s.table c) told)
   outcome_is Committed =
       let l : Leaf = leaf_in (core_of s) s.parent c in
       ap (λ (k : Option Branch). Handles c (on_commit l (view_in s.table c) (kept_view k).standing)) at.live
-      ∙ ap (λ (k : Option Branch). Handles c (heuristic_outcome l Committed (view_in s.table c) (kept_view k).told)) at.live
+      ∙ ap (λ (k : Option Branch). Handles c (heuristic_outcome l Committed (view_in s.table c)
+      (kept_view k).told)) at.live
   outcome_is Aborted =
       let l : Leaf = leaf_in (core_of s) s.parent c in
       ap (λ (k : Option Branch). Handles c (on_abort l (view_in s.table c) (kept_view k).standing)) at.live
-      ∙ ap (λ (k : Option Branch). Handles c (heuristic_outcome l Aborted (view_in s.table c) (kept_view k).told)) at.live
+      ∙ ap (λ (k : Option Branch). Handles c (heuristic_outcome l Aborted (view_in s.table c)
+      (kept_view k).told)) at.live
 
-  outcome_tickets : (o : Outcome) (k : ℕ) (d : Case) → ticket_in s.table d ≡ retired_by (MessageInput k (tells_outcome o c)) d (ticket_in s.table d)
+  outcome_tickets : (o : Outcome) (k : ℕ) (d : Case)
+      → ticket_in s.table d ≡ retired_by (MessageInput k (tells_outcome o c)) d (ticket_in s.table d)
   outcome_tickets Committed k d = never_retired k c d (ticket_in s.table d)
-  outcome_tickets Aborted k d = sym (untouched s.table c (decided x told) kept at.live refl d) ∙ retired_abort k c d (ticket_in s.table d)
+  outcome_tickets Aborted k d = sym (untouched s.table c (decided x told) kept at.live refl d)
+      ∙ retired_abort k c d (ticket_in s.table d)
 
-outcome_writes : (s new : SubState) (c : Case) (o : Outcome) → OthersWriteNothing s new c → Writes s new (tells_outcome o c)
+outcome_writes : (s new : SubState) (c : Case) (o : Outcome) → OthersWriteNothing s new c
+    → Writes s new (tells_outcome o c)
 outcome_writes s new c Committed others = others
 outcome_writes s new c Aborted others = others
 
 -- the same outcome again is acknowledged again
-pub told_same : (s : SubState) (key : ℕ) (c : Case) (x : Xid) (told o : Outcome) → IsKept s.table → IsAt s.table key c (decided x (Some told))
+pub told_same : (s : SubState) (key : ℕ) (c : Case) (x : Xid) (told o : Outcome) → IsKept s.table
+    → IsAt s.table key c (decided x (Some told))
     → same_outcome told o ≡ true
     → Stays s c (tells_outcome o c)
-    (record { written = []; messages = acknowledgement (leaf_in (core_of s) s.parent c) o; view = view_in s.table c })
+    (record {
+      written = [];
+      messages = acknowledgement (leaf_in (core_of s) s.parent c)
+          o;
+      view = view_in s.table c;
+    })
 told_same s key c x told o kept at is =
     let l : Leaf = leaf_in (core_of s) s.parent c in
     let v = view_in s.table c in
     record {
       turn = outcome_is s key c x (Some told) kept at o
-          ∙ ap (λ b. Handles c (if b then record { written = []; messages = acknowledgement l o; view = v } else unmoved v)) is;
+          ∙ ap (λ b. Handles c (if b then record {
+            written = [];
+            messages = acknowledgement l o;
+            view = v;
+          } else unmoved v)) is;
       view = refl;
       written = refl;
       tickets = outcome_tickets s key c x (Some told) kept at o;
@@ -138,14 +166,19 @@ told_same s key c x told o kept at is =
     }
 
 -- the other outcome does nothing
-pub told_other : (s : SubState) (key : ℕ) (c : Case) (x : Xid) (told o : Outcome) → IsKept s.table → IsAt s.table key c (decided x (Some told))
+pub told_other : (s : SubState) (key : ℕ) (c : Case) (x : Xid) (told o : Outcome) → IsKept s.table
+    → IsAt s.table key c (decided x (Some told))
     → same_outcome told o ≡ false → Stays s c (tells_outcome o c) (unmoved (view_in s.table c))
 told_other s key c x told o kept at is =
     let l : Leaf = leaf_in (core_of s) s.parent c in
     let v = view_in s.table c in
     record {
       turn = outcome_is s key c x (Some told) kept at o
-          ∙ ap (λ b. Handles c (if b then record { written = []; messages = acknowledgement l o; view = v } else unmoved v)) is;
+          ∙ ap (λ b. Handles c (if b then record {
+            written = [];
+            messages = acknowledgement l o;
+            view = v;
+          } else unmoved v)) is;
       view = refl;
       written = refl;
       tickets = outcome_tickets s key c x (Some told) kept at o;
@@ -153,7 +186,8 @@ told_other s key c x told o kept at is =
     }
 
 -- the branch stays where it is
-stays_there : (o : Outcome) (st : BranchState) (ws : List Write) (d : Decision) → st ≡ S5 → (row_of (outcome_call o) st ws d).1 ≡ S5
+stays_there : (o : Outcome) (st : BranchState) (ws : List Write) (d : Decision) → st ≡ S5
+    → (row_of (outcome_call o) st ws d).1 ≡ S5
 stays_there Committed st ws d is = ap (λ (q : BranchState). (row_of call.Commit q ws d).1) is
 stays_there Aborted st ws d is = ap (λ (q : BranchState). (row_of call.Rollback q ws d).1) is
 
@@ -170,7 +204,8 @@ tells_is s c Committed ws d none = ap (tells (CaseBranch c) Committed) none
 tells_is s c Aborted ws d none = ap (tells (CaseBranch c) Aborted) none
 
 -- the first outcome is noted
-module _ (s : SubState) (key : ℕ) (c : Case) (x : Xid) (o : Outcome) (tied : IsTied s) (kept : IsKept s.table) (at : IsAt s.table key c (decided x None)) where
+module _ (s : SubState) (key : ℕ) (c : Case) (x : Xid) (o : Outcome) (tied : IsTied s) (kept : IsKept s.table)
+    (at : IsAt s.table key c (decided x None)) where
   abbrev l : Leaf
   l = leaf_in (core_of s) s.parent c
 
@@ -183,30 +218,41 @@ module _ (s : SubState) (key : ℕ) (c : Case) (x : Xid) (o : Outcome) (tied : I
   there : (row_for s.manager x (outcome_call o)).1 ≡ S5
   there = stays_there o _ (s.manager.writes x) (s.manager.decided x) (tied.stands c (decided x None) at.live)
 
-  pub told_first : (t : BranchTable) (m : ManagerSight) → Notes s.table t key (Heuristic (Some o)) → Finishes s.manager m x (outcome_call o)
+  pub told_first : (t : BranchTable) (m : ManagerSight) → Notes s.table t key (Heuristic (Some o))
+      → Finishes s.manager m x (outcome_call o)
       → Hears s (behind s t m) (tells_outcome o c) (outcome_reply kind.Told c o s.me s.parent)
   told_first t m notes f =
       let named = tied.named c (decided x None) at.live in
       let r = notes_at s.table t key (Heuristic (Some o)) c (decided x None) at notes in
       record {
         turns = λ k.
-            subst (λ (turn : Turn). Turns s (behind s t m) (MessageInput k (tells_outcome o c)) turn (outcome_reply kind.Told c o s.me s.parent))
+            subst (λ (turn : Turn). Turns s (behind s t m) (MessageInput k (tells_outcome o c)) turn
+            (outcome_reply kind.Told c o s.me s.parent))
             (sym (outcome_is s key c x None kept at o))
             (handled s t m (MessageInput k (tells_outcome o c)) c row
-            (log_is s c x named (tied.given_before c (decided x None) at.live) m S5 (s.manager.writes x) (outcome_call o) row.written
-            (tied.stands c (decided x None) at.live) refl (tells_is s c o (s.manager.writes x) (s.manager.decided x) none_told) (refl, tt) f.log)
+            (log_is s c x named (tied.given_before c (decided x None) at.live) m S5 (s.manager.writes x)
+            (outcome_call o) row.written
+            (tied.stands c (decided x None) at.live) refl
+            (tells_is s c o (s.manager.writes x) (s.manager.decided x) none_told) (refl, tt) f.log)
             (ap kept_view r.branches.own) (λ d apart. ap kept_view (r.branches.others d apart))
-            (λ d. ap (λ ts. ticket_in (record { tickets = ts; branches = t.branches }) d) r.tickets ∙ outcome_tickets s key c x None kept at o k d)
+            (λ d. ap (λ ts. ticket_in (record { tickets = ts; branches = t.branches }) d) r.tickets
+            ∙ outcome_tickets s key c x None kept at o k d)
             f.comes.boot);
-        writes = outcome_writes s (behind s t m) c o (λ y apart. f.others y (ap (λ (z : Xid). same z y) named.is ∙ apart));
+        writes = outcome_writes s (behind s t m) c o
+            (λ y apart. f.others y (ap (λ (z : Xid). same z y) named.is ∙ apart));
       }
 
-  pub told_tied : (t : BranchTable) (m : ManagerSight) → Notes s.table t key (Heuristic (Some o)) → Finishes s.manager m x (outcome_call o)
+  pub told_tied : (t : BranchTable) (m : ManagerSight) → Notes s.table t key (Heuristic (Some o))
+      → Finishes s.manager m x (outcome_call o)
       → IsTied (behind s t m)
   told_tied t m notes f =
       moved_tied s t m c (decided x None) (Some (decided x (Some o))) S5 tied at.live
-      (notes_at s.table t key (Heuristic (Some o)) c (decided x None) at notes).branches
-      (refl, refl, ap (λ (d : Decision). d.told) (f.decided there) ∙ told_then o (s.manager.decided x) ∙ ap (first_told o) none_told)
+      (notes_at s.table t key (Heuristic (Some o)) c (decided x None) at notes).branches (
+        refl,
+        refl,
+        ap (λ (d : Decision). d.told) (f.decided there) ∙ told_then o (s.manager.decided x)
+            ∙ ap (first_told o) none_told,
+      )
       (subst (λ (q : BranchState). Comes s.manager m x q) there f.comes)
 
   pub not_told : (m : ManagerSight) (e : StepError) → NotFinished s.manager m x (outcome_call o) e
@@ -214,36 +260,47 @@ module _ (s : SubState) (key : ℕ) (c : Case) (x : Xid) (o : Outcome) (tied : I
   not_told m e h =
       let named = tied.named c (decided x None) at.live in
       subst (λ (t : Turn). NotTurned s (behind s s.table m) t e) (sym (outcome_is s key c x None kept at o))
-      (not_turned s c x named (tied.given_before c (decided x None) at.live) m S5 (s.manager.writes x) (outcome_call o) row e
-      (tied.stands c (decided x None) at.live) refl (tells_is s c o (s.manager.writes x) (s.manager.decided x) none_told) (refl, tt) h)
+      (not_turned s c x named (tied.given_before c (decided x None) at.live) m S5
+      (s.manager.writes x) (outcome_call o) row e
+      (tied.stands c (decided x None) at.live) refl
+      (tells_is s c o (s.manager.writes x) (s.manager.decided x) none_told) (refl, tt) h)
 
 -- Its end.
 
-module _ (s : SubState) (key : ℕ) (c : Case) (x : Xid) (told : Option Outcome) (tied : IsTied s) (kept : IsKept s.table)
+module _ (s : SubState) (key : ℕ) (c : Case) (x : Xid) (told : Option Outcome)
+    (tied : IsTied s) (kept : IsKept s.table)
     (at : IsAt s.table key c (decided x told)) where
   forget_is : turn_at s (Forget c) ≡ Handles c (heuristic_forget (leaf_in (core_of s) s.parent c))
-  forget_is = ap (λ (k : Option Branch). forget_turn (leaf_in (core_of s) s.parent c) (kept_view k).standing) at.live
+  forget_is = ap (λ (k : Option Branch). forget_turn (leaf_in (core_of s) s.parent c)
+      (kept_view k).standing) at.live
 
-  pub forgets : (t : BranchTable) (m : ManagerSight) → Retires s.table t key nothing → Finishes s.manager m x call.Forget
+  pub forgets : (t : BranchTable) (m : ManagerSight) → Retires s.table t key nothing
+      → Finishes s.manager m x call.Forget
       → Acts s (behind s t m) (Forget c) (logged_alone kind.Forgot c)
   forgets t m gone f =
       let named = tied.named c (decided x told) at.live in
       let row : LeafRow = heuristic_forget (leaf_in (core_of s) s.parent c) in
       let r = retires_at s.table t key nothing c (decided x told) at gone in
       record {
-        turns = subst (λ (turn : Turn). Turns s (behind s t m) (ActInput (Forget c)) turn (logged_alone kind.Forgot c)) (sym forget_is)
+        turns = subst (λ (turn : Turn). Turns s (behind s t m) (ActInput (Forget c)) turn
+            (logged_alone kind.Forgot c)) (sym forget_is)
             (handled s t m (ActInput (Forget c)) c row
-            (log_is s c x named (tied.given_before c (decided x told) at.live) m S5 (s.manager.writes x) call.Forget row.written
+            (log_is s c x named (tied.given_before c (decided x told) at.live) m S5
+            (s.manager.writes x) call.Forget row.written
             (tied.stands c (decided x told) at.live) refl refl (refl, tt) f.log)
             (ap kept_view r.branches.own) (λ d apart. ap kept_view (r.branches.others d apart))
-            (λ d. r.tickets d ∙ untouched s.table c (decided x told) kept at.live refl d ∙ no_retire (Forget c) d (ticket_in s.table d))
+            (λ d. r.tickets d ∙ untouched s.table c (decided x told) kept at.live refl d
+            ∙ no_retire (Forget c) d (ticket_in s.table d))
             f.comes.boot);
         writes = λ y apart. f.others y (ap (λ (z : Xid). same z y) named.is ∙ apart);
       }
 
-  pub not_forgotten : (m : ManagerSight) (e : StepError) → NotFinished s.manager m x call.Forget e → NotActed s (behind s s.table m) (Forget c) e
+  pub not_forgotten : (m : ManagerSight) (e : StepError) → NotFinished s.manager m x call.Forget e
+      → NotActed s (behind s s.table m) (Forget c) e
   not_forgotten m e h =
       let named = tied.named c (decided x told) at.live in
       subst (λ (t : Turn). NotTurned s (behind s s.table m) t e) (sym forget_is)
-      (not_turned s c x named (tied.given_before c (decided x told) at.live) m S5 (s.manager.writes x) call.Forget
-      (heuristic_forget (leaf_in (core_of s) s.parent c)) e (tied.stands c (decided x told) at.live) refl refl (refl, tt) h)
+      (not_turned s c x named (tied.given_before c (decided x told) at.live) m S5
+      (s.manager.writes x) call.Forget
+      (heuristic_forget (leaf_in (core_of s) s.parent c)) e
+      (tied.stands c (decided x told) at.live) refl refl (refl, tt) h)

@@ -32,7 +32,8 @@ use Rattle.sub_core.proofs.Votes.{same_number}
 some_same : {A : Type 0} (a b : A) → Some a ≡ Some b → a ≡ b
 some_same a b e = cc
 
-never : (k i : ℕ) (op : Op) (c d : Case) (o : Option Ticket) → o ≡ retired_by (MessageInput k (Work c i op)) d o
+never : (k i : ℕ) (op : Op) (c d : Case) (o : Option Ticket)
+    → o ≡ retired_by (MessageInput k (Work c i op)) d o
 never k i op c d None = refl
 never k i op c d (Some t) = refl
 
@@ -41,11 +42,13 @@ pub record NotesAt (old new : BranchTable) (c : Case) (w : Branch) : Type 0 wher
   pub branches : Moves old.branches new.branches c (Some w)
   pub tickets : new.tickets ≡ old.tickets
 
-pub notes_at : (old new : BranchTable) (key : ℕ) (stage : Stage) (c : Case) (b : Branch) → IsAt old key c b → Notes old new key stage
+pub notes_at : (old new : BranchTable) (key : ℕ) (stage : Stage) (c : Case) (b : Branch)
+    → IsAt old key c b → Notes old new key stage
     → NotesAt old new c (record { xid = b.xid; stage = stage })
 notes_at old new key stage c b at r =
     let is : (r.owner, r.branch) ≡ (c, b) = some_same (r.owner, r.branch) (c, b) (sym r.was ∙ at.entry) in
-    subst (λ (p : Case × Branch). NotesAt old new p.0 (record { xid = p.1.xid; stage = stage })) is (record { branches = r.branches; tickets = r.tickets })
+    subst (λ (p : Case × Branch). NotesAt old new p.0 (record { xid = p.1.xid; stage = stage })) is
+    (record { branches = r.branches; tickets = r.tickets })
 
 -- the view behind a work
 abbrev view_after : ℕ → ℕ → Bool → ManagerView
@@ -53,66 +56,95 @@ view_after i n does =
     let v : ManagerView = record { standing = ActiveStanding; done = n; spoiled = false; told = None } in
     if does then record v { done = i } else record v { spoiled = true }
 
-module _ (s : SubState) (key : ℕ) (c g : Case) (n i : ℕ) (x : Xid) (op : Op) (tied : IsTied s) (at : IsAt s.table key c (active x g n false)) (next : i ≡ n + 1) where
-  turn_is : (does : Bool) → is_none (s.manager.obstacle x op) ≡ does → turn_for s (Work c i op) ≡ Handles c (unmoved (view_after i n does))
+module _ (s : SubState) (key : ℕ) (c g : Case) (n i : ℕ) (x : Xid) (op : Op) (tied : IsTied s)
+    (at : IsAt s.table key c (active x g n false)) (next : i ≡ n + 1) where
+  turn_is : (does : Bool) → is_none (s.manager.obstacle x op) ≡ does
+      → turn_for s (Work c i op) ≡ Handles c (unmoved (view_after i n does))
   turn_is does is =
-      ap (λ (o : Option Branch). Handles c (on_work i (is_none (s.manager.obstacle (xid_of s c) op)) (kept_view o) (kept_view o).standing)) at.live
-      ∙ ap (λ (y : Xid). Handles c (on_work i (is_none (s.manager.obstacle y op)) (stage_view (Active g n false)) ActiveStanding))
+      ap (λ (o : Option Branch). Handles c (on_work i (is_none (s.manager.obstacle (xid_of s c) op))
+      (kept_view o) (kept_view o).standing)) at.live
+      ∙ ap (λ (y : Xid). Handles c (on_work i (is_none (s.manager.obstacle y op))
+      (stage_view (Active g n false)) ActiveStanding))
       (sym (tied.named c (active x g n false) at.live).is)
       ∙ ap (λ b. Handles c (on_work i b (stage_view (Active g n false)) ActiveStanding)) is
-      ∙ ap (λ b. Handles c (if b && true then unmoved (view_after i n does) else unmoved (stage_view (Active g n false))))
+      ∙ ap (λ b. Handles c (if b && true then unmoved (view_after i n does) else unmoved
+      (stage_view (Active g n false))))
       (ap (λ (m : ℕ). i == m) (sym next) ∙ same_number i)
 
   -- the case takes the work, and so the data alone say what is written
   written_is : (does : Bool) → is_none (s.manager.obstacle x op) ≡ does
       → written_behind s c i op ≡ (if does then op_writes (s.manager.writes x) op else s.manager.writes x)
   written_is does is =
-      ap (λ (o : Option Branch). if takes_work o i && is_none (s.manager.obstacle (xid_of s c) op) then op_writes (s.manager.writes (xid_of s c)) op else s.manager.writes (xid_of s c)) at.live
-      ∙ ap (λ (y : Xid). if ((i == n + 1) && true) && is_none (s.manager.obstacle y op) then op_writes (s.manager.writes y) op else s.manager.writes y)
+      ap (λ (o : Option Branch). if takes_work o i && is_none (s.manager.obstacle (xid_of s c) op)
+      then op_writes (s.manager.writes (xid_of s c)) op else s.manager.writes (xid_of s c)) at.live
+      ∙ ap (λ (y : Xid). if ((i == n + 1) && true) && is_none (s.manager.obstacle y op) then op_writes
+      (s.manager.writes y) op else s.manager.writes y)
       (sym (tied.named c (active x g n false) at.live).is)
-      ∙ ap (λ b. if (b && true) && is_none (s.manager.obstacle x op) then op_writes (s.manager.writes x) op else s.manager.writes x)
+      ∙ ap (λ b. if (b && true) && is_none (s.manager.obstacle x op) then op_writes
+      (s.manager.writes x) op else s.manager.writes x)
       (ap (λ (m : ℕ). i == m) (sym next) ∙ same_number i)
       ∙ ap (λ b. if b then op_writes (s.manager.writes x) op else s.manager.writes x) is
 
-  done_by : (does : Bool) (done : ℕ) (spoiled : Bool) (t : BranchTable) (m : ManagerSight) → stage_view (Active g done spoiled) ≡ view_after i n does
-      → Notes s.table t key (Active g done spoiled) → Works s.manager m x op does → Hears s (behind s t m) (Work c i op) (shown [] [])
+  done_by : (does : Bool) (done : ℕ) (spoiled : Bool) (t : BranchTable) (m : ManagerSight)
+      → stage_view (Active g done spoiled) ≡ view_after i n does
+      → Notes s.table t key (Active g done spoiled) → Works s.manager m x op does
+      → Hears s (behind s t m) (Work c i op) (shown [] [])
   done_by does done spoiled t m view notes w =
       let r = notes_at s.table t key (Active g done spoiled) c (active x g n false) at notes in
       record {
         turns = λ k.
-            subst (λ (turn : Turn). Turns s (behind s t m) (MessageInput k (Work c i op)) turn (shown [] [])) (sym (turn_is does w.allowed))
-            (handled s t m (MessageInput k (Work c i op)) c (unmoved (view_after i n does)) (w.log ∙ no_record s.manager.log)
+            subst (λ (turn : Turn). Turns s (behind s t m) (MessageInput k (Work c i op)) turn (shown [] []))
+            (sym (turn_is does w.allowed))
+            (handled s t m (MessageInput k (Work c i op)) c (unmoved (view_after i n does))
+            (w.log ∙ no_record s.manager.log)
             (ap kept_view r.branches.own ∙ view) (λ d apart. ap kept_view (r.branches.others d apart))
-            (λ d. ap (λ ts. ticket_in (record { tickets = ts; branches = t.branches }) d) r.tickets ∙ never k i op c d (ticket_in s.table d)) w.comes.boot);
-        writes = subst (λ (y : Xid). Wrote s.manager m y (written_behind s c i op)) (tied.named c (active x g n false) at.live).is
+            (λ d. ap (λ ts. ticket_in (record { tickets = ts; branches = t.branches }) d) r.tickets
+            ∙ never k i op c d (ticket_in s.table d)) w.comes.boot);
+        writes = subst (λ (y : Xid). Wrote s.manager m y (written_behind s c i op))
+            (tied.named c (active x g n false) at.live).is
             (subst (λ ws. Wrote s.manager m x ws) (sym (written_is does w.allowed)) w.wrote);
       }
 
-  pub did : (t : BranchTable) (m : ManagerSight) → Notes s.table t key (Active g i false) → Works s.manager m x op true
+  pub did : (t : BranchTable) (m : ManagerSight) → Notes s.table t key (Active g i false)
+      → Works s.manager m x op true
       → Hears s (behind s t m) (Work c i op) (shown [] [])
   did t m notes w = done_by true i false t m refl notes w
 
-  pub spoils : (t : BranchTable) (m : ManagerSight) → Notes s.table t key (Active g n true) → Works s.manager m x op false
+  pub spoils : (t : BranchTable) (m : ManagerSight) → Notes s.table t key (Active g n true)
+      → Works s.manager m x op false
       → Hears s (behind s t m) (Work c i op) (shown [] [])
   spoils t m notes w = done_by false n true t m refl notes w
 
-  pub did_tied : (t : BranchTable) (m : ManagerSight) → Notes s.table t key (Active g i false) → Works s.manager m x op true → IsTied (behind s t m)
+  pub did_tied : (t : BranchTable) (m : ManagerSight) → Notes s.table t key (Active g i false)
+      → Works s.manager m x op true → IsTied (behind s t m)
   did_tied t m notes w =
       moved_tied s t m c (active x g n false) (Some (active x g i false)) S2 tied at.live
-      (notes_at s.table t key (Active g i false) c (active x g n false) at notes).branches (refl, refl, tt) w.comes
+      (notes_at s.table t key (Active g i false) c (active x g n false) at
+      notes).branches (refl, refl, tt) w.comes
 
-  pub spoils_tied : (t : BranchTable) (m : ManagerSight) → Notes s.table t key (Active g n true) → Works s.manager m x op false → IsTied (behind s t m)
+  pub spoils_tied : (t : BranchTable) (m : ManagerSight) → Notes s.table t key (Active g n true)
+      → Works s.manager m x op false → IsTied (behind s t m)
   spoils_tied t m notes w =
       moved_tied s t m c (active x g n false) (Some (active x g n true)) S4 tied at.live
-      (notes_at s.table t key (Active g n true) c (active x g n false) at notes).branches (refl, refl, tt) w.comes
+      (notes_at s.table t key (Active g n true) c (active x g n false) at
+      notes).branches (refl, refl, tt) w.comes
 
   pub idles_tied : (m : ManagerSight) → Idles s.manager m x → IsTied (behind s s.table m)
   idles_tied m w =
       moved_tied s s.table m c (active x g n false) (Some (active x g n false)) S2 tied at.live
       (record { own = at.live; others = λ d apart. refl }) (refl, refl, tt) w.comes
 
-  pub idles_core : (m : ManagerSight) → Idles s.manager m x → SameCore (core_of s) (core_of (behind s s.table m))
+  pub idles_core : (m : ManagerSight) → Idles s.manager m x
+      → SameCore (core_of s) (core_of (behind s s.table m))
   idles_core m w = record {
     log = w.log;
-    rest = record { place = refl; boot = w.comes.boot; begun = refl; given = refl; tickets = λ d. refl; views = λ d. no_view; branches = λ d. refl };
+    rest = record {
+      place = refl;
+      boot = w.comes.boot;
+      begun = refl;
+      given = refl;
+      tickets = λ d. refl;
+      views = λ d. no_view;
+      branches = λ d. refl;
+    };
   }

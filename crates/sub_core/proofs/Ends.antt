@@ -1,4 +1,5 @@
--- What the manager's record of a branch is in the subordinate's log, and what comes of a call that was not made.
+-- What the manager's record of a branch is in the subordinate's log, and what comes of a call that was not
+-- made.
 use Rattle.std.proofs.Common.{◌≡◌, ◌∙◌, ℕ, Option, Some, List, [], ◌∷◌, refl, sym, ap, subst}
 use Rattle.std.specs.Prelude.{map}
 use Rattle.xa_tables.specs.declared.call.Call.{Call}
@@ -38,11 +39,13 @@ pub record RetiresAt (old new : BranchTable) (c : Case) (v : Option Branch) : Ty
   pub branches : Moves old.branches new.branches c v
   pub tickets : (d : Case) → ticket_in new d ≡ retired_at c d (ticket_in old d)
 
-pub retires_at : (old new : BranchTable) (key : ℕ) (f : Branch → Option Branch) (c : Case) (b : Branch) → IsAt old key c b
+pub retires_at : (old new : BranchTable) (key : ℕ) (f : Branch → Option Branch) (c : Case)
+    (b : Branch) → IsAt old key c b
     → Retires old new key f → RetiresAt old new c (f b)
 retires_at old new key f c b at r =
     let is : (r.owner, r.branch) ≡ (c, b) = some_same (r.owner, r.branch) (c, b) (sym r.was ∙ at.entry) in
-    subst (λ (p : Case × Branch). RetiresAt old new p.0 (f p.1)) is (record { branches = r.branches; tickets = r.tickets })
+    subst (λ (p : Case × Branch). RetiresAt old new p.0 (f p.1)) is
+    (record { branches = r.branches; tickets = r.tickets })
 
 -- the records of a case, as the log has them
 abbrev pub AreOf : Case → List Written → Type 0
@@ -53,18 +56,22 @@ module _ (s : SubState) (c : Case) (x : Xid) (named : IsNamed s.parent c x) (giv
   parent_is : case_parent (Some s.parent) (Some c) ≡ Some s.parent
   parent_is = rw given.has refl
 
-  logged_is : (ws : List Written) → AreOf c ws → map (λ w. record { entry = w.entry; parent = Some s.parent }) ws ≡ logged (core_of s) (entries_written ws)
+  logged_is : (ws : List Written) → AreOf c ws → map (λ w. record { entry = w.entry; parent = Some s.parent })
+      ws ≡ logged (core_of s) (entries_written ws)
   logged_is [] of = refl
   logged_is (w ∷ ws) of =
       let here : record { entry = w.entry; parent = Some s.parent } ≡ in_log (Some s.parent) w.entry =
-      ap (λ (p : _). record { entry = w.entry; parent = p }) (sym (ap (case_parent (Some s.parent)) of.0 ∙ parent_is)) in
+      ap (λ (p : _). record { entry = w.entry; parent = p })
+      (sym (ap (case_parent (Some s.parent)) of.0 ∙ parent_is)) in
       ap (λ (l : LogRecord). l ∷ map (λ w. record { entry = w.entry; parent = Some s.parent }) ws) here
       ∙ ap (λ (ls : List LogRecord). in_log (Some s.parent) w.entry ∷ ls) (logged_is ws of.1)
 
   -- records of the manager in the words of the subordinate's row
-  pub under : (vs rws : List Written) → vs ≡ rws → AreOf c rws → logged_under x vs ≡ logged (core_of s) (entries_written rws)
+  pub under : (vs rws : List Written) → vs ≡ rws → AreOf c rws
+      → logged_under x vs ≡ logged (core_of s) (entries_written rws)
   under vs rws is of =
-      ap (logged_under x) is ∙ ap (λ (n : Name). map (λ w. record { entry = w.entry; parent = n.0 }) rws) named.reads ∙ logged_is rws of
+      ap (logged_under x) is ∙ ap (λ (n : Name). map (λ w. record { entry = w.entry; parent = n.0 }) rws)
+      named.reads ∙ logged_is rws of
 
   pub log_by : (m : ManagerSight) (vs rws : List Written) → vs ≡ rws → AreOf c rws
       → m.log ≡ wrote s.manager.log vs (logged_under x vs) → m.log ≡ log_behind (core_of s) rws
@@ -73,48 +80,59 @@ module _ (s : SubState) (c : Case) (x : Xid) (named : IsNamed s.parent c x) (giv
       ∙ ap (λ (ls : List LogRecord). wrote s.manager.log rws ls) (under vs rws is of)
 
   -- a piece of work that was not done
-  pub not_done : (m : ManagerSight) (vs : List Written) (row : LeafRow) (e : StepError) → vs ≡ row.written → AreOf c row.written
+  pub not_done : (m : ManagerSight) (vs : List Written) (row : LeafRow) (e : StepError)
+      → vs ≡ row.written → AreOf c row.written
       → NotDone s.manager m (logged_under x vs) e → NotTurned s (behind s s.table m) (Handles c row) e
   not_done m vs row Memory is of h = same_core s m h
   not_done m vs row Device is of h = (
     leaf_effect row,
     refl,
     record {
-      log = subst (λ (ls : List LogRecord). Breaks (state_of s.manager.log) (state_of m.log) ls) (under vs row.written is of) h.log;
+      log = subst (λ (ls : List LogRecord). Breaks (state_of s.manager.log) (state_of m.log) ls)
+          (under vs row.written is of) h.log;
       place = refl;
     },
   )
   not_done m vs row _ is of h = absurd h
 
   -- what a call writes, by the state of its branch, and what it has written
-  pub written_is : (st : BranchState) (ws : List Write) (call : Call) (rws : List Written) → state_at s.manager.tables x ≡ st
-      → s.manager.writes x ≡ ws → written_by call st (CaseBranch c) ws (s.manager.decided x) ≡ rws → written_for s.manager x call ≡ rws
+  pub written_is : (st : BranchState) (ws : List Write) (call : Call) (rws : List Written)
+      → state_at s.manager.tables x ≡ st
+      → s.manager.writes x ≡ ws → written_by call st (CaseBranch c) ws (s.manager.decided x) ≡ rws
+      → written_for s.manager x call ≡ rws
   written_is st ws call rws at writes is =
       ap (λ (q : BranchState). written_by call q (name_in x).1 (s.manager.writes x) (s.manager.decided x)) at
       ∙ ap (λ (n : Name). written_by call st n.1 (s.manager.writes x) (s.manager.decided x)) named.reads
       ∙ ap (λ (vs : List Write). written_by call st (CaseBranch c) vs (s.manager.decided x)) writes ∙ is
 
-  pub log_is : (m : ManagerSight) (st : BranchState) (ws : List Write) (call : Call) (rws : List Written) → state_at s.manager.tables x ≡ st
-      → s.manager.writes x ≡ ws → written_by call st (CaseBranch c) ws (s.manager.decided x) ≡ rws → AreOf c rws
-      → m.log ≡ wrote s.manager.log (written_for s.manager x call) (logged_under x (written_for s.manager x call)) → m.log ≡ log_behind (core_of s) rws
+  pub log_is : (m : ManagerSight) (st : BranchState) (ws : List Write) (call : Call) (rws : List Written)
+      → state_at s.manager.tables x ≡ st
+      → s.manager.writes x ≡ ws → written_by call st (CaseBranch c) ws
+      (s.manager.decided x) ≡ rws → AreOf c rws
+      → m.log ≡ wrote s.manager.log (written_for s.manager x call)
+      (logged_under x (written_for s.manager x call)) → m.log ≡ log_behind (core_of s) rws
   log_is m st ws call rws at writes is of log =
       log_by m (written_for s.manager x call) rws (written_is st ws call rws at writes is) of log
 
   -- a call that was not made
-  pub not_turned : (m : ManagerSight) (st : BranchState) (ws : List Write) (call : Call) (row : LeafRow) (e : StepError) → state_at s.manager.tables x ≡ st
-      → s.manager.writes x ≡ ws → written_by call st (CaseBranch c) ws (s.manager.decided x) ≡ row.written → AreOf c row.written
+  pub not_turned : (m : ManagerSight) (st : BranchState) (ws : List Write) (call : Call) (row : LeafRow)
+      (e : StepError) → state_at s.manager.tables x ≡ st
+      → s.manager.writes x ≡ ws → written_by call st (CaseBranch c) ws (s.manager.decided x)
+      ≡ row.written → AreOf c row.written
       → NotFinished s.manager m x call e → NotTurned s (behind s s.table m) (Handles c row) e
   not_turned m st ws call row e at writes is of h =
       not_done m (written_for s.manager x call) row e (written_is st ws call row.written at writes is) of h
 
 -- the tie behind a piece of work that was not done
-pub none_tied : (s : SubState) (m : ManagerSight) (ls : List LogRecord) (e : StepError) → IsTied s → NotDone s.manager m ls e
+pub none_tied : (s : SubState) (m : ManagerSight) (ls : List LogRecord) (e : StepError)
+    → IsTied s → NotDone s.manager m ls e
     → IsTied (behind s s.table m)
 none_tied s m ls Memory tied h = same_tied s m tied h
 none_tied s m ls Device tied h = still_tied s m tied h.idle h.states h.decided h.boot
 none_tied s m ls _ tied h = absurd h
 
 -- the tie behind a call that was not made
-pub not_tied : (s : SubState) (m : ManagerSight) (x : Xid) (call : Call) (e : StepError) → IsTied s → NotFinished s.manager m x call e
+pub not_tied : (s : SubState) (m : ManagerSight) (x : Xid) (call : Call) (e : StepError) → IsTied s
+    → NotFinished s.manager m x call e
     → IsTied (behind s s.table m)
 not_tied s m x call e tied h = none_tied s m (logged_under x (written_for s.manager x call)) e tied h

@@ -38,13 +38,23 @@ abbrev pub numbered : SubState → BranchTable → ManagerSight → ℕ → SubS
 numbered s t m n = record (behind s t m) { given = n }
 
 -- these messages go out, and nothing moves
-said : (old new : SubState) (i : Input) (ls : List Envelope) → SameCore (core_of old) (core_of new) → Turns old new i (Says ls) (shown [] ls)
+said : (old new : SubState) (i : Input) (ls : List Envelope) → SameCore (core_of old) (core_of new)
+    → Turns old new i (Says ls) (shown [] ls)
 said old new i ls same = record { moves = same; effect = sends_only ls; does = refl; shown = refl }
 
 pub stays_core : (s : SubState) → SameCore (core_of s) (core_of s)
 stays_core s = record {
   log = refl;
-  rest = record { place = refl; boot = refl; begun = refl; given = refl; tickets = λ d. refl; views = λ d. no_view; branches = λ d. refl };
+  rest = record {
+    place = refl;
+    boot = refl;
+    begun = refl;
+    given = refl;
+    tickets = λ d. refl;
+    views = λ d.
+        no_view;
+    branches = λ d. refl;
+  };
 }
 
 -- the turn of a JOIN by the ticket that is active
@@ -52,10 +62,12 @@ abbrev turn_by : SubState → Case → Bool → Option Ticket → Turn
 turn_by s d b o = leaf_joined_turn (core_of s) s.parent d b o
 
 -- the active ticket is told again
-pub repeated : (s : SubState) (d : Case) (t : Ticket) → Some t ≡ ticket_in s.table d → Hears s s (Join d) (shown [] (post s.me s.parent (Joined d t) ∷ []))
+pub repeated : (s : SubState) (d : Case) (t : Ticket) → Some t ≡ ticket_in s.table d
+    → Hears s s (Join d) (shown [] (post s.me s.parent (Joined d t) ∷ []))
 repeated s d t e = record {
   turns = λ k.
-      subst (λ (turn : Turn). Turns s s (MessageInput k (Join d)) turn (shown [] (post s.me s.parent (Joined d t) ∷ [])))
+      subst (λ (turn : Turn). Turns s s (MessageInput k (Join d)) turn
+      (shown [] (post s.me s.parent (Joined d t) ∷ [])))
       (ap (turn_by s d (starts s.manager (xid_of s (next_case s d)))) e)
       (said s s (MessageInput k (Join d)) (post s.me s.parent (Joined d t) ∷ []) (stays_core s));
   writes = λ y. refl;
@@ -68,7 +80,8 @@ issued s new d ungiven j =
     let ls : List Envelope = post s.me s.parent (Joined d (next_ticket (core_of s))) ∷ [] in
     let is : turn_by s d (starts s.manager (xid_of s (next_case s d))) (ticket_in s.table d)
     ≡ Issues d (next_ticket (core_of s)) (post s.me s.parent (Joined d (next_ticket (core_of s)))) =
-    ap (turn_by s d (starts s.manager (xid_of s (next_case s d)))) ungiven ∙ ap (λ b. turn_by s d b None) j.0 in
+    ap (turn_by s d (starts s.manager (xid_of s (next_case s d)))) ungiven
+    ∙ ap (λ b. turn_by s d b None) j.0 in
     record {
       turns = λ k.
           subst (λ (turn : Turn). Turns s new (MessageInput k (Join d)) turn (shown [] ls)) (sym is)
@@ -77,13 +90,16 @@ issued s new d ungiven j =
     }
 
 -- the manager refused the start: nothing is said
-pub refused : (s new : SubState) (d : Case) → ticket_in s.table d ≡ None → Joins s new d false → Hears s new (Join d) (shown [] [])
+pub refused : (s new : SubState) (d : Case) → ticket_in s.table d ≡ None → Joins s new d false
+    → Hears s new (Join d) (shown [] [])
 refused s new d ungiven j =
     let is : turn_by s d (starts s.manager (xid_of s (next_case s d))) (ticket_in s.table d) ≡ Says [] =
-    ap (turn_by s d (starts s.manager (xid_of s (next_case s d)))) ungiven ∙ ap (λ b. turn_by s d b None) j.0 in
+    ap (turn_by s d (starts s.manager (xid_of s (next_case s d)))) ungiven
+    ∙ ap (λ b. turn_by s d b None) j.0 in
     record {
       turns = λ k.
-          subst (λ (turn : Turn). Turns s new (MessageInput k (Join d)) turn (shown [] [])) (sym is) (said s new (MessageInput k (Join d)) [] j.1);
+          subst (λ (turn : Turn). Turns s new (MessageInput k (Join d)) turn (shown [] [])) (sym is)
+          (said s new (MessageInput k (Join d)) [] j.1);
       writes = j.2;
     }
 
@@ -102,7 +118,8 @@ is_fresh s d tied = by_branch (branch_in s.table (next_case s d)) refl
         let number : s.given + 1 ≡ g.ticket.number = ap (λ (t : Ticket). t.number) is in
         absurd (omega arith)
 
-module _ (s : SubState) (d : Case) (t : BranchTable) (m : ManagerSight) (x : Xid) (tied : IsTied s) (named : IsNamed s.parent (next_case s d) x)
+module _ (s : SubState) (d : Case) (t : BranchTable) (m : ManagerSight) (x : Xid) (tied : IsTied s)
+    (named : IsNamed s.parent (next_case s d) x)
     (opens : Opens s.table t d (next_ticket (core_of s)) x) where
   abbrev own : Case
   own = next_case s d
@@ -110,34 +127,43 @@ module _ (s : SubState) (d : Case) (t : BranchTable) (m : ManagerSight) (x : Xid
   abbrev new : SubState
   new = numbered s t m (s.given + 1)
 
-  named_at : Begins s.manager m x → (c : Case) (w : Branch) (r : Bool) → same_case own c ≡ r → branch_in t c ≡ Some w → IsNamed s.parent c w.xid
+  named_at : Begins s.manager m x → (c : Case) (w : Branch) (r : Bool) → same_case own c ≡ r
+      → branch_in t c ≡ Some w → IsNamed s.parent c w.xid
   named_at b c w true e h =
-      let entry : opened x d ≡ w = some_same (opened x d) w (sym opens.branches.own ∙ ap (branch_in t) (one own c e) ∙ h) in
-      subst (λ (q : Case). IsNamed s.parent q w.xid) (one own c e) (subst (λ (y : Xid). IsNamed s.parent own y) (ap (λ (z : Branch). z.xid) entry) named)
+      let entry : opened x d ≡ w = some_same (opened x d) w
+      (sym opens.branches.own ∙ ap (branch_in t) (one own c e) ∙ h) in
+      subst (λ (q : Case). IsNamed s.parent q w.xid) (one own c e)
+      (subst (λ (y : Xid). IsNamed s.parent own y) (ap (λ (z : Branch). z.xid) entry) named)
   named_at b c w false e h = tied.named c w (sym (opens.branches.others c e) ∙ h)
 
-  stands_at : Begins s.manager m x → (c : Case) (w : Branch) (r : Bool) → same_case own c ≡ r → branch_in t c ≡ Some w
+  stands_at : Begins s.manager m x → (c : Case) (w : Branch) (r : Bool)
+      → same_case own c ≡ r → branch_in t c ≡ Some w
       → state_at m.tables w.xid ≡ stage_state w.stage
   stands_at b c w true e h =
-      let entry : opened x d ≡ w = some_same (opened x d) w (sym opens.branches.own ∙ ap (branch_in t) (one own c e) ∙ h) in
+      let entry : opened x d ≡ w = some_same (opened x d) w
+      (sym opens.branches.own ∙ ap (branch_in t) (one own c e) ∙ h) in
       subst (λ (z : Branch). state_at m.tables z.xid ≡ stage_state z.stage) entry b.comes.own
   stands_at b c w false e h =
       let stood = sym (opens.branches.others c e) ∙ h in
       let apart = apart_xids s.parent own c x w.xid named (tied.named c w stood) e (same x w.xid) refl in
       b.comes.others w.xid apart ∙ tied.stands c w stood
 
-  told_at : Begins s.manager m x → (c : Case) (w : Branch) (r : Bool) → same_case own c ≡ r → branch_in t c ≡ Some w
+  told_at : Begins s.manager m x → (c : Case) (w : Branch) (r : Bool)
+      → same_case own c ≡ r → branch_in t c ≡ Some w
       → AgreesWith w.stage (m.decided w.xid)
   told_at b c w true e h =
-      let entry : opened x d ≡ w = some_same (opened x d) w (sym opens.branches.own ∙ ap (branch_in t) (one own c e) ∙ h) in
+      let entry : opened x d ≡ w = some_same (opened x d) w
+      (sym opens.branches.own ∙ ap (branch_in t) (one own c e) ∙ h) in
       subst (λ (z : Branch). AgreesWith z.stage (m.decided z.xid)) entry tt
   told_at b c w false e h =
       let stood = sym (opens.branches.others c e) ∙ h in
       subst (λ (k : Decision). AgreesWith w.stage k) (sym (b.rest.decided w.xid)) (tied.told c w stood)
 
-  given_at : Begins s.manager m x → (c : Case) (w : Branch) (r : Bool) → same_case own c ≡ r → branch_in t c ≡ Some w → IsGiven new c
+  given_at : Begins s.manager m x → (c : Case) (w : Branch) (r : Bool) → same_case own c ≡ r
+      → branch_in t c ≡ Some w → IsGiven new c
   given_at b c w true e h =
-      subst (λ (q : Case). IsGiven new q) (one own c e) (record { ticket = next_ticket (core_of s); has = refl; before = λ f. omega arith })
+      subst (λ (q : Case). IsGiven new q) (one own c e)
+      (record { ticket = next_ticket (core_of s); has = refl; before = λ f. omega arith })
   given_at b c w false e h =
       let g = tied.given_before c w (sym (opens.branches.others c e) ∙ h) in
       record {
@@ -160,7 +186,12 @@ module _ (s : SubState) (d : Case) (t : BranchTable) (m : ManagerSight) (x : Xid
     ap (starts s.manager) (sym named.is) ∙ h.0,
     record {
       log = h.1.log;
-      cases = (ap kept_view opens.branches.own, λ c apart. ap kept_view (opens.branches.others c apart), λ c. no_view);
+      cases = (
+        ap kept_view opens.branches.own,
+        λ c apart. ap kept_view
+            (opens.branches.others c apart),
+        λ c. no_view,
+      );
       ticket = opens.tickets.own;
       tickets = λ e apart. opens.tickets.others e apart;
       begun = refl;
@@ -173,19 +204,23 @@ module _ (s : SubState) (d : Case) (t : BranchTable) (m : ManagerSight) (x : Xid
 
 -- The start was refused, or wanted memory.
 
-pub table_tied : (s : SubState) (t : BranchTable) → IsTied s → SameTable s.table t → IsTied (behind s t s.manager)
+pub table_tied : (s : SubState) (t : BranchTable) → IsTied s → SameTable s.table t
+    → IsTied (behind s t s.manager)
 table_tied s t tied same = record {
   idle = tied.idle;
   named = λ c w h. tied.named c w (sym (same.branches c) ∙ h);
   stands = λ c w h. tied.stands c w (sym (same.branches c) ∙ h);
   told = λ c w h. tied.told c w (sym (same.branches c) ∙ h);
-  given_before = λ c w h. let g = tied.given_before c w (sym (same.branches c) ∙ h) in record { ticket = g.ticket; has = g.has; before = g.before };
+  given_before = λ c w h. let g = tied.given_before c w (sym (same.branches c) ∙ h)
+      in record { ticket = g.ticket; has = g.has; before = g.before };
 }
 
-pub undone_tied : (s : SubState) (t : BranchTable) (m : ManagerSight) → IsTied s → SameTable s.table t → SameManager s.manager m → IsTied (behind s t m)
+pub undone_tied : (s : SubState) (t : BranchTable) (m : ManagerSight) → IsTied s → SameTable s.table t
+    → SameManager s.manager m → IsTied (behind s t m)
 undone_tied s t m tied same stays = same_tied (behind s t s.manager) m (table_tied s t tied same) stays
 
-pub undone_core : (s : SubState) (t : BranchTable) (m : ManagerSight) → SameTable s.table t → SameManager s.manager m → SameCore (core_of s) (core_of (behind s t m))
+pub undone_core : (s : SubState) (t : BranchTable) (m : ManagerSight) → SameTable s.table t
+    → SameManager s.manager m → SameCore (core_of s) (core_of (behind s t m))
 undone_core s t m same stays = record {
   log = stays.log;
   rest = record {
@@ -199,9 +234,15 @@ undone_core s t m same stays = record {
   };
 }
 
-pub not_begun : (s : SubState) (d : Case) (t : BranchTable) (m : ManagerSight) (x : Xid) → IsNamed s.parent (next_case s d) x → SameTable s.table t
+pub not_begun : (s : SubState) (d : Case) (t : BranchTable) (m : ManagerSight) (x : Xid)
+    → IsNamed s.parent (next_case s d) x → SameTable s.table t
     → HasBegun s.manager m x false → Joins s (behind s t m) d false
-not_begun s d t m x named same h = (ap (starts s.manager) (sym named.is) ∙ h.0, undone_core s t m same h.1, h.1.rest.writes)
+not_begun s d t m x named same h = (
+  ap (starts s.manager) (sym named.is)
+      ∙ h.0,
+  undone_core s t m same h.1,
+  h.1.rest.writes,
+)
 
 -- The XID.
 

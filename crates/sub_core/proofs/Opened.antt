@@ -40,7 +40,8 @@ bare_quiet a bare seats = record {
   moved = λ x. ap (λ ms. moved_of (record a { moved = ms }) x) (no_items a.moved bare.moved);
 }
 
-module _ (old m : ManagerSight) (new : IsNew old) (refuses : Code → Type 0) (answer : Code) (calls : Calls old m (refuses answer) (λ s t. Opens s t 0 false answer)) where
+module _ (old m : ManagerSight) (new : IsNew old) (refuses : Code → Type 0) (answer : Code)
+    (calls : Calls old m (refuses answer) (λ s t. Opens s t 0 false answer)) where
   up : old.log.failed ≡ false
   up = ap (λ l. l.failed) new.log
 
@@ -50,7 +51,8 @@ module _ (old m : ManagerSight) (new : IsNew old) (refuses : Code → Type 0) (a
     quiet = bare_quiet m.tables.associations (o.anew new.closed).0 (o.anew new.closed).1;
   }
 
-  pub opened_tied : (me parent : ProcessId) (tree : List TreeEntry) (t : BranchTable) → t.tickets ≡ [] → t.branches ≡ []
+  pub opened_tied : (me parent : ProcessId) (tree : List TreeEntry) (t : BranchTable)
+      → t.tickets ≡ [] → t.branches ≡ []
       → IsTied (record { me = me; parent = parent; tree = tree; given = 0; table = t; manager = m })
   opened_tied me parent tree t tickets branches = record {
     idle = idle;
@@ -63,8 +65,10 @@ module _ (old m : ManagerSight) (new : IsNew old) (refuses : Code → Type 0) (a
       bare : (c : Case) → branch_in t c ≡ None
       bare c = ap (λ bs. branch_in (record { tickets = t.tickets; branches = bs }) c) branches ∙ no_branch c
 
-  pub opened : (me parent : ProcessId) (tree : List TreeEntry) (t : BranchTable) → t.tickets ≡ [] → t.branches ≡ []
-      → IsOpened (core_of (record { me = me; parent = parent; tree = tree; given = 0; table = t; manager = m }))
+  pub opened : (me parent : ProcessId) (tree : List TreeEntry) (t : BranchTable)
+      → t.tickets ≡ [] → t.branches ≡ []
+      → IsOpened
+      (core_of (record { me = me; parent = parent; tree = tree; given = 0; table = t; manager = m }))
       (record { me = me; role = AtLeaf parent; tree = tree }) old.log.failures
   opened me parent tree t tickets branches =
       let read = opened_is_read (record { me = me; role = AtLeaf parent; tree = tree }) in
@@ -75,8 +79,10 @@ module _ (old m : ManagerSight) (new : IsNew old) (refuses : Code → Type 0) (a
           boot = calls.boot ∙ new.boot ∙ read.boot;
           begun = refl;
           given = refl;
-          tickets = λ d. ap (λ ts. ticket_in (record { tickets = ts; branches = t.branches }) d) tickets ∙ no_ticket d;
+          tickets = λ d. ap (λ ts. ticket_in (record { tickets = ts; branches = t.branches }) d) tickets
+              ∙ no_ticket d;
           views = read.views;
-          branches = λ c. ap (λ bs. view_in (record { tickets = t.tickets; branches = bs }) c) branches ∙ ap kept_view (no_branch c) ∙ read.branches c;
+          branches = λ c. ap (λ bs. view_in (record { tickets = t.tickets; branches = bs }) c) branches
+              ∙ ap kept_view (no_branch c) ∙ read.branches c;
         };
       }

@@ -39,42 +39,54 @@ some_same : {A : Type 0} (a b : A) → Some a ≡ Some b → a ≡ b
 some_same a b e = cc
 
 -- a row that ends a branch, by one call of its manager
-pub record EndsBy (s : SubState) (c : Case) (b : Branch) (message : Message) (call : Call) (row : LeafRow) : Type 0 where
+pub record EndsBy (s : SubState) (c : Case) (b : Branch) (message : Message) (call : Call)
+    (row : LeafRow) : Type 0 where
   pub turn : turn_for s message ≡ Handles c row
   pub view : unknown_branch ≡ row.view
-  pub written : written_by call (stage_state b.stage) (CaseBranch c) (s.manager.writes b.xid) (s.manager.decided b.xid) ≡ row.written
+  pub written : written_by call (stage_state b.stage) (CaseBranch c) (s.manager.writes b.xid)
+      (s.manager.decided b.xid) ≡ row.written
   pub of : AreOf c row.written
-  pub tickets : (k : ℕ) (d : Case) → retired_at c d (ticket_in s.table d) ≡ retired_by (MessageInput k message) d (ticket_in s.table d)
+  pub tickets : (k : ℕ) (d : Case) → retired_at c d (ticket_in s.table d)
+      ≡ retired_by (MessageInput k message) d (ticket_in s.table d)
   pub writes : (new : SubState) → OthersWriteNothing s new c → Writes s new message
 
-module _ (s : SubState) (key : ℕ) (c : Case) (b : Branch) (message : Message) (call : Call) (row : LeafRow) (tied : IsTied s) (at : IsAt s.table key c b)
+module _ (s : SubState) (key : ℕ) (c : Case) (b : Branch) (message : Message) (call : Call) (row : LeafRow)
+    (tied : IsTied s) (at : IsAt s.table key c b)
     (ends : EndsBy s c b message call row) where
-  pub ended : (t : BranchTable) (m : ManagerSight) → Retires s.table t key nothing → Finishes s.manager m b.xid call
+  pub ended : (t : BranchTable) (m : ManagerSight) → Retires s.table t key nothing
+      → Finishes s.manager m b.xid call
       → Hears s (behind s t m) message (shown row.written row.messages)
   ended t m gone f =
       let r = retires_at s.table t key nothing c b at gone in
       record {
         turns = λ k.
-            subst (λ (turn : Turn). Turns s (behind s t m) (MessageInput k message) turn (shown row.written row.messages)) (sym ends.turn)
+            subst (λ (turn : Turn). Turns s (behind s t m) (MessageInput k message) turn
+            (shown row.written row.messages)) (sym ends.turn)
             (handled s t m (MessageInput k message) c row
-            (log_is s c b.xid (tied.named c b at.live) (tied.given_before c b at.live) m (stage_state b.stage) (s.manager.writes b.xid) call row.written
+            (log_is s c b.xid (tied.named c b at.live) (tied.given_before c b at.live) m (stage_state b.stage)
+            (s.manager.writes b.xid) call row.written
             (tied.stands c b at.live) refl ends.written ends.of f.log)
             (ap kept_view r.branches.own ∙ ends.view) (λ d apart. ap kept_view (r.branches.others d apart))
             (λ d. r.tickets d ∙ ends.tickets k d) f.comes.boot);
-        writes = ends.writes (behind s t m) (λ y apart. f.others y (ap (λ (x : Xid). same x y) (tied.named c b at.live).is ∙ apart));
+        writes = ends.writes (behind s t m) (λ y apart. f.others y
+            (ap (λ (x : Xid). same x y) (tied.named c b at.live).is ∙ apart));
       }
 
-  pub not_ended : (m : ManagerSight) (e : StepError) → NotFinished s.manager m b.xid call e → NotHeard s (behind s s.table m) message e
+  pub not_ended : (m : ManagerSight) (e : StepError) → NotFinished s.manager m b.xid call e
+      → NotHeard s (behind s s.table m) message e
   not_ended m e h =
       subst (λ (t : Turn). NotTurned s (behind s s.table m) t e) (sym ends.turn)
-      (not_turned s c b.xid (tied.named c b at.live) (tied.given_before c b at.live) m (stage_state b.stage) (s.manager.writes b.xid) call row e
+      (not_turned s c b.xid (tied.named c b at.live) (tied.given_before c b at.live) m (stage_state b.stage)
+      (s.manager.writes b.xid) call row e
       (tied.stands c b at.live) refl ends.written ends.of h)
 
 -- the tie behind a branch that ended
-pub ended_tied : (s : SubState) (key : ℕ) (c : Case) (b : Branch) (call : Call) (t : BranchTable) (m : ManagerSight) → IsTied s → IsAt s.table key c b
+pub ended_tied : (s : SubState) (key : ℕ) (c : Case) (b : Branch) (call : Call) (t : BranchTable)
+    (m : ManagerSight) → IsTied s → IsAt s.table key c b
     → Retires s.table t key nothing → Finishes s.manager m b.xid call → IsTied (behind s t m)
 ended_tied s key c b call t m tied at gone f =
-    moved_tied s t m c b None _ tied at.live (retires_at s.table t key nothing c b at gone).branches tt f.comes
+    moved_tied s t m c b None _ tied at.live (retires_at s.table t key nothing c b
+    at gone).branches tt f.comes
 
 -- The rows.
 
@@ -87,7 +99,8 @@ none_written : (g c : Case) (n : ℕ) (p : Bool) (ws : List Write) (d : Decision
 none_written g c n true ws d = refl
 none_written g c n false ws d = refl
 
-pub retired_abort : (k : ℕ) (c d : Case) (o : Option Ticket) → retired_at c d o ≡ retired_by (MessageInput k (Abort c)) d o
+pub retired_abort : (k : ℕ) (c d : Case) (o : Option Ticket)
+    → retired_at c d o ≡ retired_by (MessageInput k (Abort c)) d o
 retired_abort k c d None = refl
 retired_abort k c d (Some t) = refl
 
@@ -101,7 +114,8 @@ not_given d Prepared e h = h
 not_given d (Heuristic told) e h = h
 
 -- the ticket of a case that promised is active no longer
-pub untouched : (t : BranchTable) (c : Case) (b : Branch) → IsKept t → branch_in t c ≡ Some b → has_promised b.stage ≡ true → (d : Case)
+pub untouched : (t : BranchTable) (c : Case) (b : Branch) → IsKept t → branch_in t c ≡ Some b
+    → has_promised b.stage ≡ true → (d : Case)
     → retired_at c d (ticket_in t d) ≡ ticket_in t d
 untouched t c b kept at stage d = by_ticket (ticket_in t d) refl
   where
@@ -116,14 +130,18 @@ untouched t c b kept at stage d = by_ticket (ticket_in t d) refl
             let entry : b ≡ h.0 = some_same b h.0 (sym at ∙ ap (branch_in t) (sym (one _ c is)) ∙ h.1) in
             absurd (not_given d h.0.stage (ap (λ (w : Branch). has_promised w.stage) (sym entry) ∙ stage) h.2)
 
-pub refuse_row : (s : SubState) (key : ℕ) (c g : Case) (n works : ℕ) (p : Bool) (x : Xid) → IsAt s.table key c (active x g n p) → ((n == works) && not p) ≡ false
-    → EndsBy s c (active x g n p) (Prepare c works) call.Rollback (replies (leaf_in (core_of s) s.parent c) (No c) unknown_branch)
+pub refuse_row : (s : SubState) (key : ℕ) (c g : Case) (n works : ℕ) (p : Bool) (x : Xid)
+    → IsAt s.table key c (active x g n p) → ((n == works) && not p) ≡ false
+    → EndsBy s c (active x g n p) (Prepare c works) call.Rollback
+    (replies (leaf_in (core_of s) s.parent c) (No c) unknown_branch)
 refuse_row s key c g n works p x at unfit =
     let l : Leaf = leaf_in (core_of s) s.parent c in
     let holding = held_writes (s.manager.writes (xid_of s c)) in
     record {
-      turn = ap (λ (o : Option Branch). Handles c (on_prepare l works holding (kept_view o) (kept_view o).standing)) at.live
-          ∙ ap (λ b. Handles c (if b then active_prepare_holding l holding else replies l (No c) unknown_branch)) unfit;
+      turn = ap (λ (o : Option Branch). Handles c
+          (on_prepare l works holding (kept_view o) (kept_view o).standing)) at.live
+          ∙ ap (λ b. Handles c (if b then active_prepare_holding l holding else replies l
+          (No c) unknown_branch)) unfit;
       view = refl;
       written = none_written g c n p (s.manager.writes x) (s.manager.decided x);
       of = tt;
@@ -131,7 +149,8 @@ refuse_row s key c g n works p x at unfit =
       writes = λ new others. others;
     }
 
-pub abort_row : (s : SubState) (key : ℕ) (c g : Case) (n : ℕ) (p : Bool) (x : Xid) → IsAt s.table key c (active x g n p)
+pub abort_row : (s : SubState) (key : ℕ) (c g : Case) (n : ℕ) (p : Bool) (x : Xid)
+    → IsAt s.table key c (active x g n p)
     → EndsBy s c (active x g n p) (Abort c) call.Rollback (active_abort (leaf_in (core_of s) s.parent c))
 abort_row s key c g n p x at =
     let l : Leaf = leaf_in (core_of s) s.parent c in
@@ -144,8 +163,10 @@ abort_row s key c g n p x at =
       writes = λ new others. others;
     }
 
-pub rolled_row : (s : SubState) (key : ℕ) (c : Case) (x : Xid) → IsKept s.table → IsAt s.table key c (prepared x)
-    → EndsBy s c (prepared x) (Abort c) call.Rollback (prepared_outcome (leaf_in (core_of s) s.parent c) AbortedOutcome)
+pub rolled_row : (s : SubState) (key : ℕ) (c : Case) (x : Xid) → IsKept s.table
+    → IsAt s.table key c (prepared x)
+    → EndsBy s c (prepared x) (Abort c) call.Rollback
+    (prepared_outcome (leaf_in (core_of s) s.parent c) AbortedOutcome)
 rolled_row s key c x kept at =
     let l : Leaf = leaf_in (core_of s) s.parent c in
     record {
@@ -157,8 +178,10 @@ rolled_row s key c x kept at =
       writes = λ new others. others;
     }
 
-pub commit_row : (s : SubState) (key : ℕ) (c : Case) (x : Xid) → IsKept s.table → IsAt s.table key c (prepared x)
-    → EndsBy s c (prepared x) (Commit c) call.Commit (prepared_outcome (leaf_in (core_of s) s.parent c) CommittedOutcome)
+pub commit_row : (s : SubState) (key : ℕ) (c : Case) (x : Xid) → IsKept s.table
+    → IsAt s.table key c (prepared x)
+    → EndsBy s c (prepared x) (Commit c) call.Commit
+    (prepared_outcome (leaf_in (core_of s) s.parent c) CommittedOutcome)
 commit_row s key c x kept at =
     let l : Leaf = leaf_in (core_of s) s.parent c in
     record {
@@ -166,6 +189,7 @@ commit_row s key c x kept at =
       view = refl;
       written = refl;
       of = (refl, tt);
-      tickets = λ k d. untouched s.table c (prepared x) kept at.live refl d ∙ never_retired k c d (ticket_in s.table d);
+      tickets = λ k d. untouched s.table c (prepared x) kept at.live refl d
+          ∙ never_retired k c d (ticket_in s.table d);
       writes = λ new others. others;
     }

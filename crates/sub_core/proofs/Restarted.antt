@@ -56,8 +56,10 @@ shown_restart boot messages =
       kept = None;
     }
 
-module _ (s : SubState) (keep : ℕ) (r : Rebuilt) (mid m : ManagerSight) (refuses : Code → Type 0) (answer : Code)
-    (made : Rebuilds (leaf s.me s.parent s.tree) s.parent (left_by s.manager.log keep) r) (restarts : ManagerRestarts s.manager mid keep)
+module _ (s : SubState) (keep : ℕ) (r : Rebuilt) (mid m : ManagerSight)
+    (refuses : Code → Type 0) (answer : Code)
+    (made : Rebuilds (leaf s.me s.parent s.tree) s.parent (left_by s.manager.log keep) r)
+    (restarts : ManagerRestarts s.manager mid keep)
     (calls : Calls mid m (refuses answer) (λ old new. Opens old new 0 false answer)) where
   abbrev ls : List LogRecord
   ls = left_by s.manager.log keep
@@ -67,12 +69,20 @@ module _ (s : SubState) (keep : ℕ) (r : Rebuilt) (mid m : ManagerSight) (refus
 
   -- the subordinate behind it
   abbrev pub reopened : SubState
-  reopened = record { me = s.me; parent = s.parent; tree = s.tree; given = 0; table = r.branches; manager = m }
+  reopened = record {
+    me = s.me;
+    parent = s.parent;
+    tree = s.tree;
+    given = 0;
+    table = r.branches;
+    manager = m;
+  }
 
   up : mid.log.failed ≡ false
   up = ap (λ l. l.failed) restarts.log
 
-  boots : next_boot (left_by s.manager.log keep) ≡ boot_of (own_records (leaf s.me s.parent s.tree) (left_by s.manager.log keep)) + 1
+  boots : next_boot (left_by s.manager.log keep)
+      ≡ boot_of (own_records (leaf s.me s.parent s.tree) (left_by s.manager.log keep)) + 1
   boots = ap (λ n. n + 1) (sym (boots_alike s.me s.parent s.tree (left_by s.manager.log keep)))
 
   boot_is : m.boot ≡ boot_of (own_records (leaf s.me s.parent s.tree) (left_by s.manager.log keep)) + 1
@@ -87,9 +97,11 @@ module _ (s : SubState) (keep : ℕ) (r : Rebuilt) (mid m : ManagerSight) (refus
   states : (x : Xid) → state_at m.tables x ≡ state_at mid.tables x
   states x = ap (λ (bs : BranchList). state_in bs.branches x) (calls.works up).branches
 
-  named : (c : Case) (b : Branch) → IsLeft (leaf s.me s.parent s.tree) s.parent rs r.boot c b → IsNamed s.parent c b.xid
+  named : (c : Case) (b : Branch) → IsLeft (leaf s.me s.parent s.tree) s.parent rs r.boot c
+      b → IsNamed s.parent c b.xid
   named c b d =
-      let is : b.xid ≡ name_xid (Some s.parent) (CaseBranch c) = left_xid s.parent c b (mark_of (CaseBranch c) rs) d.kept in
+      let is : b.xid ≡ name_xid (Some s.parent) (CaseBranch c) =
+      left_xid s.parent c b (mark_of (CaseBranch c) rs) d.kept in
       record {
         is = is;
         reads = ap name_in is ∙ d.own.reads;
@@ -101,19 +113,23 @@ module _ (s : SubState) (keep : ℕ) (r : Rebuilt) (mid m : ManagerSight) (refus
   mark_is : (c : Case) (b : Branch) → IsLeft (leaf s.me s.parent s.tree) s.parent rs r.boot c b
       → mark_at (left_by s.manager.log keep) b.xid ≡ mark_of (CaseBranch c) rs
   mark_is c b d =
-      ap (λ (x : Xid). mark_at (left_by s.manager.log keep) x) (left_xid s.parent c b (mark_of (CaseBranch c) rs) d.kept)
+      ap (λ (x : Xid). mark_at (left_by s.manager.log keep) x)
+      (left_xid s.parent c b (mark_of (CaseBranch c) rs) d.kept)
       ∙ marks_alike s.me s.parent s.tree c d.own.own d.own.reads (left_by s.manager.log keep) made.reads
 
   state_is : (c : Case) (b : Branch) → IsLeft (leaf s.me s.parent s.tree) s.parent rs r.boot c b
       → state_at mid.tables b.xid ≡ stage_state b.stage
   state_is c b d =
-      restarts.states b.xid ∙ ap marked_state (mark_is c b d) ∙ left_state s.parent c b (mark_of (CaseBranch c) rs) d.kept
+      restarts.states b.xid ∙ ap marked_state (mark_is c b d)
+      ∙ left_state s.parent c b (mark_of (CaseBranch c) rs) d.kept
 
-  stands : (c : Case) (b : Branch) → IsLeft (leaf s.me s.parent s.tree) s.parent rs r.boot c b → state_at m.tables b.xid ≡ stage_state b.stage
+  stands : (c : Case) (b : Branch) → IsLeft (leaf s.me s.parent s.tree) s.parent rs r.boot c b
+      → state_at m.tables b.xid ≡ stage_state b.stage
   stands c b d = states b.xid ∙ state_is c b d
 
   -- what it was told is what the manager's records say that it was
-  agrees : (c : Case) (b : Branch) → IsLeft (leaf s.me s.parent s.tree) s.parent rs r.boot c b → AgreesWith b.stage (m.decided b.xid)
+  agrees : (c : Case) (b : Branch) → IsLeft (leaf s.me s.parent s.tree) s.parent rs r.boot c b
+      → AgreesWith b.stage (m.decided b.xid)
   agrees c b d = by_stage b.stage refl
     where
       by_stage : (st : Stage) → b.stage ≡ st → AgreesWith st (m.decided b.xid)
@@ -125,7 +141,8 @@ module _ (s : SubState) (keep : ℕ) (r : Rebuilt) (mid m : ManagerSight) (refus
           ∙ told_by_mark (Foreign b.xid) (map by_xid (left_by s.manager.log keep)) told
           (mark_is c b d ∙ left_mark s.parent c b (mark_of (CaseBranch c) rs) told d.kept is)
 
-  given_by : (c : Case) (b : Branch) → IsLeft (leaf s.me s.parent s.tree) s.parent rs r.boot c b → IsGiven reopened c
+  given_by : (c : Case) (b : Branch) → IsLeft (leaf s.me s.parent s.tree) s.parent rs
+      r.boot c b → IsGiven reopened c
   given_by c b d = record {
     ticket = d.own.given.ticket;
     has = d.own.given.has;
@@ -149,7 +166,8 @@ module _ (s : SubState) (keep : ℕ) (r : Rebuilt) (mid m : ManagerSight) (refus
   log_is = calls.log ∙ restarts.log
       ∙ ap (λ n. forced_sight (left_by s.manager.log keep ++ boot_record n ∷ []) s.manager.log.failures) boots
 
-  read : own_records (leaf s.me s.parent s.tree) (restarted_log (core_of s) keep) ≡ rs ++ Opened (boot_of rs + 1) ∷ []
+  read : own_records (leaf s.me s.parent s.tree) (restarted_log (core_of s) keep) ≡ rs
+      ++ Opened (boot_of rs + 1) ∷ []
   read = boot_read s.me s.parent s.tree (left_by s.manager.log keep) (boot_of rs + 1)
 
   pub restarted : Restarts (core_of s) keep (core_of reopened) (shown_restart (r.boot + 1) r.messages)
@@ -162,18 +180,22 @@ module _ (s : SubState) (keep : ℕ) (r : Rebuilt) (mid m : ManagerSight) (refus
       given = refl;
       tickets = made.tickets;
       views = λ c. same_view unknown_view;
-      branches = λ c. made.views c ∙ sym (boot_branch rs (boot_of rs + 1) c) ∙ ap (λ ks. recorded_branch ks c) (sym read);
+      branches = λ c. made.views c ∙ sym (boot_branch rs (boot_of rs + 1) c)
+          ∙ ap (λ ks. recorded_branch ks c) (sym read);
     };
     shown = ap (λ n. shown_restart n r.messages) (ap (λ n. n + 1) made.boot)
-        ∙ ap (shown_restart (boot_of rs + 1)) (made.messages ∙ sym (boot_resumes s.me s.parent rs (boot_of rs + 1)));
+        ∙ ap (shown_restart (boot_of rs + 1))
+        (made.messages ∙ sym (boot_resumes s.me s.parent rs (boot_of rs + 1)));
   }
 
 -- The device failed.
 
-pub broken_tied : (s : SubState) (m : ManagerSight) (keep : ℕ) → IsTied s → RestartFails s.manager m keep → IsTied (behind s s.table m)
+pub broken_tied : (s : SubState) (m : ManagerSight) (keep : ℕ) → IsTied s → RestartFails s.manager m keep
+    → IsTied (behind s s.table m)
 broken_tied s m keep tied fails =
     still_tied s m tied (same_idle s.manager m fails.tables tied.idle)
-    (λ y. ap (λ (bs : List (Xid × BranchState)). state_in bs y) fails.tables.branches.branches) fails.decided fails.boot
+    (λ y. ap (λ (bs : List (Xid × BranchState)). state_in bs y)
+    fails.tables.branches.branches) fails.decided fails.boot
 
 pub broken : (s : SubState) (m : ManagerSight) (keep : ℕ) → RestartFails s.manager m keep
     → NotRestarted (core_of s) keep (core_of (behind s s.table m)) error.Device

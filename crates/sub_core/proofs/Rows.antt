@@ -17,10 +17,19 @@ use Rattle.sub_deeds.specs.Replies.{shown}
 use Rattle.sub_core.proofs.Ties.{behind}
 
 pub no_view : SameView unknown_view unknown_view
-no_view = record { standing = refl; accepted = refl; voted = λ o t. refl; worked = λ t. refl; promised = refl; named = λ t. refl; owed = λ t. refl }
+no_view = record {
+  standing = refl;
+  accepted = refl;
+  voted = λ o t. refl;
+  worked = λ t. refl;
+  promised = refl;
+  named = λ t. refl;
+  owed = λ t. refl;
+}
 
 -- a manager's row was made
-pub handled : (s : SubState) (t : BranchTable) (m : ManagerSight) (i : Input) (c : Case) (row : LeafRow) → m.log ≡ log_behind (core_of s) row.written
+pub handled : (s : SubState) (t : BranchTable) (m : ManagerSight) (i : Input) (c : Case) (row : LeafRow)
+    → m.log ≡ log_behind (core_of s) row.written
     → view_in t c ≡ row.view → ((d : Case) → same_case c d ≡ false → view_in t d ≡ view_in s.table d)
     → ((d : Case) → ticket_in t d ≡ retired_by i d (ticket_in s.table d)) → m.boot ≡ s.manager.boot
     → Turns s (behind s t m) i (Handles c row) (shown row.written row.messages)
@@ -40,8 +49,17 @@ handled s t m i c row log own others tickets boot = record {
 }
 
 -- nothing changed but room
-pub same_core : (s : SubState) (m : ManagerSight) → SameManager s.manager m → SameCore (core_of s) (core_of (behind s s.table m))
+pub same_core : (s : SubState) (m : ManagerSight) → SameManager s.manager m
+    → SameCore (core_of s) (core_of (behind s s.table m))
 same_core s m stays = record {
   log = stays.log;
-  rest = record { place = refl; boot = stays.boot; begun = refl; given = refl; tickets = λ d. refl; views = λ c. no_view; branches = λ c. refl };
+  rest = record {
+    place = refl;
+    boot = stays.boot;
+    begun = refl;
+    given = refl;
+    tickets = λ d. refl;
+    views = λ c. no_view;
+    branches = λ c. refl;
+  };
 }

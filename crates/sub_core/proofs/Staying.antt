@@ -32,37 +32,45 @@ use Rattle.sub_core.proofs.Votes.{retired_prepare}
 
 -- no record leaves the log as it is
 pub no_record : (l : LogSight) → l ≡ wrote l [] []
-no_record l = ap (λ (ls : List LogRecord). record l { kept = record { forced = l.kept.forced; unforced = ls } }) (sym (append-nil l.kept.unforced))
+no_record l = ap (λ (ls : List LogRecord).
+    record l { kept = record { forced = l.kept.forced; unforced = ls } }) (sym (append-nil l.kept.unforced))
 
 -- a row that leaves the case as it is, and says something
 pub record Stays (s : SubState) (c : Case) (message : Message) (row : LeafRow) : Type 0 where
   pub turn : turn_for s message ≡ Handles c row
   pub view : view_in s.table c ≡ row.view
   pub written : row.written ≡ []
-  pub tickets : (k : ℕ) (d : Case) → ticket_in s.table d ≡ retired_by (MessageInput k message) d (ticket_in s.table d)
+  pub tickets : (k : ℕ) (d : Case) → ticket_in s.table d
+      ≡ retired_by (MessageInput k message) d (ticket_in s.table d)
   pub writes : Writes s s message
 
-pub heard : (s : SubState) (c : Case) (message : Message) (row : LeafRow) → Stays s c message row → Hears s s message (shown [] row.messages)
+pub heard : (s : SubState) (c : Case) (message : Message) (row : LeafRow) → Stays s c message row
+    → Hears s s message (shown [] row.messages)
 heard s c message row stays = record {
   turns = λ k.
-      subst (λ (turn : Turn). Turns s s (MessageInput k message) turn (shown [] row.messages)) (sym stays.turn)
+      subst (λ (turn : Turn). Turns s s (MessageInput k message) turn
+      (shown [] row.messages)) (sym stays.turn)
       (subst (λ ws. Turns s s (MessageInput k message) (Handles c row) (shown ws row.messages)) stays.written
       (handled s s.table s.manager (MessageInput k message) c row
-      (no_record s.manager.log ∙ ap (λ ws. log_behind (core_of s) ws) (sym stays.written)) stays.view (λ d apart. refl) (stays.tickets k) refl));
+      (no_record s.manager.log ∙ ap (λ ws. log_behind (core_of s) ws) (sym stays.written)) stays.view
+      (λ d apart. refl) (stays.tickets k) refl));
   writes = stays.writes;
 }
 
 -- a work that its case does not take writes nothing
-passed : (s : SubState) (c : Case) (i : ℕ) (op : Op) → takes_work (branch_in s.table c) i ≡ false → Writes s s (Work c i op)
+passed : (s : SubState) (c : Case) (i : ℕ) (op : Op)
+    → takes_work (branch_in s.table c) i ≡ false → Writes s s (Work c i op)
 passed s c i op not_taken =
     let x = xid_of s c in
     record {
-      own = ap (λ b. if b && is_none (s.manager.obstacle x op) then op_writes (s.manager.writes x) op else s.manager.writes x) (sym not_taken);
+      own = ap (λ b. if b && is_none (s.manager.obstacle x op) then op_writes (s.manager.writes x) op
+          else s.manager.writes x) (sym not_taken);
       others = λ y apart. refl;
     }
 
 -- the ticket of a case that is not live is active no longer
-unknown_untouched : (t : BranchTable) (c : Case) → IsKept t → branch_in t c ≡ None → (d : Case) → ticket_in t d ≡ retired_at c d (ticket_in t d)
+unknown_untouched : (t : BranchTable) (c : Case) → IsKept t → branch_in t c ≡ None → (d : Case)
+    → ticket_in t d ≡ retired_at c d (ticket_in t d)
 unknown_untouched t c kept none d = by_ticket (ticket_in t d) refl
   where
     by_ticket : (o : Option Ticket) → ticket_in t d ≡ o → o ≡ retired_at c d o
@@ -75,7 +83,8 @@ unknown_untouched t c kept none d = by_ticket (ticket_in t d) refl
             let h = kept.given d k e in
             absurd (let f = sym none ∙ ap (branch_in t) (sym (one _ c is)) ∙ h.1 in cc)
 
-never_worked : (k i : ℕ) (op : Op) (c d : Case) (o : Option Ticket) → o ≡ retired_by (MessageInput k (Work c i op)) d o
+never_worked : (k i : ℕ) (op : Op) (c d : Case) (o : Option Ticket)
+    → o ≡ retired_by (MessageInput k (Work c i op)) d o
 never_worked k i op c d None = refl
 never_worked k i op c d (Some t) = refl
 
@@ -86,10 +95,12 @@ module _ (s : SubState) (c : Case) (kept : IsKept s.table) where
       let l : Leaf = leaf_in (core_of s) s.parent c in
       let holding = held_writes (s.manager.writes (xid_of s c)) in
       record {
-        turn = ap (λ (o : Option Branch). Handles c (on_prepare l n holding (view_in s.table c) (kept_view o).standing)) none;
+        turn = ap (λ (o : Option Branch). Handles c
+            (on_prepare l n holding (view_in s.table c) (kept_view o).standing)) none;
         view = refl;
         written = refl;
-        tickets = λ k d. unknown_untouched s.table c kept none d ∙ retired_prepare k n c d (ticket_in s.table d);
+        tickets = λ k d. unknown_untouched s.table c kept none d
+            ∙ retired_prepare k n c d (ticket_in s.table d);
         writes = λ y apart. refl;
       }
 
@@ -99,10 +110,12 @@ module _ (s : SubState) (c : Case) (kept : IsKept s.table) where
       let l : Leaf = leaf_in (core_of s) s.parent c in
       let holding = held_writes (s.manager.writes (xid_of s c)) in
       record {
-        turn = ap (λ (o : Option Branch). Handles c (on_prepare l n holding (view_in s.table c) (kept_view o).standing)) at.live;
+        turn = ap (λ (o : Option Branch). Handles c
+            (on_prepare l n holding (view_in s.table c) (kept_view o).standing)) at.live;
         view = refl;
         written = refl;
-        tickets = λ k d. sym (untouched s.table c (prepared x) kept at.live refl d) ∙ retired_prepare k n c d (ticket_in s.table d);
+        tickets = λ k d. sym (untouched s.table c (prepared x) kept at.live refl d)
+            ∙ retired_prepare k n c d (ticket_in s.table d);
         writes = λ y apart. refl;
       }
 
@@ -112,30 +125,36 @@ module _ (s : SubState) (c : Case) (kept : IsKept s.table) where
       let l : Leaf = leaf_in (core_of s) s.parent c in
       let holding = held_writes (s.manager.writes (xid_of s c)) in
       record {
-        turn = ap (λ (o : Option Branch). Handles c (on_prepare l n holding (view_in s.table c) (kept_view o).standing)) at.live;
+        turn = ap (λ (o : Option Branch). Handles c
+            (on_prepare l n holding (view_in s.table c) (kept_view o).standing)) at.live;
         view = refl;
         written = refl;
-        tickets = λ k d. sym (untouched s.table c (decided x told) kept at.live refl d) ∙ retired_prepare k n c d (ticket_in s.table d);
+        tickets = λ k d. sym (untouched s.table c (decided x told) kept at.live refl d)
+            ∙ retired_prepare k n c d (ticket_in s.table d);
         writes = λ y apart. refl;
       }
 
   pub commit_unknown : branch_in s.table c ≡ None
-      → Stays s c (Commit c) (unknown_outcome (leaf_in (core_of s) s.parent c) CommittedOutcome (view_in s.table c))
+      → Stays s c (Commit c) (unknown_outcome (leaf_in (core_of s) s.parent c)
+      CommittedOutcome (view_in s.table c))
   commit_unknown none =
       let l : Leaf = leaf_in (core_of s) s.parent c in
       record {
-        turn = ap (λ (o : Option Branch). Handles c (on_commit l (view_in s.table c) (kept_view o).standing)) none;
+        turn = ap (λ (o : Option Branch). Handles c
+            (on_commit l (view_in s.table c) (kept_view o).standing)) none;
         view = refl;
         written = refl;
         tickets = λ k d. never_retired k c d (ticket_in s.table d);
         writes = λ y apart. refl;
       }
 
-  pub commit_active : (key : ℕ) (x : Xid) (g : Case) (n : ℕ) (p : Bool) → IsAt s.table key c (active x g n p) → Stays s c (Commit c) (unmoved (view_in s.table c))
+  pub commit_active : (key : ℕ) (x : Xid) (g : Case) (n : ℕ) (p : Bool) → IsAt s.table key c (active x g n p)
+      → Stays s c (Commit c) (unmoved (view_in s.table c))
   commit_active key x g n p at =
       let l : Leaf = leaf_in (core_of s) s.parent c in
       record {
-        turn = ap (λ (o : Option Branch). Handles c (on_commit l (view_in s.table c) (kept_view o).standing)) at.live;
+        turn = ap (λ (o : Option Branch). Handles c
+            (on_commit l (view_in s.table c) (kept_view o).standing)) at.live;
         view = refl;
         written = refl;
         tickets = λ k d. never_retired k c d (ticket_in s.table d);
@@ -143,54 +162,65 @@ module _ (s : SubState) (c : Case) (kept : IsKept s.table) where
       }
 
   pub abort_unknown : branch_in s.table c ≡ None
-      → Stays s c (Abort c) (unknown_outcome (leaf_in (core_of s) s.parent c) AbortedOutcome (view_in s.table c))
+      → Stays s c (Abort c) (unknown_outcome (leaf_in (core_of s) s.parent c)
+      AbortedOutcome (view_in s.table c))
   abort_unknown none =
       let l : Leaf = leaf_in (core_of s) s.parent c in
       record {
-        turn = ap (λ (o : Option Branch). Handles c (on_abort l (view_in s.table c) (kept_view o).standing)) none;
+        turn = ap (λ (o : Option Branch). Handles c
+            (on_abort l (view_in s.table c) (kept_view o).standing)) none;
         view = refl;
         written = refl;
         tickets = λ k d. unknown_untouched s.table c kept none d ∙ retired_abort k c d (ticket_in s.table d);
         writes = λ y apart. refl;
       }
 
-  pub work_unknown : (i : ℕ) (op : Op) → branch_in s.table c ≡ None → Stays s c (Work c i op) (unmoved (view_in s.table c))
+  pub work_unknown : (i : ℕ) (op : Op) → branch_in s.table c ≡ None
+      → Stays s c (Work c i op) (unmoved (view_in s.table c))
   work_unknown i op none = record {
-    turn = ap (λ (o : Option Branch). Handles c (on_work i (is_none (s.manager.obstacle (xid_of s c) op)) (view_in s.table c) (kept_view o).standing)) none;
+    turn = ap (λ (o : Option Branch). Handles c (on_work i (is_none (s.manager.obstacle (xid_of s c) op))
+        (view_in s.table c) (kept_view o).standing)) none;
     view = refl;
     written = refl;
     tickets = λ k d. never_worked k i op c d (ticket_in s.table d);
     writes = passed s c i op (ap (λ (o : Option Branch). takes_work o i) none);
   }
 
-  pub work_prepared : (i : ℕ) (op : Op) (key : ℕ) (x : Xid) → IsAt s.table key c (prepared x) → Stays s c (Work c i op) (unmoved (view_in s.table c))
+  pub work_prepared : (i : ℕ) (op : Op) (key : ℕ) (x : Xid) → IsAt s.table key c (prepared x)
+      → Stays s c (Work c i op) (unmoved (view_in s.table c))
   work_prepared i op key x at = record {
-    turn = ap (λ (o : Option Branch). Handles c (on_work i (is_none (s.manager.obstacle (xid_of s c) op)) (view_in s.table c) (kept_view o).standing)) at.live;
+    turn = ap (λ (o : Option Branch). Handles c (on_work i (is_none (s.manager.obstacle (xid_of s c) op))
+        (view_in s.table c) (kept_view o).standing)) at.live;
     view = refl;
     written = refl;
     tickets = λ k d. never_worked k i op c d (ticket_in s.table d);
     writes = passed s c i op (ap (λ (o : Option Branch). takes_work o i) at.live);
   }
 
-  pub work_decided : (i : ℕ) (op : Op) (key : ℕ) (x : Xid) (told : Option Outcome) → IsAt s.table key c (decided x told)
+  pub work_decided : (i : ℕ) (op : Op) (key : ℕ) (x : Xid) (told : Option Outcome)
+      → IsAt s.table key c (decided x told)
       → Stays s c (Work c i op) (unmoved (view_in s.table c))
   work_decided i op key x told at = record {
-    turn = ap (λ (o : Option Branch). Handles c (on_work i (is_none (s.manager.obstacle (xid_of s c) op)) (view_in s.table c) (kept_view o).standing)) at.live;
+    turn = ap (λ (o : Option Branch). Handles c (on_work i (is_none (s.manager.obstacle (xid_of s c) op))
+        (view_in s.table c) (kept_view o).standing)) at.live;
     view = refl;
     written = refl;
     tickets = λ k d. never_worked k i op c d (ticket_in s.table d);
     writes = passed s c i op (ap (λ (o : Option Branch). takes_work o i) at.live);
   }
 
-  pub work_passed : (i : ℕ) (op : Op) (key : ℕ) (x : Xid) (g : Case) (n : ℕ) (p : Bool) → IsAt s.table key c (active x g n p)
+  pub work_passed : (i : ℕ) (op : Op) (key : ℕ) (x : Xid) (g : Case) (n : ℕ) (p : Bool)
+      → IsAt s.table key c (active x g n p)
       → ((i == n + 1) && not p) ≡ false → Stays s c (Work c i op) (unmoved (view_in s.table c))
   work_passed i op key x g n p at unfit =
       let does = is_none (s.manager.obstacle (xid_of s c) op) in
       let v = view_in s.table c in
       record {
         turn = ap (λ (o : Option Branch). Handles c (on_work i does v (kept_view o).standing)) at.live
-            ∙ ap (λ b. Handles c (if b then unmoved (if does then record v { done = i } else record v { spoiled = true }) else unmoved v))
-            (ap (λ (o : Option Branch). (i == (kept_view o).done + 1) && not (kept_view o).spoiled) at.live ∙ unfit);
+            ∙ ap (λ b. Handles c (if b then unmoved
+            (if does then record v { done = i } else record v { spoiled = true }) else unmoved v))
+            (ap (λ (o : Option Branch). (i == (kept_view o).done + 1)
+            && not (kept_view o).spoiled) at.live ∙ unfit);
         view = refl;
         written = refl;
         tickets = λ k d. never_worked k i op c d (ticket_in s.table d);
@@ -198,7 +228,8 @@ module _ (s : SubState) (c : Case) (kept : IsKept s.table) where
       }
 
   -- whatever its stage, a branch that does not take the work stays as it is
-  pub work_untaken : (i : ℕ) (op : Op) (key : ℕ) (x : Xid) (st : Stage) → IsAt s.table key c (record { xid = x; stage = st })
+  pub work_untaken : (i : ℕ) (op : Op) (key : ℕ) (x : Xid) (st : Stage)
+      → IsAt s.table key c (record { xid = x; stage = st })
       → takes st i ≡ false → Stays s c (Work c i op) (unmoved (view_in s.table c))
   work_untaken i op key x (Active g n p) at untaken = work_passed i op key x g n p at untaken
   work_untaken i op key x Prepared at untaken = work_prepared i op key x at

@@ -36,7 +36,8 @@ use Rattle.sub_core.proofs.Decisions.{no_retire}
 -- Acts.
 
 -- the reaction table refuses it by this error
-pub refuses : (s : SubState) (turn : Turn) (e : StepError) → turn ≡ Refuses e → is_refusal e ≡ true → NotTurned s s turn e
+pub refuses : (s : SubState) (turn : Turn) (e : StepError) → turn ≡ Refuses e
+    → is_refusal e ≡ true → NotTurned s s turn e
 refuses s turn Device is no_device = absurd cc
 refuses s turn Memory is ok = stays_core s
 refuses s turn UnknownTxn is ok = (stays_core s, is)
@@ -48,13 +49,15 @@ refuses s turn NothingToForget is ok = (stays_core s, is)
 refuses s turn NoSuch is ok = (stays_core s, is)
 
 -- an ask of a case at a stage
-asks_at : (l : Leaf) (st : Stage) → awaits st ≡ true → leaf_ask_turn l (stage_view st) (stage_view st).standing ≡ Handles l.own (untold_ask l (stage_view st))
+asks_at : (l : Leaf) (st : Stage) → awaits st ≡ true
+    → leaf_ask_turn l (stage_view st) (stage_view st).standing ≡ Handles l.own (untold_ask l (stage_view st))
 asks_at l (Active g n p) h = absurd cc
 asks_at l Prepared h = refl
 asks_at l (Heuristic None) h = refl
 asks_at l (Heuristic (Some o)) h = absurd cc
 
-not_asks_at : (l : Leaf) (st : Stage) → awaits st ≡ false → leaf_ask_turn l (stage_view st) (stage_view st).standing ≡ Refuses NotInDoubt
+not_asks_at : (l : Leaf) (st : Stage) → awaits st ≡ false
+    → leaf_ask_turn l (stage_view st) (stage_view st).standing ≡ Refuses NotInDoubt
 not_asks_at l (Active g n p) h = refl
 not_asks_at l Prepared h = absurd cc
 not_asks_at l (Heuristic None) h = absurd cc
@@ -66,10 +69,13 @@ pub asked : (s : SubState) (c : Case) (b : Branch) → Some b ≡ branch_in s.ta
 asked s c b at is =
     let l : Leaf = leaf_in (core_of s) s.parent c in
     let turn : turn_at s (Ask c) ≡ Handles c (untold_ask l (stage_view b.stage)) =
-    ap (λ (o : Option Branch). leaf_ask_turn l (kept_view o) (kept_view o).standing) (sym at) ∙ asks_at l b.stage is in
+    ap (λ (o : Option Branch). leaf_ask_turn l (kept_view o) (kept_view o).standing)
+    (sym at) ∙ asks_at l b.stage is in
     record {
-      turns = subst (λ (t : Turn). Turns s s (ActInput (Ask c)) t (shown [] (post s.me s.parent (Inquire c) ∷ []))) (sym turn)
-          (handled s s.table s.manager (ActInput (Ask c)) c (untold_ask l (stage_view b.stage)) (no_record s.manager.log) (ap kept_view (sym at))
+      turns = subst (λ (t : Turn). Turns s s (ActInput (Ask c)) t
+          (shown [] (post s.me s.parent (Inquire c) ∷ []))) (sym turn)
+          (handled s s.table s.manager (ActInput (Ask c)) c (untold_ask l (stage_view b.stage))
+          (no_record s.manager.log) (ap kept_view (sym at))
           (λ d apart. refl) (λ d. no_retire (Ask c) d (ticket_in s.table d)) refl);
       writes = λ y. refl;
     }
@@ -80,7 +86,8 @@ pub not_asked : (s : SubState) (c : Case) (b : Branch) → Some b ≡ branch_in 
 not_asked s c b at is =
     let l : Leaf = leaf_in (core_of s) s.parent c in
     refuses s (turn_at s (Ask c)) NotInDoubt
-    (ap (λ (o : Option Branch). leaf_ask_turn l (kept_view o) (kept_view o).standing) (sym at) ∙ not_asks_at l b.stage is) refl
+    (ap (λ (o : Option Branch). leaf_ask_turn l (kept_view o) (kept_view o).standing) (sym at)
+    ∙ not_asks_at l b.stage is) refl
 
 -- Which turn an input meets.
 
@@ -95,18 +102,23 @@ none_asked s (Some p) = λ c. by_txn (same_txn c.txn p.0)
 module _ (s : SubState) (a : DataAnswer) (i : Input) where
   pub unlisted : act_is_listed s.tree i ≡ false → turn_of (core_of s) a None i ≡ Refuses NoSuch
   unfolding turn_of
-  unlisted e = ap (λ b. if b then (if s.manager.log.failed then Refuses Failed else up_turn (core_of s) a None i) else Refuses NoSuch) e
+  unlisted e = ap (λ b. if b then (if s.manager.log.failed then Refuses Failed else up_turn (core_of s) a
+      None i) else Refuses NoSuch) e
 
-  pub has_failed : act_is_listed s.tree i ≡ true → s.manager.log.failed ≡ true → turn_of (core_of s) a None i ≡ Refuses Failed
+  pub has_failed : act_is_listed s.tree i ≡ true → s.manager.log.failed ≡ true
+      → turn_of (core_of s) a None i ≡ Refuses Failed
   unfolding turn_of
   has_failed e f =
-      ap (λ b. if b then (if s.manager.log.failed then Refuses Failed else up_turn (core_of s) a None i) else Refuses NoSuch) e
+      ap (λ b. if b then (if s.manager.log.failed then Refuses Failed else up_turn (core_of s) a
+      None i) else Refuses NoSuch) e
       ∙ ap (λ b. if b then Refuses Failed else up_turn (core_of s) a None i) f
 
-  pub up : act_is_listed s.tree i ≡ true → s.manager.log.failed ≡ false → turn_of (core_of s) a None i ≡ up_turn (core_of s) a None i
+  pub up : act_is_listed s.tree i ≡ true → s.manager.log.failed ≡ false
+      → turn_of (core_of s) a None i ≡ up_turn (core_of s) a None i
   unfolding turn_of
   up e f =
-      ap (λ b. if b then (if s.manager.log.failed then Refuses Failed else up_turn (core_of s) a None i) else Refuses NoSuch) e
+      ap (λ b. if b then (if s.manager.log.failed then Refuses Failed else up_turn (core_of s) a
+      None i) else Refuses NoSuch) e
       ∙ ap (λ b. if b then Refuses Failed else up_turn (core_of s) a None i) f
 
 none_found : (s : SubState) (i : Input) → Finds (core_of s) (asked_by i) None
@@ -115,7 +127,8 @@ none_found s (MessageInput k m) = none_asked s (asked_in m)
 
 -- Makes.
 
-pub made : (old new : SubState) (a : DataAnswer) (i : Input) (turn : Turn) (reaction : Reaction) → turn_of (core_of old) a None i ≡ turn
+pub made : (old new : SubState) (a : DataAnswer) (i : Input) (turn : Turn) (reaction : Reaction)
+    → turn_of (core_of old) a None i ≡ turn
     → Turns old new i turn reaction → Makes (core_of old) (core_of new) a i reaction
 made old new a i turn reaction is t = record {
   found = None;
@@ -126,47 +139,90 @@ made old new a i turn reaction is t = record {
   shown = t.shown;
 }
 
-pub not_made : (old new : SubState) (a : DataAnswer) (i : Input) (turn : Turn) (e : StepError) → turn_of (core_of old) a None i ≡ turn
+pub not_made : (old new : SubState) (a : DataAnswer) (i : Input) (turn : Turn) (e : StepError)
+    → turn_of (core_of old) a None i ≡ turn
     → NotTurned old new turn e → NotMade (core_of old) (core_of new) a i e
 not_made old new a i turn Memory is t = t
 not_made old new a i turn Device is t = record { found = None; finds = none_found old i; breaks = rw is t }
-not_made old new a i turn UnknownTxn is t = record { same = t.0; found = None; finds = none_found old i; refuses = is ∙ t.1 }
-not_made old new a i turn NotAChild is t = record { same = t.0; found = None; finds = none_found old i; refuses = is ∙ t.1 }
-not_made old new a i turn Closed is t = record { same = t.0; found = None; finds = none_found old i; refuses = is ∙ t.1 }
-not_made old new a i turn Failed is t = record { same = t.0; found = None; finds = none_found old i; refuses = is ∙ t.1 }
-not_made old new a i turn NotInDoubt is t = record { same = t.0; found = None; finds = none_found old i; refuses = is ∙ t.1 }
-not_made old new a i turn NothingToForget is t = record { same = t.0; found = None; finds = none_found old i; refuses = is ∙ t.1 }
-not_made old new a i turn NoSuch is t = record { same = t.0; found = None; finds = none_found old i; refuses = is ∙ t.1 }
+not_made old new a i turn UnknownTxn is t = record {
+  same = t.0;
+  found = None;
+  finds = none_found old i;
+  refuses = is ∙ t.1;
+}
+not_made old new a i turn NotAChild is t = record {
+  same = t.0;
+  found = None;
+  finds = none_found old i;
+  refuses = is ∙ t.1;
+}
+not_made old new a i turn Closed is t = record {
+  same = t.0;
+  found = None;
+  finds = none_found old i;
+  refuses = is ∙ t.1;
+}
+not_made old new a i turn Failed is t = record {
+  same = t.0;
+  found = None;
+  finds = none_found old i;
+  refuses = is ∙ t.1;
+}
+not_made old new a i turn NotInDoubt is t = record {
+  same = t.0;
+  found = None;
+  finds = none_found old i;
+  refuses = is ∙ t.1;
+}
+not_made old new a i turn NothingToForget is t =
+    record { same = t.0; found = None; finds = none_found old i; refuses = is ∙ t.1 }
+not_made old new a i turn NoSuch is t = record {
+  same = t.0;
+  found = None;
+  finds = none_found old i;
+  refuses = is ∙ t.1;
+}
 
 -- Results.
 
-pub act_ok : (s t : SubState) (a : Act) (r : Result Reaction StepError) → act_is_listed s.tree (ActInput a) ≡ true → s.manager.log.failed ≡ false
+pub act_ok : (s t : SubState) (a : Act) (r : Result Reaction StepError)
+    → act_is_listed s.tree (ActInput a) ≡ true → s.manager.log.failed ≡ false
     → IfOk r (Acts s t a) → IfOk r (Makes (core_of s) (core_of t) (data_answer s (ActInput a)) (ActInput a))
-act_ok s t a (Ok reaction) listed works acts = made s t _ (ActInput a) (turn_at s a) reaction (up s _ (ActInput a) listed works) acts.turns
+act_ok s t a (Ok reaction) listed works acts =
+    made s t _ (ActInput a) (turn_at s a) reaction (up s _ (ActInput a) listed works) acts.turns
 act_ok s t a (Err e) listed works acts = acts
 
-pub act_writes : (s t : SubState) (a : Act) (r : Result Reaction StepError) → IfOk r (Acts s t a) → OnOk r (Leaves (ActInput a) s t)
+pub act_writes : (s t : SubState) (a : Act) (r : Result Reaction StepError) → IfOk r (Acts s t a)
+    → OnOk r (Leaves (ActInput a) s t)
 act_writes s t a (Ok reaction) acts = acts.writes
 act_writes s t a (Err e) acts = acts
 
-pub act_err : (s t : SubState) (a : Act) (r : Result Reaction StepError) → act_is_listed s.tree (ActInput a) ≡ true → s.manager.log.failed ≡ false
-    → IfErr r (NotActed s t a) → IfErr r (NotMade (core_of s) (core_of t) (data_answer s (ActInput a)) (ActInput a))
+pub act_err : (s t : SubState) (a : Act) (r : Result Reaction StepError)
+    → act_is_listed s.tree (ActInput a) ≡ true → s.manager.log.failed ≡ false
+    → IfErr r (NotActed s t a) → IfErr r (NotMade (core_of s) (core_of t)
+    (data_answer s (ActInput a)) (ActInput a))
 act_err s t a (Ok reaction) listed works acts = acts
-act_err s t a (Err e) listed works acts = not_made s t _ (ActInput a) (turn_at s a) e (up s _ (ActInput a) listed works) acts
+act_err s t a (Err e) listed works acts = not_made s t _ (ActInput a) (turn_at s a) e
+    (up s _ (ActInput a) listed works) acts
 
-pub hear_ok : (old new : SubState) (k : ℕ) (m : Message) (r : Result Reaction StepError) → old.manager.log.failed ≡ false → IfOk r (Hears old new m)
+pub hear_ok : (old new : SubState) (k : ℕ) (m : Message) (r : Result Reaction StepError)
+    → old.manager.log.failed ≡ false → IfOk r (Hears old new m)
     → IfOk r (Makes (core_of old) (core_of new) (data_answer old (MessageInput k m)) (MessageInput k m))
-hear_ok old new k m (Ok reaction) works h = made old new _ (MessageInput k m) (turn_for old m) reaction (up old _ (MessageInput k m) refl works) (h.turns k)
+hear_ok old new k m (Ok reaction) works h = made old new _ (MessageInput k m) (turn_for old m) reaction
+    (up old _ (MessageInput k m) refl works) (h.turns k)
 hear_ok old new k m (Err e) works h = h
 
-pub hear_writes : (old new : SubState) (k : ℕ) (m : Message) (r : Result Reaction StepError) → IfOk r (Hears old new m) → OnOk r (Leaves (MessageInput k m) old new)
+pub hear_writes : (old new : SubState) (k : ℕ) (m : Message) (r : Result Reaction StepError)
+    → IfOk r (Hears old new m) → OnOk r (Leaves (MessageInput k m) old new)
 hear_writes old new k m (Ok reaction) h = h.writes
 hear_writes old new k m (Err e) h = h
 
-pub hear_err : (old new : SubState) (k : ℕ) (m : Message) (r : Result Reaction StepError) → old.manager.log.failed ≡ false → IfErr r (NotHeard old new m)
+pub hear_err : (old new : SubState) (k : ℕ) (m : Message) (r : Result Reaction StepError)
+    → old.manager.log.failed ≡ false → IfErr r (NotHeard old new m)
     → IfErr r (NotMade (core_of old) (core_of new) (data_answer old (MessageInput k m)) (MessageInput k m))
 hear_err old new k m (Ok reaction) works h = h
-hear_err old new k m (Err e) works h = not_made old new _ (MessageInput k m) (turn_for old m) e (up old _ (MessageInput k m) refl works) h
+hear_err old new k m (Err e) works h = not_made old new _ (MessageInput k m) (turn_for old m) e
+    (up old _ (MessageInput k m) refl works) h
 
 -- a message that says nothing to a manager
 pub unheard : (s : SubState) (m : Message) → turn_for s m ≡ Says [] → Writes s s m → Hears s s m (shown [] [])
@@ -177,16 +233,20 @@ unheard s m is writes = record {
 }
 
 -- a message that is none of a parent
-pub unheard_of : (s : SubState) (m : Message) → ((c : Case) → m ≡ Join c → ⊥) → ((c : Case) (i : ℕ) (op : Op) → m ≡ Work c i op → ⊥)
-    → ((c : Case) (n : ℕ) → m ≡ Prepare c n → ⊥) → ((c : Case) → m ≡ Commit c → ⊥) → ((c : Case) → m ≡ Abort c → ⊥) → Hears s s m (shown [] [])
+pub unheard_of : (s : SubState) (m : Message) → ((c : Case) → m ≡ Join c → ⊥)
+    → ((c : Case) (i : ℕ) (op : Op) → m ≡ Work c i op → ⊥)
+    → ((c : Case) (n : ℕ) → m ≡ Prepare c n → ⊥) → ((c : Case) → m ≡ Commit c → ⊥)
+    → ((c : Case) → m ≡ Abort c → ⊥) → Hears s s m (shown [] [])
 unheard_of s (Join c) no_join no_work no_prepare no_commit no_abort = absurd (no_join c refl)
 unheard_of s (Work c i op) no_join no_work no_prepare no_commit no_abort = absurd (no_work c i op refl)
 unheard_of s (Prepare c n) no_join no_work no_prepare no_commit no_abort = absurd (no_prepare c n refl)
 unheard_of s (Commit c) no_join no_work no_prepare no_commit no_abort = absurd (no_commit c refl)
 unheard_of s (Abort c) no_join no_work no_prepare no_commit no_abort = absurd (no_abort c refl)
-unheard_of s (Joined d t) no_join no_work no_prepare no_commit no_abort = unheard s (Joined d t) refl (λ y. refl)
+unheard_of s (Joined d t) no_join no_work no_prepare no_commit no_abort =
+    unheard s (Joined d t) refl (λ y. refl)
 unheard_of s (Yes c) no_join no_work no_prepare no_commit no_abort = unheard s (Yes c) refl (λ y. refl)
 unheard_of s (No c) no_join no_work no_prepare no_commit no_abort = unheard s (No c) refl (λ y. refl)
 unheard_of s (Read c) no_join no_work no_prepare no_commit no_abort = unheard s (Read c) refl (λ y. refl)
 unheard_of s (Ack c o) no_join no_work no_prepare no_commit no_abort = unheard s (Ack c o) refl (λ y. refl)
-unheard_of s (Inquire c) no_join no_work no_prepare no_commit no_abort = unheard s (Inquire c) refl (λ y. refl)
+unheard_of s (Inquire c) no_join no_work no_prepare no_commit no_abort =
+    unheard s (Inquire c) refl (λ y. refl)

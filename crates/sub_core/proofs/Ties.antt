@@ -40,11 +40,13 @@ one_case : (p : ProcessId) (c d : Case) (x : Xid) → IsNamed p c x → IsNamed 
 one_case p c d x a b = case_is c d (ap (λ (n : Name). n.1) (sym a.reads ∙ b.reads))
 
 -- the XIDs of two cases are two
-pub apart_xids : (p : ProcessId) (c d : Case) (x y : Xid) → IsNamed p c x → IsNamed p d y → same_case c d ≡ false → (b : Bool) → same x y ≡ b → b ≡ false
+pub apart_xids : (p : ProcessId) (c d : Case) (x y : Xid) → IsNamed p c x → IsNamed p d y
+    → same_case c d ≡ false → (b : Bool) → same x y ≡ b → b ≡ false
 apart_xids p c d x y a b apart false e = refl
 apart_xids p c d x y a b apart true e =
     let is = one_case p c d x a (subst (λ (z : Xid). IsNamed p d z) (sym (same_is x y e)) b) in
-    absurd (let f : same_case c d ≡ true = ap (same_case c) (sym is) ∙ same_case-itself c in let g : true ≡ false = sym f ∙ apart in cc)
+    absurd (let f : same_case c d ≡ true = ap (same_case c) (sym is)
+    ∙ same_case-itself c in let g : true ≡ false = sym f ∙ apart in cc)
 
 -- what is kept of a branch behind a move fits its state at the manager, and what an operator decided of it
 abbrev pub Fits : Option Branch → Branch → BranchState → Decision → Type 0
@@ -52,48 +54,66 @@ Fits None b st d = Unit {0}
 Fits (Some w) b st d = (w.xid ≡ b.xid) × (stage_state w.stage ≡ st) × AgreesWith w.stage d
 
 -- one branch moved, here and at the manager
-module _ (s : SubState) (t : BranchTable) (m : ManagerSight) (owner : Case) (b : Branch) (v : Option Branch) (st : BranchState) (tied : IsTied s)
-    (at : branch_in s.table owner ≡ Some b) (moves : Moves s.table.branches t.branches owner v) (fits : Fits v b st (m.decided b.xid)) (comes : Comes s.manager m b.xid st) where
+module _ (s : SubState) (t : BranchTable) (m : ManagerSight) (owner : Case) (b : Branch) (v : Option Branch)
+    (st : BranchState) (tied : IsTied s)
+    (at : branch_in s.table owner ≡ Some b) (moves : Moves s.table.branches t.branches owner v)
+    (fits : Fits v b st (m.decided b.xid)) (comes : Comes s.manager m b.xid st) where
   owner_named : IsNamed s.parent owner b.xid
   owner_named = tied.named owner b at
 
-  named_at : (o : Option Branch) → v ≡ o → (c : Case) (w : Branch) (r : Bool) → same_case owner c ≡ r → branch_in t c ≡ Some w → IsNamed s.parent c w.xid
-  named_at None is c w true e h = absurd (let f = sym is ∙ sym moves.own ∙ ap (branch_in t) (one owner c e) ∙ h in cc)
+  named_at : (o : Option Branch) → v ≡ o → (c : Case) (w : Branch) (r : Bool) → same_case owner c ≡ r
+      → branch_in t c ≡ Some w → IsNamed s.parent c w.xid
+  named_at None is c w true e h = absurd (let f = sym is ∙ sym moves.own
+      ∙ ap (branch_in t) (one owner c e) ∙ h in cc)
   named_at (Some q) is c w true e h =
       let entry : q ≡ w = some_same q w (sym is ∙ sym moves.own ∙ ap (branch_in t) (one owner c e) ∙ h) in
-      let fit : Fits (Some q) b st (m.decided b.xid) = subst (λ (o : Option Branch). Fits o b st (m.decided b.xid)) is fits in
+      let fit : Fits (Some q) b st (m.decided b.xid) =
+      subst (λ (o : Option Branch). Fits o b st (m.decided b.xid)) is fits in
       subst (λ (d : Case). IsNamed s.parent d w.xid) (one owner c e)
-      (subst (λ (x : Xid). IsNamed s.parent owner x) (sym fit.0 ∙ ap (λ (z : Branch). z.xid) entry) owner_named)
+      (subst (λ (x : Xid). IsNamed s.parent owner x)
+      (sym fit.0 ∙ ap (λ (z : Branch). z.xid) entry) owner_named)
   named_at o is c w false e h = tied.named c w (sym (moves.others c e) ∙ h)
 
-  stands_at : (o : Option Branch) → v ≡ o → (c : Case) (w : Branch) (r : Bool) → same_case owner c ≡ r → branch_in t c ≡ Some w
+  stands_at : (o : Option Branch) → v ≡ o → (c : Case) (w : Branch) (r : Bool)
+      → same_case owner c ≡ r → branch_in t c ≡ Some w
       → state_at m.tables w.xid ≡ stage_state w.stage
-  stands_at None is c w true e h = absurd (let f = sym is ∙ sym moves.own ∙ ap (branch_in t) (one owner c e) ∙ h in cc)
+  stands_at None is c w true e h = absurd (let f = sym is ∙ sym moves.own
+      ∙ ap (branch_in t) (one owner c e) ∙ h in cc)
   stands_at (Some q) is c w true e h =
       let entry : q ≡ w = some_same q w (sym is ∙ sym moves.own ∙ ap (branch_in t) (one owner c e) ∙ h) in
-      let fit : Fits (Some q) b st (m.decided b.xid) = subst (λ (o : Option Branch). Fits o b st (m.decided b.xid)) is fits in
-      ap (λ (x : Xid). state_at m.tables x) (ap (λ (z : Branch). z.xid) (sym entry) ∙ fit.0) ∙ comes.own ∙ sym fit.1
+      let fit : Fits (Some q) b st (m.decided b.xid) =
+      subst (λ (o : Option Branch). Fits o b st (m.decided b.xid)) is fits in
+      ap (λ (x : Xid). state_at m.tables x) (ap (λ (z : Branch). z.xid) (sym entry)
+      ∙ fit.0) ∙ comes.own ∙ sym fit.1
       ∙ ap (λ (z : Branch). stage_state z.stage) entry
   stands_at o is c w false e h =
       let stood = sym (moves.others c e) ∙ h in
-      let apart = apart_xids s.parent owner c b.xid w.xid owner_named (tied.named c w stood) e (same b.xid w.xid) refl in
+      let apart = apart_xids s.parent owner c b.xid w.xid owner_named (tied.named c w stood)
+      e (same b.xid w.xid) refl in
       comes.others w.xid apart ∙ tied.stands c w stood
 
-  told_at : (o : Option Branch) → v ≡ o → (c : Case) (w : Branch) (r : Bool) → same_case owner c ≡ r → branch_in t c ≡ Some w
+  told_at : (o : Option Branch) → v ≡ o → (c : Case) (w : Branch) (r : Bool)
+      → same_case owner c ≡ r → branch_in t c ≡ Some w
       → AgreesWith w.stage (m.decided w.xid)
-  told_at None is c w true e h = absurd (let f = sym is ∙ sym moves.own ∙ ap (branch_in t) (one owner c e) ∙ h in cc)
+  told_at None is c w true e h = absurd (let f = sym is ∙ sym moves.own
+      ∙ ap (branch_in t) (one owner c e) ∙ h in cc)
   told_at (Some q) is c w true e h =
       let entry : q ≡ w = some_same q w (sym is ∙ sym moves.own ∙ ap (branch_in t) (one owner c e) ∙ h) in
-      let fit : Fits (Some q) b st (m.decided b.xid) = subst (λ (o : Option Branch). Fits o b st (m.decided b.xid)) is fits in
+      let fit : Fits (Some q) b st (m.decided b.xid) =
+      subst (λ (o : Option Branch). Fits o b st (m.decided b.xid)) is fits in
       subst (λ (z : Branch). AgreesWith z.stage (m.decided z.xid)) entry
       (subst (λ (x : Xid). AgreesWith q.stage (m.decided x)) (sym fit.0) fit.2)
   told_at o is c w false e h =
       let stood = sym (moves.others c e) ∙ h in
-      let apart = apart_xids s.parent owner c b.xid w.xid owner_named (tied.named c w stood) e (same b.xid w.xid) refl in
-      subst (λ (d : Decision). AgreesWith w.stage d) (sym (comes.others_decided w.xid apart)) (tied.told c w stood)
+      let apart = apart_xids s.parent owner c b.xid w.xid owner_named (tied.named c w stood)
+      e (same b.xid w.xid) refl in
+      subst (λ (d : Decision). AgreesWith w.stage d)
+      (sym (comes.others_decided w.xid apart)) (tied.told c w stood)
 
-  given_at : (o : Option Branch) → v ≡ o → (c : Case) (w : Branch) (r : Bool) → same_case owner c ≡ r → branch_in t c ≡ Some w → IsGiven s c
-  given_at o is c w true e h = subst (λ (d : Case). IsGiven s d) (one owner c e) (tied.given_before owner b at)
+  given_at : (o : Option Branch) → v ≡ o → (c : Case) (w : Branch) (r : Bool) → same_case owner c ≡ r
+      → branch_in t c ≡ Some w → IsGiven s c
+  given_at o is c w true e h = subst (λ (d : Case). IsGiven s d) (one owner c e)
+      (tied.given_before owner b at)
   given_at o is c w false e h = tied.given_before c w (sym (moves.others c e) ∙ h)
 
   same_given : (c : Case) → IsGiven s c → IsGiven (behind s t m) c
@@ -109,17 +129,21 @@ module _ (s : SubState) (t : BranchTable) (m : ManagerSight) (owner : Case) (b :
   }
 
 -- no branch moved
-pub still_tied : (s : SubState) (m : ManagerSight) → IsTied s → IsIdle m → ((y : Xid) → state_at m.tables y ≡ state_at s.manager.tables y)
+pub still_tied : (s : SubState) (m : ManagerSight) → IsTied s → IsIdle m
+    → ((y : Xid) → state_at m.tables y ≡ state_at s.manager.tables y)
     → ((y : Xid) → m.decided y ≡ s.manager.decided y) → m.boot ≡ s.manager.boot → IsTied (behind s s.table m)
 still_tied s m tied idle states decided boot = record {
   idle = idle;
   named = λ c w h. tied.named c w h;
   stands = λ c w h. states w.xid ∙ tied.stands c w h;
   told = λ c w h. subst (λ (d : Decision). AgreesWith w.stage d) (sym (decided w.xid)) (tied.told c w h);
-  given_before = λ c w h. let g = tied.given_before c w h in record { ticket = g.ticket; has = g.has; before = λ e. g.before (e ∙ boot) };
+  given_before = λ c w h. let g = tied.given_before c w h
+      in record { ticket = g.ticket; has = g.has; before = λ e. g.before (e ∙ boot) };
 }
 
-pub same_tied : (s : SubState) (m : ManagerSight) → IsTied s → SameManager s.manager m → IsTied (behind s s.table m)
+pub same_tied : (s : SubState) (m : ManagerSight) → IsTied s → SameManager s.manager m
+    → IsTied (behind s s.table m)
 same_tied s m tied stays =
     still_tied s m tied (same_idle s.manager m stays.tables tied.idle)
-    (λ y. ap (λ (bs : List (Xid × BranchState)). state_in bs y) stays.tables.branches.branches) stays.rest.decided stays.boot
+    (λ y. ap (λ (bs : List (Xid × BranchState)). state_in bs y) stays.tables.branches.branches)
+    stays.rest.decided stays.boot

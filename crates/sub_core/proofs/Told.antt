@@ -32,7 +32,8 @@ agree_quiet : (t : Bool) (m n : Mark) (d : Decision) → Agree m d → Agree n d
 agree_quiet true m n d h k = h
 agree_quiet false m n d h k = k
 
-agree_after : (b : AnyBranch) (m : Mark) (d : Decision) (r : Record) → Agree m d → Agree (mark_after b m r) (decision_after b d r)
+agree_after : (b : AnyBranch) (m : Mark) (d : Decision) (r : Record) → Agree m d
+    → Agree (mark_after b m r) (decision_after b d r)
 agree_after b m d (PreparedRecord a ws) h = agree_if (same_branch a b) Promised m _ d tt h
 agree_after b m d (Committed a) h = agree_quiet (same_branch a b) Finished m d tt h
 agree_after b m d (RolledBack a) h = agree_quiet (same_branch a b) Finished m d tt h
@@ -50,9 +51,11 @@ agree_after b m d (End c) h = h
 agree_after b m d (Base n) h = h
 agree_after b m d (Pair k v) h = h
 
-agree_from : (b : AnyBranch) (m : Mark) (d : Decision) (rs : List Record) → Agree m d → Agree (fold (mark_after b) m rs) (fold (decision_after b) d rs)
+agree_from : (b : AnyBranch) (m : Mark) (d : Decision) (rs : List Record) → Agree m d
+    → Agree (fold (mark_after b) m rs) (fold (decision_after b) d rs)
 agree_from b m d [] h = h
-agree_from b m d (r ∷ rs) h = agree_from b (mark_after b m r) (decision_after b d r) rs (agree_after b m d r h)
+agree_from b m d (r ∷ rs) h = agree_from b (mark_after b m r)
+    (decision_after b d r) rs (agree_after b m d r h)
 
 agree_of : (b : AnyBranch) (rs : List Record) → Agree (mark_of b rs) (decision_of b rs)
 unfolding mark_of decision_of
@@ -63,30 +66,39 @@ told_in None d h = h
 told_in (Some o) d h = h
 
 -- what the manager's records say that it was told
-pub told_by_mark : (b : AnyBranch) (rs : List Record) (told : Option Outcome) → mark_of b rs ≡ mark_told told → (decision_of b rs).told ≡ told
-told_by_mark b rs told is = told_in told (decision_of b rs) (subst (λ (m : Mark). Agree m (decision_of b rs)) is (agree_of b rs))
+pub told_by_mark : (b : AnyBranch) (rs : List Record) (told : Option Outcome) → mark_of b rs ≡ mark_told told
+    → (decision_of b rs).told ≡ told
+told_by_mark b rs told is = told_in told (decision_of b rs)
+    (subst (λ (m : Mark). Agree m (decision_of b rs)) is (agree_of b rs))
 
 -- what is kept of a case by its mark
 some_same : {A : Type 0} (a b : A) → Some a ≡ Some b → a ≡ b
 some_same a b e = cc
 
-pub left_state : (p : ProcessId) (c : Case) (b : Branch) (m : Mark) → branch_left p c m ≡ Some b → marked_state m ≡ stage_state b.stage
+pub left_state : (p : ProcessId) (c : Case) (b : Branch) (m : Mark) → branch_left p c m ≡ Some b
+    → marked_state m ≡ stage_state b.stage
 left_state p c b Unmarked e = absurd (cc)
 left_state p c b Finished e = absurd (cc)
 left_state p c b Promised e = ap (λ (v : Branch). stage_state v.stage) (some_same (kept_at p c Prepared) b e)
-left_state p c b Decided e = ap (λ (v : Branch). stage_state v.stage) (some_same (kept_at p c (Heuristic None)) b e)
-left_state p c b (ToldOf o) e = ap (λ (v : Branch). stage_state v.stage) (some_same (kept_at p c (Heuristic (Some o))) b e)
+left_state p c b Decided e = ap (λ (v : Branch). stage_state v.stage)
+    (some_same (kept_at p c (Heuristic None)) b e)
+left_state p c b (ToldOf o) e = ap (λ (v : Branch). stage_state v.stage)
+    (some_same (kept_at p c (Heuristic (Some o))) b e)
 
 one_told : (a b : Option Outcome) → Heuristic a ≡ Heuristic b → a ≡ b
 one_told a b e = cc
 
-pub left_mark : (p : ProcessId) (c : Case) (b : Branch) (m : Mark) (told : Option Outcome) → branch_left p c m ≡ Some b
+pub left_mark : (p : ProcessId) (c : Case) (b : Branch) (m : Mark) (told : Option Outcome)
+    → branch_left p c m ≡ Some b
     → b.stage ≡ Heuristic told → m ≡ mark_told told
 left_mark p c b Unmarked told e is = absurd (cc)
 left_mark p c b Finished told e is = absurd (cc)
 left_mark p c b Promised told e is =
-    absurd (let f : Prepared ≡ Heuristic told = ap (λ (v : Branch). v.stage) (some_same (kept_at p c Prepared) b e) ∙ is in cc)
+    absurd (let f : Prepared ≡ Heuristic told = ap (λ (v : Branch). v.stage)
+    (some_same (kept_at p c Prepared) b e) ∙ is in cc)
 left_mark p c b Decided told e is =
-    ap mark_told (one_told None told (ap (λ (v : Branch). v.stage) (some_same (kept_at p c (Heuristic None)) b e) ∙ is))
+    ap mark_told (one_told None told (ap (λ (v : Branch). v.stage)
+    (some_same (kept_at p c (Heuristic None)) b e) ∙ is))
 left_mark p c b (ToldOf o) told e is =
-    ap mark_told (one_told (Some o) told (ap (λ (v : Branch). v.stage) (some_same (kept_at p c (Heuristic (Some o))) b e) ∙ is))
+    ap mark_told (one_told (Some o) told (ap (λ (v : Branch). v.stage)
+    (some_same (kept_at p c (Heuristic (Some o))) b e) ∙ is))

@@ -46,9 +46,11 @@ xid_test x y = by_test (same_xid x y) (same y x) refl refl
     by_test : (a b : Bool) → same_xid x y ≡ a → same y x ≡ b → same_xid x y ≡ same y x
     by_test true true e f = e ∙ sym f
     by_test false false e f = e ∙ sym f
-    by_test true false e f = absurd (let g : same y x ≡ true = (same_by_parts y x).1 (sym (same_xid_is x y e)) in cc)
+    by_test true false e f = absurd (let g : same y x
+        ≡ true = (same_by_parts y x).1 (sym (same_xid_is x y e)) in cc)
     by_test false true e f =
-        absurd (let g : same_xid x y ≡ true = ap (same_xid x) ((same_by_parts y x).0 f) ∙ same_xid_refl x in cc)
+        absurd (let g : same_xid x y ≡ true = ap (same_xid x)
+        ((same_by_parts y x).0 f) ∙ same_xid_refl x in cc)
 
 module _ (me p : ProcessId) (tree : List TreeEntry) where
   -- the same data; each branch has promised the same, as the process reads its name and by its XID
@@ -56,19 +58,24 @@ module _ (me p : ProcessId) (tree : List TreeEntry) where
     count : d.count ≡ e.count
     pairs : d.pairs ≡ e.pairs
     promised : (q : Option ProcessId) (b : Branch) → IsSoundName q b
-        → writes_of (read_name (leaf me p tree) q b) d.promised ≡ writes_of (Foreign (name_xid q b)) e.promised
+        → writes_of (read_name (leaf me p tree) q b) d.promised
+        ≡ writes_of (Foreign (name_xid q b)) e.promised
 
   branch_test : (q r : Option ProcessId) (a b : Branch) → IsSoundName q a → IsSoundName r b
       → same_branch (read_name (leaf me p tree) q a) (read_name (leaf me p tree) r b)
       ≡ same_branch (Foreign (name_xid q a)) (Foreign (name_xid r b))
   unfolding same_branch
-  branch_test q r a b h k = sym (alike (leaf me p tree) r q b a k h) ∙ sym (xid_test (name_xid q a) (name_xid r b))
+  branch_test q r a b h k = sym (alike (leaf me p tree) r q b a k h)
+      ∙ sym (xid_test (name_xid q a) (name_xid r b))
 
   abbrev behind_one : Data → Record → Option ProcessId → Data
-  behind_one d r q = fold stored_after d (own_by (leaf me p tree) (record { entry = r; parent = q }) (record_case r))
+  behind_one d r q = fold stored_after d (own_by (leaf me p tree)
+      (record { entry = r; parent = q }) (record_case r))
 
-  promised_one : (d e : Data) (q : Option ProcessId) (b : Branch) (ws : List Write) → IsSoundName q b → Alike d e
-      → Alike (stored_after d (Prepared (read_name (leaf me p tree) q b) ws)) (stored_after e (Prepared (Foreign (name_xid q b)) ws))
+  promised_one : (d e : Data) (q : Option ProcessId) (b : Branch) (ws : List Write)
+      → IsSoundName q b → Alike d e
+      → Alike (stored_after d (Prepared (read_name (leaf me p tree) q b) ws))
+      (stored_after e (Prepared (Foreign (name_xid q b)) ws))
   unfolding writes_of
   promised_one d e q b ws h same_data = record {
     count = same_data.count;
@@ -77,7 +84,8 @@ module _ (me p : ProcessId) (tree : List TreeEntry) where
   }
 
   committed_one : (d e : Data) (v w : List Write) → v ≡ w → Alike d e
-      → Alike (record d { count = d.count + 1; pairs = applied v d.pairs }) (record e { count = e.count + 1; pairs = applied w e.pairs })
+      → Alike (record d { count = d.count + 1; pairs = applied v d.pairs })
+      (record e { count = e.count + 1; pairs = applied w e.pairs })
   committed_one d e v w is same_data = record {
     count = ap (λ n. n + 1) same_data.count;
     pairs = λ i. applied (is i) (same_data.pairs i);
@@ -89,9 +97,11 @@ module _ (me p : ProcessId) (tree : List TreeEntry) where
       → ((c a : Branch) → renamed a (r c) ≡ r a) → ((c : Branch) → record_case (r c) ≡ branch_case c)
       → Alike (stored_after d (r (read_name (leaf me p tree) q b))) e → Alike (behind_one d (r b) q) e
   read_one r d e q b names case h =
-      subst (λ rs. Alike (fold stored_after d rs) e) (sym (read_as (leaf me p tree) p refl r q b names case)) h
+      subst (λ rs. Alike (fold stored_after d rs) e)
+      (sym (read_as (leaf me p tree) p refl r q b names case)) h
 
-  stored_one : (d e : Data) (r : Record) (q : Option ProcessId) → IsSound Manager (record { entry = r; parent = q }) → Alike d e
+  stored_one : (d e : Data) (r : Record) (q : Option ProcessId)
+      → IsSound Manager (record { entry = r; parent = q }) → Alike d e
       → Alike (behind_one d r q) (stored_after e (by_xid (record { entry = r; parent = q })))
   stored_one d e (Opened n) q h k = k
   stored_one d e (Base n) q h k = record { count = refl; pairs = refl; promised = k.promised }
@@ -121,23 +131,29 @@ module _ (me p : ProcessId) (tree : List TreeEntry) where
   stored_from d e [] h k = k
   stored_from d e (l ∷ ls) h k =
       subst (λ v. Alike v (fold stored_after e (map by_xid (l ∷ ls))))
-      (sym (fold-append stored_after d (own_by (leaf me p tree) l (record_case l.entry)) (own_records (leaf me p tree) ls)))
-      (stored_from (behind_one d l.entry l.parent) (stored_after e (by_xid l)) ls h.1 (stored_one d e l.entry l.parent h.0 k))
+      (sym (fold-append stored_after d (own_by (leaf me p tree) l (record_case l.entry))
+      (own_records (leaf me p tree) ls)))
+      (stored_from (behind_one d l.entry l.parent) (stored_after e (by_xid l)) ls h.1
+      (stored_one d e l.entry l.parent h.0 k))
 
-  all_alike : (ls : List LogRecord) → AllByRecursion (IsSound Manager) ls → Alike (stored (own_records (leaf me p tree) ls)) (data_in ls)
+  all_alike : (ls : List LogRecord) → AllByRecursion (IsSound Manager) ls
+      → Alike (stored (own_records (leaf me p tree) ls)) (data_in ls)
   unfolding stored writes_of
-  all_alike ls h = stored_from no_data no_data ls h (record { count = refl; pairs = refl; promised = λ q b k. refl })
+  all_alike ls h = stored_from no_data no_data ls h
+      (record { count = refl; pairs = refl; promised = λ q b k. refl })
 
   base_alike : (ls : List LogRecord) → AllByRecursion (IsSound Manager) ls
       → base_records (stored (own_records (leaf me p tree) ls)) ≡ base_records (data_in ls)
   base_alike ls h = let k = all_alike ls h in λ i. Base (k.count i) ∷ map pair_record (k.pairs i)
 
 -- a base and its pairs have no name
-pairs_unnamed : (q : Option ProcessId) (ps : List (List ℕ × List ℕ)) → map (in_log q) (map pair_record ps) ≡ map unnamed (map pair_record ps)
+pairs_unnamed : (q : Option ProcessId) (ps : List (List ℕ × List ℕ))
+    → map (in_log q) (map pair_record ps) ≡ map unnamed (map pair_record ps)
 pairs_unnamed q [] = refl
 pairs_unnamed q (x ∷ ps) = ap (λ ls. unnamed (pair_record x) ∷ ls) (pairs_unnamed q ps)
 
-base_unnamed : (q : Option ProcessId) (d : Data) → map (in_log q) (base_records d) ≡ map unnamed (base_records d)
+base_unnamed : (q : Option ProcessId) (d : Data)
+    → map (in_log q) (base_records d) ≡ map unnamed (base_records d)
 base_unnamed q d = ap (λ ls. unnamed (Base d.count) ∷ ls) (pairs_unnamed q d.pairs)
 
 -- the log that a trim leaves is the manager's
@@ -150,8 +166,10 @@ trims_alike s sound =
 
 -- What a trim leaves.
 
-module _ (s : SubState) (m : ManagerSight) (sound : AllByRecursion (IsSound Manager) (records_of s.manager.log.kept)) where
-  pub trims : (remain : ℕ) → ManagerTrims s.manager m remain → Trims (core_of s) (core_of (behind s s.table m)) remain
+module _ (s : SubState) (m : ManagerSight) (sound : AllByRecursion (IsSound Manager)
+    (records_of s.manager.log.kept)) where
+  pub trims : (remain : ℕ) → ManagerTrims s.manager m remain
+      → Trims (core_of s) (core_of (behind s s.table m)) remain
   trims remain h = record {
     log = h.log ∙ ap (λ ls. forced_sight ls s.manager.log.failures) (trims_alike s sound);
     counts = h.counts ∙ ap length (trims_alike s sound);
@@ -200,7 +218,8 @@ module _ (s : SubState) (m : ManagerSight) (sound : AllByRecursion (IsSound Mana
   step_error trim_error.Device = error.Device
   step_error trim_error.Failed = error.Failed
 
-  pub not_trimmed : (e : TrimError) → NotTrimmedBy s.manager m e → NotTrimmed (core_of s) (core_of (behind s s.table m)) (step_error e)
+  pub not_trimmed : (e : TrimError) → NotTrimmedBy s.manager m e
+      → NotTrimmed (core_of s) (core_of (behind s s.table m)) (step_error e)
   not_trimmed trim_error.Memory h = stays h
   not_trimmed trim_error.Device h = breaks h
   not_trimmed trim_error.Failed h = (stays h.0, h.1)

@@ -41,7 +41,8 @@ pub same_number : (n : ℕ) → (n == n) ≡ true
 same_number n = grind (arith, nat_tests)
 
 -- PREPARE ends the time of its case's ticket
-pub retired_prepare : (k n : ℕ) (c d : Case) (o : Option Ticket) → retired_at c d o ≡ retired_by (MessageInput k (Prepare c n)) d o
+pub retired_prepare : (k n : ℕ) (c d : Case) (o : Option Ticket)
+    → retired_at c d o ≡ retired_by (MessageInput k (Prepare c n)) d o
 retired_prepare k n c d None = refl
 retired_prepare k n c d (Some t) = refl
 
@@ -50,13 +51,15 @@ held_record : (c : Case) (l : Leaf) (ws : List Write) (d : Decision) → l.own �
 held_record c l [] d is = refl
 held_record c l (w ∷ ws) d is = ap (λ (d : Case). forced (PreparedRecord (CaseBranch d) (w ∷ ws))) (sym is)
 
-held_of : (c : Case) (l : Leaf) (ws : List Write) → l.own ≡ c → AreOf c (active_prepare_holding l (held_writes ws)).written
+held_of : (c : Case) (l : Leaf) (ws : List Write) → l.own ≡ c
+    → AreOf c (active_prepare_holding l (held_writes ws)).written
 held_of c l [] is = tt
 held_of c l (w ∷ ws) is = (ap Some is, tt)
 
 -- the row of an Active case all of whose works are done
 abbrev pub row : SubState → Case → LeafRow
-row s c = active_prepare_holding (leaf_in (core_of s) s.parent c) (held_writes (s.manager.writes (xid_of s c)))
+row s c = active_prepare_holding (leaf_in (core_of s) s.parent c)
+    (held_writes (s.manager.writes (xid_of s c)))
 
 none_written : (ws : List Write) → Read ≡ vote_of ws → ws ≡ []
 none_written [] e = refl
@@ -70,34 +73,44 @@ yes_state : (ws : List Write) → Yes ≡ vote_of ws → S3 ≡ (prepare_row ws)
 yes_state [] e = absurd cc
 yes_state (w ∷ ws) e = refl
 
-module _ (s : SubState) (key : ℕ) (c g : Case) (n : ℕ) (x : Xid) (tied : IsTied s) (at : IsAt s.table key c (active x g n false)) where
+module _ (s : SubState) (key : ℕ) (c g : Case) (n : ℕ) (x : Xid) (tied : IsTied s)
+    (at : IsAt s.table key c (active x g n false)) where
   turn_is : turn_for s (Prepare c n) ≡ Handles c (row s c)
   turn_is =
       let l : Leaf = leaf_in (core_of s) s.parent c in
       let holding = held_writes (s.manager.writes (xid_of s c)) in
-      ap (λ (o : Option Branch). Handles c (on_prepare l n holding (kept_view o) (kept_view o).standing)) at.live
-      ∙ ap (λ b. Handles c (if b && true then active_prepare_holding l holding else replies l (No c) unknown_branch)) (same_number n)
+      ap (λ (o : Option Branch). Handles c (on_prepare l n holding (kept_view o) (kept_view o).standing))
+      at.live
+      ∙ ap (λ b. Handles c (if b && true then active_prepare_holding l holding else replies l (No c)
+      unknown_branch)) (same_number n)
 
   writes_is : s.manager.writes x ≡ s.manager.writes (xid_of s c)
   writes_is = ap s.manager.writes (tied.named c (active x g n false) at.live).is
 
-  pub not_voted : (m : ManagerSight) (e : StepError) → NotFinished s.manager m x call.Prepare e → NotHeard s (behind s s.table m) (Prepare c n) e
+  pub not_voted : (m : ManagerSight) (e : StepError) → NotFinished s.manager m x call.Prepare e
+      → NotHeard s (behind s s.table m) (Prepare c n) e
   not_voted m e h =
       let l : Leaf = leaf_in (core_of s) s.parent c in
       subst (λ (t : Turn). NotTurned s (behind s s.table m) t e) (sym turn_is)
-      (not_turned s c x (tied.named c _ at.live) (tied.given_before c _ at.live) m S2 (s.manager.writes (xid_of s c)) call.Prepare (row s c) e
-      (tied.stands c _ at.live) writes_is (held_record c l (s.manager.writes (xid_of s c)) (s.manager.decided x) refl) (held_of c l (s.manager.writes (xid_of s c)) refl) h)
+      (not_turned s c x (tied.named c _ at.live) (tied.given_before c _ at.live) m S2
+      (s.manager.writes (xid_of s c)) call.Prepare (row s c) e
+      (tied.stands c _ at.live) writes_is (held_record c l (s.manager.writes (xid_of s c))
+      (s.manager.decided x) refl) (held_of c l (s.manager.writes (xid_of s c)) refl) h)
 
-  voted : (t : BranchTable) (m : ManagerSight) (v : Option Branch) → RetiresAt s.table t c v → kept_view v ≡ (row s c).view
-      → Finishes s.manager m x call.Prepare → Hears s (behind s t m) (Prepare c n) (shown (row s c).written (row s c).messages)
+  voted : (t : BranchTable) (m : ManagerSight) (v : Option Branch) → RetiresAt s.table t c v
+      → kept_view v ≡ (row s c).view
+      → Finishes s.manager m x call.Prepare → Hears s (behind s t m) (Prepare c n)
+      (shown (row s c).written (row s c).messages)
   voted t m v r view f =
       let l : Leaf = leaf_in (core_of s) s.parent c in
       let ws = s.manager.writes (xid_of s c) in
       record {
         turns = λ k.
-            subst (λ (turn : Turn). Turns s (behind s t m) (MessageInput k (Prepare c n)) turn (shown (row s c).written (row s c).messages)) (sym turn_is)
+            subst (λ (turn : Turn). Turns s (behind s t m) (MessageInput k (Prepare c n)) turn
+            (shown (row s c).written (row s c).messages)) (sym turn_is)
             (handled s t m (MessageInput k (Prepare c n)) c (row s c)
-            (log_is s c x (tied.named c _ at.live) (tied.given_before c _ at.live) m S2 ws call.Prepare (row s c).written (tied.stands c _ at.live) writes_is
+            (log_is s c x (tied.named c _ at.live) (tied.given_before c _ at.live) m S2 ws call.Prepare
+            (row s c).written (tied.stands c _ at.live) writes_is
             (held_record c l ws (s.manager.decided x) refl) (held_of c l ws refl) f.log)
             (ap kept_view r.branches.own ∙ view) (λ d apart. ap kept_view (r.branches.others d apart))
             (λ d. r.tickets d ∙ retired_prepare k n c d (ticket_in s.table d)) f.comes.boot);
@@ -105,7 +118,8 @@ module _ (s : SubState) (key : ℕ) (c g : Case) (n : ℕ) (x : Xid) (tied : IsT
       }
 
   -- a branch that wrote nothing has only read
-  pub read : (t : BranchTable) (m : ManagerSight) → Retires s.table t key nothing → Read ≡ vote_of (s.manager.writes x) → Finishes s.manager m x call.Prepare
+  pub read : (t : BranchTable) (m : ManagerSight) → Retires s.table t key nothing
+      → Read ≡ vote_of (s.manager.writes x) → Finishes s.manager m x call.Prepare
       → Hears s (behind s t m) (Prepare c n) (shown [] (post s.me s.parent (ReadMessage c) ∷ []))
   read t m r vote f =
       let e = sym (none_written (s.manager.writes x) vote) ∙ writes_is in
@@ -115,11 +129,14 @@ module _ (s : SubState) (key : ℕ) (c g : Case) (n : ℕ) (x : Xid) (tied : IsT
           → Hears s (behind s t m) (Prepare c n) (shown [] (post s.me s.parent (ReadMessage c) ∷ []))
       by_writes ws is none =
           let row_is : row s c ≡ replies (leaf_in (core_of s) s.parent c) (ReadMessage c) unknown_branch =
-          ap (λ (vs : List Write). active_prepare_holding (leaf_in (core_of s) s.parent c) (held_writes vs)) none in
+          ap (λ (vs : List Write). active_prepare_holding
+          (leaf_in (core_of s) s.parent c) (held_writes vs)) none in
           subst (λ (q : LeafRow). Hears s (behind s t m) (Prepare c n) (shown q.written q.messages)) row_is
-          (voted t m None (retires_at s.table t key nothing c (active x g n false) at r) (ap (λ (q : LeafRow). q.view) (sym row_is)) f)
+          (voted t m None (retires_at s.table t key nothing c (active x g n false) at r)
+          (ap (λ (q : LeafRow). q.view) (sym row_is)) f)
 
-  pub yes : (t : BranchTable) (m : ManagerSight) → Retires s.table t key promised → Yes ≡ vote_of (s.manager.writes x) → Finishes s.manager m x call.Prepare
+  pub yes : (t : BranchTable) (m : ManagerSight) → Retires s.table t key promised
+      → Yes ≡ vote_of (s.manager.writes x) → Finishes s.manager m x call.Prepare
       → Hears s (behind s t m) (Prepare c n) (record {
         begun = None;
         written = record { kind = kind.Prepared; subject = subject.Case c; forced = true } ∷ [];
@@ -140,19 +157,25 @@ module _ (s : SubState) (key : ℕ) (c g : Case) (n : ℕ) (x : Xid) (tied : IsT
       by_writes [] is some = absurd (some (writes_is ∙ is))
       by_writes (w ∷ ws) is some =
           let row_is : row s c ≡ active_prepare_holding (leaf_in (core_of s) s.parent c) (Holds (w ∷ ws)) =
-          ap (λ (vs : List Write). active_prepare_holding (leaf_in (core_of s) s.parent c) (held_writes vs)) is in
+          ap (λ (vs : List Write). active_prepare_holding
+          (leaf_in (core_of s) s.parent c) (held_writes vs)) is in
           subst (λ (q : LeafRow). Hears s (behind s t m) (Prepare c n) (shown q.written q.messages)) row_is
-          (voted t m (promised (active x g n false)) (retires_at s.table t key promised c (active x g n false) at r) (ap (λ (q : LeafRow). q.view) (sym row_is)) f)
+          (voted t m (promised (active x g n false)) (retires_at s.table t key promised c (active x g n false)
+          at r) (ap (λ (q : LeafRow). q.view) (sym row_is)) f)
 
-  pub read_tied : (t : BranchTable) (m : ManagerSight) → Retires s.table t key nothing → Finishes s.manager m x call.Prepare → IsTied (behind s t m)
+  pub read_tied : (t : BranchTable) (m : ManagerSight) → Retires s.table t key nothing
+      → Finishes s.manager m x call.Prepare → IsTied (behind s t m)
   read_tied t m r f =
-      moved_tied s t m c (active x g n false) None _ tied at.live (retires_at s.table t key nothing c (active x g n false) at r).branches tt f.comes
+      moved_tied s t m c (active x g n false) None _ tied at.live
+      (retires_at s.table t key nothing c (active x g n false) at r).branches tt f.comes
 
-  pub yes_tied : (t : BranchTable) (m : ManagerSight) → Retires s.table t key promised → Yes ≡ vote_of (s.manager.writes x) → Finishes s.manager m x call.Prepare
+  pub yes_tied : (t : BranchTable) (m : ManagerSight) → Retires s.table t key promised
+      → Yes ≡ vote_of (s.manager.writes x) → Finishes s.manager m x call.Prepare
       → IsTied (behind s t m)
   yes_tied t m r vote f =
       moved_tied s t m c (active x g n false) (promised (active x g n false)) _ tied at.live
-      (retires_at s.table t key promised c (active x g n false) at r).branches (refl, yes_state (s.manager.writes x) vote, tt) f.comes
+      (retires_at s.table t key promised c (active x g n false) at r).branches
+      (refl, yes_state (s.manager.writes x) vote, tt) f.comes
 
 -- a vote that is not READ
 pub yes_of : (ws : List Write) (v : Vote) → v ≡ vote_of ws → v ≢ Read → Yes ≡ vote_of ws

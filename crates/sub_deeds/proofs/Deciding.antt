@@ -11,7 +11,8 @@ use Rattle.manager_model.specs.Deciding.{DecideFails, Decides as DecidesBy}
 use Rattle.sub_deeds.specs.Deeds.{Decides, IsIdle, IsQuiet, NotDecided}
 use Rattle.sub_deeds.proofs.Quiet.{same_idle}
 
-pub decides : (old new : ManagerSight) (x : Xid) (o : Outcome) → IsIdle old → DecidesBy old new x o → Decides old new x o
+pub decides : (old new : ManagerSight) (x : Xid) (o : Outcome) → IsIdle old
+    → DecidesBy old new x o → Decides old new x o
 decides old new x o idle d = record {
   comes = record {
     own = d.tables.branch.own;

@@ -32,21 +32,25 @@ heur_other : (o : Outcome) → (heur_code o ≢ code.RmFail) × (heur_code o ≢
 heur_other Committed = (λ e. absurd cc, λ e. absurd cc)
 heur_other Aborted = (λ e. absurd cc, λ e. absurd cc)
 
-outcome_code : (s : BranchState) (d : Decision) → ((outcome_row s d).0 ≢ code.RmFail) × ((outcome_row s d).0 ≢ code.RmErr)
+outcome_code : (s : BranchState) (d : Decision) → ((outcome_row s d).0 ≢ code.RmFail)
+    × ((outcome_row s d).0 ≢ code.RmErr)
 outcome_code S5 d = heur_other d.outcome
 outcome_code _ d = (λ e. absurd cc, λ e. absurd cc)
 
-prepare_code : (ws : List Write) → ((prepare_answer ws).0 ≢ code.RmFail) × ((prepare_answer ws).0 ≢ code.RmErr)
+prepare_code : (ws : List Write) → ((prepare_answer ws).0 ≢ code.RmFail)
+    × ((prepare_answer ws).0 ≢ code.RmErr)
 prepare_code [] = (λ e. absurd cc, λ e. absurd cc)
 prepare_code (w ∷ ws) = (λ e. absurd cc, λ e. absurd cc)
 
-row_code : (c : Call) (s : BranchState) (ws : List Write) (d : Decision) → ((row_of c s ws d).0 ≢ code.RmFail) × ((row_of c s ws d).0 ≢ code.RmErr)
+row_code : (c : Call) (s : BranchState) (ws : List Write) (d : Decision) → ((row_of c s ws d).0 ≢ code.RmFail)
+    × ((row_of c s ws d).0 ≢ code.RmErr)
 row_code call.Prepare s ws d = prepare_code ws
 row_code call.Commit s ws d = outcome_code s d
 row_code call.Rollback s ws d = outcome_code s d
 row_code _ s ws d = (λ e. absurd cc, λ e. absurd cc)
 
-code_of : (m : ManagerSight) (x : Xid) (c : Call) → ((row_for m x c).0 ≢ code.RmFail) × ((row_for m x c).0 ≢ code.RmErr)
+code_of : (m : ManagerSight) (x : Xid) (c : Call) → ((row_for m x c).0 ≢ code.RmFail)
+    × ((row_for m x c).0 ≢ code.RmErr)
 code_of m x c = row_code c (state_at m.tables x) (m.writes x) (m.decided x)
 
 ok_is : (c d : Call) (r : Result Call Code) → r ≡ Ok c → r ≡ Ok d → c ≡ d
@@ -59,7 +63,8 @@ up_down : (m : ManagerSight) → m.log.failed ≡ false → m.log.failed ≡ tru
 up_down m e f = let g : false ≡ true = sym e ∙ f in absurd cc
 
 -- what was made
-made_deed : (old new : ManagerSight) (x : Xid) (c : Call) → IsIdle old → Makes old new x c (row_for old x c) → Finishes old new x c
+made_deed : (old new : ManagerSight) (x : Xid) (c : Call) → IsIdle old
+    → Makes old new x c (row_for old x c) → Finishes old new x c
 made_deed old new x c idle makes = record {
   comes = record {
     own = makes.tables.branch.own;
@@ -87,16 +92,20 @@ failed_deed old new x c idle fails = record {
   boot = fails.boot;
 }
 
-module _ (old new : ManagerSight) (v : Verb) (x : Xid) (flags : ℕ) (c : Call) (up : old.log.failed ≡ false) (idle : IsIdle old)
-    (is : ready old.tables v x flags ≡ Ok c) (listed : Contains (branch_rows (state_at old.tables x) c) (row_for old x c)) where
+module _ (old new : ManagerSight) (v : Verb) (x : Xid) (flags : ℕ) (c : Call)
+    (up : old.log.failed ≡ false) (idle : IsIdle old)
+    (is : ready old.tables v x flags ≡ Ok c) (listed : Contains
+    (branch_rows (state_at old.tables x) c) (row_for old x c)) where
   -- any other answer than these two is the row's
-  pub finished : (answer : Code) → answer ≢ code.RmFail → answer ≢ code.RmErr → Answers old new v x flags answer
+  pub finished : (answer : Code) → answer ≢ code.RmFail → answer ≢ code.RmErr
+      → Answers old new v x flags answer
       → (answer ≡ (row_for old x c).0) × Finishes old new x c
   finished answer works spare (Failed e a s) = absurd (up_down old up e)
   finished answer works spare (Refused u e s) = absurd (ok_err c answer _ is e)
   finished answer works spare (Limited u p a s) = absurd (spare a)
   finished answer works spare (Unlisted u d e none a s) =
-      absurd (none (subst (λ (k : Call). Contains (branch_rows (state_at old.tables x) k) (row_for old x k)) (ok_is c d _ is e) listed))
+      absurd (none (subst (λ (k : Call). Contains (branch_rows (state_at old.tables x) k)
+      (row_for old x k)) (ok_is c d _ is e) listed))
   finished answer works spare (Made u d e a makes) =
       let one = ok_is d c _ e is in (
         subst (λ (k : Call). answer ≡ (row_for old x k).0) one a,
@@ -105,11 +114,13 @@ module _ (old new : ManagerSight) (v : Verb) (x : Xid) (flags : ℕ) (c : Call) 
   finished answer works spare (Broke u d e a fails) = absurd (works a)
 
   -- the device failed
-  pub broken : (answer : Code) → answer ≡ code.RmFail → Answers old new v x flags answer → BreaksUnder old new (logged_under x (written_for old x c))
+  pub broken : (answer : Code) → answer ≡ code.RmFail → Answers old new v x flags answer
+      → BreaksUnder old new (logged_under x (written_for old x c))
   broken answer fail (Failed e a s) = absurd (up_down old up e)
   broken answer fail (Refused u e s) = absurd (ok_err c answer _ is e)
   broken answer fail (Limited u p a s) = absurd (let f : code.RmErr ≡ code.RmFail = sym a ∙ fail in cc)
-  broken answer fail (Unlisted u d e none a s) = absurd (let f : code.Proto ≡ code.RmFail = sym a ∙ fail in cc)
+  broken answer fail (Unlisted u d e none a s) =
+      absurd (let f : code.Proto ≡ code.RmFail = sym a ∙ fail in cc)
   broken answer fail (Made u d e a makes) = absurd ((code_of old x d).0 (sym a ∙ fail))
   broken answer fail (Broke u d e a fails) =
       failed_deed old new x c idle (subst (λ (k : Call). Fails old new x k) (ok_is d c _ e is) fails)
@@ -143,28 +154,61 @@ heur_commits : (o : Outcome) → Contains (branch_rows S5 call.Commit) (heur_cod
 heur_commits Committed = (1, omega arith, refl)
 heur_commits Aborted = (2, omega arith, refl)
 
-commit_by : (m : ManagerSight) (x : Xid) (s : BranchState) → state_at m.tables x ≡ s → can_commit s ≡ true → HasRow m x call.Commit s
-commit_by m x S3 at can = record { at = at; here = λ e. absurd cc; rows = refl; listed = (0, omega arith, refl) }
-commit_by m x S5 at can = record { at = at; here = λ e. absurd cc; rows = refl; listed = heur_commits (m.decided x).outcome }
+commit_by : (m : ManagerSight) (x : Xid) (s : BranchState) → state_at m.tables x ≡ s
+    → can_commit s ≡ true → HasRow m x call.Commit s
+commit_by m x S3 at can = record {
+  at = at;
+  here = λ e. absurd cc;
+  rows = refl;
+  listed = (0, omega arith, refl);
+}
+commit_by m x S5 at can = record {
+  at = at;
+  here = λ e. absurd cc;
+  rows = refl;
+  listed = heur_commits (m.decided x).outcome;
+}
 commit_by m x S0 at can = absurd cc
 commit_by m x S1 at can = absurd cc
 commit_by m x S2 at can = absurd cc
 commit_by m x S4 at can = absurd cc
 
-pub commit_row : (m : ManagerSight) (x : Xid) → can_commit (state_at m.tables x) ≡ true → HasRow m x call.Commit (state_at m.tables x)
+pub commit_row : (m : ManagerSight) (x : Xid) → can_commit (state_at m.tables x) ≡ true
+    → HasRow m x call.Commit (state_at m.tables x)
 commit_row m x can = commit_by m x (state_at m.tables x) refl can
 
 heur_rolls : (o : Outcome) → Contains (branch_rows S5 call.Rollback) (heur_code o, S5)
 heur_rolls Committed = (1, omega arith, refl)
 heur_rolls Aborted = (2, omega arith, refl)
 
-rollback_by : (m : ManagerSight) (x : Xid) (s : BranchState) → state_at m.tables x ≡ s → can_roll_back s ≡ true → HasRow m x call.Rollback s
-rollback_by m x S2 at can = record { at = at; here = λ e. absurd cc; rows = refl; listed = (0, omega arith, refl) }
-rollback_by m x S3 at can = record { at = at; here = λ e. absurd cc; rows = refl; listed = (0, omega arith, refl) }
-rollback_by m x S4 at can = record { at = at; here = λ e. absurd cc; rows = refl; listed = (0, omega arith, refl) }
+rollback_by : (m : ManagerSight) (x : Xid) (s : BranchState) → state_at m.tables x ≡ s
+    → can_roll_back s ≡ true → HasRow m x call.Rollback s
+rollback_by m x S2 at can = record {
+  at = at;
+  here = λ e. absurd cc;
+  rows = refl;
+  listed = (0, omega arith, refl);
+}
+rollback_by m x S3 at can = record {
+  at = at;
+  here = λ e. absurd cc;
+  rows = refl;
+  listed = (0, omega arith, refl);
+}
+rollback_by m x S4 at can = record {
+  at = at;
+  here = λ e. absurd cc;
+  rows = refl;
+  listed = (0, omega arith, refl);
+}
 rollback_by m x S0 at can = absurd cc
 rollback_by m x S1 at can = absurd cc
-rollback_by m x S5 at can = record { at = at; here = λ e. absurd cc; rows = refl; listed = heur_rolls (m.decided x).outcome }
+rollback_by m x S5 at can = record {
+  at = at;
+  here = λ e. absurd cc;
+  rows = refl;
+  listed = heur_rolls (m.decided x).outcome;
+}
 
 pub rollback_row : (m : ManagerSight) (x : Xid) → can_roll_back (state_at m.tables x) ≡ true
     → HasRow m x call.Rollback (state_at m.tables x)
@@ -173,29 +217,34 @@ rollback_row m x can = rollback_by m x (state_at m.tables x) refl can
 pub forget_row : (m : ManagerSight) (x : Xid) → state_at m.tables x ≡ S5 → HasRow m x call.Forget S5
 forget_row m x at = record { at = at; here = λ e. absurd cc; rows = refl; listed = (0, omega arith, refl) }
 
-module _ (old new : ManagerSight) (v : Verb) (x : Xid) (c : Call) (s : BranchState) (up : old.log.failed ≡ false) (idle : IsIdle old)
+module _ (old new : ManagerSight) (v : Verb) (x : Xid) (c : Call) (s : BranchState)
+    (up : old.log.failed ≡ false) (idle : IsIdle old)
     (named : x ≢ null_xid) (is : legal v 0 ≡ Ok c) (row : HasRow old x c s) where
   is_ready : ready old.tables v x 0 ≡ Ok c
   is_ready = ready_is old v x 0 c s idle (not_null x named) is row.at row.here row.rows
 
   is_listed : Contains (branch_rows (state_at old.tables x) c) (row_for old x c)
-  is_listed = subst (λ (q : BranchState). Contains (branch_rows q c) (row_of c q (old.writes x) (old.decided x))) (sym row.at) row.listed
+  is_listed = subst (λ (q : BranchState). Contains (branch_rows q c)
+      (row_of c q (old.writes x) (old.decided x))) (sym row.at) row.listed
 
   pub finishes : (answer : Code) → answer ≢ code.RmFail → answer ≢ code.RmErr → Answers old new v x 0 answer
       → (answer ≡ (row_for old x c).0) × Finishes old new x c
   finishes answer works spare a = finished old new v x 0 c up idle is_ready is_listed answer works spare a
 
-  pub breaks : (answer : Code) → answer ≡ code.RmFail → Answers old new v x 0 answer → BreaksUnder old new (logged_under x (written_for old x c))
+  pub breaks : (answer : Code) → answer ≡ code.RmFail → Answers old new v x 0 answer
+      → BreaksUnder old new (logged_under x (written_for old x c))
   breaks answer fail a = broken old new v x 0 c up idle is_ready is_listed answer fail a
 
   pub stays : (answer : Code) → answer ≡ code.RmErr → Answers old new v x 0 answer → SameManager old new
   stays answer fail a = limited old new v x 0 c up idle is_ready is_listed answer fail a
 
 -- the vote of a prepare's answer
-pub vote_by : (ws : List Write) (answer : Code) → answer ≡ (prepare_answer ws).0 → answer ≢ code.RdOnly → Yes ≡ vote_of ws
+pub vote_by : (ws : List Write) (answer : Code) → answer ≡ (prepare_answer ws).0
+    → answer ≢ code.RdOnly → Yes ≡ vote_of ws
 vote_by [] answer e n = absurd (n e)
 vote_by (w ∷ ws) answer e n = refl
 
-pub read_by : (ws : List Write) (answer : Code) → answer ≡ (prepare_answer ws).0 → answer ≡ code.RdOnly → Read ≡ vote_of ws
+pub read_by : (ws : List Write) (answer : Code) → answer ≡ (prepare_answer ws).0
+    → answer ≡ code.RdOnly → Read ≡ vote_of ws
 read_by [] answer e n = refl
 read_by (w ∷ ws) answer e n = absurd (let f : code.Ok ≡ code.RdOnly = sym e ∙ n in cc)

@@ -27,8 +27,10 @@ use Rattle.sub_deeds.specs.Deeds.{IsIdle, IsQuiet}
 -- no branch is held
 pub not_held : (a : AssocList) (x : Xid) → IsQuiet a → is_held a x ≡ false
 not_held a x quiet =
-    let active : has_active a x ≡ false = ap (λ hs. list_any (λ e. option_map_or (λ y. same y x) e.1 false) hs) quiet.holders in
-    let suspended : has_suspended a x ≡ false = ap (λ (ss : List Seat). list_any (λ s. same s.xid x) ss) quiet.seats in
+    let active : has_active a x ≡ false =
+    ap (λ hs. list_any (λ e. option_map_or (λ y. same y x) e.1 false) hs) quiet.holders in
+    let suspended : has_suspended a x ≡ false =
+    ap (λ (ss : List Seat). list_any (λ s. same s.xid x) ss) quiet.seats in
     ap (λ b. b || has_suspended a x || nat_lt 0 (moved_of a x)) active
     ∙ ap (λ b. b || nat_lt 0 (moved_of a x)) suspended ∙ ap (λ n. nat_lt 0 n) (quiet.moved x)
 
@@ -37,14 +39,17 @@ known_by None s e n = absurd (n (sym e))
 known_by (Some q) s e n = refl
 
 -- a branch in a state but S0 is known
-pub known : (m : States) (x : Xid) (s : BranchState) → state_at m x ≡ s → (s ≡ S0 → ⊥) → is_known m.branches.branches x ≡ true
+pub known : (m : States) (x : Xid) (s : BranchState) → state_at m x ≡ s → (s ≡ S0 → ⊥)
+    → is_known m.branches.branches x ≡ true
 known m x s e n = known_by (lookup (same x) m.branches.branches) s e n
 
 abbrev by_checks : Code → Code → Code → Bool → Bool → Bool → Bool → Option Code
 by_checks p i n closed null listed out =
-    if closed then Some p else if null then Some i else if not listed then Some n else if out then Some p else None
+    if closed then Some p else if null then Some i else if not listed then Some n
+    else if out then Some p else None
 
-none_by : (p i n : Code) (closed null listed out : Bool) → closed ≡ false → null ≡ false → listed ≡ true → out ≡ false
+none_by : (p i n : Code) (closed null listed out : Bool) → closed ≡ false → null ≡ false
+    → listed ≡ true → out ≡ false
     → by_checks p i n closed null listed out ≡ None
 none_by p i n false false true false a b c d = refl
 none_by p i n true null listed out a b c d = absurd cc
@@ -62,11 +67,13 @@ pub ready_is : (m : ManagerSight) (v : Verb) (x : Xid) (flags : ℕ) (c : Call) 
     → same x null_xid ≡ false → legal v flags ≡ Ok c → state_at m.tables x ≡ s → (s ≡ S0 → ⊥)
     → has_rows (branch_rows s c) ≡ true → ready m.tables v x flags ≡ Ok c
 ready_is m v x flags c s idle named is at here rows =
-    let has : has_rows (branch_rows (state_at m.tables x) c) ≡ true = ap (λ (q : BranchState). has_rows (branch_rows q c)) at ∙ rows in
+    let has : has_rows (branch_rows (state_at m.tables x) c) ≡ true =
+    ap (λ (q : BranchState). has_rows (branch_rows q c)) at ∙ rows in
     let none : finish_refusal m.tables c x ≡ None =
     none_by _ _ _ (is_closed m.tables.init) (same x null_xid) (is_known m.tables.branches.branches x)
     (is_held m.tables.associations x || not (has_rows (branch_rows (state_at m.tables x) c)))
-    (ap is_closed idle.opened) named (known m.tables x s at here) (out_by _ _ (not_held m.tables.associations x idle.quiet) has) in
+    (ap is_closed idle.opened) named (known m.tables x s at here)
+    (out_by _ _ (not_held m.tables.associations x idle.quiet) has) in
     ap (λ (l : Result Call Code). judged m.tables x l) is ∙ ap (λ (o : Option Code). unless_refused o c) none
 
 -- a manager that has not changed is idle as before

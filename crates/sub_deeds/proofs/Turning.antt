@@ -18,7 +18,8 @@ no_active : (a : AssocList) (t : ℕ) → IsQuiet a → active_of a t ≡ None
 no_active a t quiet = ap (λ (hs : List (ℕ × Option Xid)). unwrap_or (lookup (nat_eq t) hs) None) quiet.holders
 
 pub no_seat : (a : AssocList) (t : ℕ) (x : Xid) → IsQuiet a → has_seat a t x ≡ false
-no_seat a t x quiet = ap (λ (ss : List Seat). list_any (same_seat (record { thread = t; xid = x })) ss) quiet.seats
+no_seat a t x quiet = ap (λ (ss : List Seat). list_any
+    (same_seat (record { thread = t; xid = x })) ss) quiet.seats
 
 pub not_busy : (a : AssocList) (t : ℕ) → IsQuiet a → is_some (active_of a t) ≡ false
 not_busy a t quiet = ap is_some (no_active a t quiet)
@@ -52,10 +53,12 @@ itself x = search rules
 seat_itself : (s : Seat) → same_seat s s ≡ true
 seat_itself s = ap (λ b. b && same s.xid s.xid) (one s.thread) ∙ itself s.xid
 
-no_seats : (ss : List Seat) → ((t : ℕ) (x : Xid) → list_any (same_seat (record { thread = t; xid = x })) ss ≡ false) → ss ≡ []
+no_seats : (ss : List Seat) → ((t : ℕ) (x : Xid)
+    → list_any (same_seat (record { thread = t; xid = x })) ss ≡ false) → ss ≡ []
 no_seats [] none = refl
 no_seats (s ∷ ss) none = absurd
-    (let there : list_any (same_seat s) (s ∷ ss) ≡ true = ap (λ b. b || list_any (same_seat s) ss) (seat_itself s) in
+    (let there : list_any (same_seat s) (s ∷ ss)
+    ≡ true = ap (λ b. b || list_any (same_seat s) ss) (seat_itself s) in
     let f : true ≡ false = sym there ∙ none s.thread s.xid in cc)
 
 seat_none : (b s : Bool) → (if b then T1 else if s then T2 else T0) ≡ T0 → s ≡ false
@@ -75,10 +78,12 @@ not_equal u t differs = grind (arith, nat_tests)
 
 flips : (x y : Xid) (b : Bool) → same x y ≡ false → same y x ≡ b → b ≡ false
 flips x y false h e = refl
-flips x y true h e = absurd (let w : same x x ≡ false = subst (λ z. same x z ≡ false) (same_is y x e) h in let f : true ≡ false = sym (itself x) ∙ w in cc)
+flips x y true h e = absurd (let w : same x x ≡ false = subst (λ z. same x z ≡ false) (same_is y x e) h
+    in let f : true ≡ false = sym (itself x) ∙ w in cc)
 
 -- a thread that was nowhere at work began and ended its work in a branch
-module _ (base mid new : AssocList) (t : ℕ) (x : Xid) (quiet : IsQuiet base) (begins : Moves base mid t x T0 T1) (ends : Moves mid new t x T1 T0) where
+module _ (base mid new : AssocList) (t : ℕ) (x : Xid) (quiet : IsQuiet base)
+    (begins : Moves base mid t x T0 T1) (ends : Moves mid new t x T1 T0) where
   at_branch : (u : ℕ) (y : Xid) (b : Bool) → u ≡ t → same y x ≡ b → own_state new u y ≡ T0
   at_branch u y true is e =
       ap (λ n. own_state new n y) is ∙ ap (λ z. own_state new t z) (same_is y x e) ∙ ends.turns.own
@@ -109,7 +114,8 @@ module _ (base mid new : AssocList) (t : ℕ) (x : Xid) (quiet : IsQuiet base) (
   listed u =
       elim (cases_eq u t) [
         | inl is ↦ ap (is_holder new) is ∙ ends.holder ∙ holds_none
-        | inr differs ↦ ends.turns.holders u differs ∙ begins.turns.holders u differs ∙ not_listed base u quiet
+        | inr differs ↦ ends.turns.holders u differs
+            ∙ begins.turns.holders u differs ∙ not_listed base u quiet
       ]
 
   counted : (y : Xid) (b : Bool) → same x y ≡ b → moved_of new y ≡ 0

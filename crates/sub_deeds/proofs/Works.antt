@@ -51,7 +51,8 @@ start_by known busy full room =
     if known then Err code.DupId else if busy then Err code.Proto else if full then Err code.RmErr
     else if busy then Err code.Proto else if room then row T0 code.Ok T1 else Err code.RmErr
 
-start_is : (known busy full room : Bool) (r : Row) → start_by known busy full room ≡ Ok r → (T0, code.Ok, T1) ≡ r
+start_is : (known busy full room : Bool) (r : Row)
+    → start_by known busy full room ≡ Ok r → (T0, code.Ok, T1) ≡ r
 start_is true busy full room r e = absurd cc
 start_is false true full room r e = absurd cc
 start_is false false true room r e = absurd cc
@@ -59,24 +60,31 @@ start_is false false false true r e = cc
 start_is false false false false r e = absurd cc
 
 start_not : (known busy full room : Bool) (c : Code) → start_by known busy full room ≡ Err c → c ≢ code.Ok
-start_not true busy full room c e f = absurd (let d : code.DupId ≡ c = cc in let g : code.DupId ≡ code.Ok = d ∙ f in cc)
-start_not false true full room c e f = absurd (let d : code.Proto ≡ c = cc in let g : code.Proto ≡ code.Ok = d ∙ f in cc)
-start_not false false true room c e f = absurd (let d : code.RmErr ≡ c = cc in let g : code.RmErr ≡ code.Ok = d ∙ f in cc)
+start_not true busy full room c e f = absurd (let d : code.DupId
+    ≡ c = cc in let g : code.DupId ≡ code.Ok = d ∙ f in cc)
+start_not false true full room c e f = absurd
+    (let d : code.Proto ≡ c = cc in let g : code.Proto ≡ code.Ok = d ∙ f in cc)
+start_not false false true room c e f = absurd
+    (let d : code.RmErr ≡ c = cc in let g : code.RmErr ≡ code.Ok = d ∙ f in cc)
 start_not false false false true c e f = absurd cc
-start_not false false false false c e f = absurd (let d : code.RmErr ≡ c = cc in let g : code.RmErr ≡ code.Ok = d ∙ f in cc)
+start_not false false false false c e f = absurd
+    (let d : code.RmErr ≡ c = cc in let g : code.RmErr ≡ code.Ok = d ∙ f in cc)
 
 start_row : (m : States) (x : Xid) (r : Row) → start_reaction m 0 x ≡ Ok r → (T0, code.Ok, T1) ≡ r
 start_row m x r e =
-    start_is (is_known m.branches.branches x) (is_some (active_of m.associations 0) || has_seat m.associations 0 x)
+    start_is (is_known m.branches.branches x)
+    (is_some (active_of m.associations 0) || has_seat m.associations 0 x)
     (nat_le 1024 (length m.branches.branches)) (has_room m.associations 0) r e
 
 start_err : (m : States) (x : Xid) (c : Code) → start_reaction m 0 x ≡ Err c → c ≢ code.Ok
 start_err m x c e =
-    start_not (is_known m.branches.branches x) (is_some (active_of m.associations 0) || has_seat m.associations 0 x)
+    start_not (is_known m.branches.branches x)
+    (is_some (active_of m.associations 0) || has_seat m.associations 0 x)
     (nat_le 1024 (length m.branches.branches)) (has_room m.associations 0) c e
 
 -- a start or an end, at a manager that is open and up
-starts_by : (old new : ManagerSight) (x : Xid) (answer : Code) → old.log.failed ≡ false → old.tables.init ≡ R1 → x ≢ null_xid
+starts_by : (old new : ManagerSight) (x : Xid) (answer : Code) → old.log.failed ≡ false
+    → old.tables.init ≡ R1 → x ≢ null_xid
     → Calls old new (answer ≡ code.RmFail) (λ m n. Answers any m n verb.Start 0 x 0 answer)
     → Reacts old.tables new.tables 0 x call.Start (start_reaction old.tables 0 x) S1 answer
 starts_by old new x answer up opened named calls = (calls.works up).does opened named
@@ -84,21 +92,26 @@ starts_by old new x answer up opened named calls = (calls.works up).does opened 
 abbrev Begun : ManagerSight → ManagerSight → Xid → Code → Result Row Code → Type 0
 Begun old new x answer plan = start_reaction old.tables 0 x ≡ plan
 
-refused_by : (old new : ManagerSight) (x : Xid) (answer : Code) (plan : Result Row Code) → start_reaction old.tables 0 x ≡ plan
-    → Reacts old.tables new.tables 0 x call.Start plan S1 answer → answer ≢ code.Ok → (starts old x ≡ false) × Same old.tables new.tables
+refused_by : (old new : ManagerSight) (x : Xid) (answer : Code) (plan : Result Row Code)
+    → start_reaction old.tables 0 x ≡ plan
+    → Reacts old.tables new.tables 0 x call.Start plan S1 answer → answer ≢ code.Ok → (starts old x ≡ false)
+    × Same old.tables new.tables
 refused_by old new x answer (Ok r) is w not =
     absurd (not (w.answers ∙ ap (λ (q : Row). q.1) (sym (start_row old.tables x r is))))
 refused_by old new x answer (Err e) is w not = (ap is_ok is, w.1)
 
 -- a start that is not answered by XA_OK changes nothing
-pub refused : (old new : ManagerSight) (x : Xid) (answer : Code) → old.log.failed ≡ false → IsIdle old → x ≢ null_xid
+pub refused : (old new : ManagerSight) (x : Xid) (answer : Code)
+    → old.log.failed ≡ false → IsIdle old → x ≢ null_xid
     → Calls old new (answer ≡ code.RmFail) (λ m n. Answers any m n verb.Start 0 x 0 answer) → answer ≢ code.Ok
     → HasBegun old new x false
 refused old new x answer up idle named calls not =
-    let w = refused_by old new x answer (start_reaction old.tables 0 x) refl (starts_by old new x answer up idle.opened named calls) not in
+    let w = refused_by old new x answer (start_reaction old.tables 0 x) refl
+    (starts_by old new x answer up idle.opened named calls) not in
     (w.0, record { tables = w.1; log = calls.log; boot = calls.boot; spent = calls.spent; rest = calls.rest })
 
-walks_work : (old new : States) (x : Xid) (c : Call) (r : Row) (answer : Code) → old.init ≡ R1 → IsQuiet old.associations
+walks_work : (old new : States) (x : Xid) (c : Call) (r : Row) (answer : Code)
+    → old.init ≡ R1 → IsQuiet old.associations
     → (T0, code.Ok, T1) ≡ r → Walks old new 0 x c r S1 answer → IsAtWork old new x
 walks_work old new x c r answer opened quiet is w = record {
   opened = w.init ∙ opened;
@@ -108,18 +121,25 @@ walks_work old new x c r answer opened quiet is w = record {
   others = w.branch.others;
 }
 
-begun_by : (old new : ManagerSight) (x : Xid) (answer : Code) (plan : Result Row Code) → IsIdle old → start_reaction old.tables 0 x ≡ plan
-    → Reacts old.tables new.tables 0 x call.Start plan S1 answer → answer ≡ code.Ok → (starts old x ≡ true) × IsAtWork old.tables new.tables x
-begun_by old new x answer (Ok r) idle is w ok =
-    (ap is_ok is, walks_work old.tables new.tables x call.Start r answer idle.opened idle.quiet (start_row old.tables x r is) w)
+begun_by : (old new : ManagerSight) (x : Xid) (answer : Code) (plan : Result Row Code) → IsIdle old
+    → start_reaction old.tables 0 x ≡ plan
+    → Reacts old.tables new.tables 0 x call.Start plan S1 answer → answer ≡ code.Ok → (starts old x ≡ true)
+    × IsAtWork old.tables new.tables x
+begun_by old new x answer (Ok r) idle is w ok = (
+  ap is_ok is,
+  walks_work old.tables new.tables x call.Start r answer idle.opened idle.quiet
+      (start_row old.tables x r is) w,
+)
 begun_by old new x answer (Err e) idle is w ok = absurd (start_err old.tables x e is (sym w.0 ∙ ok))
 
 -- a start that is answered by XA_OK
-pub begun : (old new : ManagerSight) (x : Xid) (answer : Code) → old.log.failed ≡ false → IsIdle old → x ≢ null_xid
+pub begun : (old new : ManagerSight) (x : Xid) (answer : Code)
+    → old.log.failed ≡ false → IsIdle old → x ≢ null_xid
     → Calls old new (answer ≡ code.RmFail) (λ m n. Answers any m n verb.Start 0 x 0 answer) → answer ≡ code.Ok
     → (starts old x ≡ true) × IsAtWork old.tables new.tables x
 begun old new x answer up idle named calls ok =
-    begun_by old new x answer (start_reaction old.tables 0 x) idle refl (starts_by old new x answer up idle.opened named calls) ok
+    begun_by old new x answer (start_reaction old.tables 0 x) idle refl
+    (starts_by old new x answer up idle.opened named calls) ok
 
 -- what a start TMJOIN finds
 abbrev join_by : Bool → Bool → Result Row Code
@@ -128,14 +148,18 @@ join_by busy room = if busy then Err code.Proto else if room then row T0 code.Ok
 quiet_plan : (a : AssocList) (x : Xid) → IsQuiet a → start_plan a 0 x ≡ row T0 code.Ok T1
 quiet_plan a x quiet =
     ap (λ b. join_by (b || has_seat a 0 x) (has_room a 0)) (not_busy a 0 quiet)
-    ∙ ap (λ b. join_by b (has_room a 0)) (no_seat a 0 x quiet) ∙ ap (λ b. join_by false b) (with_room a 0 quiet)
+    ∙ ap (λ b. join_by b (has_room a 0)) (no_seat a 0 x quiet)
+    ∙ ap (λ b. join_by false b) (with_room a 0 quiet)
 
 -- a start TMJOIN of an idle branch is answered by XA_OK
-pub joined : (old new : ManagerSight) (x : Xid) (answer : Code) → old.log.failed ≡ false → IsIdle old → x ≢ null_xid
-    → state_at old.tables x ≡ S2 → Calls old new (answer ≡ code.RmFail) (λ m n. Answers any m n verb.Start 0 x 0x0020_0000 answer)
+pub joined : (old new : ManagerSight) (x : Xid) (answer : Code)
+    → old.log.failed ≡ false → IsIdle old → x ≢ null_xid
+    → state_at old.tables x ≡ S2 → Calls old new (answer ≡ code.RmFail)
+    (λ m n. Answers any m n verb.Start 0 x 0x0020_0000 answer)
     → IsAtWork old.tables new.tables x
 joined old new x answer up idle named at calls =
-    let plan : by_state (state_at old.tables x) (start_plan old.tables.associations 0 x) (Err code.Proto) ≡ row T0 code.Ok T1 =
+    let plan : by_state (state_at old.tables x) (start_plan old.tables.associations 0 x)
+    (Err code.Proto) ≡ row T0 code.Ok T1 =
     ap (λ (s : BranchState). by_state s (start_plan old.tables.associations 0 x) (Err code.Proto)) at
     ∙ quiet_plan old.tables.associations x idle.quiet in
     walks_work old.tables new.tables x call.StartJoin (T0, code.Ok, T1) answer idle.opened idle.quiet refl
@@ -152,39 +176,55 @@ left_after succeeds = if succeeds then S2 else S4
 abbrev answer_of : Bool → Code
 answer_of succeeds = if succeeds && true then code.Ok else code.RbRollback
 
-end_is : (a : AssocList) (x : Xid) (succeeds : Bool) → is_active a 0 x ≡ true → end_plan a 0 x false succeeds ≡ row T1 (answer_of succeeds) T0
+end_is : (a : AssocList) (x : Xid) (succeeds : Bool) → is_active a 0 x ≡ true
+    → end_plan a 0 x false succeeds ≡ row T1 (answer_of succeeds) T0
 end_is a x succeeds active =
-    ap (λ b. if b then row T1 (answer_of succeeds) T0 else if has_seat a 0 x then row T2 (answer_of succeeds) T0 else Err code.Proto) active
+    ap (λ b. if b then row T1 (answer_of succeeds) T0 else if has_seat a 0 x then row T2 (answer_of succeeds)
+    T0 else Err code.Proto) active
 
-ends_of : (succeeds : Bool) (mid new : States) (x : Xid) (flags : ℕ) (answer : Code) → legal verb.End flags ≡ Ok (end_call succeeds)
-    → mid.init ≡ R1 → x ≢ null_xid → Answers any mid new verb.End 0 x flags answer → Ends mid new 0 x succeeds answer
+ends_of : (succeeds : Bool) (mid new : States) (x : Xid) (flags : ℕ) (answer : Code)
+    → legal verb.End flags ≡ Ok (end_call succeeds)
+    → mid.init ≡ R1 → x ≢ null_xid → Answers any mid new verb.End 0 x flags answer
+    → Ends mid new 0 x succeeds answer
 ends_of true mid new x flags answer is opened named h =
-    (subst (λ (r : Result Call Code). MatchResult r (λ c. Checked any mid new c 0 x answer) (λ refusal. Refuses mid new answer refusal)) is h).does opened named
+    (subst (λ (r : Result Call Code). MatchResult r (λ c. Checked any mid new c 0 x answer)
+    (λ refusal. Refuses mid new answer refusal)) is h).does opened named
 ends_of false mid new x flags answer is opened named h =
-    (subst (λ (r : Result Call Code). MatchResult r (λ c. Checked any mid new c 0 x answer) (λ refusal. Refuses mid new answer refusal)) is h).does opened named
+    (subst (λ (r : Result Call Code). MatchResult r (λ c. Checked any mid new c 0 x answer)
+    (λ refusal. Refuses mid new answer refusal)) is h).does opened named
 
-left_is : (succeeds : Bool) (m : States) (x : Xid) → IsQuiet m.associations → left_state m x (false || not succeeds) ≡ left_after succeeds
+left_is : (succeeds : Bool) (m : States) (x : Xid) → IsQuiet m.associations
+    → left_state m x (false || not succeeds) ≡ left_after succeeds
 left_is true m x quiet = ap (λ b. left_by false b) (none_active m.associations x quiet)
 left_is false m x quiet = refl
 
-walks_end : (base mid new : States) (x : Xid) (succeeds : Bool) (answer : Code) → IsAtWork base mid x → Ends mid new 0 x succeeds answer
-    → Walks mid new 0 x (end_call succeeds) (T1, answer_of succeeds, T0) (left_state new x (false || not succeeds)) answer
+walks_end : (base mid new : States) (x : Xid) (succeeds : Bool) (answer : Code) → IsAtWork base mid x
+    → Ends mid new 0 x succeeds answer
+    → Walks mid new 0 x (end_call succeeds) (T1, answer_of succeeds, T0)
+    (left_state new x (false || not succeeds)) answer
 walks_end base mid new x succeeds answer work h =
-    let at : Reacts mid new 0 x (end_call succeeds) (end_plan mid.associations 0 x false succeeds) (left_state new x (false || not succeeds)) answer =
+    let at : Reacts mid new 0 x (end_call succeeds) (end_plan mid.associations 0 x false succeeds)
+    (left_state new x (false || not succeeds)) answer =
     subst (λ (s : BranchState). ByState s (Refuses mid new answer code.NotA)
-    (λ lost. Reacts mid new 0 x (end_call succeeds) (end_plan mid.associations 0 x lost succeeds) (left_state new x (lost || not succeeds)) answer)
+    (λ lost. Reacts mid new 0 x (end_call succeeds) (end_plan mid.associations 0 x lost succeeds)
+    (left_state new x (lost || not succeeds)) answer)
     (Refuses mid new answer code.Proto)) work.state h in
-    subst (λ (p : Result Row Code). Reacts mid new 0 x (end_call succeeds) p (left_state new x (false || not succeeds)) answer)
+    subst (λ (p : Result Row Code). Reacts mid new 0 x (end_call succeeds) p
+    (left_state new x (false || not succeeds)) answer)
     (end_is mid.associations x succeeds (is_active-T1 mid.associations 0 x work.begins.turns.own)) at
 
 -- a thread at work in a branch ends its work
-pub ended : (base mid new : ManagerSight) (x : Xid) (succeeds : Bool) (flags : ℕ) (answer : Code) → mid.log.failed ≡ false
-    → IsAtWork base.tables mid.tables x → x ≢ null_xid → mid.boot ≡ base.boot → ((y : Xid) → mid.decided y ≡ base.decided y) → legal verb.End flags ≡ Ok (end_call succeeds)
-    → Calls mid new (answer ≡ code.RmFail) (λ m n. Answers any m n verb.End 0 x flags answer) → Comes base new x (left_after succeeds)
+pub ended : (base mid new : ManagerSight) (x : Xid) (succeeds : Bool) (flags : ℕ)
+    (answer : Code) → mid.log.failed ≡ false
+    → IsAtWork base.tables mid.tables x → x ≢ null_xid → mid.boot ≡ base.boot
+    → ((y : Xid) → mid.decided y ≡ base.decided y) → legal verb.End flags ≡ Ok (end_call succeeds)
+    → Calls mid new (answer ≡ code.RmFail) (λ m n. Answers any m n verb.End 0 x flags answer)
+    → Comes base new x (left_after succeeds)
 ended base mid new x succeeds flags answer up work named boot decided is calls =
     let w = walks_end base.tables mid.tables new.tables x succeeds answer work
     (ends_of succeeds mid.tables new.tables x flags answer is work.opened named (calls.works up)) in
-    let quiet = quiet_again base.tables.associations mid.tables.associations new.tables.associations 0 x work.quiet work.begins w.association in
+    let quiet = quiet_again base.tables.associations mid.tables.associations new.tables.associations 0 x
+    work.quiet work.begins w.association in
     record {
       own = w.branch.own ∙ left_is succeeds new.tables x quiet;
       others = λ y apart. w.branch.others y apart ∙ work.others y apart;
@@ -203,15 +243,18 @@ rest_through base mid new f g = record {
 }
 
 -- a branch began
-pub has_begun : (old mid new : ManagerSight) (x : Xid) (start end : Code) → old.log.failed ≡ false → IsIdle old → x ≢ null_xid
+pub has_begun : (old mid new : ManagerSight) (x : Xid) (start end : Code)
+    → old.log.failed ≡ false → IsIdle old → x ≢ null_xid
     → Calls old mid (start ≡ code.RmFail) (λ m n. Answers any m n verb.Start 0 x 0 start) → start ≡ code.Ok
-    → Calls mid new (end ≡ code.RmFail) (λ m n. Answers any m n verb.End 0 x 0x0400_0000 end) → HasBegun old new x true
+    → Calls mid new (end ≡ code.RmFail) (λ m n. Answers any m n verb.End 0 x 0x0400_0000 end)
+    → HasBegun old new x true
 has_begun old mid new x start end up idle named starting ok ending =
     let work = begun old mid x start up idle named starting ok in
     let still = ap (λ (l : LogSight). l.failed) starting.log ∙ up in (
       work.0,
       record {
-        comes = ended old mid new x true 0x0400_0000 end still work.1 named starting.boot starting.rest.decided refl ending;
+        comes = ended old mid new x true 0x0400_0000 end still work.1 named starting.boot
+            starting.rest.decided refl ending;
         log = ending.log ∙ starting.log;
         rest = rest_through old mid new starting.rest ending.rest;
       },
@@ -221,16 +264,20 @@ same_work : (base mid new : States) (x : Xid) → Same mid new → IsAtWork base
 same_work base mid new x stays work = record {
   opened = stays.init ∙ work.opened;
   quiet = work.quiet;
-  begins = subst (λ (a : AssocList). Moves base.associations a 0 x T0 T1) (sym stays.associations) work.begins;
+  begins = subst (λ (a : AssocList). Moves base.associations a 0 x T0 T1)
+      (sym stays.associations) work.begins;
   state = ap (λ (bs : List (Xid × BranchState)). state_in bs x) stays.branches.branches ∙ work.state;
-  others = λ y apart. ap (λ (bs : List (Xid × BranchState)). state_in bs y) stays.branches.branches ∙ work.others y apart;
+  others = λ y apart. ap (λ (bs : List (Xid × BranchState)). state_in bs y)
+      stays.branches.branches ∙ work.others y apart;
 }
 
 -- what is in the way of a branch that thread 0 works in
-refusal_is : (old mid : ManagerSight) (x : Xid) (op : Op) → old.log.failed ≡ false → IsAtWork old.tables mid.tables x
+refusal_is : (old mid : ManagerSight) (x : Xid) (op : Op) → old.log.failed ≡ false
+    → IsAtWork old.tables mid.tables x
     → mid.log ≡ old.log → SameData old mid → work_refusal mid 0 op ≡ old.obstacle x op
 refusal_is old mid x op up work log rest =
-    ap (λ b. if b then Some RmFail else refusal_by mid op (active_of mid.tables.associations 0)) (ap (λ (l : LogSight). l.failed) log ∙ up)
+    ap (λ b. if b then Some RmFail else refusal_by mid op (active_of mid.tables.associations 0))
+    (ap (λ (l : LogSight). l.failed) log ∙ up)
     ∙ ap (refusal_by mid op) work.begins.turns.active
     ∙ ap (λ (s : BranchState). state_refusal s (mid.obstacle x op)) work.state ∙ rest.obstacles x op
 
@@ -243,9 +290,11 @@ refusal_of mid back op Memory other refused = absurd (other refl)
 refusal_of mid back op _ other refused = refused
 
 -- a branch at work did an operation
-module _ (old mid back new : ManagerSight) (x : Xid) (op : Op) (start : Code) (up : old.log.failed ≡ false) (idle : IsIdle old)
+module _ (old mid back new : ManagerSight) (x : Xid) (op : Op) (start : Code)
+    (up : old.log.failed ≡ false) (idle : IsIdle old)
     (named : x ≢ null_xid) (at : state_at old.tables x ≡ S2)
-    (starting : Calls old mid (start ≡ code.RmFail) (λ m n. Answers any m n verb.Start 0 x 0x0020_0000 start)) where
+    (starting : Calls old mid (start ≡ code.RmFail)
+    (λ m n. Answers any m n verb.Start 0 x 0x0020_0000 start)) where
   at_work : IsAtWork old.tables mid.tables x
   at_work = joined old mid x start up idle named at starting
 
@@ -256,34 +305,40 @@ module _ (old mid back new : ManagerSight) (x : Xid) (op : Op) (start : Code) (u
   still_up m log = ap (λ (l : LogSight). l.failed) (log ∙ starting.log) ∙ up
 
   wrote_at : Does mid back 0 op → back.writes x ≡ op_writes (mid.writes x) op
-  wrote_at does = let own = does.own in let b = same_name does.branch x (sym does.active ∙ at_work.begins.turns.active) in
+  wrote_at does = let own = does.own in let b =
+      same_name does.branch x (sym does.active ∙ at_work.begins.turns.active) in
       ap (λ (z : Xid). back.writes z) (sym b) ∙ own ∙ ap (λ (z : Xid). op_writes (mid.writes z) op) b
 
   pub worked : (end : Code) → Does mid back 0 op
-      → Calls back new (end ≡ code.RmFail) (λ m n. Answers any m n verb.End 0 x 0x0400_0000 end) → Works old new x op true
+      → Calls back new (end ≡ code.RmFail) (λ m n. Answers any m n verb.End 0 x 0x0400_0000 end)
+      → Works old new x op true
   worked end does ending =
       let b : does.branch ≡ x = same_name does.branch x (sym does.active ∙ at_work.begins.turns.active) in
       record {
         allowed = ap is_none (sym in_way ∙ does.allowed);
         comes = ended old back new x true 0x0400_0000 end (still_up back does.log)
-            (same_work old.tables mid.tables back.tables x does.tables at_work) named (does.boot ∙ starting.boot)
+            (same_work old.tables mid.tables back.tables x does.tables at_work)
+            named (does.boot ∙ starting.boot)
             (λ y. does.decided y ∙ starting.rest.decided y) refl ending;
         log = ending.log ∙ does.log ∙ starting.log;
         wrote = record {
-          own = ending.rest.writes x ∙ wrote_at does ∙ ap (λ (ws : List Write). op_writes ws op) (starting.rest.writes x);
+          own = ending.rest.writes x ∙ wrote_at does
+              ∙ ap (λ (ws : List Write). op_writes ws op) (starting.rest.writes x);
           others = λ y apart. ending.rest.writes y
               ∙ does.others y (ap (λ (z : Xid). same z y) b ∙ apart) ∙ starting.rest.writes y;
         };
       }
 
   pub spoiled : (end : Code) (e : WorkError) → e ≢ Memory → WorkRefused mid back 0 op e
-      → Calls back new (end ≡ code.RmFail) (λ m n. Answers any m n verb.End 0 x 0x2000_0000 end) → Works old new x op false
+      → Calls back new (end ≡ code.RmFail) (λ m n. Answers any m n verb.End 0 x 0x2000_0000 end)
+      → Works old new x op false
   spoiled end e other refused ending =
       let why = refusal_of mid back op e other refused in
       record {
         allowed = ap is_none (sym in_way ∙ why.0);
         comes = ended old back new x false 0x2000_0000 end (still_up back why.1.log)
-            (same_work old.tables mid.tables back.tables x why.1.tables at_work) named (why.1.boot ∙ starting.boot)
+            (same_work old.tables mid.tables back.tables x why.1.tables at_work) named
+            (why.1.boot ∙ starting.boot)
             (λ y. why.1.rest.decided y ∙ starting.rest.decided y) refl ending;
         log = ending.log ∙ why.1.log ∙ starting.log;
         wrote = record {
@@ -293,10 +348,12 @@ module _ (old mid back new : ManagerSight) (x : Xid) (op : Op) (start : Code) (u
       }
 
   pub wanting : (end : Code) → SameManager mid back
-      → Calls back new (end ≡ code.RmFail) (λ m n. Answers any m n verb.End 0 x 0x0400_0000 end) → Idles old new x
+      → Calls back new (end ≡ code.RmFail) (λ m n. Answers any m n verb.End 0 x 0x0400_0000 end)
+      → Idles old new x
   wanting end stays ending = record {
     comes = ended old back new x true 0x0400_0000 end (still_up back stays.log)
-        (same_work old.tables mid.tables back.tables x stays.tables at_work) named (stays.boot ∙ starting.boot)
+        (same_work old.tables mid.tables back.tables x stays.tables at_work) named
+        (stays.boot ∙ starting.boot)
         (λ y. stays.rest.decided y ∙ starting.rest.decided y) refl ending;
     log = ending.log ∙ stays.log ∙ starting.log;
     writes = λ y. ending.rest.writes y ∙ stays.rest.writes y ∙ starting.rest.writes y;

@@ -19,11 +19,13 @@ use Rattle.sub_restart.specs.Rebuilt.{leaf}
 use Rattle.sub_restart.proofs.Reading.{own_append}
 use Rattle.sub_restart.proofs.Rebuilding.{same_flat}
 
-boot_mark : (rs : List Record) (n : ℕ) (c : Case) → mark_of (CaseBranch c) (rs ++ Opened n ∷ []) ≡ mark_of (CaseBranch c) rs
+boot_mark : (rs : List Record) (n : ℕ) (c : Case)
+    → mark_of (CaseBranch c) (rs ++ Opened n ∷ []) ≡ mark_of (CaseBranch c) rs
 unfolding mark_of
 boot_mark rs n c = fold-append _ _ rs (Opened n ∷ [])
 
-pub boot_branch : (rs : List Record) (n : ℕ) (c : Case) → recorded_branch (rs ++ Opened n ∷ []) c ≡ recorded_branch rs c
+pub boot_branch : (rs : List Record) (n : ℕ) (c : Case)
+    → recorded_branch (rs ++ Opened n ∷ []) c ≡ recorded_branch rs c
 unfolding recorded_branch
 boot_branch rs n c = ap (marked_branch fresh_memory) (boot_mark rs n c)
 
@@ -48,7 +50,8 @@ unfolding own_records
 alone me p tree n = refl
 
 pub boot_read : (me p : ProcessId) (tree : List TreeEntry) (ls : List LogRecord) (n : ℕ)
-    → own_records (leaf me p tree) (ls ++ record { entry = Opened n; parent = None } ∷ []) ≡ own_records (leaf me p tree) ls ++ Opened n ∷ []
+    → own_records (leaf me p tree) (ls ++ record { entry = Opened n; parent = None } ∷ [])
+    ≡ own_records (leaf me p tree) ls ++ Opened n ∷ []
 boot_read me p tree ls n =
     own_append (leaf me p tree) ls (record { entry = Opened n; parent = None } ∷ [])
     ∙ ap (λ rs. own_records (leaf me p tree) ls ++ rs) (alone me p tree n)

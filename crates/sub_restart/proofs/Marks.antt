@@ -33,7 +33,8 @@ by_xid l = named_by l.parent (record_branch l.entry) l.entry
 case_is_one : (c d : Case) → CaseBranch c ≡ CaseBranch d → c ≡ d
 case_is_one c d e = cc
 
-module _ (me p : ProcessId) (tree : List TreeEntry) (c : Case) (own : is_own (leaf me p tree) (Some p) c ≡ true) (reads : NameReads (Some p) (CaseBranch c)) where
+module _ (me p : ProcessId) (tree : List TreeEntry) (c : Case)
+    (own : is_own (leaf me p tree) (Some p) c ≡ true) (reads : NameReads (Some p) (CaseBranch c)) where
   abbrev x : Xid
   x = name_xid (Some p) (CaseBranch c)
 
@@ -48,55 +49,69 @@ module _ (me p : ProcessId) (tree : List TreeEntry) (c : Case) (own : is_own (le
       below h = grind (arith, common_steps)
 
   -- a name that is not the case's has another XID
-  apart : (q : Option ProcessId) (b : Branch) → NameReads q b → (◌≡◌ {A = Name} (q, b) (Some p, CaseBranch c) → ⊥) → same_xid (name_xid q b) x ≡ false
+  apart : (q : Option ProcessId) (b : Branch) → NameReads q b
+      → (◌≡◌ {A = Name} (q, b) (Some p, CaseBranch c) → ⊥) → same_xid (name_xid q b) x ≡ false
   apart q b h differs = by_test (same_xid (name_xid q b) x) refl
     where
       by_test : (t : Bool) → same_xid (name_xid q b) x ≡ t → t ≡ false
       by_test false e = refl
       by_test true e = absurd (differs (sym h ∙ ap name_in (same_xid_is (name_xid q b) x e) ∙ reads))
 
-  itself : (q : Option ProcessId) (b : Branch) → ◌≡◌ {A = Name} (q, b) (Some p, CaseBranch c) → same_xid (name_xid q b) x ≡ true
+  itself : (q : Option ProcessId) (b : Branch) → ◌≡◌ {A = Name} (q, b) (Some p, CaseBranch c)
+      → same_xid (name_xid q b) x ≡ true
   itself q b e = ap (λ (n : Name). same_xid (name_xid n.0 n.1) x) e ∙ same_xid_refl x
 
-  alike : (q : Option ProcessId) (b : Branch) → NameReads q b → same_xid (name_xid q b) x ≡ is_it (own_case (leaf me p tree) q b) c
+  alike : (q : Option ProcessId) (b : Branch) → NameReads q b
+      → same_xid (name_xid q b) x ≡ is_it (own_case (leaf me p tree) q b) c
   alike q (Foreign y) h = apart q (Foreign y) h (λ e. other (ap (λ (n : Name). n.1) e))
     where
       other : Foreign y ≡ CaseBranch c → ⊥
       other e = absurd (cc)
   alike q (CaseBranch d) h = by_own (is_own (leaf me p tree) q d) refl
     where
-      by_case : is_own (leaf me p tree) q d ≡ true → (t : Bool) → same_case d c ≡ t → same_xid (name_xid q (CaseBranch d)) x ≡ t
+      by_case : is_own (leaf me p tree) q d ≡ true → (t : Bool) → same_case d c ≡ t
+          → same_xid (name_xid q (CaseBranch d)) x ≡ t
       by_case is true e = itself q (CaseBranch d) (λ i. (under q d is i, CaseBranch ((case_tells d c).0 e i)))
-      by_case is false e = apart q (CaseBranch d) h (λ f. differs (case_is_one d c (ap (λ (n : Name). n.1) f)))
+      by_case is false e = apart q (CaseBranch d) h
+          (λ f. differs (case_is_one d c (ap (λ (n : Name). n.1) f)))
         where
           differs : d ≡ c → ⊥
           differs f = absurd (let g : same_case d c ≡ true = (case_tells d c).1 f in cc)
 
-      by_own : (t : Bool) → is_own (leaf me p tree) q d ≡ t → same_xid (name_xid q (CaseBranch d)) x ≡ is_it (cond t (Some d) None) c
+      by_own : (t : Bool) → is_own (leaf me p tree) q d ≡ t
+          → same_xid (name_xid q (CaseBranch d)) x ≡ is_it (cond t (Some d) None) c
       by_own true is = by_case is (same_case d c) refl
       by_own false is = apart q (CaseBranch d) h (λ f. differs f)
         where
           differs : ◌≡◌ {A = Name} (q, CaseBranch d) (Some p, CaseBranch c) → ⊥
-          differs f = absurd (let g : is_own (leaf me p tree) q d ≡ true = ap (λ r. is_own (leaf me p tree) r d) (ap (λ (n : Name). n.0) f)
-              ∙ ap (is_own (leaf me p tree) (Some p)) (case_is_one d c (ap (λ (n : Name). n.1) f)) ∙ own in cc)
+          differs f = absurd (let g : is_own (leaf me p tree) q d
+              ≡ true = ap (λ r. is_own (leaf me p tree) r d) (ap (λ (n : Name). n.0) f)
+              ∙ ap (is_own (leaf me p tree) (Some p))
+              (case_is_one d c (ap (λ (n : Name). n.1) f)) ∙ own in cc)
 
   branch_alike : (q : Option ProcessId) (b : Branch) → NameReads q b
-      → same_branch (read_name (leaf me p tree) q b) (CaseBranch c) ≡ same_branch (Foreign (name_xid q b)) (Foreign x)
+      → same_branch (read_name (leaf me p tree) q b) (CaseBranch c)
+      ≡ same_branch (Foreign (name_xid q b)) (Foreign x)
   unfolding same_branch
   branch_alike q b h = read_is (leaf me p tree) q b c ∙ sym (alike q b h)
 
   -- what one record of a branch makes of the mark
-  marked : (r : Branch → Record) (q : Option ProcessId) (b : Branch) (v m : Mark) → NameReads q b → ((c d : Branch) → renamed d (r c) ≡ r d)
-      → ((c : Branch) → record_case (r c) ≡ branch_case c) → ((c d : Branch) (m : Mark) → mark_after d m (r c) ≡ cond (same_branch c d) v m)
-      → fold (mark_after (CaseBranch c)) m (own_records (leaf me p tree) (record { entry = r b; parent = q } ∷ []))
+  marked : (r : Branch → Record) (q : Option ProcessId) (b : Branch) (v m : Mark) → NameReads q b
+      → ((c d : Branch) → renamed d (r c) ≡ r d)
+      → ((c : Branch) → record_case (r c) ≡ branch_case c)
+      → ((c d : Branch) (m : Mark) → mark_after d m (r c) ≡ cond (same_branch c d) v m)
+      → fold (mark_after (CaseBranch c)) m (own_records (leaf me p tree)
+      (record { entry = r b; parent = q } ∷ []))
       ≡ mark_after (Foreign x) m (renamed (Foreign (name_xid q b)) (r b))
   marked r q b v m h names case marks =
       ap (fold (mark_after (CaseBranch c)) m) (read_as me p tree r q b names case)
       ∙ marks (read_name (leaf me p tree) q b) (CaseBranch c) m ∙ ap (λ t. cond t v m) (branch_alike q b h)
-      ∙ sym (marks (Foreign (name_xid q b)) (Foreign x) m) ∙ ap (mark_after (Foreign x) m) (sym (names b (Foreign (name_xid q b))))
+      ∙ sym (marks (Foreign (name_xid q b)) (Foreign x) m)
+      ∙ ap (mark_after (Foreign x) m) (sym (names b (Foreign (name_xid q b))))
 
   one_marked : (r : Record) (q : Option ProcessId) (m : Mark) → ReadsBack (record { entry = r; parent = q })
-      → fold (mark_after (CaseBranch c)) m (own_records (leaf me p tree) (record { entry = r; parent = q } ∷ []))
+      → fold (mark_after (CaseBranch c)) m (own_records (leaf me p tree)
+      (record { entry = r; parent = q } ∷ []))
       ≡ mark_after (Foreign x) m (named_by q (record_branch r) r)
   unfolding own_records
   one_marked (Opened n) q m h = refl
@@ -104,91 +119,115 @@ module _ (me p : ProcessId) (tree : List TreeEntry) (c : Case) (own : is_own (le
   one_marked (Pair k v) q m h = refl
   one_marked (Collecting d ts) q m h = by_own (is_own (leaf me p tree) q d)
     where
-      by_own : (t : Bool) → fold (mark_after (CaseBranch c)) m (cond t (Collecting d ts ∷ []) (foreign_to (AtLeaf p) q d (Collecting d ts)) ++ []) ≡ m
+      by_own : (t : Bool) → fold (mark_after (CaseBranch c)) m
+          (cond t (Collecting d ts ∷ []) (foreign_to (AtLeaf p) q d (Collecting d ts)) ++ []) ≡ m
       by_own true = refl
       by_own false = refl
   one_marked (Prepare d ts) q m h = by_own (is_own (leaf me p tree) q d)
     where
-      by_own : (t : Bool) → fold (mark_after (CaseBranch c)) m (cond t (Prepare d ts ∷ []) (foreign_to (AtLeaf p) q d (Prepare d ts)) ++ []) ≡ m
+      by_own : (t : Bool) → fold (mark_after (CaseBranch c)) m
+          (cond t (Prepare d ts ∷ []) (foreign_to (AtLeaf p) q d (Prepare d ts)) ++ []) ≡ m
       by_own true = refl
       by_own false = refl
   one_marked (Commit d ts) q m h = by_own (is_own (leaf me p tree) q d)
     where
-      by_own : (t : Bool) → fold (mark_after (CaseBranch c)) m (cond t (Commit d ts ∷ []) (foreign_to (AtLeaf p) q d (Commit d ts)) ++ []) ≡ m
+      by_own : (t : Bool) → fold (mark_after (CaseBranch c)) m
+          (cond t (Commit d ts ∷ []) (foreign_to (AtLeaf p) q d (Commit d ts)) ++ []) ≡ m
       by_own true = refl
       by_own false = refl
   one_marked (Abort d ts) q m h = by_own (is_own (leaf me p tree) q d)
     where
-      by_own : (t : Bool) → fold (mark_after (CaseBranch c)) m (cond t (Abort d ts ∷ []) (foreign_to (AtLeaf p) q d (Abort d ts)) ++ []) ≡ m
+      by_own : (t : Bool) → fold (mark_after (CaseBranch c)) m
+          (cond t (Abort d ts ∷ []) (foreign_to (AtLeaf p) q d (Abort d ts)) ++ []) ≡ m
       by_own true = refl
       by_own false = refl
   one_marked (End d) q m h = by_own (is_own (leaf me p tree) q d)
     where
-      by_own : (t : Bool) → fold (mark_after (CaseBranch c)) m (cond t (End d ∷ []) (foreign_to (AtLeaf p) q d (End d)) ++ []) ≡ m
+      by_own : (t : Bool) → fold (mark_after (CaseBranch c)) m
+          (cond t (End d ∷ []) (foreign_to (AtLeaf p) q d (End d)) ++ []) ≡ m
       by_own true = refl
       by_own false = refl
-  one_marked (Prepared b ws) q m h = marked (λ c. Prepared c ws) q b Promised m h (λ c d. refl) (λ c. refl) (λ c d m. refl)
+  one_marked (Prepared b ws) q m h = marked (λ c. Prepared c ws) q b Promised m h
+      (λ c d. refl) (λ c. refl) (λ c d m. refl)
   one_marked (Committed b) q m h = marked Committed q b Finished m h (λ c d. refl) (λ c. refl) (λ c d m. refl)
-  one_marked (RolledBack b) q m h = marked RolledBack q b Finished m h (λ c d. refl) (λ c. refl) (λ c d m. refl)
-  one_marked (Direct b ws) q m h = marked (λ c. Direct c ws) q b Finished m h (λ c d. refl) (λ c. refl) (λ c d m. refl)
-  one_marked (HeurCommit b) q m h = marked HeurCommit q b Decided m h (λ c d. refl) (λ c. refl) (λ c d m. refl)
-  one_marked (HeurRollback b) q m h = marked HeurRollback q b Decided m h (λ c d. refl) (λ c. refl) (λ c d m. refl)
-  one_marked (Told b o) q m h = marked (λ c. Told c o) q b (ToldOf o) m h (λ c d. refl) (λ c. refl) (λ c d m. refl)
+  one_marked (RolledBack b) q m h = marked RolledBack q b Finished m h
+      (λ c d. refl) (λ c. refl) (λ c d m. refl)
+  one_marked (Direct b ws) q m h = marked (λ c. Direct c ws) q b Finished m h
+      (λ c d. refl) (λ c. refl) (λ c d m. refl)
+  one_marked (HeurCommit b) q m h = marked HeurCommit q b Decided m h
+      (λ c d. refl) (λ c. refl) (λ c d m. refl)
+  one_marked (HeurRollback b) q m h = marked HeurRollback q b Decided m h
+      (λ c d. refl) (λ c. refl) (λ c d m. refl)
+  one_marked (Told b o) q m h = marked (λ c. Told c o) q b (ToldOf o) m h
+      (λ c d. refl) (λ c. refl) (λ c d m. refl)
   one_marked (Forgot b) q m h = marked Forgot q b Finished m h (λ c d. refl) (λ c. refl) (λ c d m. refl)
 
   marks_from : (ls : List LogRecord) (m : Mark) → AllByRecursion ReadsBack ls
-      → fold (mark_after (CaseBranch c)) m (own_records (leaf me p tree) ls) ≡ fold (mark_after (Foreign x)) m (map by_xid ls)
+      → fold (mark_after (CaseBranch c)) m (own_records (leaf me p tree) ls)
+      ≡ fold (mark_after (Foreign x)) m (map by_xid ls)
   unfolding own_records
   marks_from [] m h = refl
   marks_from (l ∷ ls) m h =
       ap (fold (mark_after (CaseBranch c)) m) (own_append (leaf me p tree) (l ∷ []) ls)
-      ∙ fold-append (mark_after (CaseBranch c)) m (own_records (leaf me p tree) (l ∷ [])) (own_records (leaf me p tree) ls)
-      ∙ ap (λ v. fold (mark_after (CaseBranch c)) v (own_records (leaf me p tree) ls)) (one_marked l.entry l.parent m h.0)
+      ∙ fold-append (mark_after (CaseBranch c)) m (own_records (leaf me p tree) (l ∷ []))
+      (own_records (leaf me p tree) ls)
+      ∙ ap (λ v. fold (mark_after (CaseBranch c)) v (own_records (leaf me p tree) ls))
+      (one_marked l.entry l.parent m h.0)
       ∙ marks_from ls (mark_after (Foreign x) m (by_xid l)) h.1
 
   -- what the records say of the case is what they say of its XID
   pub marks_alike : (ls : List LogRecord) → AllByRecursion ReadsBack ls
-      → mark_of (Foreign (name_xid (Some p) (CaseBranch c))) (map by_xid ls) ≡ mark_of (CaseBranch c) (own_records (leaf me p tree) ls)
+      → mark_of (Foreign (name_xid (Some p) (CaseBranch c))) (map by_xid ls)
+      ≡ mark_of (CaseBranch c) (own_records (leaf me p tree) ls)
   unfolding mark_of
   marks_alike ls h = sym (marks_from ls Unmarked h)
 
 -- the boot is that of the records as the process reads them
 module _ (me p : ProcessId) (tree : List TreeEntry) where
-  named_boot : (r : Branch → Record) (q : Option ProcessId) (b : Branch) (n : ℕ) → ((c d : Branch) → renamed d (r c) ≡ r d)
+  named_boot : (r : Branch → Record) (q : Option ProcessId) (b : Branch) (n : ℕ)
+      → ((c d : Branch) → renamed d (r c) ≡ r d)
       → ((c : Branch) → record_case (r c) ≡ branch_case c) → ((c : Branch) (n : ℕ) → boot_after n (r c) ≡ n)
-      → fold boot_after n (own_records (leaf me p tree) (record { entry = r b; parent = q } ∷ [])) ≡ boot_after n (r b)
+      → fold boot_after n (own_records (leaf me p tree)
+      (record { entry = r b; parent = q } ∷ [])) ≡ boot_after n (r b)
   named_boot r q b n names case stays =
-      ap (fold boot_after n) (read_as me p tree r q b names case) ∙ stays (read_name (leaf me p tree) q b) n ∙ sym (stays b n)
+      ap (fold boot_after n) (read_as me p tree r q b names case)
+      ∙ stays (read_name (leaf me p tree) q b) n ∙ sym (stays b n)
 
   one_boot : (r : Record) (q : Option ProcessId) (n : ℕ)
-      → fold boot_after n (own_records (leaf me p tree) (record { entry = r; parent = q } ∷ [])) ≡ boot_after n r
+      → fold boot_after n (own_records (leaf me p tree)
+      (record { entry = r; parent = q } ∷ [])) ≡ boot_after n r
   unfolding own_records
   one_boot (Opened k) q n = refl
   one_boot (Base k) q n = refl
   one_boot (Pair k v) q n = refl
   one_boot (Collecting d ts) q n = by_own (is_own (leaf me p tree) q d)
     where
-      by_own : (t : Bool) → fold boot_after n (cond t (Collecting d ts ∷ []) (foreign_to (AtLeaf p) q d (Collecting d ts)) ++ []) ≡ n
+      by_own : (t : Bool) → fold boot_after n
+          (cond t (Collecting d ts ∷ []) (foreign_to (AtLeaf p) q d (Collecting d ts)) ++ []) ≡ n
       by_own true = refl
       by_own false = refl
   one_boot (Prepare d ts) q n = by_own (is_own (leaf me p tree) q d)
     where
-      by_own : (t : Bool) → fold boot_after n (cond t (Prepare d ts ∷ []) (foreign_to (AtLeaf p) q d (Prepare d ts)) ++ []) ≡ n
+      by_own : (t : Bool) → fold boot_after n
+          (cond t (Prepare d ts ∷ []) (foreign_to (AtLeaf p) q d (Prepare d ts)) ++ []) ≡ n
       by_own true = refl
       by_own false = refl
   one_boot (Commit d ts) q n = by_own (is_own (leaf me p tree) q d)
     where
-      by_own : (t : Bool) → fold boot_after n (cond t (Commit d ts ∷ []) (foreign_to (AtLeaf p) q d (Commit d ts)) ++ []) ≡ n
+      by_own : (t : Bool) → fold boot_after n
+          (cond t (Commit d ts ∷ []) (foreign_to (AtLeaf p) q d (Commit d ts)) ++ []) ≡ n
       by_own true = refl
       by_own false = refl
   one_boot (Abort d ts) q n = by_own (is_own (leaf me p tree) q d)
     where
-      by_own : (t : Bool) → fold boot_after n (cond t (Abort d ts ∷ []) (foreign_to (AtLeaf p) q d (Abort d ts)) ++ []) ≡ n
+      by_own : (t : Bool) → fold boot_after n
+          (cond t (Abort d ts ∷ []) (foreign_to (AtLeaf p) q d (Abort d ts)) ++ []) ≡ n
       by_own true = refl
       by_own false = refl
   one_boot (End d) q n = by_own (is_own (leaf me p tree) q d)
     where
-      by_own : (t : Bool) → fold boot_after n (cond t (End d ∷ []) (foreign_to (AtLeaf p) q d (End d)) ++ []) ≡ n
+      by_own : (t : Bool) → fold boot_after n
+          (cond t (End d ∷ []) (foreign_to (AtLeaf p) q d (End d)) ++ []) ≡ n
       by_own true = refl
       by_own false = refl
   one_boot (Prepared b ws) q n = named_boot (λ c. Prepared c ws) q b n (λ c d. refl) (λ c. refl) (λ c n. refl)
@@ -200,7 +239,8 @@ module _ (me p : ProcessId) (tree : List TreeEntry) where
   one_boot (Told b o) q n = named_boot (λ c. Told c o) q b n (λ c d. refl) (λ c. refl) (λ c n. refl)
   one_boot (Forgot b) q n = named_boot Forgot q b n (λ c d. refl) (λ c. refl) (λ c n. refl)
 
-  boots_from : (ls : List LogRecord) (n : ℕ) → fold boot_after n (own_records (leaf me p tree) ls) ≡ fold boot_after n (map (λ l. l.entry) ls)
+  boots_from : (ls : List LogRecord) (n : ℕ) → fold boot_after n (own_records (leaf me p tree) ls)
+      ≡ fold boot_after n (map (λ l. l.entry) ls)
   unfolding own_records
   boots_from [] n = refl
   boots_from (l ∷ ls) n =
@@ -209,6 +249,7 @@ module _ (me p : ProcessId) (tree : List TreeEntry) where
       ∙ ap (λ k. fold boot_after k (own_records (leaf me p tree) ls)) (one_boot l.entry l.parent n)
       ∙ boots_from ls (boot_after n l.entry)
 
-  pub boots_alike : (ls : List LogRecord) → boot_of (own_records (leaf me p tree) ls) ≡ boot_of (map (λ l. l.entry) ls)
+  pub boots_alike : (ls : List LogRecord) → boot_of (own_records (leaf me p tree) ls)
+      ≡ boot_of (map (λ l. l.entry) ls)
   unfolding boot_of
   boots_alike ls = boots_from ls 0

@@ -17,7 +17,8 @@ use Rattle.sub_restart.specs.Rebuilt.{Leaves, Rebuilds, asks, asks_by, branch_le
 use Rattle.sub_restart.proofs.Steps.{more_own}
 
 -- how a case stands
-view_left : (p : ProcessId) (c : Case) (m : Mark) → kept_view (branch_left p c m) ≡ marked_branch fresh_memory m
+view_left : (p : ProcessId) (c : Case) (m : Mark)
+    → kept_view (branch_left p c m) ≡ marked_branch fresh_memory m
 view_left p c Unmarked = refl
 view_left p c Promised = refl
 view_left p c Finished = refl
@@ -26,14 +27,16 @@ view_left p c (ToldOf o) = refl
 
 -- what is asked about it
 asked_left : (me p : ProcessId) (c : Case) (m : Mark)
-    → asks_by me p c (branch_left p c m) ≡ inquires_by me p c (marked_branch fresh_memory m) (marked_branch fresh_memory m).standing
+    → asks_by me p c (branch_left p c m) ≡ inquires_by me p c (marked_branch fresh_memory m)
+    (marked_branch fresh_memory m).standing
 asked_left me p c Unmarked = refl
 asked_left me p c Promised = refl
 asked_left me p c Finished = refl
 asked_left me p c Decided = refl
 asked_left me p c (ToldOf o) = refl
 
-pub same_flat : (f g : Case → List Envelope) → ((c : Case) → f c ≡ g c) → (cs : List Case) → flat_map f cs ≡ flat_map g cs
+pub same_flat : (f g : Case → List Envelope) → ((c : Case) → f c ≡ g c) → (cs : List Case)
+    → flat_map f cs ≡ flat_map g cs
 same_flat f g same [] = refl
 same_flat f g same (c ∷ cs) = λ i. same c i ++ same_flat f g same cs i
 
@@ -44,9 +47,11 @@ module _ (place : Place) (p : ProcessId) (ls : List LogRecord) (s : Cases) (left
 
   asked : (c : Case) → asks place.me p s.branches c ≡ manager_resumes place.me p (own_records place ls) c
   unfolding recorded_branch
-  asked c = ap (asks_by place.me p c) (left.branches c) ∙ asked_left place.me p c (mark_of (CaseBranch c) (own_records place ls))
+  asked c = ap (asks_by place.me p c) (left.branches c)
+      ∙ asked_left place.me p c (mark_of (CaseBranch c) (own_records place ls))
 
-  pub rebuilds : (messages : List Envelope) → messages ≡ flat_map (asks place.me p s.branches) s.order.keys → s.newest ≤ s.boot → s.boot + 1 < 2 ^ 63
+  pub rebuilds : (messages : List Envelope) → messages ≡ flat_map (asks place.me p s.branches) s.order.keys
+      → s.newest ≤ s.boot → s.boot + 1 < 2 ^ 63
       → Rebuilds place p ls (record { branches = s.branches; messages = messages; boot = s.boot })
   rebuilds messages sent within room = record {
     reads = left.reads;
@@ -58,6 +63,7 @@ module _ (place : Place) (p : ProcessId) (ls : List LogRecord) (s : Cases) (left
       own = more_own place p s.newest s.boot c within (left.live c b e);
       kept = sym (left.branches c) ∙ e;
     };
-    messages = sent ∙ same_flat (asks place.me p s.branches) (manager_resumes place.me p (own_records place ls)) asked s.order.keys
+    messages = sent ∙ same_flat (asks place.me p s.branches)
+        (manager_resumes place.me p (own_records place ls)) asked s.order.keys
         ∙ ap (flat_map (manager_resumes place.me p (own_records place ls))) left.order;
   }

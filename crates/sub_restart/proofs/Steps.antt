@@ -31,13 +31,15 @@ one c d e = (case_tells c d).0 e
 some_same : {A : Type 0} (a b : A) → Some a ≡ Some b → a ≡ b
 some_same a b e = cc
 
-all_more : {A : Type 0} (P : A → Type 0) (xs : List A) (x : A) → AllByRecursion P xs → P x → AllByRecursion P (xs ++ x ∷ [])
+all_more : {A : Type 0} (P : A → Type 0) (xs : List A) (x : A) → AllByRecursion P xs → P x
+    → AllByRecursion P (xs ++ x ∷ [])
 all_more P [] x all own = (own, tt)
 all_more P (y ∷ ys) x all own = (all.0, all_more P ys x all.1 own)
 
 -- Lists with one record more.
 
-mark_more : (b : AnyBranch) (rs : List Record) (r : Record) → mark_of b (rs ++ r ∷ []) ≡ mark_after b (mark_of b rs) r
+mark_more : (b : AnyBranch) (rs : List Record) (r : Record)
+    → mark_of b (rs ++ r ∷ []) ≡ mark_after b (mark_of b rs) r
 unfolding mark_of
 mark_more b rs r = fold-append _ _ rs (r ∷ [])
 
@@ -49,7 +51,8 @@ cases_more : (rs : List Record) (r : Record) → cases_in (rs ++ r ∷ []) ≡ w
 unfolding cases_in
 cases_more rs r = fold-append _ _ rs (r ∷ [])
 
-module _ (place : Place) (p : ProcessId) (ls : List LogRecord) (l : LogRecord) (o : Option Case) (x : Mark → Mark) (reads : One place l o x) where
+module _ (place : Place) (p : ProcessId) (ls : List LogRecord) (l : LogRecord) (o : Option Case)
+    (x : Mark → Mark) (reads : One place l o x) where
   rs : List Record
   rs = own_records place ls
 
@@ -57,21 +60,25 @@ module _ (place : Place) (p : ProcessId) (ls : List LogRecord) (l : LogRecord) (
   behind = own_append place ls (l ∷ []) ∙ ap (λ t. own_records place ls ++ t) reads.is
 
   marked : (c : Case) → mark_of (CaseBranch c) (own_records place (ls ++ l ∷ []))
-      ≡ cond (is_it o c) (x (mark_of (CaseBranch c) (own_records place ls))) (mark_of (CaseBranch c) (own_records place ls))
+      ≡ cond (is_it o c) (x (mark_of (CaseBranch c) (own_records place ls)))
+      (mark_of (CaseBranch c) (own_records place ls))
   marked c = ap (mark_of (CaseBranch c)) behind ∙ mark_more (CaseBranch c) (own_records place ls) reads.read
       ∙ reads.marks c (mark_of (CaseBranch c) (own_records place ls))
 
-  pub leaves_more : (old new : Cases) → Leaves place p ls old → ReadsBack l → new.boot ≡ boot_after old.boot l.entry
+  pub leaves_more : (old new : Cases) → Leaves place p ls old → ReadsBack l
+      → new.boot ≡ boot_after old.boot l.entry
       → new.order.keys ≡ with_case old.order.keys o → ((d : Case) → ticket_in new.branches d ≡ None)
       → ((c : Case) → branch_in new.branches c
-      ≡ cond (is_it o c) (branch_left p c (x (mark_of (CaseBranch c) (own_records place ls)))) (branch_in old.branches c))
+      ≡ cond (is_it o c) (branch_left p c (x (mark_of (CaseBranch c) (own_records place ls))))
+      (branch_in old.branches c))
       → ((c : Case) (b : Branch) → branch_in new.branches c ≡ Some b → IsOwn place p new.newest c)
       → Leaves place p (ls ++ l ∷ []) new
   leaves_more old new left back boot order tickets branches live = record {
     reads = all_more ReadsBack ls l left.reads back;
     boot = boot ∙ ap (λ n. boot_after n l.entry) left.boot ∙ sym (reads.boot (boot_of (own_records place ls)))
         ∙ sym (boot_more (own_records place ls) reads.read) ∙ ap boot_of (sym behind);
-    order = order ∙ ap (λ cs. with_case cs o) left.order ∙ ap (with_case (cases_in (own_records place ls))) (sym reads.case)
+    order = order ∙ ap (λ cs. with_case cs o) left.order
+        ∙ ap (with_case (cases_in (own_records place ls))) (sym reads.case)
         ∙ sym (cases_more (own_records place ls) reads.read) ∙ ap cases_in (sym behind);
     tickets = tickets;
     branches = λ c. branches c ∙ by_branch c (is_it o c) ∙ ap (branch_left p c) (sym (marked c));
@@ -79,8 +86,10 @@ module _ (place : Place) (p : ProcessId) (ls : List LogRecord) (l : LogRecord) (
   }
     where
       by_branch : (c : Case) (t : Bool)
-          → cond t (branch_left p c (x (mark_of (CaseBranch c) (own_records place ls)))) (branch_in old.branches c)
-          ≡ branch_left p c (cond t (x (mark_of (CaseBranch c) (own_records place ls))) (mark_of (CaseBranch c) (own_records place ls)))
+          → cond t (branch_left p c (x (mark_of (CaseBranch c) (own_records place ls))))
+          (branch_in old.branches c)
+          ≡ branch_left p c (cond t (x (mark_of (CaseBranch c) (own_records place ls)))
+          (mark_of (CaseBranch c) (own_records place ls)))
       by_branch c true = refl
       by_branch c false = left.branches c
 
@@ -91,25 +100,34 @@ abbrev pub mark_told : Option Outcome → Mark
 mark_told None = Decided
 mark_told (Some o) = ToldOf o
 
-left_told : (p : ProcessId) (c : Case) (told : Option Outcome) → Some (kept_at p c (Heuristic told)) ≡ branch_left p c (mark_told told)
+left_told : (p : ProcessId) (c : Case) (told : Option Outcome)
+    → Some (kept_at p c (Heuristic told)) ≡ branch_left p c (mark_told told)
 left_told p c None = refl
 left_told p c (Some o) = refl
 
 -- a case is kept under its own XID
-pub left_xid : (p : ProcessId) (c : Case) (b : Branch) (m : Mark) → branch_left p c m ≡ Some b → b.xid ≡ name_xid (Some p) (CaseBranch c)
+pub left_xid : (p : ProcessId) (c : Case) (b : Branch) (m : Mark) → branch_left p c m ≡ Some b
+    → b.xid ≡ name_xid (Some p) (CaseBranch c)
 left_xid p c b Unmarked e = absurd (cc)
 left_xid p c b Finished e = absurd (cc)
 left_xid p c b Promised e = ap (λ (v : Branch). v.xid) (sym (some_same (kept_at p c Prepared) b e))
 left_xid p c b Decided e = ap (λ (v : Branch). v.xid) (sym (some_same (kept_at p c (Heuristic None)) b e))
-left_xid p c b (ToldOf o) e = ap (λ (v : Branch). v.xid) (sym (some_same (kept_at p c (Heuristic (Some o))) b e))
+left_xid p c b (ToldOf o) e = ap (λ (v : Branch). v.xid)
+    (sym (some_same (kept_at p c (Heuristic (Some o))) b e))
 
 -- What is live.
 
 more_given : (a b : ℕ) (c : Case) → a ≤ b → IsGivenBy a c → IsGivenBy b c
-more_given a b c grows g = let within = g.within in record { ticket = g.ticket; has = g.has; within = omega arith }
+more_given a b c grows g = let within = g.within
+    in record { ticket = g.ticket; has = g.has; within = omega arith }
 
-pub more_own : (place : Place) (p : ProcessId) (a b : ℕ) (c : Case) → a ≤ b → IsOwn place p a c → IsOwn place p b c
-more_own place p a b c grows o = record { own = o.own; reads = o.reads; given = more_given a b c grows o.given }
+pub more_own : (place : Place) (p : ProcessId) (a b : ℕ) (c : Case) → a ≤ b
+    → IsOwn place p a c → IsOwn place p b c
+more_own place p a b c grows o = record {
+  own = o.own;
+  reads = o.reads;
+  given = more_given a b c grows o.given;
+}
 
 -- a case of the process's own
 own_is : (place : Place) (q : Option ProcessId) (b : AnyBranch) (c : Case) → own_case place q b ≡ Some c
@@ -117,8 +135,10 @@ own_is : (place : Place) (q : Option ProcessId) (b : AnyBranch) (c : Case) → o
 own_is place q (Foreign x) c e = absurd (cc)
 own_is place q (CaseBranch d) c e = by_test (is_own place q d) refl e
   where
-    by_test : (t : Bool) → is_own place q d ≡ t → cond t (Some d) None ≡ Some c → (CaseBranch d ≡ CaseBranch c) × (is_own place q c ≡ true)
-    by_test true is e = let same : d ≡ c = some_same d c e in (ap CaseBranch same, ap (is_own place q) (sym same) ∙ is)
+    by_test : (t : Bool) → is_own place q d ≡ t → cond t (Some d) None ≡ Some c
+        → (CaseBranch d ≡ CaseBranch c) × (is_own place q c ≡ true)
+    by_test true is e = let same : d ≡ c = some_same d c e
+        in (ap CaseBranch same, ap (is_own place q) (sym same) ∙ is)
     by_test false is e = absurd (cc)
 
 -- its name has this parent
@@ -126,7 +146,8 @@ parent_is : (q : Option ProcessId) (p : ProcessId) → same_parent q (Some p) �
 parent_is None p h = absurd (cc)
 parent_is (Some r) p h = ap Some ((process_tells r p).0 h)
 
-module _ (me p : ProcessId) (tree : List TreeEntry) (ls : List LogRecord) (old : Cases) (left : Leaves (leaf me p tree) p ls old) where
+module _ (me p : ProcessId) (tree : List TreeEntry) (ls : List LogRecord) (old : Cases)
+    (left : Leaves (leaf me p tree) p ls old) where
   own_parent : (q : Option ProcessId) (c : Case) → is_own (leaf me p tree) q c ≡ true → q ≡ Some p
   own_parent q c is = parent_is q p (below_is is)
     where
@@ -135,21 +156,26 @@ module _ (me p : ProcessId) (tree : List TreeEntry) (ls : List LogRecord) (old :
 
   -- a record that says nothing of a case of the process's own
   stays : (l : LogRecord) (new : Cases) (x : Mark → Mark) → One (leaf me p tree) l None x → ReadsBack l
-      → new.branches ≡ old.branches → new.order ≡ old.order → new.newest ≡ old.newest → new.boot ≡ boot_after old.boot l.entry
+      → new.branches ≡ old.branches → new.order ≡ old.order → new.newest ≡ old.newest
+      → new.boot ≡ boot_after old.boot l.entry
       → Leaves (leaf me p tree) p (ls ++ l ∷ []) new
   stays l new x reads back branches order newest boot =
       leaves_more (leaf me p tree) p ls l None x reads old new left back boot (ap (λ s. s.keys) order)
       (λ d. ap (λ t. ticket_in t d) branches ∙ left.tickets d) (λ c. ap (λ t. branch_in t c) branches)
-      (λ c b e. subst (λ n. IsOwn (leaf me p tree) p n c) (sym newest) (left.live c b (ap (λ t. branch_in t c) (sym branches) ∙ e)))
+      (λ c b e. subst (λ n. IsOwn (leaf me p tree) p n c) (sym newest)
+      (left.live c b (ap (λ t. branch_in t c) (sym branches) ∙ e)))
 
   quiet : (l : LogRecord) (new : Cases) (x : Mark → Mark) → One (leaf me p tree) l None x → ReadsBack l
       → boot_after old.boot l.entry ≡ old.boot → new ≡ old → Leaves (leaf me p tree) p (ls ++ l ∷ []) new
   quiet l new x reads back boot is =
-      stays l new x reads back (ap (λ s. s.branches) is) (ap (λ s. s.order) is) (ap (λ s. s.newest) is) (ap (λ s. s.boot) is ∙ sym boot)
+      stays l new x reads back (ap (λ s. s.branches) is) (ap (λ s. s.order) is) (ap (λ s. s.newest) is)
+      (ap (λ s. s.boot) is ∙ sym boot)
 
   -- a record of a case of the process's own that promised
-  promised : (l : LogRecord) (mid new : Cases) (q : Option ProcessId) (b : AnyBranch) (o : Option Case) → own_case (leaf me p tree) q b ≡ o
-      → One (leaf me p tree) l o (λ m. Promised) → NameReads q b → ReadsBack l → boot_after old.boot l.entry ≡ old.boot
+  promised : (l : LogRecord) (mid new : Cases) (q : Option ProcessId) (b : AnyBranch) (o : Option Case)
+      → own_case (leaf me p tree) q b ≡ o
+      → One (leaf me p tree) l o (λ m. Promised) → NameReads q b → ReadsBack l
+      → boot_after old.boot l.entry ≡ old.boot
       → PromisesBy old new p o → Leaves (leaf me p tree) p (ls ++ l ∷ []) new
   promised l mid new q b None is reads name back boot made = quiet l new (λ m. Promised) reads back boot made
   promised l mid new q b (Some c) is reads name back boot made =
@@ -157,8 +183,10 @@ module _ (me p : ProcessId) (tree : List TreeEntry) (ls : List LogRecord) (old :
       let makes = made.2 in
       let own = own_is (leaf me p tree) q b c is in
       let under : q ≡ Some p = own_parent q c own.1 in
-      let named : NameReads (Some p) (CaseBranch c) = subst (λ r. NameReads r (CaseBranch c)) under (subst (NameReads q) own.0 name) in
-      let mine : is_own (leaf me p tree) (Some p) c ≡ true = ap (λ r. is_own (leaf me p tree) r c) (sym under) ∙ own.1 in
+      let named : NameReads (Some p) (CaseBranch c) =
+      subst (λ r. NameReads r (CaseBranch c)) under (subst (NameReads q) own.0 name) in
+      let mine : is_own (leaf me p tree) (Some p) c ≡ true =
+      ap (λ r. is_own (leaf me p tree) r c) (sym under) ∙ own.1 in
       leaves_more (leaf me p tree) p ls l (Some c) (λ m. Promised) reads old new left back
       (makes.boot ∙ ap (λ s. s.boot) adds.0 ∙ sym boot) (ap (λ s. s.keys) makes.order ∙ adds.1)
       (λ d. ap (λ ts. ticket_in (record { tickets = ts; branches = new.branches.branches }) d) makes.tickets
@@ -166,24 +194,32 @@ module _ (me p : ProcessId) (tree : List TreeEntry) (ls : List LogRecord) (old :
       (λ d. by_case d (same_case c d) refl adds.0 makes)
       (λ d v e. by_live d v (same_case c d) refl adds.0 makes mine named e)
     where
-      by_case : (d : Case) (t : Bool) → same_case c d ≡ t → made.0 ≡ record old { order = made.0.order } → Promises made.0 new p c
+      by_case : (d : Case) (t : Bool) → same_case c d ≡ t
+          → made.0 ≡ record old { order = made.0.order } → Promises made.0 new p c
           → branch_in new.branches d ≡ cond t (Some (kept_at p d Prepared)) (branch_in old.branches d)
-      by_case d true e adds makes = ap (branch_in new.branches) (sym (one c d e)) ∙ makes.branches.own ∙ ap (λ k. Some (kept_at p k Prepared)) (one c d e)
+      by_case d true e adds makes = ap (branch_in new.branches) (sym (one c d e)) ∙ makes.branches.own
+          ∙ ap (λ k. Some (kept_at p k Prepared)) (one c d e)
       by_case d false e adds makes = makes.branches.others d e ∙ ap (λ s. branch_in s.branches d) adds
 
-      by_live : (d : Case) (v : Branch) (t : Bool) → same_case c d ≡ t → made.0 ≡ record old { order = made.0.order } → Promises made.0 new p c
-          → is_own (leaf me p tree) (Some p) c ≡ true → NameReads (Some p) (CaseBranch c) → branch_in new.branches d ≡ Some v
+      by_live : (d : Case) (v : Branch) (t : Bool) → same_case c d ≡ t
+          → made.0 ≡ record old { order = made.0.order } → Promises made.0 new p c
+          → is_own (leaf me p tree) (Some p) c ≡ true → NameReads (Some p) (CaseBranch c)
+          → branch_in new.branches d ≡ Some v
           → IsOwn (leaf me p tree) p new.newest d
       by_live d v true e adds makes mine named at =
-          subst (λ k. IsOwn (leaf me p tree) p new.newest k) (one c d e) (record { own = mine; reads = named; given = makes.given })
+          subst (λ k. IsOwn (leaf me p tree) p new.newest k) (one c d e)
+          (record { own = mine; reads = named; given = makes.given })
       by_live d v false e adds makes mine named at =
-          let grows : old.newest ≤ new.newest = subst (λ n. n ≤ new.newest) (ap (λ s. s.newest) adds) makes.grows in
+          let grows : old.newest ≤ new.newest =
+          subst (λ n. n ≤ new.newest) (ap (λ s. s.newest) adds) makes.grows in
           more_own (leaf me p tree) p old.newest new.newest d grows
           (left.live d v (sym (makes.branches.others d e ∙ ap (λ s. branch_in s.branches d) adds) ∙ at))
 
   -- a record of a case of the process's own that is finished
-  ended : (l : LogRecord) (mid new : Cases) (o : Option Case) → One (leaf me p tree) l o (λ m. Finished) → ReadsBack l
-      → boot_after old.boot l.entry ≡ old.boot → EndsBy old new o → Leaves (leaf me p tree) p (ls ++ l ∷ []) new
+  ended : (l : LogRecord) (mid new : Cases) (o : Option Case)
+      → One (leaf me p tree) l o (λ m. Finished) → ReadsBack l
+      → boot_after old.boot l.entry ≡ old.boot → EndsBy old new o
+      → Leaves (leaf me p tree) p (ls ++ l ∷ []) new
   ended l mid new None reads back boot made = quiet l new (λ m. Finished) reads back boot made
   ended l mid new (Some c) reads back boot made =
       let adds = made.1 in
@@ -194,21 +230,26 @@ module _ (me p : ProcessId) (tree : List TreeEntry) (ls : List LogRecord) (old :
       (λ d. by_case d (same_case c d) refl adds.0 makes)
       (λ d v e. by_live d v (same_case c d) refl adds.0 makes e)
     where
-      by_case : (d : Case) (t : Bool) → same_case c d ≡ t → made.0 ≡ record old { order = made.0.order } → Ends made.0 new c
+      by_case : (d : Case) (t : Bool) → same_case c d ≡ t
+          → made.0 ≡ record old { order = made.0.order } → Ends made.0 new c
           → branch_in new.branches d ≡ cond t None (branch_in old.branches d)
       by_case d true e adds makes = ap (branch_in new.branches) (sym (one c d e)) ∙ makes.branches.own
       by_case d false e adds makes = makes.branches.others d e ∙ ap (λ s. branch_in s.branches d) adds
 
-      by_live : (d : Case) (v : Branch) (t : Bool) → same_case c d ≡ t → made.0 ≡ record old { order = made.0.order } → Ends made.0 new c
+      by_live : (d : Case) (v : Branch) (t : Bool) → same_case c d ≡ t
+          → made.0 ≡ record old { order = made.0.order } → Ends made.0 new c
           → branch_in new.branches d ≡ Some v → IsOwn (leaf me p tree) p new.newest d
-      by_live d v true e adds makes at = absurd (let none = ap (branch_in new.branches) (sym (one c d e)) ∙ makes.branches.own in cc)
+      by_live d v true e adds makes at = absurd
+          (let none = ap (branch_in new.branches) (sym (one c d e)) ∙ makes.branches.own in cc)
       by_live d v false e adds makes at =
           subst (λ n. IsOwn (leaf me p tree) p n d) (ap (λ s. s.newest) (sym adds) ∙ sym makes.newest)
           (left.live d v (sym (makes.branches.others d e ∙ ap (λ s. branch_in s.branches d) adds) ∙ at))
 
   -- a record of a case of the process's own that an operator decided
-  decided : (l : LogRecord) (new : Cases) (told : Option Outcome) (o : Option Case) → One (leaf me p tree) l o (λ m. mark_told told)
-      → ReadsBack l → boot_after old.boot l.entry ≡ old.boot → DecidesBy old new told o → Leaves (leaf me p tree) p (ls ++ l ∷ []) new
+  decided : (l : LogRecord) (new : Cases) (told : Option Outcome) (o : Option Case)
+      → One (leaf me p tree) l o (λ m. mark_told told)
+      → ReadsBack l → boot_after old.boot l.entry ≡ old.boot → DecidesBy old new told o
+      → Leaves (leaf me p tree) p (ls ++ l ∷ []) new
   decided l new told None reads back boot made = quiet l new (λ m. mark_told told) reads back boot made
   decided l new told (Some c) reads back boot made =
       let adds = made.1 in
@@ -220,14 +261,17 @@ module _ (me p : ProcessId) (tree : List TreeEntry) (ls : List LogRecord) (old :
       (λ d. by_case d (same_case c d) refl adds.0 makes)
       (λ d v e. by_live d v (same_case c d) refl adds.0 makes e)
     where
-      stood : made.0 ≡ record old { order = made.0.order } → (m : DecidesCase made.0 new c told) → branch_in old.branches c ≡ Some m.branch
+      stood : made.0 ≡ record old { order = made.0.order } → (m : DecidesCase made.0 new c told)
+          → branch_in old.branches c ≡ Some m.branch
       stood adds m = ap (λ s. branch_in s.branches c) (sym adds) ∙ m.was
 
       xid_is : made.0 ≡ record old { order = made.0.order } → (m : DecidesCase made.0 new c told)
           → m.branch.xid ≡ name_xid (Some p) (CaseBranch c)
-      xid_is adds m = left_xid p c m.branch (mark_of (CaseBranch c) (own_records (leaf me p tree) ls)) (sym (left.branches c) ∙ stood adds m)
+      xid_is adds m = left_xid p c m.branch (mark_of (CaseBranch c) (own_records (leaf me p tree) ls))
+          (sym (left.branches c) ∙ stood adds m)
 
-      by_case : (d : Case) (t : Bool) → same_case c d ≡ t → made.0 ≡ record old { order = made.0.order } → DecidesCase made.0 new c told
+      by_case : (d : Case) (t : Bool) → same_case c d ≡ t → made.0 ≡ record old { order = made.0.order }
+          → DecidesCase made.0 new c told
           → branch_in new.branches d ≡ cond t (branch_left p d (mark_told told)) (branch_in old.branches d)
       by_case d true e adds makes =
           ap (branch_in new.branches) (sym (one c d e)) ∙ makes.branches.own
@@ -235,16 +279,19 @@ module _ (me p : ProcessId) (tree : List TreeEntry) (ls : List LogRecord) (old :
           ∙ ap (λ k. Some (kept_at p k (Heuristic told))) (one c d e) ∙ left_told p d told
       by_case d false e adds makes = makes.branches.others d e ∙ ap (λ s. branch_in s.branches d) adds
 
-      by_live : (d : Case) (v : Branch) (t : Bool) → same_case c d ≡ t → made.0 ≡ record old { order = made.0.order } → DecidesCase made.0 new c told
+      by_live : (d : Case) (v : Branch) (t : Bool) → same_case c d ≡ t
+          → made.0 ≡ record old { order = made.0.order } → DecidesCase made.0 new c told
           → branch_in new.branches d ≡ Some v → IsOwn (leaf me p tree) p new.newest d
       by_live d v true e adds makes at =
           subst (λ k. IsOwn (leaf me p tree) p new.newest k) (one c d e)
-          (subst (λ n. IsOwn (leaf me p tree) p n c) (ap (λ s. s.newest) (sym adds) ∙ sym makes.newest) (left.live c makes.branch (stood adds makes)))
+          (subst (λ n. IsOwn (leaf me p tree) p n c) (ap (λ s. s.newest) (sym adds) ∙ sym makes.newest)
+          (left.live c makes.branch (stood adds makes)))
       by_live d v false e adds makes at =
           subst (λ n. IsOwn (leaf me p tree) p n d) (ap (λ s. s.newest) (sym adds) ∙ sym makes.newest)
           (left.live d v (sym (makes.branches.others d e ∙ ap (λ s. branch_in s.branches d) adds) ∙ at))
 
-  by_entry : (new : Cases) (q : Option ProcessId) (r : Record) → Takes (leaf me p tree) p old new (record { entry = r; parent = q })
+  by_entry : (new : Cases) (q : Option ProcessId) (r : Record)
+      → Takes (leaf me p tree) p old new (record { entry = r; parent = q })
       → Leaves (leaf me p tree) p (ls ++ record { entry = r; parent = q } ∷ []) new
   by_entry new q (Opened n) made =
       stays (record { entry = Opened n; parent = q }) new (λ m. m) (one_opened me p tree q n) tt
@@ -252,11 +299,16 @@ module _ (me p : ProcessId) (tree : List TreeEntry) (ls : List LogRecord) (old :
   by_entry new q (Base n) made = quiet _ new (λ m. m) (one_base me p tree q n) tt refl made
   by_entry new q (Pair k v) made = quiet _ new (λ m. m) (one_pair me p tree q k v) tt refl made
   by_entry new q (PreparedRecord b ws) made =
-      promised _ new new q b (own_case (leaf me p tree) q b) refl (one_prepared me p tree q b ws) made.0 made.0 refl made.1
-  by_entry new q (Committed b) made = ended _ new new (own_case (leaf me p tree) q b) (one_committed me p tree q b) made.0 refl made.1
-  by_entry new q (RolledBack b) made = ended _ new new (own_case (leaf me p tree) q b) (one_rolled_back me p tree q b) made.0 refl made.1
-  by_entry new q (Direct b ws) made = ended _ new new (own_case (leaf me p tree) q b) (one_direct me p tree q b ws) made.0 refl made.1
-  by_entry new q (Forgot b) made = ended _ new new (own_case (leaf me p tree) q b) (one_forgot me p tree q b) made.0 refl made.1
+      promised _ new new q b (own_case (leaf me p tree) q b) refl
+      (one_prepared me p tree q b ws) made.0 made.0 refl made.1
+  by_entry new q (Committed b) made = ended _ new new (own_case (leaf me p tree) q b)
+      (one_committed me p tree q b) made.0 refl made.1
+  by_entry new q (RolledBack b) made = ended _ new new (own_case (leaf me p tree) q b)
+      (one_rolled_back me p tree q b) made.0 refl made.1
+  by_entry new q (Direct b ws) made = ended _ new new (own_case (leaf me p tree) q b)
+      (one_direct me p tree q b ws) made.0 refl made.1
+  by_entry new q (Forgot b) made = ended _ new new (own_case (leaf me p tree) q b)
+      (one_forgot me p tree q b) made.0 refl made.1
   by_entry new q (HeurCommit b) made =
       decided _ new None (own_case (leaf me p tree) q b) (one_committed_so me p tree q b) made.0 refl made.1
   by_entry new q (HeurRollback b) made =
@@ -269,11 +321,13 @@ module _ (me p : ProcessId) (tree : List TreeEntry) (ls : List LogRecord) (old :
   by_entry new q (Abort c ts) made = absurd made
   by_entry new q (End c) made = absurd made
 
-  pub taken : (new : Cases) (l : LogRecord) → Takes (leaf me p tree) p old new l → Leaves (leaf me p tree) p (ls ++ l ∷ []) new
+  pub taken : (new : Cases) (l : LogRecord) → Takes (leaf me p tree) p old new l
+      → Leaves (leaf me p tree) p (ls ++ l ∷ []) new
   taken new l made = by_entry new l.parent l.entry made
 
 -- no record leaves nothing
-pub nothing_left : (place : Place) (p : ProcessId) (s : Cases) → s.order.keys ≡ [] → s.branches.tickets ≡ [] → s.branches.branches ≡ []
+pub nothing_left : (place : Place) (p : ProcessId) (s : Cases) → s.order.keys ≡ []
+    → s.branches.tickets ≡ [] → s.branches.branches ≡ []
     → s.boot ≡ 0 → Leaves place p [] s
 unfolding own_records mark_of boot_of cases_in live_value
 nothing_left place p s order tickets branches boot = record {

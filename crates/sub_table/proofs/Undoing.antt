@@ -17,7 +17,8 @@ some_same : {A : Type 0} (a b : A) → Some a ≡ Some b → a ≡ b
 some_same a b e = cc
 
 -- no ticket is the one of a case that is not live
-pub none_retires : (t : BranchTable) (c : Case) → IsKept t → branch_in t c ≡ None → (d : Case) → retired_at c d (ticket_in t d) ≡ ticket_in t d
+pub none_retires : (t : BranchTable) (c : Case) → IsKept t → branch_in t c ≡ None → (d : Case)
+    → retired_at c d (ticket_in t d) ≡ ticket_in t d
 none_retires t c kept none d = by_ticket (ticket_in t d) refl
   where
     by_ticket : (o : Option Ticket) → ticket_in t d ≡ o → retired_at c d o ≡ o
@@ -30,14 +31,17 @@ none_retires t c kept none d = by_ticket (ticket_in t d) refl
             let h = kept.given d k e in
             absurd (let f = sym none ∙ ap (branch_in t) (sym (one _ c is)) ∙ h.1 in cc)
 
-module _ (old mid new : BranchTable) (key : ℕ) (d0 : Case) (t : Ticket) (x : Xid) (kept : IsKept old) (fresh : branch_in old (child_case d0.txn t) ≡ None)
-    (ungiven : ticket_in old d0 ≡ None) (opens : Opens old mid d0 t x) (at : entry_at mid.branches key ≡ Some (child_case d0.txn t, opened x d0))
+module _ (old mid new : BranchTable) (key : ℕ) (d0 : Case) (t : Ticket) (x : Xid) (kept : IsKept old)
+    (fresh : branch_in old (child_case d0.txn t) ≡ None)
+    (ungiven : ticket_in old d0 ≡ None) (opens : Opens old mid d0 t x)
+    (at : entry_at mid.branches key ≡ Some (child_case d0.txn t, opened x d0))
     (gone : Retires mid new key nothing) where
   abbrev child : Case
   child = child_case d0.txn t
 
   owner_is : gone.owner ≡ child
-  owner_is = ap (λ (p : Case × Branch). p.0) (some_same (gone.owner, gone.branch) (child, opened x d0) (sym gone.was ∙ at))
+  owner_is = ap (λ (p : Case × Branch). p.0) (some_same (gone.owner, gone.branch)
+      (child, opened x d0) (sym gone.was ∙ at))
 
   leaves : Moves mid.branches new.branches child None
   leaves = subst (λ (c : Case). Moves mid.branches new.branches c None) owner_is gone.branches
@@ -50,14 +54,18 @@ module _ (old mid new : BranchTable) (key : ℕ) (d0 : Case) (t : Ticket) (x : X
   ticket_goes : retired_at child d0 (Some t) ≡ None
   ticket_goes = ap (λ b. if b then None else Some t) (same_case-itself child)
 
-  ticket_back : (d : Case) (b : Bool) → same_case d0 d ≡ b → retired_at child d (ticket_in mid d) ≡ ticket_in old d
+  ticket_back : (d : Case) (b : Bool) → same_case d0 d ≡ b
+      → retired_at child d (ticket_in mid d) ≡ ticket_in old d
   ticket_back d true is =
-      ap (λ (e : Case). retired_at child e (ticket_in mid e)) (sym (one d0 d is)) ∙ ap (retired_at child d0) opens.tickets.own ∙ ticket_goes
+      ap (λ (e : Case). retired_at child e (ticket_in mid e)) (sym (one d0 d is))
+      ∙ ap (retired_at child d0) opens.tickets.own ∙ ticket_goes
       ∙ sym ungiven ∙ ap (ticket_in old) (one d0 d is)
-  ticket_back d false apart = ap (retired_at child d) (opens.tickets.others d apart) ∙ none_retires old child kept fresh d
+  ticket_back d false apart = ap (retired_at child d) (opens.tickets.others d apart)
+      ∙ none_retires old child kept fresh d
 
   pub undone : SameTable old new
   undone = record {
     branches = λ c. branch_back c (same_case child c) refl;
-    tickets = λ d. gone.tickets d ∙ ap (λ (c : Case). retired_at c d (ticket_in mid d)) owner_is ∙ ticket_back d (same_case d0 d) refl;
+    tickets = λ d. gone.tickets d ∙ ap (λ (c : Case). retired_at c d (ticket_in mid d)) owner_is
+        ∙ ticket_back d (same_case d0 d) refl;
   }

@@ -13,11 +13,13 @@ use Rattle.tree_model.specs.declared.messages.Op.{Op}
 use Rattle.tests_base.specs.Told.{obstacle_by, told}
 
 -- of what was answered, a fact for another
-pub on_answer : {A E : Type 0} {P Q : A → Type 0} (r : Result A E) → ((a : A) → P a → Q a) → IfOk r P → IfOk r Q
+pub on_answer : {A E : Type 0} {P Q : A → Type 0} (r : Result A E)
+    → ((a : A) → P a → Q a) → IfOk r P → IfOk r Q
 on_answer (Ok a) f h = f a h
 on_answer (Err e) f h = h
 
-obstacles : (b : Bool) (old new : ManagerSight) → ((x : Xid) (op : Op) → new.obstacle x op ≡ old.obstacle x op)
+obstacles : (b : Bool) (old new : ManagerSight)
+    → ((x : Xid) (op : Op) → new.obstacle x op ≡ old.obstacle x op)
     → (x : Xid) (op : Op) → obstacle_by b new.obstacle x op ≡ obstacle_by b old.obstacle x op
 obstacles true old new h x op = refl
 obstacles false old new h x op = h x op

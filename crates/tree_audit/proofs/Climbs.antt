@@ -52,7 +52,8 @@ module _ (said : TreeOutcomes) (q : ProcessId) (s : Outcomes) where
       ∙ ap (λ b. is_some (if b then Some s else lookup (same_id q) said)) (same_self q)
 
 -- what a parent said is true, if it said it
-pub above_is : (tree : List TreeEntry) (logs : Logs) (said : TreeOutcomes) (o : Option ProcessId) → AllTrue tree logs said
+pub above_is : (tree : List TreeEntry) (logs : Logs) (said : TreeOutcomes)
+    (o : Option ProcessId) → AllTrue tree logs said
     → has_above said o ≡ true → IsAbove tree logs o (above_of said o)
 unfolding IsAbove
 above_is tree logs said None all has = refl
@@ -63,7 +64,8 @@ above_is tree logs said (Some p) all has = by_entry (lookup (same_id p) said) re
     by_entry None is h = absurd (cc)
     by_entry (Some s) is h = (s, is, all p s is)
 
-pub parent_is : (tree : List TreeEntry) (q : ProcessId) (e : TreeEntry) → find (λ x. same_process x.id q) tree ≡ Some e
+pub parent_is : (tree : List TreeEntry) (q : ProcessId) (e : TreeEntry)
+    → find (λ x. same_process x.id q) tree ≡ Some e
     → parent_of tree q ≡ e.parent
 unfolding parent_of
 parent_is tree q e found = ap entry_parent found
@@ -76,13 +78,16 @@ says_here : (tree : List TreeEntry) → IsTree tree → (ts : TreeTables) (logs 
 says_here tree is_tree ts logs notes q listed o up above said t own s are =
     let found = listed_entry tree q listed in
     let here : found.0.id ≡ q = named_so tree q found.0 found.1 in
-    let at : IsFound tree found.0 = subst (λ p. find (λ x. same_process x.id p) tree ≡ Some found.0) (sym here) found.1 in
+    let at : IsFound tree found.0 = subst (λ p. find (λ x. same_process x.id p) tree
+    ≡ Some found.0) (sym here) found.1 in
     let same_up : o ≡ found.0.parent = sym up ∙ parent_is tree q found.0 found.1 in
     let table : t ≡ notes_of (logs found.0.id) =
-    some_one t (notes_of (logs q)) (sym own ∙ notes.tables q listed) ∙ ap (λ p. notes_of (logs p)) (sym here) in
+    some_one t (notes_of (logs q)) (sym own ∙ notes.tables q listed)
+    ∙ ap (λ p. notes_of (logs p)) (sym here) in
     subst (λ p. SaysTruly tree logs p s) here
     (says_truly tree is_tree logs found.0 at above (subst (λ a. IsAbove tree logs a above) same_up said)
-    (subst (λ p. EachCase (λ c. is_case_at tree p c ≡ true) (cases_in (logs p))) (sym here) (each_if (is_case_at tree q) (cases_in (logs q)) (notes.own q listed)))
+    (subst (λ p. EachCase (λ c. is_case_at tree p c ≡ true) (cases_in (logs p))) (sym here)
+    (each_if (is_case_at tree q) (cases_in (logs q)) (notes.own q listed)))
     s (subst (λ a. AreSaid above a s) table are))
 
 -- A process.
@@ -97,9 +102,11 @@ says_already tree ts q steps said has = record {
 
 pub no_steps : (tree : List TreeEntry) (q : ProcessId) (steps : ℕ) (b : Bool) → steps ≡ 0
     → is_none (level_within steps tree q) ≡ false → b ≡ true
-no_steps tree q steps b is level = absurd (true_not_false (ap (λ n. is_none (level_within n tree q)) (sym is) ∙ level))
+no_steps tree q steps b is level = absurd (true_not_false
+    (ap (λ n. is_none (level_within n tree q)) (sym is) ∙ level))
 
-module _ (tree : List TreeEntry) (t : IsTree tree) (ts : TreeTables) (q : ProcessId) (steps : ℕ) (old mid new : TreeOutcomes)
+module _ (tree : List TreeEntry) (t : IsTree tree) (ts : TreeTables) (q : ProcessId) (steps : ℕ)
+    (old mid new : TreeOutcomes)
     (o : Option ProcessId) (up : parent_of tree q ≡ o) (still : StillSaid old mid)
     (truly : (logs : Logs) → AreNotes tree logs ts → is_listed tree q ≡ true
     → is_none (level_within steps tree q) ≡ false → AllTrue tree logs old → AllTrue tree logs mid)
@@ -109,7 +116,8 @@ module _ (tree : List TreeEntry) (t : IsTree tree) (ts : TreeTables) (q : Proces
       → Says tree ts q steps old new
   adds_so None is adds = record {
     still = λ p h. ap (λ said. has_said said p) adds ∙ still p h;
-    truly = λ logs notes listed level all. subst (AllTrue tree logs) (sym adds) (truly logs notes listed level all);
+    truly = λ logs notes listed level all. subst (AllTrue tree logs) (sym adds)
+        (truly logs notes listed level all);
     said = λ logs notes listed level. absurd (nothing (notes_of (logs q)) (sym is ∙ notes.tables q listed));
   }
     where
@@ -139,7 +147,8 @@ up_level tree q p zero up level = absurd (true_not_false level)
 up_level tree q p (suc k) up level =
     let less : suc k - 1 ≡ k = omega arith in
     ap (λ n. is_none (level_within n tree p)) less
-    ∙ none_less (level_within k tree p) (sym (ap (λ a. is_none (levels_above (level_within k tree) a)) up) ∙ level)
+    ∙ none_less (level_within k tree p)
+    (sym (ap (λ a. is_none (levels_above (level_within k tree) a)) up) ∙ level)
   where
     none_less : (a : Option ℕ) → is_none (one_more a) ≡ false → is_none a ≡ false
     none_less None h = absurd (true_not_false h)
@@ -150,7 +159,8 @@ pub says_below : (tree : List TreeEntry) → IsTree tree → (ts : TreeTables) (
     → Adds (above_of mid (Some p)) (lookup (same_id q) ts) q mid new → Says tree ts q steps old new
 says_below tree t ts q p steps old mid new up says adds =
     adds_so tree t ts q steps old mid new (Some p) up says.still
-    (λ logs notes listed level all. says.truly logs notes (there listed) (up_level tree q p steps up level) all)
+    (λ logs notes listed level all. says.truly logs notes (there listed)
+    (up_level tree q p steps up level) all)
     (λ logs notes listed level. says.said logs notes (there listed) (up_level tree q p steps up level))
     (lookup (same_id q) ts) refl adds
   where
@@ -161,7 +171,8 @@ says_below tree t ts q p steps old mid new up says adds =
 
 -- Parents.
 
-pub above_top : (tree : List TreeEntry) (ts : TreeTables) (said : TreeOutcomes) → SaysAbove tree ts None said said
+pub above_top : (tree : List TreeEntry) (ts : TreeTables) (said : TreeOutcomes)
+    → SaysAbove tree ts None said said
 above_top tree ts said = record {
   still = λ p h. h;
   truly = λ logs notes listed all. all;
@@ -172,23 +183,28 @@ listed_not : (b : Bool) → not b ≡ false → b ≡ true
 listed_not true h = refl
 listed_not false h = absurd (true_not_false h)
 
-pub above_one : (tree : List TreeEntry) → IsTree tree → (ts : TreeTables) (p : ProcessId) (old new : TreeOutcomes)
+pub above_one : (tree : List TreeEntry) → IsTree tree
+    → (ts : TreeTables) (p : ProcessId) (old new : TreeOutcomes)
     → Says tree ts p (length tree) old new → SaysAbove tree ts (Some p) old new
 above_one tree t ts p old new says = record {
   still = says.still;
   truly = λ logs notes listed all.
-      let there = listed_not (is_listed tree p) listed in says.truly logs notes there (climbs tree t p there) all;
+      let there = listed_not (is_listed tree p) listed in says.truly logs notes there
+      (climbs tree t p there) all;
   said = λ logs notes listed.
       let there = listed_not (is_listed tree p) listed in says.said logs notes there (climbs tree t p there);
 }
 
-pub above_some : (tree : List TreeEntry) → IsTree tree → (ts : TreeTables) (o : Option ProcessId) (p : ProcessId) (n : ℕ)
-    (old new : TreeOutcomes) → o ≡ Some p → n ≡ length tree → Says tree ts p n old new → SaysAbove tree ts o old new
+pub above_some : (tree : List TreeEntry) → IsTree tree
+    → (ts : TreeTables) (o : Option ProcessId) (p : ProcessId) (n : ℕ)
+    (old new : TreeOutcomes) → o ≡ Some p → n ≡ length tree → Says tree ts p n old new
+    → SaysAbove tree ts o old new
 above_some tree t ts o p n old new is size says =
     subst (λ a. SaysAbove tree ts a old new) (sym is)
     (above_one tree t ts p old new (subst (λ k. Says tree ts p k old new) size says))
 
-pub none_said : (tree : List TreeEntry) (ts : TreeTables) (said : TreeOutcomes) → said ≡ [] → SaidFor tree ts [] said
+pub none_said : (tree : List TreeEntry) (ts : TreeTables) (said : TreeOutcomes)
+    → said ≡ [] → SaidFor tree ts [] said
 none_said tree ts said is = record {
   truly = λ logs notes p s h. absurd (nothing p s (ap (lookup (same_id p)) (sym is) ∙ h));
   said = λ logs notes. refl;
@@ -209,12 +225,14 @@ said_all old new still [] e h k = ap (λ b. b && true) k
 said_all old new still (x ∷ es) e h k =
     by_test (has_above old x.parent) refl h (λ rest. said_all old new still es e rest k)
   where
-    by_test : (b : Bool) → has_above old x.parent ≡ b → (b && list_all (λ y. has_above old y.parent) es) ≡ true
+    by_test : (b : Bool) → has_above old x.parent ≡ b
+        → (b && list_all (λ y. has_above old y.parent) es) ≡ true
         → (list_all (λ y. has_above old y.parent) es ≡ true
         → list_all (λ y. has_above new y.parent) (es ++ e ∷ []) ≡ true)
         → (has_above new x.parent && list_all (λ y. has_above new y.parent) (es ++ e ∷ [])) ≡ true
     by_test true is rest later =
-        ap (λ b. b && list_all (λ y. has_above new y.parent) (es ++ e ∷ [])) (still_above old new still x.parent is)
+        ap (λ b. b && list_all (λ y. has_above new y.parent) (es ++ e ∷ []))
+        (still_above old new still x.parent is)
         ∙ later rest
     by_test false is rest later = absurd (true_not_false (sym rest))
 
@@ -234,8 +252,10 @@ none_unlisted f (x ∷ es) (suc i) e none lt is =
     rest true h = absurd (true_not_false h)
     rest false h = h
 
-pub said_more : (tree : List TreeEntry) → IsTree tree → (ts : TreeTables) (es : List TreeEntry) (i : ℕ) (e : TreeEntry)
-    (old new : TreeOutcomes) → es ≡ tree → i < length es → e ≡ get_or es i e → SaysAbove tree ts e.parent old new
+pub said_more : (tree : List TreeEntry) → IsTree tree
+    → (ts : TreeTables) (es : List TreeEntry) (i : ℕ) (e : TreeEntry)
+    (old new : TreeOutcomes) → es ≡ tree → i < length es → e ≡ get_or es i e
+    → SaysAbove tree ts e.parent old new
     → SaidFor tree ts (take i es) old → SaidFor tree ts (take (i + 1) es) new
 unfolding has_unknown_parent
 said_more tree t ts es i e old new same lt is says before =
@@ -243,7 +263,8 @@ said_more tree t ts es i e old new same lt is says before =
     (ap (list_any (λ x. is_unlisted tree x.parent)) same ∙ t.parents_listed) lt is in
     rw (take_more es i e lt, ← is) (record {
       truly = λ logs notes. says.truly logs notes up (before.truly logs notes);
-      said = λ logs notes. said_all old new says.still (take i es) e (before.said logs notes) (says.said logs notes up);
+      said = λ logs notes. said_all old new says.still (take i es) e
+          (before.said logs notes) (says.said logs notes up);
     })
 
 pub on_ok : {A E : Type 0} {P Q : Type 0} (r : Result A E) → (P → Q) → OnOk r P → OnOk r Q

@@ -25,7 +25,8 @@ element_found p x (y ∷ xs) is = by_test (p y) is (element_found p x xs)
   where
     by_test : (b : Bool) → (if b then Some y else find p xs) ≡ Some x → (find p xs ≡ Some x → Contains xs x)
         → Contains (y ∷ xs) x
-    by_test true here rest = let same : y ≡ x = cc in subst (λ z. Contains (y ∷ xs) z) same (element_here y xs)
+    by_test true here rest = let same : y ≡ x =
+        cc in subst (λ z. Contains (y ∷ xs) z) same (element_here y xs)
     by_test false later rest = element_later x y xs (rest later)
 
 -- an element of the list that passes
@@ -33,7 +34,8 @@ pub record Passing {X : Type 0} (p : X → Bool) (xs : List X) (x : X) : Type 0 
   pub listed : Contains xs x
   pub passes : p x ≡ true
 
-pub element_kept : {X : Type 0} (p : X → Bool) (x : X) (xs : List X) → Contains (filter p xs) x → Passing p xs x
+pub element_kept : {X : Type 0} (p : X → Bool) (x : X) (xs : List X)
+    → Contains (filter p xs) x → Passing p xs x
 element_kept p x [] at = no_element x at
 element_kept p x (y ∷ xs) at = by_test (p y) refl at (element_kept p x xs)
   where
@@ -59,7 +61,8 @@ kept_element p x (y ∷ xs) at passes =
   where
     by_test : (b : Bool) → p y ≡ b → (y ≡ x) ⊎ Contains xs x → (Contains xs x → Contains (filter p xs) x)
         → Contains (if b then y ∷ filter p xs else filter p xs) x
-    by_test true is (inl here) kept = subst (λ z. Contains (y ∷ filter p xs) z) here (element_here y (filter p xs))
+    by_test true is (inl here) kept = subst (λ z. Contains (y ∷ filter p xs) z) here
+        (element_here y (filter p xs))
     by_test true is (inr rest) kept = element_later x y (filter p xs) (kept rest)
     by_test false is (inl here) kept = absurd (let other = sym passes ∙ ap p (sym here) ∙ is in cc)
     by_test false is (inr rest) kept = kept rest
@@ -79,7 +82,8 @@ element_made f y (x ∷ xs) at = elim (element_cases y (f x) (map f xs) at) [
       record { from = made.from; listed = element_later made.from x xs made.listed; is = made.is }
 ]
 
-pub made_element : {X Y : Type 0} (f : X → Y) (x : X) (xs : List X) → Contains xs x → Contains (map f xs) (f x)
+pub made_element : {X Y : Type 0} (f : X → Y) (x : X) (xs : List X)
+    → Contains xs x → Contains (map f xs) (f x)
 made_element f x [] at = no_element x at
 made_element f x (z ∷ xs) at = elim (element_cases x z xs at) [
   | inl here ↦ subst (λ w. Contains (f z ∷ map f xs) (f w)) here (element_here (f z) (map f xs))
@@ -92,7 +96,8 @@ pub record Part {X Y : Type 0} (f : X → List Y) (xs : List X) (y : Y) : Type 0
   pub listed : Contains xs of
   pub within : Contains (f of) y
 
-pub element_part : {X Y : Type 0} (f : X → List Y) (y : Y) (xs : List X) → Contains (flat_map f xs) y → Part f xs y
+pub element_part : {X Y : Type 0} (f : X → List Y) (y : Y) (xs : List X)
+    → Contains (flat_map f xs) y → Part f xs y
 element_part f y [] at = no_element y at
 element_part f y (x ∷ xs) at = elim (Contains-append_cases (f x) (flat_map f xs) y at) [
   | inl here ↦ record { of = x; listed = element_here x xs; within = here }
@@ -101,7 +106,8 @@ element_part f y (x ∷ xs) at = elim (Contains-append_cases (f x) (flat_map f x
       record { of = part.of; listed = element_later part.of x xs part.listed; within = part.within }
 ]
 
-pub part_element : {X Y : Type 0} (f : X → List Y) (x : X) (y : Y) (xs : List X) → Contains xs x → Contains (f x) y
+pub part_element : {X Y : Type 0} (f : X → List Y) (x : X) (y : Y) (xs : List X)
+    → Contains xs x → Contains (f x) y
     → Contains (flat_map f xs) y
 part_element f x y [] at within = no_element x at
 part_element f x y (z ∷ xs) at within = elim (element_cases x z xs at) [

@@ -40,8 +40,10 @@ line_from tree logs rs c = record {
   mismatch = has (is_decided c (other (audited tree logs c))) (since_promise c rs);
 }
 
-module _ (tree : List TreeEntry) (logs : Logs) (e : TreeEntry) (found : IsFound tree e) (above : Option Outcomes)
-    (says : (c : Case) → is_case_at tree e.id c ≡ true → outcome_in above c (note_of (logs e.id) c) ≡ audited tree logs c) where
+module _ (tree : List TreeEntry) (logs : Logs) (e : TreeEntry)
+    (found : IsFound tree e) (above : Option Outcomes)
+    (says : (c : Case) → is_case_at tree e.id c ≡ true
+    → outcome_in above c (note_of (logs e.id) c) ≡ audited tree logs c) where
   line_is_that : (c : Case) → is_case_at tree e.id c ≡ true
       → line_by above c (note_of (logs e.id) c) ≡ line_of tree logs c
   unfolding line_from
@@ -63,9 +65,11 @@ module _ (tree : List TreeEntry) (logs : Logs) (e : TreeEntry) (found : IsFound 
       line_is (role_by e.kind e.parent) c (since_promise c (logs e.id))
       ∙ ap (λ r. has_line_in r c (since_promise c (logs e.id))) (sym (role_if tree e.id e found))
       ∙ sym (ap (λ b. b && has_line_in (role_of tree e.id) c (since_promise c (logs e.id))) own)
-      ∙ sym (ap (λ b. b && (is_case_at tree e.id c && has_line_in (role_of tree e.id) c (since_promise c (logs e.id))))
+      ∙ sym (ap (λ b. b && (is_case_at tree e.id c
+      && has_line_in (role_of tree e.id) c (since_promise c (logs e.id))))
       (listed_if tree e.id e found))
-      ∙ ap (λ q. is_listed tree q && (is_case_at tree q c && has_line_in (role_of tree q) c (since_promise c (logs q)))) (sym here)
+      ∙ ap (λ q. is_listed tree q && (is_case_at tree q c
+      && has_line_in (role_of tree q) c (since_promise c (logs q)))) (sym here)
 
   cases_lines : (cs : List Case) → EachCase (λ c. is_case_at tree e.id c ≡ true) cs
       → lines_in (role_by e.kind e.parent) above (map (λ c. (c, note_of (logs e.id) c)) cs)
@@ -73,52 +77,66 @@ module _ (tree : List TreeEntry) (logs : Logs) (e : TreeEntry) (found : IsFound 
   unfolding EachCase
   cases_lines [] own = refl
   cases_lines (c ∷ cs) own =
-      by_test (line_in (role_by e.kind e.parent) (kinds_of c (since_promise c (logs e.id)))) (cases_lines cs own.1)
-      ∙ ap (λ b. map (line_of tree logs) (if b then c ∷ filter (has_line tree logs) cs else filter (has_line tree logs) cs))
+      by_test (line_in (role_by e.kind e.parent)
+      (kinds_of c (since_promise c (logs e.id)))) (cases_lines cs own.1)
+      ∙ ap (λ b. map (line_of tree logs) (if b then c
+      ∷ filter (has_line tree logs) cs else filter (has_line tree logs) cs))
       (shown_is c own.0)
     where
-      by_test : (b : Bool) → lines_in (role_by e.kind e.parent) above (map (λ d. (d, note_of (logs e.id) d)) cs)
+      by_test : (b : Bool) → lines_in (role_by e.kind e.parent) above
+          (map (λ d. (d, note_of (logs e.id) d)) cs)
           ≡ map (line_of tree logs) (filter (has_line tree logs) cs)
           → map (λ (x : Case × CaseNote). line_by above x.0 x.1)
           (if b then (c, note_of (logs e.id) c)
-          ∷ filter (λ (x : Case × CaseNote). line_in (role_by e.kind e.parent) x.1.kinds) (map (λ d. (d, note_of (logs e.id) d)) cs)
-          else filter (λ (x : Case × CaseNote). line_in (role_by e.kind e.parent) x.1.kinds) (map (λ d. (d, note_of (logs e.id) d)) cs))
-          ≡ map (line_of tree logs) (if b then c ∷ filter (has_line tree logs) cs else filter (has_line tree logs) cs)
+          ∷ filter (λ (x : Case × CaseNote). line_in (role_by e.kind e.parent) x.1.kinds)
+          (map (λ d. (d, note_of (logs e.id) d)) cs)
+          else filter (λ (x : Case × CaseNote). line_in (role_by e.kind e.parent) x.1.kinds)
+          (map (λ d. (d, note_of (logs e.id) d)) cs))
+          ≡ map (line_of tree logs) (if b then c
+          ∷ filter (has_line tree logs) cs else filter (has_line tree logs) cs)
       by_test true rest = λ i. line_is_that c own.0 i ∷ rest i
       by_test false rest = rest
 
 -- The lines of all processes.
 
-module _ (tree : List TreeEntry) (t : IsTree tree) (logs : Logs) (ts : TreeTables) (notes : AreNotes tree logs ts)
+module _ (tree : List TreeEntry) (t : IsTree tree) (logs : Logs) (ts : TreeTables)
+    (notes : AreNotes tree logs ts)
     (said : TreeOutcomes) (truly : AllTrue tree logs said) where
   entry_is : (e : TreeEntry) → IsFound tree e → has_above said e.parent ≡ true
       → entry_lines ts said e ≡ lines_at tree logs e.id
   entry_is e found has =
       let listed = listed_if tree e.id e found in
       let above = above_is tree logs said e.parent truly has in
-      ap (λ a. lines_in (role_by e.kind e.parent) (above_of said e.parent) (table_or a)) (notes.tables e.id listed)
+      ap (λ a. lines_in (role_by e.kind e.parent) (above_of said e.parent)
+      (table_or a)) (notes.tables e.id listed)
       ∙ cases_lines tree logs e found (above_of said e.parent)
       (λ c own. outcome_is tree t logs e found (above_of said e.parent) above c own)
       (cases_in (logs e.id)) (each_if (is_case_at tree e.id) (cases_in (logs e.id)) (notes.own e.id listed))
 
-  entries_are : (es : List TreeEntry) → Each (IsFound tree) es → list_all (λ e. has_above said e.parent) es ≡ true
+  entries_are : (es : List TreeEntry) → Each (IsFound tree) es
+      → list_all (λ e. has_above said e.parent) es ≡ true
       → flat_map (entry_lines ts said) es ≡ flat_map (λ e. lines_at tree logs e.id) es
   unfolding Each
   entries_are [] found has = refl
   entries_are (e ∷ es) found has =
       ap (λ ls. ls ++ flat_map (entry_lines ts said) es)
-      (entry_is e found.0 (first_of (has_above said e.parent) (list_all (λ x. has_above said x.parent) es) has))
+      (entry_is e found.0 (first_of (has_above said e.parent)
+      (list_all (λ x. has_above said x.parent) es) has))
       ∙ ap (λ ls. lines_at tree logs e.id ++ ls)
-      (entries_are es found.1 (second_of (has_above said e.parent) (list_all (λ x. has_above said x.parent) es) has))
+      (entries_are es found.1 (second_of (has_above said e.parent)
+      (list_all (λ x. has_above said x.parent) es) has))
 
 -- the lines that are made are the audit's
-pub lines_are : (tree : List TreeEntry) → IsTree tree → (logs : Logs) (ts : TreeTables) → AreNotes tree logs ts
+pub lines_are : (tree : List TreeEntry) → IsTree tree
+    → (logs : Logs) (ts : TreeTables) → AreNotes tree logs ts
     → (said : TreeOutcomes) → SaidFor tree ts tree said → all_lines ts said tree ≡ lines_of tree logs
 unfolding all_lines lines_of
 lines_are tree t logs ts notes said for =
-    entries_are tree t logs ts notes said (for.truly logs notes) tree (each_found tree t) (for.said logs notes)
+    entries_are tree t logs ts notes said (for.truly logs notes) tree
+    (each_found tree t) (for.said logs notes)
 
-pub lines_end : (ts : TreeTables) (said : TreeOutcomes) (out total : List Line) (rest : List TreeEntry) → rest ≡ []
+pub lines_end : (ts : TreeTables) (said : TreeOutcomes) (out total : List Line)
+    (rest : List TreeEntry) → rest ≡ []
     → out ++ all_lines ts said rest ≡ total → out ≡ total
 unfolding all_lines
 lines_end ts said out total rest is h =

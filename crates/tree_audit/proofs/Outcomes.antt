@@ -38,13 +38,15 @@ case_passes : (g : Case → Bool) (cs : List Case) (c : Case) → find g cs ≡ 
 case_passes g [] c h = absurd (cc)
 case_passes g (d ∷ cs) c h = by_test (g d) refl h (case_passes g cs c)
   where
-    by_test : (b : Bool) → g d ≡ b → (if b then Some d else find g cs) ≡ Some c → (find g cs ≡ Some c → g c ≡ true)
+    by_test : (b : Bool) → g d ≡ b → (if b then Some d else find g cs) ≡ Some c
+        → (find g cs ≡ Some c → g c ≡ true)
         → g c ≡ true
     by_test true is here rest = ap g (sym (some_one d c here)) ∙ is
     by_test false is here rest = rest here
 
 -- the role of a case with a ticket is a child's
-child_role : (role : Role) (u : Ticket) (q : ProcessId) → has_place role (Some u) ≡ true → IsChildRole role (parent_in role q)
+child_role : (role : Role) (u : Ticket) (q : ProcessId) → has_place role (Some u) ≡ true
+    → IsChildRole role (parent_in role q)
 child_role AtRoot u q h = absurd (cc)
 child_role (Below p) u q h = refl
 child_role (AtLeaf p) u q h = refl
@@ -56,19 +58,23 @@ module _ (tree : List TreeEntry) (logs : Logs) where
   pub case_at : (q : ProcessId) (c : Case) → is_case_at tree q c ≡ true → process_of c ≡ q
   case_at q c own = is_one (process_of c) q (first_of _ _ (first_of _ _ own))
 
-  pub place_of_case : (q : ProcessId) (c : Case) → is_case_at tree q c ≡ true → has_place (role_of tree q) c.ticket ≡ true
+  pub place_of_case : (q : ProcessId) (c : Case) → is_case_at tree q c ≡ true
+      → has_place (role_of tree q) c.ticket ≡ true
   place_of_case q c own = second_of _ _ (first_of _ _ own)
 
   -- the parent's case that names a ticket is one of its own
-  pub naming_own : (p : ProcessId) (x : Txn) (u : Ticket) (d : Case) → naming_case tree p x u (logs p) ≡ Some d
+  pub naming_own : (p : ProcessId) (x : Txn) (u : Ticket) (d : Case)
+      → naming_case tree p x u (logs p) ≡ Some d
       → is_case_at tree p d ≡ true
   naming_own p x u d is =
       second_of (same_txn d.txn x && has (is_naming d u) (logs p)) (is_case_at tree p d)
-      (case_passes (λ c. (same_txn c.txn x && has (is_naming c u) (logs p)) && is_case_at tree p c) (cases_in (logs p)) d is)
+      (case_passes (λ c. (same_txn c.txn x && has (is_naming c u) (logs p))
+      && is_case_at tree p c) (cases_in (logs p)) d is)
 
   -- a parent's case has the same outcome within these steps
   abbrev SameFor : ℕ → ℕ → Type 0
-  SameFor k j = (p : ProcessId) (d : Case) → is_case_at tree p d ≡ true → is_none (level_within k tree p) ≡ false
+  SameFor k j = (p : ProcessId) (d : Case) → is_case_at tree p d ≡ true
+      → is_none (level_within k tree p) ≡ false
       → is_none (level_within j tree p) ≡ false → outcome_within k tree logs d ≡ outcome_within j tree logs d
 
   -- a climb that reaches the root says the same within more steps
@@ -78,10 +84,12 @@ module _ (tree : List TreeEntry) (logs : Logs) where
   same_within zero j q c own up on = absurd (cc)
   same_within (suc k) zero q c own up on = absurd (cc)
   same_within (suc k) (suc j) q c own up on =
-      ap (decided_or (own_decision c (logs (process_of c)))) (by_ticket (λ p d. same_within k j p d) c.ticket refl)
+      ap (decided_or (own_decision c (logs (process_of c))))
+      (by_ticket (λ p d. same_within k j p d) c.ticket refl)
     where
       by_case : SameFor k j → (p : ProcessId) (u : Ticket) → is_none (level_within k tree p) ≡ false
-          → is_none (level_within j tree p) ≡ false → (f : Option Case) → naming_case tree p c.txn u (logs p) ≡ f
+          → is_none (level_within j tree p) ≡ false → (f : Option Case)
+          → naming_case tree p c.txn u (logs p) ≡ f
           → said_above (outcome_within k tree logs) c.txn.presumption f
           ≡ said_above (outcome_within j tree logs) c.txn.presumption f
       by_case says p u up_there on_there None is = refl
@@ -97,10 +105,13 @@ module _ (tree : List TreeEntry) (logs : Logs) where
           ap (λ p. has_place (role_of tree p) (Some u)) (sym here)
           ∙ ap (has_place (role_of tree q)) (sym is) ∙ place_of_case q c own in
           let p = parent_in (role_of tree u.child) u.child in
-          let child : IsChildRole (role_of tree u.child) p = child_role (role_of tree u.child) u u.child place in
+          let child : IsChildRole (role_of tree u.child) p =
+          child_role (role_of tree u.child) u u.child place in
           by_case says p u
-          (parent_climbs tree k u.child p child (ap (λ x. is_none (level_within (suc k) tree x)) (sym here) ∙ up))
-          (parent_climbs tree j u.child p child (ap (λ x. is_none (level_within (suc j) tree x)) (sym here) ∙ on))
+          (parent_climbs tree k u.child p child
+          (ap (λ x. is_none (level_within (suc k) tree x)) (sym here) ∙ up))
+          (parent_climbs tree j u.child p child
+          (ap (λ x. is_none (level_within (suc j) tree x)) (sym here) ∙ on))
           (naming_case tree p c.txn u (logs p)) refl
 
 -- what is said above a process with this parent is true; above the root nobody says anything
@@ -114,7 +125,8 @@ top_has_none Manager None h = refl
 top_has_none Coordinator (Some p) h = absurd (cc)
 top_has_none Manager (Some p) h = absurd (cc)
 
-pub child_has : (k : Kind) (o : Option ProcessId) (u : Ticket) (q : ProcessId) → has_place (role_by k o) (Some u) ≡ true
+pub child_has : (k : Kind) (o : Option ProcessId) (u : Ticket) (q : ProcessId)
+    → has_place (role_by k o) (Some u) ≡ true
     → o ≡ Some (parent_in (role_by k o) q)
 child_has Coordinator None u q h = absurd (cc)
 child_has Manager None u q h = absurd (cc)
@@ -130,12 +142,14 @@ module _ (tree : List TreeEntry) (t : IsTree tree) (logs : Logs) (e : TreeEntry)
   listed = listed_if tree e.id e found
 
   -- what is said above a case is what the audit asks above it
-  asked_is : (k : ℕ) → length tree ≡ suc k → (c : Case) → is_case_at tree e.id c ≡ true → (o : Option Ticket) → c.ticket ≡ o
+  asked_is : (k : ℕ) → length tree ≡ suc k → (c : Case) → is_case_at tree e.id c ≡ true
+      → (o : Option Ticket) → c.ticket ≡ o
       → said_by above c ≡ asked_above (outcome_within k tree logs) tree logs c.txn o
   unfolding IsAbove audited
   asked_is k size c own None is =
       let place : has_place (role_by e.kind e.parent) None ≡ true =
-      ap (λ r. has_place r None) (sym role) ∙ ap (has_place (role_of tree e.id)) (sym is) ∙ place_of_case tree logs e.id c own in
+      ap (λ r. has_place r None) (sym role) ∙ ap (has_place (role_of tree e.id)) (sym is)
+      ∙ place_of_case tree logs e.id c own in
       let top : e.parent ≡ None = top_has_none e.kind e.parent place in
       ap (λ a. said_by a c) (subst (λ o. IsAbove tree logs o above) top said)
   asked_is k size c own (Some u) is =
@@ -148,7 +162,8 @@ module _ (tree : List TreeEntry) (t : IsTree tree) (logs : Logs) (e : TreeEntry)
       let there = subst (λ o. IsAbove tree logs o above) up said in
       let same_parent : parent_in (role_of tree u.child) u.child ≡ p =
       ap (λ q. parent_in (role_of tree q) u.child) (sym here) ∙ ap (λ r. parent_in r u.child) role in
-      let named : c ≡ child_case c.txn u = ap (λ (o : Option Ticket). let d : Case = record { txn = c.txn; ticket = o } in d) is in
+      let named : c ≡ child_case c.txn u = ap
+      (λ (o : Option Ticket). let d : Case = record { txn = c.txn; ticket = o } in d) is in
       let child : IsChildRole (role_of tree e.id) p =
       subst (λ r. IsChildRole r p) (sym role) (child_role (role_by e.kind e.parent) u u.child place) in
       let level : is_none (level_within (suc k) tree e.id) ≡ false =
@@ -158,15 +173,18 @@ module _ (tree : List TreeEntry) (t : IsTree tree) (logs : Logs) (e : TreeEntry)
       ∙ ap (λ a. unwrap_or a (presumed c.txn.presumption)) (there.2 c.txn u)
       ∙ by_case p (parent_listed tree t e.id p e found up) (parent_climbs tree k e.id p child level)
       (naming_case tree p c.txn u (logs p)) refl
-      ∙ ap (λ q. said_above (outcome_within k tree logs) c.txn.presumption (naming_case tree q c.txn u (logs q))) (sym same_parent)
+      ∙ ap (λ q. said_above (outcome_within k tree logs) c.txn.presumption
+      (naming_case tree q c.txn u (logs q))) (sym same_parent)
     where
-      by_case : (p : ProcessId) → is_listed tree p ≡ true → is_none (level_within k tree p) ≡ false → (f : Option Case)
+      by_case : (p : ProcessId) → is_listed tree p ≡ true
+          → is_none (level_within k tree p) ≡ false → (f : Option Case)
           → naming_case tree p c.txn u (logs p) ≡ f
           → unwrap_or (option_map (audited tree logs) f) (presumed c.txn.presumption)
           ≡ said_above (outcome_within k tree logs) c.txn.presumption f
       by_case p there level None is = refl
       by_case p there level (Some d) is =
-          same_within tree logs (length tree) k p d (naming_own tree logs p c.txn u d is) (climbs tree t p there) level
+          same_within tree logs (length tree) k p d (naming_own tree logs p c.txn u d is)
+          (climbs tree t p there) level
 
   -- a case's outcome by its notes is the audit's
   pub outcome_is : (c : Case) → is_case_at tree e.id c ≡ true
@@ -189,7 +207,8 @@ module _ (tree : List TreeEntry) (t : IsTree tree) (logs : Logs) (e : TreeEntry)
     first_is (c ∷ cs) all =
         by_test (names x u (c, note_of (logs e.id) c)) (first_is cs all.1)
         ∙ ap (λ b. option_map (audited tree logs) (if b then Some c
-        else find (λ c. (same_txn c.txn x && has (is_naming c u) (logs e.id)) && is_case_at tree e.id c) cs)) tests
+        else find (λ c. (same_txn c.txn x && has (is_naming c u) (logs e.id)) && is_case_at tree e.id c) cs))
+        tests
       where
         with_true : (b : Bool) → b ≡ (b && true)
         with_true true = refl
@@ -208,7 +227,8 @@ module _ (tree : List TreeEntry) (t : IsTree tree) (logs : Logs) (e : TreeEntry)
             → outcome_at above (if b then Some (c, note_of (logs e.id) c)
             else find (names x u) (map (λ c. (c, note_of (logs e.id) c)) cs))
             ≡ option_map (audited tree logs) (if b then Some c
-            else find (λ c. (same_txn c.txn x && has (is_naming c u) (logs e.id)) && is_case_at tree e.id c) cs)
+            else find (λ c. (same_txn c.txn x && has (is_naming c u) (logs e.id))
+            && is_case_at tree e.id c) cs)
         by_test true rest = ap Some (outcome_is c all.0)
         by_test false rest = rest
 

@@ -64,7 +64,8 @@ unfolding EachCase
 with_last P [] c h k = (k, tt)
 with_last P (d ∷ cs) c h k = (h.0, with_last P cs c h.1 k)
 
-one_more : (P : Case → Type 0) (cs : List Case) (o : Option Case) → ((c : Case) → o ≡ Some c → P c) → EachCase P cs
+one_more : (P : Case → Type 0) (cs : List Case) (o : Option Case)
+    → ((c : Case) → o ≡ Some c → P c) → EachCase P cs
     → EachCase P (with_case cs o)
 one_more P cs None is h = h
 one_more P cs (Some c) is h = by_test (has_case cs c)
@@ -84,7 +85,8 @@ unfolding EachCase cases_in
 cases_so P rs of = cases_from P rs [] of tt
 
 -- a manager's record under a foreign name is of no case
-foreign_none : (x : XidParts) (r : Record) → is_coordinators r ≡ false → record_case (renamed (Foreign x) r) ≡ None
+foreign_none : (x : XidParts) (r : Record) → is_coordinators r ≡ false
+    → record_case (renamed (Foreign x) r) ≡ None
 foreign_none x (Prepared b ws) h = refl
 foreign_none x (Committed b) h = refl
 foreign_none x (RolledBack b) h = refl
@@ -127,7 +129,8 @@ places_of (AtLeaf p) (Some t) h = refl
 
 module _ (tree : List TreeEntry) (t : IsTree tree) (e : TreeEntry) (found : IsFound tree e) where
   -- a case of the process's own counts in its tree
-  own_counts : (p : Option ProcessId) (c : Case) → is_own (place_at tree e) p c ≡ true → is_case_at tree e.id c ≡ true
+  own_counts : (p : Option ProcessId) (c : Case) → is_own (place_at tree e) p c ≡ true
+      → is_case_at tree e.id c ≡ true
   own_counts p c own =
       let behind = second_of (same_process c.txn.root (root_of tree)) _ own in
       let last = second_of (same_process (process_of c) e.id) _ behind in
@@ -153,11 +156,16 @@ module _ (tree : List TreeEntry) (t : IsTree tree) (e : TreeEntry) (found : IsFo
       same : (a b : Case) → Some a ≡ Some b → a ≡ b
       same a b h = cc
 
-      by_test : (b : Bool) → is_own (place_at tree e) l.parent c ≡ b → EachOf (λ d. is_case_at tree e.id d ≡ true)
+      by_test : (b : Bool) → is_own (place_at tree e) l.parent c ≡ b
+          → EachOf (λ d. is_case_at tree e.id d ≡ true)
           (if b then l.entry ∷ [] else foreign_to (role_by e.kind e.parent) l.parent c l.entry)
-      by_test true own =
-          (λ d there. ap (is_case_at tree e.id) (sym (same c d (sym is ∙ there))) ∙ own_counts l.parent c own, tt)
-      by_test false own = foreign_of (λ d. is_case_at tree e.id d ≡ true) e.kind e.parent l.parent c l.entry at
+      by_test true own = (
+        λ d there. ap (is_case_at tree e.id) (sym (same c d (sym is ∙ there)))
+            ∙ own_counts l.parent c own,
+        tt,
+      )
+      by_test false own = foreign_of (λ d. is_case_at tree e.id d ≡ true) e.kind
+          e.parent l.parent c l.entry at
 
   all_of : (ls : List LogRecord) → AllAt e.kind ls
       → EachOf (λ c. is_case_at tree e.id c ≡ true) (own_records (place_at tree e) ls)

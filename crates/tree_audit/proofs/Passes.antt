@@ -60,19 +60,22 @@ noted_goes_on tree e t new total at l xs more n is h =
     ∙ sym (ap (λ ys. fold noted t (own_records (place_at tree e) (reads ys))) is) ∙ h
 
 pub is_frames_table : (tree : List TreeEntry) (e : TreeEntry) (frames : List ℕ)
-    → fold noted [] (own_records (place_at tree e) (reads (placed_in e.kind 5 0 frames))) ≡ frames_table tree e frames
+    → fold noted [] (own_records (place_at tree e) (reads (placed_in e.kind 5 0 frames)))
+    ≡ frames_table tree e frames
 unfolding frames_table
 is_frames_table tree e frames = refl
 
 -- A log.
 
-pub empty_notes : (tree : List TreeEntry) (e : TreeEntry) (bytes : List ℕ) (found : Found) → IsLogFound e.kind bytes found
+pub empty_notes : (tree : List TreeEntry) (e : TreeEntry) (bytes : List ℕ) (found : Found)
+    → IsLogFound e.kind bytes found
     → found ≡ Empty → NotesLog tree e bytes []
 unfolding own_records
 empty_notes tree e bytes Empty h is = record { records = []; torn = 0; read = h; notes = noted_all [] }
 empty_notes tree e bytes (Sound torn) h is = absurd (cc)
 
-pub sound_notes : (tree : List TreeEntry) (e : TreeEntry) (bytes : List ℕ) (found : Found) (torn : ℕ) (t : Table)
+pub sound_notes : (tree : List TreeEntry) (e : TreeEntry) (bytes : List ℕ)
+    (found : Found) (torn : ℕ) (t : Table)
     → IsLogFound e.kind bytes found → found ≡ Sound torn → t ≡ frames_table tree e (drop 5 bytes)
     → NotesLog tree e bytes t
 unfolding frames_table
@@ -98,7 +101,8 @@ no_log p bytes (DamagedError at) place h e = h ∙ ap (λ n. Damaged n) (same_pl
 
 -- The logs.
 
-pub sound_more : (e : TreeEntry) (es : List TreeEntry) (logs : List ProcessLog) (ls : List LogRecord) (torn : ℕ)
+pub sound_more : (e : TreeEntry) (es : List TreeEntry) (logs : List ProcessLog)
+    (ls : List LogRecord) (torn : ℕ)
     → read_log e.kind (bytes_of logs e.id) ≡ Whole ls torn → first_damage (e ∷ es) logs ≡ first_damage es logs
 unfolding first_damage
 sound_more e es logs ls torn is = ap (λ r. damage_or e.id r (first_damage es logs)) is
@@ -113,13 +117,16 @@ unfolding first_damage
 none_damaged logs = refl
 
 -- what a process keeps is what it reads in its log
-pub kept_is : (tree : List TreeEntry) (logs : List ProcessLog) (e : TreeEntry) (ls : List LogRecord) (torn : ℕ)
+pub kept_is : (tree : List TreeEntry) (logs : List ProcessLog) (e : TreeEntry)
+    (ls : List LogRecord) (torn : ℕ)
     → IsFound tree e → read_log e.kind (bytes_of logs e.id) ≡ Whole ls torn
     → kept_lists tree logs e.id ≡ own_records (place_at tree e) ls
 unfolding kept_lists
 kept_is tree logs e ls torn found is =
-    ap (λ o. own_records (place_of tree e.id) (whole_records (read_log (entry_kind o) (bytes_of logs e.id)))) found
-    ∙ ap (λ r. own_records (record { me = e.id; role = r; tree = tree }) (whole_records (read_log e.kind (bytes_of logs e.id))))
+    ap (λ o. own_records (place_of tree e.id)
+    (whole_records (read_log (entry_kind o) (bytes_of logs e.id)))) found
+    ∙ ap (λ r. own_records (record { me = e.id; role = r; tree = tree })
+    (whole_records (read_log e.kind (bytes_of logs e.id))))
     (role_if tree e.id e found)
     ∙ ap (λ r. own_records (place_at tree e) (whole_records r)) is
 
@@ -129,20 +136,24 @@ whole_at p bytes (Whole ls torn) is = all_at p bytes ls torn is
 whole_at p bytes (Damaged place) is = tt
 
 -- the cases of what a process keeps are its own
-pub kept_own : (tree : List TreeEntry) (logs : List ProcessLog) → IsTree tree → (q : ProcessId) → is_listed tree q ≡ true
+pub kept_own : (tree : List TreeEntry) (logs : List ProcessLog) → IsTree tree
+    → (q : ProcessId) → is_listed tree q ≡ true
     → list_all (is_case_at tree q) (cases_in (kept_lists tree logs q)) ≡ true
 unfolding kept_lists
 kept_own tree logs t q listed =
     let found = listed_entry tree q listed in
     let here : found.0.id ≡ q = named_so tree q found.0 found.1 in
-    let at : IsFound tree found.0 = subst (λ p. find (λ x. same_process x.id p) tree ≡ Some found.0) (sym here) found.1 in
+    let at : IsFound tree found.0 = subst (λ p. find (λ x. same_process x.id p) tree
+    ≡ Some found.0) (sym here) found.1 in
     subst (λ p. list_all (is_case_at tree p) (cases_in (kept_lists tree logs p)) ≡ true) here
     (ap (λ rs. list_all (is_case_at tree found.0.id) (cases_in rs))
-    (ap (λ o. own_records (place_of tree found.0.id) (whole_records (read_log (entry_kind o) (bytes_of logs found.0.id)))) at
+    (ap (λ o. own_records (place_of tree found.0.id)
+    (whole_records (read_log (entry_kind o) (bytes_of logs found.0.id)))) at
     ∙ ap (λ r. own_records (record { me = found.0.id; role = r; tree = tree })
     (whole_records (read_log found.0.kind (bytes_of logs found.0.id)))) (role_if tree found.0.id found.0 at))
     ∙ own_cases tree t found.0 at (whole_records (read_log found.0.kind (bytes_of logs found.0.id)))
-    (whole_at found.0.kind (bytes_of logs found.0.id) (read_log found.0.kind (bytes_of logs found.0.id)) refl))
+    (whole_at found.0.kind (bytes_of logs found.0.id)
+    (read_log found.0.kind (bytes_of logs found.0.id)) refl))
 
 -- Maps of processes.
 
@@ -158,7 +169,8 @@ same_self p = process_equality p p ∙ itself p
 
 -- what is found of a process behind an entry that is put there
 pub lookup_inserted : {A : Type 0} (ts : List (ProcessId × A)) (p q : ProcessId) (v : A)
-    → lookup (same_id q) (insert_entry same_id ts p v) ≡ (if same_id q p then Some v else lookup (same_id q) ts)
+    → lookup (same_id q) (insert_entry same_id ts p v)
+    ≡ (if same_id q p then Some v else lookup (same_id q) ts)
 lookup_inserted [] p q v = refl
 lookup_inserted (x ∷ ts) p q v = by_place (same_id p x.0) refl (lookup_inserted ts p q v)
   where
@@ -175,12 +187,14 @@ lookup_inserted (x ∷ ts) p q v = by_place (same_id p x.0) refl (lookup_inserte
     there false c apart = refl
 
     by_place : (b : Bool) → same_id p x.0 ≡ b
-        → lookup (same_id q) (insert_entry same_id ts p v) ≡ (if same_id q p then Some v else lookup (same_id q) ts)
+        → lookup (same_id q) (insert_entry same_id ts p v)
+        ≡ (if same_id q p then Some v else lookup (same_id q) ts)
         → lookup (same_id q) (if b then (x.0, v) ∷ ts else x ∷ insert_entry same_id ts p v)
         ≡ (if same_id q p then Some v else (if same_id q x.0 then Some x.1 else lookup (same_id q) ts))
     by_place true is rest =
         here (same_id q x.0)
-        ∙ ap (λ y. if same_id q y then Some v else (if same_id q x.0 then Some x.1 else lookup (same_id q) ts))
+        ∙ ap (λ y. if same_id q y then Some v
+        else (if same_id q x.0 then Some x.1 else lookup (same_id q) ts))
         (sym (same_is p x.0 is))
     by_place false is rest =
         ap (λ o. if same_id q x.0 then Some x.1 else o) rest
@@ -207,13 +221,16 @@ listed_more [] e q h apart = absurd (true_not_false (sym h ∙ ap (λ b. b || fa
 listed_more (x ∷ es) e q h apart = by_first (same_process x.id q) h (λ k. listed_more es e q k apart)
   where
     by_first : (b : Bool) → (b || list_any (λ y. same_process y.id q) (es ++ e ∷ [])) ≡ true
-        → (list_any (λ y. same_process y.id q) (es ++ e ∷ []) ≡ true → list_any (λ y. same_process y.id q) es ≡ true)
+        → (list_any (λ y. same_process y.id q) (es ++ e ∷ []) ≡ true
+        → list_any (λ y. same_process y.id q) es ≡ true)
         → (b || list_any (λ y. same_process y.id q) es) ≡ true
     by_first true k rest = refl
     by_first false k rest = rest k
 
-pub noted_more : (tree : List TreeEntry) (logs : List ProcessLog) (es : List TreeEntry) (ts new : TreeTables) (e : TreeEntry)
-    (t : Table) → IsFound tree e → NotesLog tree e (bytes_of logs e.id) t → new ≡ insert_entry same_id ts e.id t
+pub noted_more : (tree : List TreeEntry) (logs : List ProcessLog) (es : List TreeEntry)
+    (ts new : TreeTables) (e : TreeEntry)
+    (t : Table) → IsFound tree e → NotesLog tree e (bytes_of logs e.id) t
+    → new ≡ insert_entry same_id ts e.id t
     → NotedTo tree logs es ts → NotedTo tree logs (es ++ e ∷ []) new
 unfolding NotedTo
 noted_more tree logs es ts new e t found notes is before = λ q h.
@@ -222,7 +239,8 @@ noted_more tree logs es ts new e t found notes is before = λ q h.
     by_name : (q : ProcessId) → is_listed (es ++ e ∷ []) q ≡ true → (b : Bool) → same_id q e.id ≡ b
         → (if b then Some t else lookup (same_id q) ts) ≡ Some (notes_of (kept_lists tree logs q))
     by_name q h true here =
-        ap Some (notes.notes ∙ ap notes_of (sym (kept_is tree logs e notes.records notes.torn found notes.read)))
+        ap Some
+        (notes.notes ∙ ap notes_of (sym (kept_is tree logs e notes.records notes.torn found notes.read)))
         ∙ ap (λ p. Some (notes_of (kept_lists tree logs p))) (sym (same_is q e.id here))
     by_name q h false apart =
         before q (listed_more es e q h
@@ -230,16 +248,20 @@ noted_more tree logs es ts new e t found notes is before = λ q h.
         (λ one. true_not_false (sym (same_self q) ∙ ap (same_id q) (sym (is_one e.id q one)) ∙ apart))))
 
 -- the next process
-pub noted_next : (tree : List TreeEntry) (logs : List ProcessLog) → IsTree tree → (es : List TreeEntry) (i : ℕ)
+pub noted_next : (tree : List TreeEntry) (logs : List ProcessLog) → IsTree tree
+    → (es : List TreeEntry) (i : ℕ)
     (ts new : TreeTables) (e : TreeEntry) (t : Table) → es ≡ tree → i < length es → e ≡ get_or es i e
-    → NotesLog tree e (bytes_of logs e.id) t → new ≡ insert_entry same_id ts e.id t → NotedTo tree logs (take i es) ts
+    → NotesLog tree e (bytes_of logs e.id) t → new ≡ insert_entry same_id ts e.id t
+    → NotedTo tree logs (take i es) ts
     → NotedTo tree logs (take (i + 1) es) new
 noted_next tree logs is_tree es i ts new e t same lt at notes is before =
     rw (take_more es i e lt, ← at) (noted_more tree logs (take i es) ts new e t
-    (each_at (IsFound tree) es i e (subst (Each (IsFound tree)) (sym same) (each_found tree is_tree)) lt at) notes is before)
+    (each_at (IsFound tree) es i e (subst (Each (IsFound tree)) (sym same) (each_found tree is_tree)) lt at)
+    notes is before)
 
 -- all processes
-pub noted_all_of : (tree : List TreeEntry) (logs : List ProcessLog) → IsTree tree → (es : List TreeEntry) (i : ℕ)
+pub noted_all_of : (tree : List TreeEntry) (logs : List ProcessLog) → IsTree tree
+    → (es : List TreeEntry) (i : ℕ)
     (ts : TreeTables) → es ≡ tree → length es ≤ i → NotedTo tree logs (take i es) ts
     → AreNotes tree (kept_lists tree logs) ts
 unfolding NotedTo
@@ -249,7 +271,8 @@ noted_all_of tree logs is_tree es i ts same enough noted = record {
 }
 
 -- the first log that is damaged, or no memory
-pub first_damaged : (tree : List TreeEntry) (logs : List ProcessLog) (e : TreeEntry) (es rest : List TreeEntry)
+pub first_damaged : (tree : List TreeEntry) (logs : List ProcessLog)
+    (e : TreeEntry) (es rest : List TreeEntry)
     (error : AuditError) → IsDamage e (bytes_of logs e.id) error → rest ≡ e ∷ es
     → first_damage rest logs ≡ first_damage tree logs → IsNoReport tree logs error
 first_damaged tree logs e es rest error.Memory damage is first = tt

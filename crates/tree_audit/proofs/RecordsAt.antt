@@ -34,7 +34,8 @@ log_if : (b : Bool) (x y : Option LogRecord) → FineLog x → FineLog y → Fin
 log_if true x y h k = h
 log_if false x y h k = k
 
-fine_map : {A : Type 0} (f : A → Record) (o : Option A) → ((a : A) → is_coordinators (f a) ≡ false) → Fine (option_map f o)
+fine_map : {A : Type 0} (f : A → Record) (o : Option A)
+    → ((a : A) → is_coordinators (f a) ≡ false) → Fine (option_map f o)
 unfolding Fine
 fine_map f None all = tt
 fine_map f (Some a) all = all a
@@ -56,7 +57,8 @@ told_fine : (b : Branch) (rest : List ℕ) → Fine (told b rest)
 unfolding Fine
 told_fine b [] = tt
 told_fine b (o ∷ []) =
-    fine_if (o == 1) (Some (Told b CommittedOutcome)) (if o == 0 then Some (Told b AbortedOutcome) else None) refl
+    fine_if (o == 1) (Some (Told b CommittedOutcome))
+    (if o == 0 then Some (Told b AbortedOutcome) else None) refl
     (fine_if (o == 0) (Some (Told b AbortedOutcome)) None refl tt)
 told_fine b (o ∷ p ∷ rest) = tt
 
@@ -66,7 +68,8 @@ bare_fine kind b =
     fine_if (kind == 18) (Some (Committed b)) _ refl
     (fine_if (kind == 19) (Some (RolledBack b)) _ refl
     (fine_if (kind == 21) (Some (HeurCommit b)) _ refl
-    (fine_if (kind == 22) (Some (HeurRollback b)) _ refl (fine_if (kind == 24) (Some (Forgot b)) None refl tt))))
+    (fine_if (kind == 22) (Some (HeurRollback b)) _ refl
+    (fine_if (kind == 24) (Some (Forgot b)) None refl tt))))
 
 branch_fine : (kind : ℕ) (b : Branch) (rest : List ℕ) → Fine (branch_record kind b rest)
 unfolding Fine
@@ -99,7 +102,8 @@ unfolding manager_record
 manager_fine kind payload =
     log_if (kind == 25) (option_map (λ n. unnamed (Base n)) (below payload)) _
     (log_map (λ n. unnamed (Base n)) (below payload) (λ n. refl))
-    (log_if (kind == 26) (pair_by (key_at payload)) (of_branch kind (name_at payload)) (pair_fine (key_at payload))
+    (log_if (kind == 26) (pair_by (key_at payload)) (of_branch kind (name_at payload))
+    (pair_fine (key_at payload))
     (named_fine kind (name_at payload)))
 
 read_fine : (kind : ℕ) (payload : List ℕ) → FineLog (read_record Manager kind payload)
@@ -128,12 +132,14 @@ abbrev reads : List Placed → List LogRecord
 reads xs = map (λ x. x.read) xs
 
 by_record : (p : Kind) (at : ℕ) (o : Option LogRecord) (more : List Placed)
-    → ((l : LogRecord) → o ≡ Some l → IsRecordAt p l.entry) → AllAt p (reads more) → AllAt p (reads (and_placed at o more))
+    → ((l : LogRecord) → o ≡ Some l → IsRecordAt p l.entry) → AllAt p (reads more)
+    → AllAt p (reads (and_placed at o more))
 unfolding AllAt
 by_record p at None more is rest = tt
 by_record p at (Some l) more is rest = (is l refl, rest)
 
-by_frame : (p : Kind) (at : ℕ) (o : Option Cut) (more : ℕ → ℕ → List Placed) → ((a k : ℕ) → AllAt p (reads (more a k)))
+by_frame : (p : Kind) (at : ℕ) (o : Option Cut) (more : ℕ → ℕ → List Placed)
+    → ((a k : ℕ) → AllAt p (reads (more a k)))
     → AllAt p (reads (placed_by p at o more))
 unfolding AllAt
 by_frame p at None more rest = tt
@@ -149,5 +155,6 @@ all_placed p at zero (b ∷ bs) =
     by_frame p at (first_frame (b ∷ bs)) (λ a k. placed_in p a k bs) (λ a k. all_placed p a k bs)
 
 -- the records of a sound log are ones that a process of its kind writes
-pub all_at : (p : Kind) (bytes : List ℕ) (ls : List LogRecord) (torn : ℕ) → read_log p bytes ≡ Whole ls torn → AllAt p ls
+pub all_at : (p : Kind) (bytes : List ℕ) (ls : List LogRecord) (torn : ℕ)
+    → read_log p bytes ≡ Whole ls torn → AllAt p ls
 all_at p bytes ls torn is = subst (AllAt p) (places_tell p bytes ls torn is) (all_placed p 5 0 _)

@@ -21,14 +21,16 @@ use Rattle.tree_audit.proofs.TreePlaces.{listed_entry, parent_listed, role_if}
 module _ (tree : List TreeEntry) (t : IsTree tree) (logs kept : Logs)
     (same : (q : ProcessId) → is_listed tree q ≡ true → logs q ≡ kept q) where
   -- the parent of a case's process is listed
-  above_listed : (q : ProcessId) → is_listed tree q ≡ true → (u : Ticket) → has_place (role_of tree q) (Some u) ≡ true
+  above_listed : (q : ProcessId) → is_listed tree q ≡ true → (u : Ticket)
+      → has_place (role_of tree q) (Some u) ≡ true
       → is_listed tree (parent_in (role_of tree q) u.child) ≡ true
   above_listed q listed u place =
       let found = listed_entry tree q listed in
       let e = found.0 in
       let role = role_if tree q e found.1 in
       let up = child_has e.kind e.parent u u.child (ap (λ r. has_place r (Some u)) (sym role) ∙ place) in
-      ap (λ r. is_listed tree (parent_in r u.child)) role ∙ parent_listed tree t q (parent_in (role_by e.kind e.parent) u.child) e found.1 up
+      ap (λ r. is_listed tree (parent_in r u.child)) role
+      ∙ parent_listed tree t q (parent_in (role_by e.kind e.parent) u.child) e found.1 up
 
   -- each case of a listed process has the same outcome within so many steps
   abbrev SameWithin : ℕ → Type 0
@@ -38,7 +40,8 @@ module _ (tree : List TreeEntry) (t : IsTree tree) (logs kept : Logs)
   outcome_same : (k : ℕ) → SameWithin k
   outcome_same zero q c listed own = refl
   outcome_same (suc k) q c listed own =
-      ap (λ rs. decided_or (own_decision c rs) (asked_above (outcome_within k tree logs) tree logs c.txn c.ticket))
+      ap (λ rs. decided_or (own_decision c rs)
+      (asked_above (outcome_within k tree logs) tree logs c.txn c.ticket))
       (same (process_of c) (subst (λ p. is_listed tree p ≡ true) (sym (case_at tree logs q c own)) listed))
       ∙ ap (decided_or (own_decision c (kept (process_of c)))) (by_ticket (outcome_same k) c.ticket refl)
     where
@@ -59,11 +62,14 @@ module _ (tree : List TreeEntry) (t : IsTree tree) (logs kept : Logs)
           ap (has_place (role_of tree q)) (sym is) ∙ place_of_case tree logs q c own in
           let p = parent_in (role_of tree u.child) u.child in
           let there : is_listed tree p ≡ true =
-          subst (λ r. is_listed tree (parent_in (role_of tree r) u.child) ≡ true) here (above_listed q listed u place) in
-          ap (λ rs. said_above (outcome_within k tree logs) c.txn.presumption (naming_case tree p c.txn u rs)) (same p there)
+          subst (λ r. is_listed tree (parent_in (role_of tree r) u.child) ≡ true) here
+          (above_listed q listed u place) in
+          ap (λ rs. said_above (outcome_within k tree logs) c.txn.presumption
+          (naming_case tree p c.txn u rs)) (same p there)
           ∙ by_case says p there u (naming_case tree p c.txn u (kept p)) refl
 
-  pub audited_same : (c : Case) → is_listed tree (process_of c) ≡ true → is_case_at tree (process_of c) c ≡ true
+  pub audited_same : (c : Case) → is_listed tree (process_of c) ≡ true
+      → is_case_at tree (process_of c) c ≡ true
       → audited tree logs c ≡ audited tree kept c
   unfolding audited
   audited_same c listed own = outcome_same (length tree) (process_of c) c listed own

@@ -1,4 +1,5 @@
--- Where the processes of a tree stand: each is listed once, its parent is listed, and one coordinator is on top.
+-- Where the processes of a tree stand: each is listed once, its parent is listed, and one coordinator is on
+-- top.
 use Rattle.std.proofs.Common.{◌≡◌, ◌∙◌, ◌<◌, ◌+◌, ◌||◌, ◌==◌, ℕ, zero, suc, not, nat_lt, Bool, true, false, if◌then◌else◌, is_none, Option, Some, None, List, [], ◌∷◌, ◌++◌, length, get_or, find, count_by, refl, sym, ap, subst, inl, inr, arith, append_assoc}
 use Rattle.std.proofs.lemmas.Bool.Decides.{nat_tests}
 use Rattle.std.proofs.lemmas.List.Recursion.{is_count_by}
@@ -64,7 +65,8 @@ passes : (g : TreeEntry → Bool) (es : List TreeEntry) (e : TreeEntry) → find
 passes g [] e h = no_some e h
 passes g (x ∷ es) e h = by_test (g x) refl h (passes g es e)
   where
-    by_test : (b : Bool) → g x ≡ b → (if b then Some x else find g es) ≡ Some e → (find g es ≡ Some e → g e ≡ true)
+    by_test : (b : Bool) → g x ≡ b → (if b then Some x else find g es) ≡ Some e
+        → (find g es ≡ Some e → g e ≡ true)
         → g e ≡ true
     by_test true is here rest = ap g (sym (some_one x e here)) ∙ is
     by_test false is here rest = rest here
@@ -80,14 +82,16 @@ found_of P g (x ∷ es) e all h = by_test (g x) h (found_of P g es e all.1)
     by_test true here rest = subst P (some_one x e here) all.0
     by_test false here rest = rest here
 
-pub each_at : (P : TreeEntry → Type 0) (es : List TreeEntry) (i : ℕ) (e : TreeEntry) → Each P es → i < length es
+pub each_at : (P : TreeEntry → Type 0) (es : List TreeEntry) (i : ℕ)
+    (e : TreeEntry) → Each P es → i < length es
     → e ≡ get_or es i e → P e
 unfolding Each
 each_at P [] i e all lt is = absurd (omega (arith, lt))
 each_at P (x ∷ es) zero e all lt is = subst P (sym is) all.0
 each_at P (x ∷ es) (suc i) e all lt is = each_at P es i e all.1 (omega (arith, lt)) is
 
-pub listed_if : (es : List TreeEntry) (q : ProcessId) (e : TreeEntry) → find (λ x. same_process x.id q) es ≡ Some e
+pub listed_if : (es : List TreeEntry) (q : ProcessId) (e : TreeEntry)
+    → find (λ x. same_process x.id q) es ≡ Some e
     → is_listed es q ≡ true
 unfolding is_listed
 listed_if [] q e h = no_some e h
@@ -99,7 +103,8 @@ listed_if (x ∷ es) q e h = by_test (same_process x.id q) h (listed_if es q e)
     by_test true here rest = refl
     by_test false here rest = rest here
 
-pub role_if : (es : List TreeEntry) (q : ProcessId) (e : TreeEntry) → find (λ x. same_process x.id q) es ≡ Some e
+pub role_if : (es : List TreeEntry) (q : ProcessId) (e : TreeEntry)
+    → find (λ x. same_process x.id q) es ≡ Some e
     → role_of es q ≡ role_by e.kind e.parent
 unfolding role_of
 role_if [] q e h = no_some e h
@@ -125,7 +130,8 @@ listed_entry (x ∷ es) q h = by_test (same_process x.id q) h (listed_entry es q
     by_test true here rest = (x, refl)
     by_test false here rest = rest here
 
-pub named_so : (es : List TreeEntry) (q : ProcessId) (e : TreeEntry) → find (λ x. same_process x.id q) es ≡ Some e
+pub named_so : (es : List TreeEntry) (q : ProcessId) (e : TreeEntry)
+    → find (λ x. same_process x.id q) es ≡ Some e
     → e.id ≡ q
 named_so es q e h = is_one e.id q (passes (λ x. same_process x.id q) es e h)
 
@@ -140,10 +146,12 @@ pub counted : (p : TreeEntry → Bool) (es : List TreeEntry) → how_many p es �
 unfolding how_many
 counted p es = is_count_by (how_many p) p refl (λ x xs. refl) es
 
-pub times_both : (p : TreeEntry → Bool) (fs es : List TreeEntry) → how_many p (fs ++ es) ≡ how_many p fs + how_many p es
+pub times_both : (p : TreeEntry → Bool) (fs es : List TreeEntry)
+    → how_many p (fs ++ es) ≡ how_many p fs + how_many p es
 unfolding how_many
 times_both p [] es = omega arith
-times_both p (x ∷ fs) es = by_test (p x) (how_many p (fs ++ es)) (how_many p fs) (how_many p es) (times_both p fs es)
+times_both p (x ∷ fs) es = by_test (p x) (how_many p (fs ++ es)) (how_many p fs)
+    (how_many p es) (times_both p fs es)
   where
     by_test : (b : Bool) (m n k : ℕ) → m ≡ n + k → (if b then 1 + m else m) ≡ (if b then 1 + n else n) + k
     by_test true m n k h = omega (arith, h)
@@ -170,7 +178,8 @@ pub here_once : (e : TreeEntry) (es : List TreeEntry)
     → how_many (λ x. same_process x.id e.id) (e ∷ es) ≡ 1 + how_many (λ x. same_process x.id e.id) es
 unfolding how_many
 here_once e es =
-    ap (λ b. if b then 1 + how_many (λ x. same_process x.id e.id) es else how_many (λ x. same_process x.id e.id) es)
+    ap (λ b. if b then 1 + how_many (λ x. same_process x.id e.id) es else how_many
+    (λ x. same_process x.id e.id) es)
     (itself e.id)
 
 once_from : (fs es : List TreeEntry) → list_any (λ e. nat_lt 1 (times_listed (fs ++ es) e.id)) es ≡ false
@@ -184,7 +193,8 @@ once_from fs (e ∷ es) h = (
       (times_both (λ x. same_process x.id e.id) fs (e ∷ es)) (here_once e es)),
   subst (λ tree. Each (IsFound tree) es) (append_assoc fs (e ∷ []) es)
       (once_from (fs ++ e ∷ []) es
-      (subst (λ tree. list_any (λ x. nat_lt 1 (times_listed tree x.id)) es ≡ false) (sym (append_assoc fs (e ∷ []) es))
+      (subst (λ tree. list_any (λ x. nat_lt 1 (times_listed tree x.id)) es ≡ false)
+      (sym (append_assoc fs (e ∷ []) es))
       (second_false _ _ h))),
 )
 
@@ -222,7 +232,8 @@ none_passes : (g : TreeEntry → Bool) (es : List TreeEntry) → find g es ≡ N
 none_passes g [] h = refl
 none_passes g (x ∷ es) h = by_test (g x) h (none_passes g es)
   where
-    by_test : (b : Bool) → (if b then Some x else find g es) ≡ None → (find g es ≡ None → list_any g es ≡ false)
+    by_test : (b : Bool) → (if b then Some x else find g es) ≡ None
+        → (find g es ≡ None → list_any g es ≡ false)
         → (b || list_any g es) ≡ false
     by_test true here rest = absurd (cc)
     by_test false here rest = rest here
@@ -235,7 +246,8 @@ module _ (tree : List TreeEntry) (t : IsTree tree) where
   never_ends none zero q listed = refl
   never_ends none (suc k) q listed =
       let found = listed_entry tree q listed in
-      let up = has_parent found.0.parent (not_found is_top (λ x. same_process x.id q) tree found.0 none found.1) in
+      let up = has_parent found.0.parent (not_found is_top (λ x. same_process x.id q)
+      tree found.0 none found.1) in
       ap (λ o. levels_above (level_within k tree) (entry_parent o)) found.1
       ∙ ap (levels_above (level_within k tree)) up.1
       ∙ ap one_more (never_ends none k up.0 (parent_listed tree t q up.0 found.0 found.1 up.1))
@@ -266,5 +278,6 @@ module _ (tree : List TreeEntry) (t : IsTree tree) where
       by_find (Some e) is =
           let found = found_of (IsFound tree) is_top tree e (each_found tree t) is in (
             listed_if tree e.id e found,
-            role_if tree e.id e found ∙ is_on_top e.kind e.parent (no_parent e.parent (passes is_top tree e is)),
+            role_if tree e.id e found ∙ is_on_top e.kind e.parent
+                (no_parent e.parent (passes is_top tree e is)),
           )

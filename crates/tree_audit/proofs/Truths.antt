@@ -54,7 +54,8 @@ decided_of c Committed r e = grind arith
 decided_of c Aborted r e = grind arith
 
 -- what stands since the last promise stands
-since_stands : (c : Case) (q : Record → Bool) (rs : List Record) → has q (since_promise c rs) ≡ true → has q rs ≡ true
+since_stands : (c : Case) (q : Record → Bool) (rs : List Record)
+    → has q (since_promise c rs) ≡ true → has q rs ≡ true
 since_stands c q [] h = h
 since_stands c q (r ∷ rs) h = by_test (has (is_prepared c) rs) h (since_stands c q rs)
   where
@@ -96,7 +97,11 @@ module _ (tree : List TreeEntry) (logs : Logs) where
 
   shows_some : (c : Case) → has_line tree logs c ≡ true → (line_of tree logs c).mismatch ≡ true
       → ShowsMismatch tree logs c (other (audited tree logs c))
-  shows_some c has shows = record { line = has; decided = shows; differs = other_differs (audited tree logs c) }
+  shows_some c has shows = record {
+    line = has;
+    decided = shows;
+    differs = other_differs (audited tree logs c);
+  }
 
   shown : (c : Case) (o : Outcome) → ShowsMismatch tree logs c o → (line_of tree logs c).mismatch ≡ true
   shown c o s =
@@ -115,7 +120,8 @@ module _ (tree : List TreeEntry) (t : IsTree tree) (es : List Made) (w : World) 
       → line_of tree logs c ≡ line_of tree (logs_of_world w) c
   world_line c has =
       let f = both (is_listed tree (process_of c)) _ has in
-      line_same tree t logs (logs_of_world w) behind.kept_there c f.0 (both (is_case_at tree (process_of c) c) _ f.1).0
+      line_same tree t logs (logs_of_world w) behind.kept_there c f.0
+      (both (is_case_at tree (process_of c) c) _ f.1).0
 
   world_has : (c : Case) → has_line tree logs c ≡ has_line tree (logs_of_world w) c
   world_has c = shown_same tree t logs (logs_of_world w) behind.kept_there c
@@ -139,10 +145,12 @@ module _ (tree : List TreeEntry) (t : IsTree tree) (es : List Made) (w : World) 
         let has = world_has c ∙ s.line in
         let listed = (both (is_listed tree (process_of c)) _ has).0 in
         let decided = since_stands c (is_decided c o) (logs_of_world w (process_of c)) s.decided in
-        let recorded = recorded_case c (logs_of_world w (process_of c)) (has_other (is_decided c o) (is_record_of c) (logs_of_world w (process_of c)) (decided_of c o) decided) in
+        let recorded = recorded_case c (logs_of_world w (process_of c)) (has_other (is_decided c o)
+        (is_record_of c) (logs_of_world w (process_of c)) (decided_of c o) decided) in
         record {
           line = line_of tree logs c;
-          listed = case_of tree logs c has (ap (λ rs. has_case (cases_in rs) c) (behind.kept_there (process_of c) listed) ∙ recorded);
+          listed = case_of tree logs c has (ap (λ rs. has_case (cases_in rs) c)
+              (behind.kept_there (process_of c) listed) ∙ recorded);
           case = refl;
           shows = ap (λ (x : Line). x.mismatch) (world_line c has) ∙ shown tree (logs_of_world w) c o s;
         };

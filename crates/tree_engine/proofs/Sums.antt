@@ -15,7 +15,8 @@ use Rattle.tree_engine.specs.declared.kinds.MessageKind.TheVariants as kind
 use Rattle.tree_engine.specs.declared.rows.ProcessCounts.{ProcessCounts}
 use Rattle.tree_engine.specs.Counts.{count_forced, count_kind, counts_of, row_behind, row_of, rows_of, sent_by, sent_of, sent_together, together, written_by}
 
-of_kind : (k : MessageKind) (ms ns : List Envelope) → count_kind k (ms ++ ns) ≡ count_kind k ms + count_kind k ns
+of_kind : (k : MessageKind) (ms ns : List Envelope)
+    → count_kind k (ms ++ ns) ≡ count_kind k ms + count_kind k ns
 of_kind k ms ns = sum_by-append _ ms ns
 
 sent_of_both : (ms ns : List Envelope) → sent_of (ms ++ ns) ≡ sent_together (sent_of ms) (sent_of ns)
@@ -49,7 +50,8 @@ with_one : {X : Type 0} (f : Entry → List X) (es : List Entry) (e : Entry) (q 
     ≡ flat_map (λ e. if same_process e.step.process q then f e else []) es ++ (if own then f e else [])
 with_one f es e q own is =
     sym (flat_map_more (λ e. if same_process e.step.process q then f e else []) [] es e)
-    ∙ ap (λ b. flat_map (λ e. if same_process e.step.process q then f e else []) es ++ (if b then f e else [])) is
+    ∙ ap (λ b. flat_map (λ e. if same_process e.step.process q then f e else []) es
+    ++ (if b then f e else [])) is
 
 one_row : (es : List Entry) (e : Entry) (p : TreeEntry) (own : Bool) → same_process e.step.process p.id ≡ own
     → row_behind e (row_of es p) ≡ row_of (es ++ e ∷ []) p
@@ -64,11 +66,13 @@ one_row es e p false is =
     rw is (rw (written, sent) refl)
 
 -- a step more
-all_rows : (tree : List TreeEntry) (es : List Entry) (e : Entry) → map (row_behind e) (map (row_of es) tree) ≡ map (row_of (es ++ e ∷ [])) tree
+all_rows : (tree : List TreeEntry) (es : List Entry) (e : Entry)
+    → map (row_behind e) (map (row_of es) tree) ≡ map (row_of (es ++ e ∷ [])) tree
 all_rows [] es e = refl
 all_rows (p ∷ ps) es e = rw (one_row es e p (same_process e.step.process p.id) refl, all_rows ps es e) refl
 
-pub step_more : (tree : List TreeEntry) (es : List Entry) (e : Entry) → map (row_behind e) (rows_of tree es) ≡ rows_of tree (es ++ e ∷ [])
+pub step_more : (tree : List TreeEntry) (es : List Entry) (e : Entry)
+    → map (row_behind e) (rows_of tree es) ≡ rows_of tree (es ++ e ∷ [])
 unfolding rows_of
 step_more tree es e = all_rows tree es e
 
@@ -78,15 +82,18 @@ written_back : {A : Type 0} (new items : List A) (n : ℕ) → length new ≡ le
 written_back new items n size is =
     let le : length items ≤ length new = omega arith in
     let all : length new ≤ n = omega arith in
-    ap (λ rest. take n (new ++ rest)) (drop_all (length new) items le) ∙ ap (take n) (append-nil new) ∙ take_all n new all
+    ap (λ rest. take n (new ++ rest)) (drop_all (length new) items le)
+    ∙ ap (take n) (append-nil new) ∙ take_all n new all
 
 -- the counts behind a step more
-pub counted : (made : Result (Unit {0}) AllocError) (view items old new : List ProcessCounts) (n : ℕ) (e : Entry)
+pub counted : (made : Result (Unit {0}) AllocError)
+    (view items old new : List ProcessCounts) (n : ℕ) (e : Entry)
     → items ≡ view → old ≡ items → length old ≡ n → OnOk made (new ≡ map (row_behind e) old)
     → OnOk made ((tree : List TreeEntry) (es : List Entry) → view ≡ rows_of tree es
     → take n (new ++ drop (length new) items) ≡ rows_of tree (es ++ e ∷ []))
 counted (Err x) view items old new n e shown value size is = is
 counted (Ok x) view items old new n e shown value size is = λ tree es so.
     let long : length new ≡ length items = ap length is ∙ length-map old (row_behind e) ∙ ap length value in
-    written_back new items n long (sym size ∙ ap length value) ∙ is ∙ ap (map (row_behind e)) (value ∙ shown ∙ so)
+    written_back new items n long (sym size ∙ ap length value) ∙ is
+    ∙ ap (map (row_behind e)) (value ∙ shown ∙ so)
     ∙ step_more tree es e

@@ -11,7 +11,8 @@ use Rattle.world_journal.specs.declared.shown.Shown.{Shown}
 use Rattle.tree_engine.specs.Trees.{AddsStep, part_text}
 
 -- the step at a place and those behind it
-pub dropped_at : (es : List Entry) (k : ℕ) (e : Entry) → slice_get es k ≡ Some e → drop k es ≡ e ∷ drop (k + 1) es
+pub dropped_at : (es : List Entry) (k : ℕ) (e : Entry) → slice_get es k ≡ Some e
+    → drop k es ≡ e ∷ drop (k + 1) es
 dropped_at [] k e is = absurd (cc)
 dropped_at (f ∷ es) zero e is = let same : f ≡ e = cc in rw same refl
 dropped_at (f ∷ es) (suc k) e is =
@@ -32,7 +33,8 @@ dropped_all (f ∷ es) zero h = absurd (omega arith)
 dropped_all (f ∷ es) (suc k) h = dropped_all es k (omega arith)
 
 -- the steps up to a place and the one there
-pub taken_at : (es : List Entry) (k : ℕ) (e : Entry) → slice_get es k ≡ Some e → take (k + 1) es ≡ take k es ++ e ∷ []
+pub taken_at : (es : List Entry) (k : ℕ) (e : Entry) → slice_get es k ≡ Some e
+    → take (k + 1) es ≡ take k es ++ e ∷ []
 taken_at [] k e is = absurd (cc)
 taken_at (f ∷ es) zero e is = let same : f ≡ e = cc in rw same refl
 taken_at (f ∷ es) (suc k) e is =
@@ -47,7 +49,8 @@ taken_past (f ∷ es) zero is = absurd (cc)
 taken_past (f ∷ es) (suc k) is = ap (λ xs. f ∷ xs) (taken_past es k is)
 
 -- the text behind one step more
-pub step_added : (es : List Entry) (k sent next : ℕ) (old new all : List ℕ) (o : Option Entry) → slice_get es k ≡ o
+pub step_added : (es : List Entry) (k sent next : ℕ) (old new all : List ℕ)
+    (o : Option Entry) → slice_get es k ≡ o
     → AddsStep o old new sent (Some next) → old ++ entries_text sent (drop k es) ≡ all
     → new ++ entries_text next (drop (k + 1) es) ≡ all
 step_added es k sent next old new all None is adds so = absurd adds
@@ -65,7 +68,8 @@ none_added es k sent old new all None is adds so =
     adds ∙ sym (append-nil old) ∙ ap (λ xs. old ++ entries_text sent xs) (sym (dropped_past es k is)) ∙ so
 
 -- the text behind the last step
-pub all_added : (es : List Entry) (k sent : ℕ) (old all : List ℕ) → length es ≤ k → old ++ entries_text sent (drop k es) ≡ all
+pub all_added : (es : List Entry) (k sent : ℕ) (old all : List ℕ) → length es ≤ k
+    → old ++ entries_text sent (drop k es) ≡ all
     → old ≡ all
 all_added es k sent old all past so =
     sym (append-nil old) ∙ ap (λ xs. old ++ entries_text sent xs) (sym (dropped_all es k past)) ∙ so

@@ -16,13 +16,16 @@ use Rattle.tree_engine.specs.declared.tree.Output.{Output}
 use Rattle.tree_engine.specs.Trees.{IsTreeReport, Plays, RunsOver, RunsScript, Tells, ending}
 
 ends_so : (Holds : Saying) (output : Output) (refusal : Refusal) (status : Status) (input text : List ℕ)
-    → status ≡ ending refusal → RunsScript Holds output status input text → IsTreeReport Holds output status input text
+    → status ≡ ending refusal → RunsScript Holds output status input text
+    → IsTreeReport Holds output status input text
 ends_so Holds output None status input text is runs = rw is (rw is at runs)
 ends_so Holds output (Some refused) status input text is runs = rw is (rw is at runs)
 
 -- what events lead an opened tree to is a run of the model
-pub played : (tree : List TreeEntry) (start end : WorldState) (events : List Event) (refusal : Refusal) → IsTree tree
-    → IsOpened start tree → LeadsTo start events refusal end → IsForItself refusal → Plays tree events refusal end
+pub played : (tree : List TreeEntry) (start end : WorldState) (events : List Event)
+    (refusal : Refusal) → IsTree tree
+    → IsOpened start tree → LeadsTo start events refusal end → IsForItself refusal
+    → Plays tree events refusal end
 played tree start end events refusal is opens leads itself = record {
   start = start;
   opens = opens;
@@ -31,7 +34,8 @@ played tree start end events refusal is opens leads itself = record {
 }
 
 -- what is told of a script's run is the report of the script
-pub reported : {A E : Type 0} (text_of : A × Status → List ℕ) (output : Output) (input : List ℕ) (tree : List TreeEntry)
+pub reported : {A E : Type 0} (text_of : A × Status → List ℕ) (output : Output)
+    (input : List ℕ) (tree : List TreeEntry)
     (events : List Event) (refusal : Refusal) (end : WorldState) (made : Result (A × Status) E)
     → IsScript input tree events → Plays tree events refusal end
     → IfOk made (λ r. Tells output end refusal (text_of r)) → IfOk made (λ r. r.1 ≡ ending refusal)
@@ -85,5 +89,6 @@ pub says_less : (Holds Less : Saying) (output : Output) (status : Status) (input
     → ((tree : List TreeEntry) (moves : List Made) (w : World) → Holds tree moves w → Less tree moves w)
     → IsTreeReport Holds output status input text → IsTreeReport Less output status input text
 says_less Holds Less output Ended input text less r = says_less_over Holds Less output Ended input text less r
-says_less Holds Less output Stopped input text less r = says_less_over Holds Less output Stopped input text less r
+says_less Holds Less output Stopped input text less r =
+    says_less_over Holds Less output Stopped input text less r
 says_less Holds Less output Refused input text less r = r

@@ -14,9 +14,11 @@ nothing_read = refl
 same_records : (a b : List LogRecord) (m n : ℕ) → Whole a m ≡ Whole b n → a ≡ b
 same_records a b m n e = cc
 
-pub no_records : (bytes : List ℕ) (forced failures : ℕ) (log : LogState) → bytes ≡ [] → Opens Coordinator bytes forced failures log
+pub no_records : (bytes : List ℕ) (forced failures : ℕ) (log : LogState) → bytes ≡ []
+    → Opens Coordinator bytes forced failures log
     → records_of log.sight.kept ≡ []
 no_records bytes forced failures log empty o =
-    let read : read_log Coordinator [] ≡ Whole (records_of log.sight.kept) o.torn = subst (λ bs. read_log Coordinator bs
+    let read : read_log Coordinator [] ≡ Whole (records_of log.sight.kept) o.torn =
+    subst (λ bs. read_log Coordinator bs
     ≡ Whole (records_of log.sight.kept) o.torn) empty o.read in
     sym (same_records [] (records_of log.sight.kept) 0 o.torn (sym nothing_read ∙ read))

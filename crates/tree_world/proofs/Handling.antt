@@ -10,7 +10,13 @@ use Rattle.tree_world.proofs.Steps.{same_as_it_is}
 
 -- a state of these parts
 abbrev pub world : List TreeEntry → (ProcessId → Option CoreState) → JournalState → WorldState
-world tree nodes j = record { tree = tree; node_at = nodes; net = j.net; delivered = j.delivered; entries = j.entries }
+world tree nodes j = record {
+  tree = tree;
+  node_at = nodes;
+  net = j.net;
+  delivered = j.delivered;
+  entries = j.entries;
+}
 
 -- a state stays where its journal keeps all
 pub stays : (tree : List TreeEntry) (nodes : ProcessId → Option CoreState) (j k : JournalState) → Keeps j k
@@ -21,7 +27,13 @@ stays tree nodes j k keeps = rw (keeps.net, keeps.delivered, keeps.entries) refl
 pub same_as_before : (old new : WorldState) → new ≡ old → Same old new
 same_as_before old new is =
     subst (λ w. Same old w) (sym is)
-    (record { tree = refl; nodes = λ q. same_as_it_is (old.node_at q); net = refl; delivered = refl; entries = refl })
+    (record {
+      tree = refl;
+      nodes = λ q. same_as_it_is (old.node_at q);
+      net = refl;
+      delivered = refl;
+      entries = refl;
+    })
 
 -- an error that is passed on
 pub passed_on : (r : Result (Unit {0}) StepError) (e : StepError) (P : StepError → Type 0)
@@ -30,6 +42,7 @@ passed_on (Ok x) e P is p = tt
 passed_on (Err y) e P is p = subst P (sym is) p
 
 -- where there is an error, nothing is owed of what a success leaves
-pub no_success : (r : Result (Unit {0}) StepError) (P : StepError → Type 0) (Q : Type 0) → IsErrAnd r P → OnOk r Q
+pub no_success : (r : Result (Unit {0}) StepError) (P : StepError → Type 0)
+    (Q : Type 0) → IsErrAnd r P → OnOk r Q
 no_success (Ok x) P Q is = absurd is
 no_success (Err e) P Q is = tt

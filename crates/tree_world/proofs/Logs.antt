@@ -6,7 +6,8 @@ use Rattle.tree_model.specs.declared.names.Kind.TheVariants.{Coordinator}
 use Rattle.coord_core.specs.States.{role_below}
 use Rattle.tree_world.specs.Nodes.{log_kind}
 
-pub one_more : {A B C : Type 0} (f : A → B) (g : C → B) (xs all : List A) (x : A) (ys : List C) (i : ℕ) (y : C)
+pub one_more : {A B C : Type 0} (f : A → B) (g : C → B) (xs all : List A) (x : A)
+    (ys : List C) (i : ℕ) (y : C)
     → all ≡ xs ++ x ∷ [] → map f xs ≡ map g (take i ys) → i < length ys → y ≡ get_or ys i y → f x ≡ g y
     → map f all ≡ map g (take (i + 1) ys)
 one_more f g xs all x ys i y pushed before within at is =

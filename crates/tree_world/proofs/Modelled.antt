@@ -24,17 +24,22 @@ pub applied_from : (s t : WorldState) (event : Event) (made : Result (Unit {0}) 
 applied_from s t event (Ok done) m ok err es w f =
     applied_on entered_of entered_shows as_the_model s.tree m.is_tree s t event es w refl f ok
 applied_from s t event (Err e) m ok err es w f =
-    stopped_on entered_of entered_shows as_the_model s.tree m.is_tree s t event e es w (λ failed. entered_hides) refl f err
+    stopped_on entered_of entered_shows as_the_model s.tree m.is_tree s t event e es w
+    (λ failed. entered_hides) refl f err
 
-pub ran_from : (s t : WorldState) (events : List Event) (made : Result (Unit {0}) (ℕ × StepError)) → IsModelledTree s
-    → OnOk made (Leads s events t) → IfErr made (λ refusal. LeadsUntil s events refusal.0 refusal.1 t) → GoesOnFrom s t
+pub ran_from : (s t : WorldState) (events : List Event)
+    (made : Result (Unit {0}) (ℕ × StepError)) → IsModelledTree s
+    → OnOk made (Leads s events t) → IfErr made
+    (λ refusal. LeadsUntil s events refusal.0 refusal.1 t) → GoesOnFrom s t
 ran_from s t events (Ok done) m ok err es w f =
     leads_on entered_of entered_shows as_the_model s.tree m.is_tree s t events es w refl f ok
 ran_from s t events (Err refusal) m ok err es w f =
-    leads_until_on entered_of entered_shows as_the_model s.tree m.is_tree s t events refusal.0 refusal.1 es w (λ failed. entered_hides) refl f err
+    leads_until_on entered_of entered_shows as_the_model s.tree m.is_tree s t events refusal.0 refusal.1 es w
+    (λ failed. entered_hides) refl f err
 
 -- a tree that has opened empty logs stands for the run with no moves
-pub opened_modelled : (tree : List TreeEntry) (s : WorldState) → IsTree tree → IsOpened s tree → IsModelledTree s
+pub opened_modelled : (tree : List TreeEntry) (s : WorldState) → IsTree tree
+    → IsOpened s tree → IsModelledTree s
 opened_modelled tree s is_tree opened = record {
   is_tree = subst IsTree (sym opened.tree_is) is_tree;
   run = record { moves = []; world = opened_world; follows = opened_behind_faults tree s opened; holds = tt };
@@ -61,5 +66,6 @@ says Holds s less m = record {
   moves = m.run.moves;
   world = m.run.world;
   follows = m.run.follows;
-  holds = less s.tree m.run.moves m.run.world (modelled_behind_faults s m.run.moves m.run.world m.is_tree m.run.follows);
+  holds = less s.tree m.run.moves m.run.world
+      (modelled_behind_faults s m.run.moves m.run.world m.is_tree m.run.follows);
 }

@@ -15,14 +15,16 @@ use Rattle.tree_world.specs.Nodes.{core_of}
 use Rattle.tree_world.specs.Openings.{AreOpened, OpenedAs}
 use Rattle.tree_world.proofs.Handling.{world}
 
-listed_more : (es : List TreeEntry) (e : TreeEntry) (q : ProcessId) → is_listed (es ++ e ∷ []) q ≡ (is_listed es q || same_process e.id q)
+listed_more : (es : List TreeEntry) (e : TreeEntry) (q : ProcessId)
+    → is_listed (es ++ e ∷ []) q ≡ (is_listed es q || same_process e.id q)
 unfolding is_listed
 listed_more [] e q = by_test (same_process e.id q)
   where
     by_test : (b : Bool) → (b || false) ≡ b
     by_test true = refl
     by_test false = refl
-listed_more (x ∷ es) e q = by_test (same_process x.id q) (list_any (λ e. same_process e.id q) (es ++ e ∷ [])) (list_any (λ e. same_process e.id q) es) (same_process e.id q) (listed_more es e q)
+listed_more (x ∷ es) e q = by_test (same_process x.id q) (list_any (λ e. same_process e.id q) (es ++ e ∷ []))
+    (list_any (λ e. same_process e.id q) es) (same_process e.id q) (listed_more es e q)
   where
     by_test : (b r s t : Bool) → r ≡ (s || t) → (b || r) ≡ ((b || s) || t)
     by_test true r s t h = refl
@@ -32,7 +34,8 @@ itself : (p : ProcessId) → same_process p p ≡ true
 itself p = grind (arith, same_process_tells)
 
 -- the role of a process is that of the entry that lists it first
-first_role : (es : List TreeEntry) (i : ℕ) (e : TreeEntry) → i < length es → e ≡ get_or es i e → is_listed (take i es) e.id ≡ false
+first_role : (es : List TreeEntry) (i : ℕ) (e : TreeEntry) → i < length es → e ≡ get_or es i e
+    → is_listed (take i es) e.id ≡ false
     → role_of es e.id ≡ role_by e.kind e.parent
 unfolding is_listed role_of
 first_role [] i e lt is fresh = absurd (omega (arith, lt))
@@ -42,8 +45,10 @@ first_role (x ∷ es) zero e lt is fresh =
 first_role (x ∷ es) (suc i) e lt is fresh =
     by_test (same_process x.id e.id) refl fresh (first_role es i e (omega (arith, lt)) is)
   where
-    by_test : (b : Bool) → same_process x.id e.id ≡ b → (b || list_any (λ y. same_process y.id e.id) (take i es)) ≡ false
-        → (list_any (λ y. same_process y.id e.id) (take i es) ≡ false → role_of es e.id ≡ role_by e.kind e.parent)
+    by_test : (b : Bool) → same_process x.id e.id ≡ b
+        → (b || list_any (λ y. same_process y.id e.id) (take i es)) ≡ false
+        → (list_any (λ y. same_process y.id e.id) (take i es) ≡ false
+        → role_of es e.id ≡ role_by e.kind e.parent)
         → (if b then role_by x.kind x.parent else role_of es e.id) ≡ role_by e.kind e.parent
     by_test true at h later = absurd (cc)
     by_test false at h later = later h
@@ -61,7 +66,8 @@ or_false true c h = refl
 or_false false c h = h
 
 -- no process is listed, none is open
-pub none : (tree : List TreeEntry) (node_at : ProcessId → Option CoreState) → ((q : ProcessId) → node_at q ≡ None) → AreOpened tree [] node_at
+pub none : (tree : List TreeEntry) (node_at : ProcessId → Option CoreState)
+    → ((q : ProcessId) → node_at q ≡ None) → AreOpened tree [] node_at
 unfolding is_listed
 none tree node_at empty = record {
   opened = λ q s stands. absurd (no_some (node_at q) s (empty q) stands);
@@ -72,20 +78,26 @@ none tree node_at empty = record {
     no_some o s e f = absurd (cc)
 
 -- a process that is open already is passed over
-pub passes : (es : List TreeEntry) (i : ℕ) (e : TreeEntry) (node_at : ProcessId → Option CoreState) → i < length es
-    → e ≡ get_or es i e → is_some (node_at e.id) ≡ true → AreOpened es (take i es) node_at → AreOpened es (take (i + 1) es) node_at
+pub passes : (es : List TreeEntry) (i : ℕ) (e : TreeEntry)
+    (node_at : ProcessId → Option CoreState) → i < length es
+    → e ≡ get_or es i e → is_some (node_at e.id) ≡ true → AreOpened es (take i es) node_at
+    → AreOpened es (take (i + 1) es) node_at
 passes es i e node_at lt is there h = rw (take_more es i e lt, ← is) (record {
   opened = h.opened;
   listed_are = λ q. by_name q (same_process_tells e.id q) ∙ sym (listed_more (take i es) e q);
 })
   where
-    by_name : (q : ProcessId) → ((same_process e.id q ≡ true) × (e.id ≡ q)) ⊎ ((same_process e.id q ≡ false) × (e.id ≢ q))
+    by_name : (q : ProcessId) → ((same_process e.id q ≡ true) × (e.id ≡ q)) ⊎
+        ((same_process e.id q ≡ false) × (e.id ≢ q))
         → is_some (node_at q) ≡ (is_listed (take i es) q || same_process e.id q)
-    by_name q (inl here) = subst (λ p. is_some (node_at p) ≡ true) here.1 there ∙ sym (or_true (is_listed (take i es) q) (same_process e.id q) here.0)
-    by_name q (inr apart) = h.listed_are q ∙ sym (or_false (is_listed (take i es) q) (same_process e.id q) apart.0)
+    by_name q (inl here) = subst (λ p. is_some (node_at p) ≡ true) here.1 there
+        ∙ sym (or_true (is_listed (take i es) q) (same_process e.id q) here.0)
+    by_name q (inr apart) = h.listed_are q ∙ sym
+        (or_false (is_listed (take i es) q) (same_process e.id q) apart.0)
 
 -- a process more
-pub opens_more : (es : List TreeEntry) (i : ℕ) (e : TreeEntry) (old new : ProcessId → Option CoreState) → i < length es
+pub opens_more : (es : List TreeEntry) (i : ℕ) (e : TreeEntry)
+    (old new : ProcessId → Option CoreState) → i < length es
     → e ≡ get_or es i e → is_some (old e.id) ≡ false → IsSomeAnd (new e.id) (OpenedAs es e)
     → ((q : ProcessId) → same_process e.id q ≡ false → new q ≡ old q)
     → AreOpened es (take i es) old → AreOpened es (take (i + 1) es) new
@@ -104,7 +116,8 @@ opens_more es i e old new lt is fresh own others h = rw (take_more es i e lt, �
     })
 
     opened_by : (q : ProcessId) (s : CoreState) → new q ≡ Some s
-        → ((same_process e.id q ≡ true) × (e.id ≡ q)) ⊎ ((same_process e.id q ≡ false) × (e.id ≢ q)) → NodeOpened es q s
+        → ((same_process e.id q ≡ true) × (e.id ≡ q)) ⊎
+        ((same_process e.id q ≡ false) × (e.id ≢ q)) → NodeOpened es q s
     opened_by q s stands (inl here) =
         let at : new e.id ≡ Some s = ap new here.1 ∙ stands in
         let it : IsSomeAnd (Some s) (OpenedAs es e) = subst (λ o. IsSomeAnd o (OpenedAs es e)) at own in
@@ -118,7 +131,8 @@ opens_more es i e old new lt is fresh own others h = rw (take_more es i e lt, �
         ap (λ p. is_some (new p)) (sym here.1) ∙ some_true (new e.id) (OpenedAs es e) own
         ∙ sym (or_true (is_listed (take i es) q) (same_process e.id q) here.0)
     listed_by q (inr there) =
-        ap is_some (others q there.0) ∙ h.listed_are q ∙ sym (or_false (is_listed (take i es) q) (same_process e.id q) there.0)
+        ap is_some (others q there.0) ∙ h.listed_are q
+        ∙ sym (or_false (is_listed (take i es) q) (same_process e.id q) there.0)
 
 -- a process is open where it has a node
 pub some_core : {L : Type 0} (o : Option (Node L)) → is_some (option_map core_of o) ≡ is_some o
@@ -126,7 +140,8 @@ some_core None = refl
 some_core (Some n) = refl
 
 -- a tree of which every process is open, and that has done nothing
-pub opened_tree : (tree : List TreeEntry) (node_at : ProcessId → Option CoreState) (j : JournalState) → AreOpened tree tree node_at
+pub opened_tree : (tree : List TreeEntry) (node_at : ProcessId → Option CoreState) (j : JournalState)
+    → AreOpened tree tree node_at
     → j.net ≡ [] → j.delivered ≡ [] → j.entries ≡ [] → IsOpened (world tree node_at j) tree
 opened_tree tree node_at j nodes net delivered entries = record {
   tree_is = refl;

@@ -21,11 +21,13 @@ use Rattle.tree_world.proofs.Steps.{moves_at, same_nodes}
 
 -- One process among all.
 
-pub restarted : {L E : Type 0} (es fs : List (ProcessId × Node L)) (q : ProcessId) (bytes : Option ℕ) (before behind : Node L)
+pub restarted : {L E : Type 0} (es fs : List (ProcessId × Node L)) (q : ProcessId)
+    (bytes : Option ℕ) (before behind : Node L)
     (made : Result (ℕ × Reaction) E)
     → node_in es q ≡ Some before → node_in fs q ≡ Some behind
     → ((p : ProcessId) → same_process q p ≡ false → node_in fs p ≡ node_in es p)
-    → IfOk made (RestartsNode (core_of before) (core_of behind) bytes) → IfOk made (RestartsAt (nodes_at es) (nodes_at fs) q bytes)
+    → IfOk made (RestartsNode (core_of before) (core_of behind) bytes)
+    → IfOk made (RestartsAt (nodes_at es) (nodes_at fs) q bytes)
 restarted es fs q bytes before behind (Ok r) stood stands others h = record {
   before = core_of before;
   behind = core_of behind;
@@ -34,7 +36,8 @@ restarted es fs q bytes before behind (Ok r) stood stands others h = record {
 }
 restarted es fs q bytes before behind (Err e) stood stands others h = tt
 
-no_restart : (old new : ProcessId → Option CoreState) (q : ProcessId) (bytes : Option ℕ) (e : StepError) (s t : CoreState)
+no_restart : (old new : ProcessId → Option CoreState) (q : ProcessId) (bytes : Option ℕ)
+    (e : StepError) (s t : CoreState)
     → MovesAt old new q s t → NoRestart s t bytes e → NoRestartAt old new q bytes e
 no_restart old new q bytes Memory s t moves h = same_nodes old new q s t moves h
 no_restart old new q bytes Device s t moves h = record { before = s; behind = t; moves = moves; breaks = h }
@@ -46,20 +49,24 @@ no_restart old new q bytes NotInDoubt s t moves h = absurd h
 no_restart old new q bytes NothingToForget s t moves h = absurd h
 no_restart old new q bytes NoSuch s t moves h = absurd h
 
-pub not_restarted : {L A : Type 0} (es fs : List (ProcessId × Node L)) (q : ProcessId) (bytes : Option ℕ) (before behind : Node L)
+pub not_restarted : {L A : Type 0} (es fs : List (ProcessId × Node L)) (q : ProcessId)
+    (bytes : Option ℕ) (before behind : Node L)
     (made : Result A StepError)
     → node_in es q ≡ Some before → node_in fs q ≡ Some behind
     → ((p : ProcessId) → same_process q p ≡ false → node_in fs p ≡ node_in es p)
-    → IfErr made (NoRestart (core_of before) (core_of behind) bytes) → IfErr made (NoRestartAt (nodes_at es) (nodes_at fs) q bytes)
+    → IfErr made (NoRestart (core_of before) (core_of behind) bytes)
+    → IfErr made (NoRestartAt (nodes_at es) (nodes_at fs) q bytes)
 not_restarted es fs q bytes before behind (Ok r) stood stands others h = tt
 not_restarted es fs q bytes before behind (Err e) stood stands others h =
     no_restart (nodes_at es) (nodes_at fs) q bytes e (core_of before) (core_of behind)
     (moves_at es fs q before behind stood stands others) h
 
-pub trimmed : {L E : Type 0} (es fs : List (ProcessId × Node L)) (q : ProcessId) (before behind : Node L) (made : Result ℕ E)
+pub trimmed : {L E : Type 0} (es fs : List (ProcessId × Node L)) (q : ProcessId)
+    (before behind : Node L) (made : Result ℕ E)
     → node_in es q ≡ Some before → node_in fs q ≡ Some behind
     → ((p : ProcessId) → same_process q p ≡ false → node_in fs p ≡ node_in es p)
-    → IfOk made (TrimsNode (core_of before) (core_of behind)) → IfOk made (TrimsAt (nodes_at es) (nodes_at fs) q)
+    → IfOk made (TrimsNode (core_of before) (core_of behind))
+    → IfOk made (TrimsAt (nodes_at es) (nodes_at fs) q)
 trimmed es fs q before behind (Ok r) stood stands others h = record {
   before = core_of before;
   behind = core_of behind;
@@ -81,10 +88,12 @@ no_trim old new q NotInDoubt s t moves h = absurd h
 no_trim old new q NothingToForget s t moves h = absurd h
 no_trim old new q NoSuch s t moves h = absurd h
 
-pub not_trimmed : {L A : Type 0} (es fs : List (ProcessId × Node L)) (q : ProcessId) (before behind : Node L) (made : Result A StepError)
+pub not_trimmed : {L A : Type 0} (es fs : List (ProcessId × Node L)) (q : ProcessId)
+    (before behind : Node L) (made : Result A StepError)
     → node_in es q ≡ Some before → node_in fs q ≡ Some behind
     → ((p : ProcessId) → same_process q p ≡ false → node_in fs p ≡ node_in es p)
-    → IfErr made (NoTrim (core_of before) (core_of behind)) → IfErr made (NoTrimAt (nodes_at es) (nodes_at fs) q)
+    → IfErr made (NoTrim (core_of before) (core_of behind))
+    → IfErr made (NoTrimAt (nodes_at es) (nodes_at fs) q)
 not_trimmed es fs q before behind (Ok r) stood stands others h = tt
 not_trimmed es fs q before behind (Err e) stood stands others h =
     no_trim (nodes_at es) (nodes_at fs) q e (core_of before) (core_of behind)
@@ -93,7 +102,8 @@ not_trimmed es fs q before behind (Err e) stood stands others h =
 -- The tree.
 
 -- what a step's entry leaves of a tree
-pub record Entered (old new : WorldState) (q : ProcessId) (happening : Happening) (reaction : Reaction) : Type 0 where
+pub record Entered (old new : WorldState) (q : ProcessId) (happening : Happening)
+    (reaction : Reaction) : Type 0 where
   pub tree : new.tree ≡ old.tree
   pub net : new.net ≡ old.net ++ reaction.messages
   pub delivered : new.delivered ≡ old.delivered ++ undelivered reaction.messages
@@ -107,7 +117,12 @@ restarts_tree old new q bytes made h entered = record {
   behind = h.behind;
   keep = h.restarts.keep;
   reaction = made.1;
-  moves = record { tree = entered.tree; stood = h.moves.stood; stands = h.moves.stands; others = h.moves.others };
+  moves = record {
+    tree = entered.tree;
+    stood = h.moves.stood;
+    stands = h.moves.stands;
+    others = h.moves.others;
+  };
   keeps = h.restarts.keeps;
   restarts = h.restarts.restarts;
   enters = record {
@@ -118,13 +133,19 @@ restarts_tree old new q bytes made h entered = record {
   };
 }
 
-pub trims_tree : (old new : WorldState) (q : ProcessId) (remain : ℕ) → TrimsAt old.node_at new.node_at q remain
+pub trims_tree : (old new : WorldState) (q : ProcessId) (remain : ℕ)
+    → TrimsAt old.node_at new.node_at q remain
     → Entered old new q Trimming (trim_reaction remain) → worlds.TrimsAt old new q
 trims_tree old new q remain h entered = record {
   before = h.before;
   behind = h.behind;
   remain = remain;
-  moves = record { tree = entered.tree; stood = h.moves.stood; stands = h.moves.stands; others = h.moves.others };
+  moves = record {
+    tree = entered.tree;
+    stood = h.moves.stood;
+    stands = h.moves.stands;
+    others = h.moves.others;
+  };
   works = h.trims.works;
   sound = h.trims.sound;
   trims = h.trims.trims;
@@ -142,16 +163,28 @@ pub record Unentered (old new : WorldState) : Type 0 where
 
 same_tree : (old new : WorldState) → SameNodes old.node_at new.node_at → Unentered old new → Same old new
 same_tree old new nodes stays =
-    record { tree = stays.tree; nodes = nodes; net = stays.net; delivered = stays.delivered; entries = stays.entries }
+    record {
+      tree = stays.tree;
+      nodes = nodes;
+      net = stays.net;
+      delivered = stays.delivered;
+      entries = stays.entries;
+    }
 
 pub no_restart_of_tree : (old new : WorldState) (q : ProcessId) (bytes : Option ℕ) (e : StepError)
-    → NoRestartAt old.node_at new.node_at q bytes e → Unentered old new → worlds.NotRestartedAt old new q bytes e
+    → NoRestartAt old.node_at new.node_at q bytes e → Unentered old new
+    → worlds.NotRestartedAt old new q bytes e
 no_restart_of_tree old new q bytes Memory h stays = same_tree old new h stays
 no_restart_of_tree old new q bytes Device h stays = record {
   before = h.before;
   behind = h.behind;
   keep = h.breaks.keep;
-  moves = record { tree = stays.tree; stood = h.moves.stood; stands = h.moves.stands; others = h.moves.others };
+  moves = record {
+    tree = stays.tree;
+    stood = h.moves.stood;
+    stands = h.moves.stands;
+    others = h.moves.others;
+  };
   keeps = h.breaks.keeps;
   broken = h.breaks.broken;
   net = stays.net;
@@ -172,7 +205,12 @@ no_trim_of_tree old new q Memory h stays = same_tree old new h stays
 no_trim_of_tree old new q Device h stays = record {
   before = h.before;
   behind = h.behind;
-  moves = record { tree = stays.tree; stood = h.moves.stood; stands = h.moves.stands; others = h.moves.others };
+  moves = record {
+    tree = stays.tree;
+    stood = h.moves.stood;
+    stands = h.moves.stands;
+    others = h.moves.others;
+  };
   works = h.breaks.works;
   sound = h.breaks.sound;
   broken = h.breaks.broken;
@@ -191,9 +229,11 @@ no_trim_of_tree old new q NoSuch h stays = (same_tree old new h.0 stays, h.1)
 -- The whole state, from the processes and the journals around a step.
 
 -- a step's entry behind a journal that kept all
-entered : (tree : List TreeEntry) (ns ms : ProcessId → Option CoreState) (j k l : JournalState) (q : ProcessId)
+entered : (tree : List TreeEntry) (ns ms : ProcessId → Option CoreState)
+    (j k l : JournalState) (q : ProcessId)
     (happening : Happening) (reaction : Reaction) → Keeps j k → l.net ≡ k.net ++ reaction.messages
-    → l.delivered ≡ k.delivered ++ undelivered reaction.messages → l.entries ≡ k.entries ++ step_entry q happening reaction ∷ []
+    → l.delivered ≡ k.delivered ++ undelivered reaction.messages
+    → l.entries ≡ k.entries ++ step_entry q happening reaction ∷ []
     → Entered (world tree ns j) (world tree ms l) q happening reaction
 entered tree ns ms j k l q happening reaction keeps net delivered entries = record {
   tree = refl;
@@ -204,9 +244,15 @@ entered tree ns ms j k l q happening reaction keeps net delivered entries = reco
 
 unentered : (tree : List TreeEntry) (ns ms : ProcessId → Option CoreState) (j k : JournalState) → Keeps j k
     → Unentered (world tree ns j) (world tree ms k)
-unentered tree ns ms j k keeps = record { tree = refl; net = keeps.net; delivered = keeps.delivered; entries = keeps.entries }
+unentered tree ns ms j k keeps = record {
+  tree = refl;
+  net = keeps.net;
+  delivered = keeps.delivered;
+  entries = keeps.entries;
+}
 
-pub world_restarts : (tree : List TreeEntry) (ns ms : ProcessId → Option CoreState) (j k l : JournalState) (q : ProcessId)
+pub world_restarts : (tree : List TreeEntry) (ns ms : ProcessId → Option CoreState)
+    (j k l : JournalState) (q : ProcessId)
     (bytes : Option ℕ) (made : ℕ × Reaction) → RestartsAt ns ms q bytes made → Keeps j k
     → l.net ≡ k.net ++ made.1.messages → l.delivered ≡ k.delivered ++ undelivered made.1.messages
     → l.entries ≡ k.entries ++ step_entry q (Restart made.0) made.1 ∷ []
@@ -215,7 +261,8 @@ world_restarts tree ns ms j k l q bytes made h keeps net delivered entries =
     restarts_tree (world tree ns j) (world tree ms l) q bytes made h
     (entered tree ns ms j k l q (Restart made.0) made.1 keeps net delivered entries)
 
-pub world_trims : (tree : List TreeEntry) (ns ms : ProcessId → Option CoreState) (j k l : JournalState) (q : ProcessId) (remain : ℕ)
+pub world_trims : (tree : List TreeEntry) (ns ms : ProcessId → Option CoreState) (j k l : JournalState)
+    (q : ProcessId) (remain : ℕ)
     (reaction : Reaction) → TrimsAt ns ms q remain → reaction ≡ trim_reaction remain → Keeps j k
     → l.net ≡ k.net ++ reaction.messages → l.delivered ≡ k.delivered ++ undelivered reaction.messages
     → l.entries ≡ k.entries ++ step_entry q Trimming reaction ∷ []
@@ -225,13 +272,16 @@ world_trims tree ns ms j k l q remain reaction h is keeps net delivered entries 
     (subst (Entered (world tree ns j) (world tree ms l) q Trimming) is
     (entered tree ns ms j k l q Trimming reaction keeps net delivered entries))
 
-pub world_not_restarted : (tree : List TreeEntry) (ns ms : ProcessId → Option CoreState) (j k : JournalState) (q : ProcessId)
+pub world_not_restarted : (tree : List TreeEntry) (ns ms : ProcessId → Option CoreState)
+    (j k : JournalState) (q : ProcessId)
     (bytes : Option ℕ) (e : StepError) → NoRestartAt ns ms q bytes e → Keeps j k
     → worlds.NotRestartedAt (world tree ns j) (world tree ms k) q bytes e
 world_not_restarted tree ns ms j k q bytes e h keeps =
     no_restart_of_tree (world tree ns j) (world tree ms k) q bytes e h (unentered tree ns ms j k keeps)
 
-pub world_not_trimmed : (tree : List TreeEntry) (ns ms : ProcessId → Option CoreState) (j k : JournalState) (q : ProcessId)
-    (e : StepError) → NoTrimAt ns ms q e → Keeps j k → worlds.NotTrimmedAt (world tree ns j) (world tree ms k) q e
+pub world_not_trimmed : (tree : List TreeEntry) (ns ms : ProcessId → Option CoreState)
+    (j k : JournalState) (q : ProcessId)
+    (e : StepError) → NoTrimAt ns ms q e → Keeps j k
+    → worlds.NotTrimmedAt (world tree ns j) (world tree ms k) q e
 world_not_trimmed tree ns ms j k q e h keeps =
     no_trim_of_tree (world tree ns j) (world tree ms k) q e h (unentered tree ns ms j k keeps)

@@ -25,7 +25,15 @@ pub run_ends : (first now : WorldState) (events : List Event) (i : ℕ) → leng
     → Leads first (take i events) now → Leads first events now
 run_ends first now events i past led = subst (λ xs. Leads first xs now) (take_all i events past) led
 
-pub run_stops : (first now new : WorldState) (events : List Event) (i : ℕ) (e : Event) (refusal : StepError) → i < length events
-    → e ≡ get_or events i e → Leads first (take i events) now → Stops now e refusal new → LeadsUntil first events i refusal new
+pub run_stops : (first now new : WorldState) (events : List Event) (i : ℕ) (e : Event)
+    (refusal : StepError) → i < length events
+    → e ≡ get_or events i e → Leads first (take i events) now → Stops now e refusal new
+    → LeadsUntil first events i refusal new
 run_stops first now new events i e refusal within is led stops =
-    record { event = e; next = slice_get_read events (length events) i e refl within is; before = now; leads = led; stops = stops }
+    record {
+      event = e;
+      next = slice_get_read events (length events) i e refl within is;
+      before = now;
+      leads = led;
+      stops = stops;
+    }

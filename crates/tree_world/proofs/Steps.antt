@@ -19,7 +19,16 @@ pub same_core : (s : CoreState) → SameCore s s
 same_core s =
     record {
       log = refl;
-      rest = record { place = refl; boot = refl; begun = refl; given = refl; tickets = λ d. refl; views = λ c. same_view (s.view_of c); branches = λ c. refl };
+      rest = record {
+        place = refl;
+        boot = refl;
+        begun = refl;
+        given = refl;
+        tickets = λ d. refl;
+        views = λ c.
+            same_view (s.view_of c);
+        branches = λ c. refl;
+      };
     }
 
 -- each process is the same as it is
@@ -39,21 +48,26 @@ moves_at es fs q before behind stood stands others =
     }
 
 -- where one process is the same, and each other as it was, nothing is otherwise
-pub same_nodes : (old new : ProcessId → Option CoreState) (q : ProcessId) (s t : CoreState) → MovesAt old new q s t → SameCore s t
+pub same_nodes : (old new : ProcessId → Option CoreState) (q : ProcessId) (s t : CoreState)
+    → MovesAt old new q s t → SameCore s t
     → SameNodes old new
 same_nodes old new q s t moves same p = at (same_process_tells q p)
   where
-    at : ((same_process q p ≡ true) × (q ≡ p)) ⊎ ((same_process q p ≡ false) × (q ≢ p)) → SameNode (old p) (new p)
+    at : ((same_process q p ≡ true) × (q ≡ p)) ⊎
+        ((same_process q p ≡ false) × (q ≢ p)) → SameNode (old p) (new p)
     at (inl here) =
         subst (λ r. SameNode (old r) (new r)) here.1
-        (subst (λ o. SameNode o (new q)) (sym moves.stood) (subst (λ o. SameNode (Some s) o) (sym moves.stands) same))
+        (subst (λ o. SameNode o (new q)) (sym moves.stood)
+        (subst (λ o. SameNode (Some s) o) (sym moves.stands) same))
     at (inr there) = subst (λ o. SameNode (old p) o) (sym (moves.others p there.0)) (same_as_it_is (old p))
 
 -- a process handled an input
-pub stepped : {L E : Type 0} (es fs : List (ProcessId × Node L)) (q : ProcessId) (i : Input) (before behind : Node L) (made : Result Reaction E)
+pub stepped : {L E : Type 0} (es fs : List (ProcessId × Node L)) (q : ProcessId) (i : Input)
+    (before behind : Node L) (made : Result Reaction E)
     → node_in es q ≡ Some before → node_in fs q ≡ Some behind
     → ((p : ProcessId) → same_process q p ≡ false → node_in fs p ≡ node_in es p)
-    → IfOk made (HandlesInput (core_of before) (core_of behind) i) → IfOk made (StepsAt (nodes_at es) (nodes_at fs) q i)
+    → IfOk made (HandlesInput (core_of before) (core_of behind) i)
+    → IfOk made (StepsAt (nodes_at es) (nodes_at fs) q i)
 stepped es fs q i before behind (Ok r) stood stands others handles =
     record {
       before = core_of before;
@@ -64,7 +78,8 @@ stepped es fs q i before behind (Ok r) stood stands others handles =
 stepped es fs q i before behind (Err e) stood stands others handles = tt
 
 -- the process refused it
-refused_at : (old new : ProcessId → Option CoreState) (q : ProcessId) (i : Input) (e : StepError) (s t : CoreState) (a : DataAnswer)
+refused_at : (old new : ProcessId → Option CoreState) (q : ProcessId) (i : Input) (e : StepError)
+    (s t : CoreState) (a : DataAnswer)
     → MovesAt old new q s t → IsRefused s t a i e → SameNodes old new × RefusesAt (old q) i e
 refused_at old new q i e s t a moves refused = (
   same_nodes old new q s t moves refused.same,
@@ -72,10 +87,17 @@ refused_at old new q i e s t a moves refused = (
 )
 
 -- why it handled none
-stopped_by : (old new : ProcessId → Option CoreState) (q : ProcessId) (i : Input) (e : StepError) (s t : CoreState)
+stopped_by : (old new : ProcessId → Option CoreState) (q : ProcessId) (i : Input)
+    (e : StepError) (s t : CoreState)
     → MovesAt old new q s t → NotHandled s t i e → NoStepAt old new q i e
 stopped_by old new q i Memory s t moves h = same_nodes old new q s t moves h.1
-stopped_by old new q i Device s t moves h = record { before = s; behind = t; moves = moves; answer = h.0; broken = h.1 }
+stopped_by old new q i Device s t moves h = record {
+  before = s;
+  behind = t;
+  moves = moves;
+  answer = h.0;
+  broken = h.1;
+}
 stopped_by old new q i UnknownTxn s t moves h = refused_at old new q i UnknownTxn s t h.0 moves h.1
 stopped_by old new q i NotAChild s t moves h = refused_at old new q i NotAChild s t h.0 moves h.1
 stopped_by old new q i Closed s t moves h = refused_at old new q i Closed s t h.0 moves h.1
@@ -84,10 +106,13 @@ stopped_by old new q i NotInDoubt s t moves h = refused_at old new q i NotInDoub
 stopped_by old new q i NothingToForget s t moves h = refused_at old new q i NothingToForget s t h.0 moves h.1
 stopped_by old new q i NoSuch s t moves h = refused_at old new q i NoSuch s t h.0 moves h.1
 
-pub stopped : {L A : Type 0} (es fs : List (ProcessId × Node L)) (q : ProcessId) (i : Input) (before behind : Node L) (made : Result A StepError)
+pub stopped : {L A : Type 0} (es fs : List (ProcessId × Node L)) (q : ProcessId) (i : Input)
+    (before behind : Node L) (made : Result A StepError)
     → node_in es q ≡ Some before → node_in fs q ≡ Some behind
     → ((p : ProcessId) → same_process q p ≡ false → node_in fs p ≡ node_in es p)
-    → IfErr made (NotHandled (core_of before) (core_of behind) i) → IfErr made (NoStepAt (nodes_at es) (nodes_at fs) q i)
+    → IfErr made (NotHandled (core_of before) (core_of behind) i)
+    → IfErr made (NoStepAt (nodes_at es) (nodes_at fs) q i)
 stopped es fs q i before behind (Ok r) stood stands others h = tt
 stopped es fs q i before behind (Err e) stood stands others h =
-    stopped_by (nodes_at es) (nodes_at fs) q i e (core_of before) (core_of behind) (moves_at es fs q before behind stood stands others) h
+    stopped_by (nodes_at es) (nodes_at fs) q i e (core_of before) (core_of behind)
+    (moves_at es fs q before behind stood stands others) h

@@ -27,7 +27,8 @@ of_entered (f ∷ []) e = refl
 of_entered (f ∷ g ∷ es) e = of_entered (g ∷ es) e
 
 -- those of the last step
-pub of_last : (es : List ShortStep) (e : ShortStep) → slice_get es (length es - 1) ≡ Some e → last_messages es ≡ e.messages
+pub of_last : (es : List ShortStep) (e : ShortStep) → slice_get es (length es - 1) ≡ Some e
+    → last_messages es ≡ e.messages
 of_last [] e is = absurd (cc)
 of_last (f ∷ []) e is = let same : f ≡ e = cc in rw same refl
 of_last (f ∷ g ∷ es) e is =
@@ -42,25 +43,30 @@ unmarked (l ∷ ls) = ap (λ (bs : List Bool). false ∷ bs) (unmarked ls)
 -- The names of messages.
 
 -- the messages of one step more
-pub messages_more : (es : List ShortStep) (e : ShortStep) → messages_of (es ++ e ∷ []) ≡ messages_of es ++ e.messages
+pub messages_more : (es : List ShortStep) (e : ShortStep)
+    → messages_of (es ++ e ∷ []) ≡ messages_of es ++ e.messages
 messages_more [] e = append-nil e.messages
 messages_more (f ∷ es) e =
-    ap (λ ls. f.messages ++ ls) (messages_more es e) ∙ sym (append_assoc f.messages (messages_of es) e.messages)
+    ap (λ ls. f.messages ++ ls) (messages_more es e)
+    ∙ sym (append_assoc f.messages (messages_of es) e.messages)
 
 -- what is found in a list is found in a longer one
-pub found_more : {A : Type 0} (xs ys : List A) (k : ℕ) (x : A) → slice_get xs k ≡ Some x → slice_get (xs ++ ys) k ≡ Some x
+pub found_more : {A : Type 0} (xs ys : List A) (k : ℕ) (x : A) → slice_get xs k ≡ Some x
+    → slice_get (xs ++ ys) k ≡ Some x
 found_more [] ys k x h = absurd (cc)
 found_more (z ∷ xs) ys zero x h = h
 found_more (z ∷ xs) ys (suc k) x h = found_more xs ys k x h
 
 -- a message keeps its name as a step is entered
-pub at_more : (es : List ShortStep) (e : ShortStep) (k n : ℕ) (l : Envelope) → message_in (slice_get es k) n ≡ Some l
+pub at_more : (es : List ShortStep) (e : ShortStep) (k n : ℕ) (l : Envelope)
+    → message_in (slice_get es k) n ≡ Some l
     → message_in (slice_get (es ++ e ∷ []) k) n ≡ Some l
 at_more [] e k n l h = absurd (cc)
 at_more (f ∷ es) e zero n l h = h
 at_more (f ∷ es) e (suc k) n l h = at_more es e k n l h
 
-all_more : (es : List ShortStep) (e : ShortStep) (ps : List Posted) (ls : List Envelope) → map (message_at es) ps ≡ map Some ls
+all_more : (es : List ShortStep) (e : ShortStep) (ps : List Posted) (ls : List Envelope)
+    → map (message_at es) ps ≡ map Some ls
     → map (message_at (es ++ e ∷ [])) ps ≡ map Some ls
 all_more es e [] ls h = h
 all_more es e (p ∷ ps) [] h = absurd (cc)
@@ -71,7 +77,8 @@ all_more es e (p ∷ ps) (l ∷ ls) h =
     let rest = all_more es e ps ls others in cc
 
 -- the names stay those of all messages but the last step's
-pub named_behind : (es : List ShortStep) (e : ShortStep) (ps : List Posted) → AreNamed true es ps → AreNamed false (es ++ e ∷ []) ps
+pub named_behind : (es : List ShortStep) (e : ShortStep) (ps : List Posted) → AreNamed true es ps
+    → AreNamed false (es ++ e ∷ []) ps
 named_behind es e ps h = record {
   posted = h.posted;
   named = all_more es e ps h.posted h.named;
@@ -80,14 +87,16 @@ named_behind es e ps h = record {
 }
 
 -- the last step's messages by their names
-last_in : (es : List ShortStep) (n : ℕ) → message_in (slice_get es (length es - 1)) n ≡ slice_get (last_messages es) n
+last_in : (es : List ShortStep) (n : ℕ) → message_in (slice_get es (length es - 1)) n
+    ≡ slice_get (last_messages es) n
 last_in [] n = refl
 last_in (f ∷ []) n = refl
 last_in (f ∷ g ∷ es) n =
     let at : suc (suc (length es)) - 1 ≡ suc (suc (length es) - 1) = omega arith in
     rw at (last_in (g ∷ es) n)
 
-front_more : (ls : List Envelope) (n : ℕ) → n < length ls → map Some (take n ls) ++ slice_get ls n ∷ [] ≡ map Some (take (suc n) ls)
+front_more : (ls : List Envelope) (n : ℕ) → n < length ls
+    → map Some (take n ls) ++ slice_get ls n ∷ [] ≡ map Some (take (suc n) ls)
 front_more [] n h = absurd (omega arith)
 front_more (l ∷ ls) zero h = refl
 front_more (l ∷ ls) (suc n) h = ap (λ os. Some l ∷ os) (front_more ls n (omega arith))
@@ -106,17 +115,20 @@ pub posts : (es : List ShortStep) (ps : List Posted) → AreNamed false es ps
     → AreNamed true es (ps ++ names (length es - 1) (length (last_messages es)))
 posts es ps h =
     let n = length (last_messages es) in
-    let is_whole : take n (last_messages es) ≡ last_messages es = take_all n (last_messages es) (omega arith) in
+    let is_whole : take n (last_messages es) ≡ last_messages es =
+    take_all n (last_messages es) (omega arith) in
     record {
       posted = messages_of es;
       named = map-append (message_at es) ps (names (length es - 1) n)
           ∙ ap (λ os. os ++ map (message_at es) (names (length es - 1) n)) h.named
-          ∙ ap (λ os. map Some h.posted ++ os) (names_front es n (omega arith) ∙ ap (λ ls. map Some ls) is_whole)
+          ∙ ap (λ os. map Some h.posted ++ os)
+          (names_front es n (omega arith) ∙ ap (λ ls. map Some ls) is_whole)
           ∙ sym (map-append Some h.posted (last_messages es)) ∙ ap (λ ls. map Some ls) (sym h.all);
       all = sym (append-nil (messages_of es));
     }
 
-pub posts_as : (es : List ShortStep) (ps new : List Posted) (k n : ℕ) → new ≡ ps ++ names k n → k ≡ length es - 1
+pub posts_as : (es : List ShortStep) (ps new : List Posted) (k n : ℕ)
+    → new ≡ ps ++ names k n → k ≡ length es - 1
     → n ≡ length (last_messages es) → AreNamed false es ps → AreNamed true es new
 posts_as es ps new k n is at size h = rw (is, at, size) (posts es ps h)
 
@@ -124,11 +136,14 @@ posts_as es ps new k n is at size h = rw (is, at, size) (posts es ps h)
 pub messages_take : (es : List ShortStep) (i : ℕ) (e : ShortStep) → i < length es → e ≡ get_or es i e
     → messages_of (take (i + 1) es) ≡ messages_of (take i es) ++ e.messages
 messages_take es i e lt is =
-    ap messages_of (take_more es i e lt ∙ ap (λ (f : ShortStep). take i es ++ f ∷ []) (sym is)) ∙ messages_more (take i es) e
+    ap messages_of (take_more es i e lt ∙ ap (λ (f : ShortStep). take i es ++ f ∷ []) (sym is))
+    ∙ messages_more (take i es) e
 
 -- the message with a number, by its name
-named_all : (f : Posted → Option Envelope) (es : List ShortStep) (ps : List Posted) (ls : List Envelope) (k : ℕ)
-    → ((p : Posted) → f p ≡ message_at es p) → map f ps ≡ map Some ls → message_with es (slice_get ps k) ≡ slice_get ls k
+named_all : (f : Posted → Option Envelope) (es : List ShortStep) (ps : List Posted)
+    (ls : List Envelope) (k : ℕ)
+    → ((p : Posted) → f p ≡ message_at es p) → map f ps ≡ map Some ls
+    → message_with es (slice_get ps k) ≡ slice_get ls k
 named_all f es [] [] k is h = refl
 named_all f es [] (l ∷ ls) k is h = absurd (cc)
 named_all f es (p ∷ ps) [] k is h = absurd (cc)
@@ -141,7 +156,8 @@ pub by_name : (es : List ShortStep) (ps : List Posted) (number : ℕ) → AreNam
     → message_by es ps number ≡ sent_as (messages_of es) number
 by_name es ps zero h = refl
 by_name es ps (suc k) h =
-    named_all (message_at es) es ps h.posted k (λ p. refl) h.named ∙ ap (λ ls. slice_get ls k) (sym (h.all ∙ append-nil h.posted))
+    named_all (message_at es) es ps h.posted k (λ p. refl) h.named
+    ∙ ap (λ ls. slice_get ls k) (sym (h.all ∙ append-nil h.posted))
 
 -- The steps.
 
@@ -149,7 +165,8 @@ by_name es ps (suc k) h =
 abbrev pub Finds : {A : Type 0} → Option A → Option A → Type 0
 Finds o p = (a : _) → o ≡ Some a → p ≡ Some a
 
-finds_mapped : {A B : Type 0} (f : A → B) (o p : Option A) → Finds o p → Finds (option_map f o) (option_map f p)
+finds_mapped : {A B : Type 0} (f : A → B) (o p : Option A) → Finds o p
+    → Finds (option_map f o) (option_map f p)
 finds_mapped f None p h b is = absurd (cc)
 finds_mapped f (Some x) p h b is = ap (λ q. option_map f q) (h x refl) ∙ is
 
@@ -169,15 +186,18 @@ finds_name : (s t : Stock) → Grows s t → (k : ℕ) → Finds (named_by s.pos
 finds_name s t g zero p is = is
 finds_name s t g (suc k) p is = g.posted k p is
 
-finds_with : (s t : Stock) → Grows s t → (o p : Option Posted) → Finds o p → Finds (message_with s.steps o) (message_with t.steps p)
+finds_with : (s t : Stock) → Grows s t → (o p : Option Posted) → Finds o p
+    → Finds (message_with s.steps o) (message_with t.steps p)
 finds_with s t g None p h l is = absurd (cc)
 finds_with s t g (Some x) p h l is = ap (λ q. message_with t.steps q) (h x refl) ∙ g.steps x.entry x.nth l is
 
 finds_happening : (s t : Stock) → Grows s t → (c : Cause)
     → Finds (happening_in s.acts s.steps s.posted c) (happening_in t.acts t.steps t.posted c)
-finds_happening s t g (ActCause k) = finds_mapped (λ a. Handles (ActInput a)) (slice_get s.acts k) (slice_get t.acts k) (g.acts k)
+finds_happening s t g (ActCause k) = finds_mapped (λ a. Handles (ActInput a)) (slice_get s.acts k)
+    (slice_get t.acts k) (g.acts k)
 finds_happening s t g (MessageCause k) =
-    finds_mapped (λ (l : Envelope). Handles (MessageInput k l.message)) (message_by s.steps s.posted k) (message_by t.steps t.posted k)
+    finds_mapped (λ (l : Envelope). Handles (MessageInput k l.message)) (message_by s.steps s.posted k)
+    (message_by t.steps t.posted k)
     (finds_with s t g (named_by s.posted k) (named_by t.posted k) (finds_name s t g k))
 finds_happening s t g (RestartCause k) = λ h is. is
 finds_happening s t g TrimCause = λ h is. is
@@ -194,8 +214,10 @@ finds_entry_by x (Some h) i (Some a) b hs found e is = rw (hs h refl, found a re
 
 finds_entry : (s t : Stock) → Grows s t → (x : ShortStep) → Finds (entry_in s x) (entry_in t x)
 finds_entry s t g x =
-    finds_entry_by x (happening_in s.acts s.steps s.posted x.cause) (happening_in t.acts t.steps t.posted x.cause)
-    (aside_in s.asides x.aside) (aside_in t.asides x.aside) (finds_happening s t g x.cause) (finds_aside s t g x.aside)
+    finds_entry_by x (happening_in s.acts s.steps s.posted x.cause)
+    (happening_in t.acts t.steps t.posted x.cause)
+    (aside_in s.asides x.aside) (aside_in t.asides x.aside)
+    (finds_happening s t g x.cause) (finds_aside s t g x.aside)
 
 finds_all : {A B : Type 0} (f g : A → Option B) (xs : List A) (ys : List B) → ((x : A) → Finds (f x) (g x))
     → map f xs ≡ map Some ys → map g xs ≡ map Some ys
@@ -225,12 +247,14 @@ posts_grow s t more is = rw is record {
   posted = λ k p h. found_more s.posted more k p h;
 }
 
-pub entries_posted : (s t : Stock) (more : List Posted) → IsWhole s → t ≡ record s { posted = s.posted ++ more }
+pub entries_posted : (s t : Stock) (more : List Posted) → IsWhole s
+    → t ≡ record s { posted = s.posted ++ more }
     → (entries_of t ≡ entries_of s) × IsWhole t
 entries_posted s t more w is =
     let whole : IsWhole t = record {
       entries = w.entries;
-      read = rw is (finds_all (entry_in s) (entry_in (record s { posted = s.posted ++ more })) s.steps w.entries
+      read =
+          rw is (finds_all (entry_in s) (entry_in (record s { posted = s.posted ++ more })) s.steps w.entries
           (finds_entry s (record s { posted = s.posted ++ more }) (posts_grow s _ more refl)) w.read);
     } in
     (entries_are t whole ∙ sym (entries_are s w), whole)
@@ -252,8 +276,10 @@ cause_back : (s : Stock) (h : Happening) → AreNamed true s.steps s.posted → 
 cause_back s (Handles (ActInput a)) named sent =
     ap (λ o. option_map (λ b. Handles (ActInput b)) o) (last_found s.acts a)
 cause_back s (Handles (MessageInput k m)) named sent =
-    ap (λ o. option_map (λ (l : Envelope). Handles (MessageInput k l.message)) o) (by_name s.steps s.posted k named)
-    ∙ mapped_twice (λ n. Handles (MessageInput k n)) (λ (l : Envelope). l.message) (sent_as (messages_of s.steps) k)
+    ap (λ o. option_map (λ (l : Envelope). Handles (MessageInput k l.message)) o)
+    (by_name s.steps s.posted k named)
+    ∙ mapped_twice (λ n. Handles (MessageInput k n)) (λ (l : Envelope). l.message)
+    (sent_as (messages_of s.steps) k)
     ∙ ap (λ o. option_map (λ n. Handles (MessageInput k n)) o) sent
 cause_back s (Restarting k) named sent = refl
 cause_back s Trimming named sent = refl
@@ -285,12 +311,25 @@ grows_acts s t more asides x is keeps = rw is record {
 pub entered : (s t : Stock) (x : ShortStep) (h : Happening) (a : Aside) → AreNamed true s.steps s.posted
     → IsSent (messages_of s.steps) h → IsWhole s → x.cause ≡ cause_by (length s.acts) h
     → x.aside ≡ aside_by (length s.asides) a
-    → t ≡ record { acts = s.acts ++ act_by h; asides = s.asides ++ asides_by a; steps = s.steps ++ x ∷ []; posted = s.posted }
+    → t ≡ record {
+      acts = s.acts ++ act_by h;
+      asides = s.asides ++ asides_by a;
+      steps = s.steps
+          ++ x ∷ [];
+      posted = s.posted;
+    }
     → (entries_of t ≡ entries_of s ++ step_entry x.process h (reaction_by x a) ∷ []) × IsWhole t
 entered s t x h a named sent w caused asided is =
     let e = step_entry x.process h (reaction_by x a) in
-    let s1 : Stock = record { acts = s.acts ++ act_by h; asides = s.asides ++ asides_by a; steps = s.steps; posted = s.posted } in
-    let g = grows_acts s t (act_by h) (s.asides ++ asides_by a) x is (λ k b f. found_more s.asides (asides_by a) k b f) in
+    let s1 : Stock = record {
+      acts = s.acts ++ act_by h;
+      asides = s.asides
+          ++ asides_by a;
+      steps = s.steps;
+      posted = s.posted;
+    } in
+    let g = grows_acts s t (act_by h) (s.asides ++ asides_by a) x is
+    (λ k b f. found_more s.asides (asides_by a) k b f) in
     let g1 : Grows s1 t = rw is record {
       acts = λ k b f. f;
       asides = λ k b f. f;
@@ -301,7 +340,8 @@ entered s t x h a named sent w caused asided is =
     finds_happening s1 t g1 x.cause h
     (ap (λ c. happening_in (s.acts ++ act_by h) s.steps s.posted c) caused ∙ cause_back s h named sent) in
     let beside : aside_in t.asides x.aside ≡ Some a =
-    finds_aside s1 t g1 x.aside a (ap (λ o. aside_in (s.asides ++ asides_by a) o) asided ∙ aside_back s.asides a) in
+    finds_aside s1 t g1 x.aside a (ap (λ o. aside_in (s.asides ++ asides_by a) o)
+    asided ∙ aside_back s.asides a) in
     let own : entry_in t x ≡ Some e = rw (happened, beside) refl in
     let steps : t.steps ≡ s.steps ++ x ∷ [] = rw is refl in
     let whole : IsWhole t = record {
@@ -316,21 +356,25 @@ entered s t x h a named sent w caused asided is =
 
 -- The entry at a place.
 
-mapped_length : {A B : Type 0} (f : A → Option B) (xs : List A) (ys : List B) → map f xs ≡ map Some ys → length ys ≡ length xs
+mapped_length : {A B : Type 0} (f : A → Option B) (xs : List A) (ys : List B)
+    → map f xs ≡ map Some ys → length ys ≡ length xs
 mapped_length f [] [] h = refl
 mapped_length f [] (y ∷ ys) h = absurd (cc)
 mapped_length f (x ∷ xs) [] h = absurd (cc)
-mapped_length f (x ∷ xs) (y ∷ ys) h = let others : map f xs ≡ map Some ys = cc in ap (λ n. suc n) (mapped_length f xs ys others)
+mapped_length f (x ∷ xs) (y ∷ ys) h = let others : map f xs ≡ map Some ys =
+    cc in ap (λ n. suc n) (mapped_length f xs ys others)
 
 -- there are as many entries as steps
 pub as_many : (s : Stock) → IsWhole s → length (entries_of s) ≡ length s.steps
 as_many s w = ap length (entries_are s w) ∙ mapped_length (entry_in s) s.steps w.entries w.read
 
-mapped_at : {A B : Type 0} (f : A → Option B) (xs : List A) (ys : List B) (k : ℕ) (x : A) → map f xs ≡ map Some ys
+mapped_at : {A B : Type 0} (f : A → Option B) (xs : List A) (ys : List B) (k : ℕ)
+    (x : A) → map f xs ≡ map Some ys
     → slice_get xs k ≡ Some x → f x ≡ slice_get ys k
 mapped_at f [] ys k x h is = absurd (cc)
 mapped_at f (z ∷ xs) [] k x h is = absurd (cc)
-mapped_at f (z ∷ xs) (y ∷ ys) zero x h is = let first : f z ≡ Some y = cc in let same : z ≡ x = cc in rw (sym same) first
+mapped_at f (z ∷ xs) (y ∷ ys) zero x h is = let first : f z ≡ Some y =
+    cc in let same : z ≡ x = cc in rw (sym same) first
 mapped_at f (z ∷ xs) (y ∷ ys) (suc k) x h is =
     let others : map f xs ≡ map Some ys = cc in mapped_at f xs ys k x others is
 
@@ -340,7 +384,8 @@ mapped_past f [] [] k h is = refl
 mapped_past f [] (y ∷ ys) k h is = absurd (cc)
 mapped_past f (z ∷ xs) [] k h is = refl
 mapped_past f (z ∷ xs) (y ∷ ys) zero h is = absurd (cc)
-mapped_past f (z ∷ xs) (y ∷ ys) (suc k) h is = let others : map f xs ≡ map Some ys = cc in mapped_past f xs ys k others is
+mapped_past f (z ∷ xs) (y ∷ ys) (suc k) h is = let others : map f xs ≡ map Some ys =
+    cc in mapped_past f xs ys k others is
 
 -- the entry of a step stands in its place
 pub entry_found : (s : Stock) (k : ℕ) (x : ShortStep) → IsWhole s → slice_get s.steps k ≡ Some x
@@ -348,13 +393,15 @@ pub entry_found : (s : Stock) (k : ℕ) (x : ShortStep) → IsWhole s → slice_
 entry_found s k x w is =
     mapped_at (entry_in s) s.steps w.entries k x w.read is ∙ ap (λ xs. slice_get xs k) (sym (entries_are s w))
 
-pub entry_past : (s : Stock) (k : ℕ) → IsWhole s → slice_get s.steps k ≡ None → slice_get (entries_of s) k ≡ None
+pub entry_past : (s : Stock) (k : ℕ) → IsWhole s → slice_get s.steps k ≡ None
+    → slice_get (entries_of s) k ≡ None
 entry_past s k w is =
     ap (λ xs. slice_get xs k) (entries_are s w) ∙ mapped_past (entry_in s) s.steps w.entries k w.read is
 
 -- What a step shows.
 
-mapped_some : {A B : Type 0} (f : A → Option B) (xs : List A) (ys : List B) (k : ℕ) (x : A) → map f xs ≡ map Some ys
+mapped_some : {A B : Type 0} (f : A → Option B) (xs : List A) (ys : List B) (k : ℕ)
+    (x : A) → map f xs ≡ map Some ys
     → slice_get xs k ≡ Some x → (y : B) × (f x ≡ Some y) × (slice_get ys k ≡ Some y)
 mapped_some f [] ys k x h is = absurd (cc)
 mapped_some f (z ∷ xs) [] k x h is = absurd (cc)
@@ -363,7 +410,8 @@ mapped_some f (z ∷ xs) (y ∷ ys) zero x h is =
 mapped_some f (z ∷ xs) (y ∷ ys) (suc k) x h is =
     let others : map f xs ≡ map Some ys = cc in mapped_some f xs ys k x others is
 
-part_of_entry : (x : ShortStep) (h : Option Happening) (a : Option Aside) (e : Entry) → entry_by x h a ≡ Some e
+part_of_entry : (x : ShortStep) (h : Option Happening) (a : Option Aside)
+    (e : Entry) → entry_by x h a ≡ Some e
     → option_map (step_part x) a ≡ Some (entry_part e)
 part_of_entry x None a e is = absurd (cc)
 part_of_entry x (Some h) None e is = absurd (cc)
@@ -371,7 +419,8 @@ part_of_entry x (Some h) (Some a) e is = ap (option_map entry_part) is
 
 -- the part of the entry in its place
 pub part_found : (s : Stock) (k : ℕ) (x : ShortStep) → IsWhole s → slice_get s.steps k ≡ Some x
-    → option_map (step_part x) (aside_in s.asides x.aside) ≡ option_map entry_part (slice_get (entries_of s) k)
+    → option_map (step_part x) (aside_in s.asides x.aside)
+    ≡ option_map entry_part (slice_get (entries_of s) k)
 part_found s k x w is =
     let found = mapped_some (entry_in s) s.steps w.entries k x w.read is in
     part_of_entry x (happening_in s.acts s.steps s.posted x.cause) (aside_in s.asides x.aside) found.0 found.1

@@ -8,11 +8,13 @@ head_set true bs p h = refl
 head_set false bs p h = absurd cc
 
 -- the others are set too
-tail_set : (b : Bool) (bs : List Bool) (p : ℕ) → take (suc p) (b ∷ bs) ≡ replicate (suc p) true → take p bs ≡ replicate p true
+tail_set : (b : Bool) (bs : List Bool) (p : ℕ) → take (suc p) (b ∷ bs) ≡ replicate (suc p) true
+    → take p bs ≡ replicate p true
 tail_set b bs p h = cc
 
 -- an open mark behind set ones is the first open one
-pub opens : (k : ℕ) (bs : List Bool) (p : ℕ) → p < length bs → take p bs ≡ replicate p true → get_or bs p false ≡ false
+pub opens : (k : ℕ) (bs : List Bool) (p : ℕ) → p < length bs
+    → take p bs ≡ replicate p true → get_or bs p false ≡ false
     → least_open k bs ≡ Some (p + k)
 opens k [] p lt front unset = absurd (omega arith)
 opens k (false ∷ bs) zero lt front unset = let none : zero + k ≡ k = omega arith in rw none refl
@@ -23,7 +25,8 @@ opens k (true ∷ bs) (suc p) lt front unset =
     rw count (opens (k + 1) bs p (omega arith) (tail_set true bs p front) unset)
 
 -- where all are set none is open
-pub closed : (k : ℕ) (bs : List Bool) → take (length bs) bs ≡ replicate (length bs) true → least_open k bs ≡ None
+pub closed : (k : ℕ) (bs : List Bool) → take (length bs) bs
+    ≡ replicate (length bs) true → least_open k bs ≡ None
 closed k [] h = refl
 closed k (true ∷ bs) h = closed (k + 1) bs (tail_set true bs (length bs) h)
 closed k (false ∷ bs) h = absurd (let no : false ≡ true = head_set false bs (length bs) h in cc)

@@ -14,16 +14,20 @@ use Rattle.xa_assoc.proofs.Sound.{seat_is}
 
 pub any_counted : (p : Seat → Bool) (seats : List Seat) → nat_lt 0 (count_by p seats) ≡ list_any p seats
 any_counted p [] = refl
-any_counted p (s ∷ seats) = ap (nat_lt 0) (sum_by-cons (λ x. cond (p x) 1 0) s seats) ∙ by_test (p s) (any_counted p seats)
+any_counted p (s ∷ seats) = ap (nat_lt 0) (sum_by-cons (λ x. cond (p x) 1 0) s seats)
+    ∙ by_test (p s) (any_counted p seats)
   where
-    by_test : (b : Bool) → nat_lt 0 (count_by p seats) ≡ list_any p seats → nat_lt 0 (cond b 1 0 + count_by p seats) ≡ (b || list_any p seats)
+    by_test : (b : Bool) → nat_lt 0 (count_by p seats) ≡ list_any p seats
+        → nat_lt 0 (cond b 1 0 + count_by p seats) ≡ (b || list_any p seats)
     by_test true behind = let some : 0 < 1 + count_by p seats = omega arith in grind (arith, nat_tests, some)
     by_test false behind = ap (nat_lt 0) (omega arith) ∙ behind
 
-pub count_pushed : (p : Seat → Bool) (seats : List Seat) (s : Seat) → count_by p (seats ++ s ∷ []) ≡ count_by p seats + cond (p s) 1 0
+pub count_pushed : (p : Seat → Bool) (seats : List Seat) (s : Seat)
+    → count_by p (seats ++ s ∷ []) ≡ count_by p seats + cond (p s) 1 0
 count_pushed p seats s = sum_by_push (λ x. cond (p x) 1 0) seats s
 
-any_placed : (p : Seat → Bool) (seats : List Seat) → nat_lt (position_or_len p seats) (length seats) ≡ list_any p seats
+any_placed : (p : Seat → Bool) (seats : List Seat)
+    → nat_lt (position_or_len p seats) (length seats) ≡ list_any p seats
 any_placed p [] = refl
 any_placed p (s ∷ seats) = by_test (p s) (any_placed p seats)
   where
@@ -38,22 +42,29 @@ count_removed p [] s h = absurd cc
 count_removed p (x ∷ seats) s h = by_place (position (same_seat s) (x ∷ seats)) refl
   where
     by_place : (r : Option ℕ) → position (same_seat s) (x ∷ seats) ≡ r
-        → count_by p (option_map_or (λ i. swap_remove (x ∷ seats) i x) r (x ∷ seats)) + cond (p s) 1 0 ≡ count_by p (x ∷ seats)
-    by_place None at = absurd (let some : position (same_seat s) (x ∷ seats) ≡ Some (position_or_len (same_seat s) (x ∷ seats))
-        = ap (λ b. cond b (Some (position_or_len (same_seat s) (x ∷ seats))) None) (any_placed (same_seat s) (x ∷ seats) ∙ h) in cc)
+        → count_by p (option_map_or (λ i. swap_remove (x ∷ seats) i x) r (x ∷ seats))
+        + cond (p s) 1 0 ≡ count_by p (x ∷ seats)
+    by_place None at = absurd (let some : position (same_seat s) (x ∷ seats)
+        ≡ Some (position_or_len (same_seat s) (x ∷ seats))
+        = ap (λ b. cond b (Some (position_or_len (same_seat s) (x ∷ seats))) None)
+        (any_placed (same_seat s) (x ∷ seats) ∙ h) in cc)
     by_place (Some i) at =
         let found = position-Some (same_seat s) (x ∷ seats) i x at in
         let one : s ≡ get_or (x ∷ seats) i x = seat_is s (get_or (x ∷ seats) i x) found.1 in
-        subst (λ y. count_by p (swap_remove (x ∷ seats) i x) + cond (p y) 1 0 ≡ count_by p (x ∷ seats)) (sym one) (sum_by-swap_remove (λ y. cond (p y) 1 0) (x ∷ seats) i x found.0)
+        subst (λ y. count_by p (swap_remove (x ∷ seats) i x) + cond (p y) 1 0 ≡ count_by p (x ∷ seats))
+        (sym one) (sum_by-swap_remove (λ y. cond (p y) 1 0) (x ∷ seats) i x found.0)
 
 -- a seat that is counted was counted
-pub counted_one : (p : Seat → Bool) (seats : List Seat) (s : Seat) → holds seats s ≡ true → p s ≡ true → 1 ≤ count_by p seats
-counted_one p seats s h counts = let rest = count_removed p seats s h in let one : ◌≡◌ {A = ℕ} (cond (p s) 1 0) 1 = ap (λ b. cond b 1 0) counts in omega (arith, rest, one)
+pub counted_one : (p : Seat → Bool) (seats : List Seat) (s : Seat) → holds seats s ≡ true
+    → p s ≡ true → 1 ≤ count_by p seats
+counted_one p seats s h counts = let rest = count_removed p seats s h in let one : ◌≡◌ {A = ℕ}
+    (cond (p s) 1 0) 1 = ap (λ b. cond b 1 0) counts in omega (arith, rest, one)
 
 pub number_is : (a b : ℕ) → nat_eq a b ≡ true → a ≡ b
 number_is a b h = grind (arith, nat_tests)
 
--- Counts behind a seat that is taken or given up: that of its own key goes up or down by one, and no other does.
+-- Counts behind a seat that is taken or given up: that of its own key goes up or down by one, and no other
+-- does.
 module _ {K : Type 0} (eq : K → K → Bool) (of : Seat → K) (is : (a b : K) → eq a b ≡ true → a ≡ b) where
   pub counted_more : (seats after : List Seat) (old new : List (K × ℕ)) (s : Seat)
       → ((k : K) → count_of eq old k ≡ count_by (λ o. eq (of o) k) seats)
@@ -62,13 +73,16 @@ module _ {K : Type 0} (eq : K → K → Bool) (of : Seat → K) (is : (a b : K) 
       → ((k : K) → eq (of s) k ≡ false → count_of eq new k ≡ count_of eq old k)
       → (k : K) → count_of eq new k ≡ count_by (λ o. eq (of o) k) after
   counted_more seats after old new s counted pushed own others k =
-      by_test (eq (of s) k) refl ∙ sym (count_pushed (λ o. eq (of o) k) seats s) ∙ ap (count_by (λ o. eq (of o) k)) (sym pushed)
+      by_test (eq (of s) k) refl ∙ sym (count_pushed (λ o. eq (of o) k) seats s)
+      ∙ ap (count_by (λ o. eq (of o) k)) (sym pushed)
     where
-      by_test : (b : Bool) → eq (of s) k ≡ b → count_of eq new k ≡ count_by (λ o. eq (of o) k) seats + cond b 1 0
+      by_test : (b : Bool) → eq (of s) k ≡ b → count_of eq new k
+          ≡ count_by (λ o. eq (of o) k) seats + cond b 1 0
       by_test true one =
           subst (λ l. count_of eq new l ≡ count_by (λ o. eq (of o) l) seats + 1) (is (of s) k one)
           (own ∙ ap (λ n. n + 1) (counted (of s)))
-      by_test false apart = let same_count = others k apart in let was = counted k in omega (arith, same_count, was)
+      by_test false apart = let same_count = others k apart in let was =
+          counted k in omega (arith, same_count, was)
 
   pub counted_less : (seats after : List Seat) (old new : List (K × ℕ)) (s : Seat)
       → ((k : K) → count_of eq old k ≡ count_by (λ o. eq (of o) k) seats)
@@ -78,7 +92,8 @@ module _ {K : Type 0} (eq : K → K → Bool) (of : Seat → K) (is : (a b : K) 
       → ((k : K) → eq (of s) k ≡ false → count_of eq new k ≡ count_of eq old k)
       → (k : K) → count_of eq new k ≡ count_by (λ o. eq (of o) k) after
   counted_less seats after old new s counted taken removed own others k =
-      by_test (eq (of s) k) refl (count_removed (λ o. eq (of o) k) seats s taken) ∙ ap (count_by (λ o. eq (of o) k)) (sym removed)
+      by_test (eq (of s) k) refl (count_removed (λ o. eq (of o) k) seats s taken)
+      ∙ ap (count_by (λ o. eq (of o) k)) (sym removed)
     where
       gone : List Seat
       gone = swap_remove_by (same_seat s) seats
@@ -93,4 +108,5 @@ module _ {K : Type 0} (eq : K → K → Bool) (of : Seat → K) (is : (a b : K) 
       by_test true one rest =
           subst (λ l. count_by (λ o. eq (of o) l) gone + 1 ≡ count_by (λ o. eq (of o) l) seats
           → count_of eq new l ≡ count_by (λ o. eq (of o) l) gone) (is (of s) k one) at_own rest
-      by_test false apart rest = let same_count = others k apart in let was = counted k in omega (arith, same_count, was, rest)
+      by_test false apart rest = let same_count = others k apart in let was =
+          counted k in omega (arith, same_count, was, rest)

@@ -29,8 +29,10 @@ both a b p = ap (λ c. (c, a.1)) p.0 ∙ ap (λ s. (b.0, s)) p.1
 row_decides : (a b : Row) → Decides (same_row a b) (a ≡ b)
 row_decides a b =
     Decides-like (same_row a b) (both a b) (λ e. (ap (λ (r : Row). r.0) e, ap (λ (r : Row). r.1) e))
-    (Decides-and (sameb code.the_type a.0 b.0) (sameb branch.the_type a.1 b.1) (code_decides a.0 b.0) (state_decides a.1 b.1))
+    (Decides-and (sameb code.the_type a.0 b.0) (sameb branch.the_type a.1 b.1)
+    (code_decides a.0 b.0) (state_decides a.1 b.1))
 
 -- what a search among rows answers
-pub is_listed : (rows : List Row) (row : Row) (r : Bool) → IsAnyAnswer (λ y b. same_row y row ≡ b) rows r → IsTrue r ↔ Contains rows row
+pub is_listed : (rows : List Row) (row : Row) (r : Bool) → IsAnyAnswer (λ y b. same_row y row ≡ b) rows r
+    → IsTrue r ↔ Contains rows row
 is_listed rows row r h = Decides-contains rows row r (contains_decides same_row row_decides rows row r h)

@@ -86,7 +86,8 @@ declined : (old new : States) (c : Code) → c ≡ code.RmFail → Same old new 
 declined old new c is same = (ap is_own is, same)
 
 -- a call that leaves the log alone: a failed manager declines it, and else the tables do this
-by_failed : (old new : KvSight) (Refuses X : Type 0) (Does : KeySight → KeySight → Type 0) → Calls old new Refuses Does
+by_failed : (old new : KvSight) (Refuses X : Type 0) (Does : KeySight → KeySight → Type 0)
+    → Calls old new Refuses Does
     → (Refuses → SameManager old new → X) → (Does old.store new.store → X) → X
 by_failed old new Refuses X Does calls off on = by_test old.log.sight.failed refl
   where
@@ -95,21 +96,27 @@ by_failed old new Refuses X Does calls off on = by_test old.log.sight.failed ref
     by_test false e = on (calls.works e)
 
 open_moved : (old new : KvSight) (flags : ℕ) (migrates : Bool) (c : Code)
-    → Moves old new c (λ a b. Opens a b flags migrates c) → MakesMove old.store.tables new.store.tables (OpenMove flags migrates c)
+    → Moves old new c (λ a b. Opens a b flags migrates c)
+    → MakesMove old.store.tables new.store.tables (OpenMove flags migrates c)
 open_moved old new flags migrates c calls =
-    by_failed old new _ _ _ calls (λ is same. inl (declined old.store.tables new.store.tables c is same.tables)) (λ does. inr does.tables)
+    by_failed old new _ _ _ calls (λ is same. inl
+    (declined old.store.tables new.store.tables c is same.tables)) (λ does. inr does.tables)
 
 close_moved : (old new : KvSight) (flags : ℕ) (c : Code)
-    → Moves old new c (λ a b. Closes a b flags c) → MakesMove old.store.tables new.store.tables (CloseMove flags c)
+    → Moves old new c (λ a b. Closes a b flags c)
+    → MakesMove old.store.tables new.store.tables (CloseMove flags c)
 close_moved old new flags c calls =
-    by_failed old new _ _ _ calls (λ is same. inl (declined old.store.tables new.store.tables c is same.tables)) (λ does. inr does.tables)
+    by_failed old new _ _ _ calls (λ is same. inl
+    (declined old.store.tables new.store.tables c is same.tables)) (λ does. inr does.tables)
 
 scan_moved : (old new : KvSight) (t count flags : ℕ) (r : Result (List Xid) Code)
-    → Calls old new (r ≡ Err code.RmFail) (λ before behind. MovesTables before behind (λ a b. Recovers a b t count flags r))
+    → Calls old new (r ≡ Err code.RmFail) (λ before behind. MovesTables before behind
+    (λ a b. Recovers a b t count flags r))
     → MakesMove old.store.tables new.store.tables (RecoverMove t count flags r)
 scan_moved old new t count flags r calls =
     by_failed old new _ _ _ calls
-    (λ is same. inl (subst (λ (q : Result (List Xid) Code). IsErrAnd q (Declines old.store.tables new.store.tables)) (sym is)
+    (λ is same. inl (subst (λ (q : Result (List Xid) Code). IsErrAnd q
+    (Declines old.store.tables new.store.tables)) (sym is)
     (declined old.store.tables new.store.tables code.RmFail refl same.tables)))
     (λ does. inr does.tables)
 
@@ -126,13 +133,15 @@ abbrev MovesBranch : KvSight → KvSight → Verb → ℕ → Xid → ℕ → Co
 MovesBranch old new v t x flags c = MakesMove old.store.tables new.store.tables (BranchMove v t x flags c)
 
 work_moved : (old new : KvSight) (v : Verb) (t : ℕ) (x : Xid) (flags : ℕ) (c : Code)
-    → ((wanted : Wanted) → Moves old new c (λ a b. Answers wanted a b v t x flags c)) → MovesBranch old new v t x flags c
+    → ((wanted : Wanted) → Moves old new c (λ a b. Answers wanted a b v t x flags c))
+    → MovesBranch old new v t x flags c
 work_moved old new v t x flags c joins =
     by_failed old new _ _ _ (joins (wanted_for old.store x))
     (λ is same. inl (declined old.store.tables new.store.tables c is same.tables))
     (λ does. inr (wanted_for old.store x, wanted_fits old.store x, does.tables))
 
-turn_moved : (old new : KvSight) (v : Verb) (t : ℕ) (x : Xid) (flags : ℕ) (c : Code) (due : Call × Turn) → is_work_verb v ≡ false
+turn_moved : (old new : KvSight) (v : Verb) (t : ℕ) (x : Xid) (flags : ℕ) (c : Code)
+    (due : Call × Turn) → is_work_verb v ≡ false
     → IsDue old.store v x flags due → TakesTurn old new x due.1 c → MovesBranch old new v t x flags c
 turn_moved old new v t x flags c due w is (Made says makes) = inr (
   wanted_for old.store x,
@@ -142,24 +151,30 @@ turn_moved old new v t x flags c due w is (Made says makes) = inr (
         says ∙ ap (λ (u : Turn). u.code) is.turn,
         subst (λ (u : Turn). TakesRow old.store.tables new.store.tables x u.to) is.turn makes.tables,
       ))
-      (λ none. absurd (none (subst (λ (u : Turn). Contains (branch_rows (state_of old.store x) due.0) (u.code, u.to)) is.turn is.listed))),
+      (λ none. absurd (none (subst (λ (u : Turn). Contains (branch_rows (state_of old.store x) due.0)
+      (u.code, u.to)) is.turn is.listed))),
 )
 turn_moved old new v t x flags c due w is (Broke says fails) =
-    inl (declined old.store.tables new.store.tables c says (same_one old.store.tables new.store.tables fails.tables))
+    inl (declined old.store.tables new.store.tables c says
+    (same_one old.store.tables new.store.tables fails.tables))
 turn_moved old new v t x flags c due w is (Spent says commits spent same) = inl (ap is_own says, same.tables)
 
-finish_moved : (old new : KvSight) (v : Verb) (t : ℕ) (x : Xid) (flags : ℕ) (c : Code) → is_work_verb v ≡ false
+finish_moved : (old new : KvSight) (v : Verb) (t : ℕ) (x : Xid) (flags : ℕ)
+    (c : Code) → is_work_verb v ≡ false
     → Finishes old new v x flags c → MovesBranch old new v t x flags c
-finish_moved old new v t x flags c w (Failed failed says same) = inl (declined old.store.tables new.store.tables c says same.tables)
+finish_moved old new v t x flags c w (Failed failed says same) =
+    inl (declined old.store.tables new.store.tables c says same.tables)
 finish_moved old new v t x flags c w (Refused works off same) = inr (
   wanted_for old.store x,
   wanted_fits old.store x,
   refused_call (wanted_for old.store x) old.store.tables new.store.tables v t x flags c w
       (checks_alone old.store v x flags c w off) same.tables,
 )
-finish_moved old new v t x flags c w (Taken works due is takes) = turn_moved old new v t x flags c due w is takes
+finish_moved old new v t x flags c w (Taken works due is takes) =
+    turn_moved old new v t x flags c due w is takes
 
-branch_moved : (f : BranchCall) (old new : KvSight) (t : ℕ) (x : Xid) (flags : ℕ) (c : Code) → CallsBranch f old new t x flags c
+branch_moved : (f : BranchCall) (old new : KvSight) (t : ℕ) (x : Xid) (flags : ℕ) (c : Code)
+    → CallsBranch f old new t x flags c
     → MovesBranch old new (verb_of f) t x flags c
 branch_moved Start old new t x flags c h = work_moved old new verb.Start t x flags c h
 branch_moved End old new t x flags c h = work_moved old new verb.End t x flags c h
@@ -173,7 +188,8 @@ branch_moved Forget old new t x flags c h = finish_moved old new verb.Forget t x
 abbrev Stands : KvSight → KvSight → Type 0
 Stands old new = Same old.store.tables new.store.tables
 
-refused_same : (before behind : KeySight) (refusal : Option WorkError) (e : WorkError) → IsRefused before behind refusal e → Same before.tables behind.tables
+refused_same : (before behind : KeySight) (refusal : Option WorkError) (e : WorkError)
+    → IsRefused before behind refusal e → Same before.tables behind.tables
 refused_same before behind refusal work_error.Memory h = h.1.tables
 refused_same before behind refusal work_error.NotAssociated h = h.1.tables
 refused_same before behind refusal (work_error.Locked y) h = h.1.tables
@@ -182,11 +198,14 @@ refused_same before behind refusal work_error.TooManyWrites h = h.1.tables
 refused_same before behind refusal work_error.RmFail h = h.1.tables
 refused_same before behind refusal work_error.RollbackOnly h = h.1.tables
 
-refusal_stands : (old new : KvSight) (refusal : Option WorkError) (e : WorkError) → RefusesWork old new refusal e → Stands old new
+refusal_stands : (old new : KvSight) (refusal : Option WorkError) (e : WorkError)
+    → RefusesWork old new refusal e → Stands old new
 refusal_stands old new refusal e calls =
-    by_failed old new _ _ _ calls (λ is same. same.tables) (λ is. refused_same old.store new.store refusal e is)
+    by_failed old new _ _ _ calls (λ is same. same.tables)
+    (λ is. refused_same old.store new.store refusal e is)
 
-done_stands : (old new : KvSight) (Does : KeySight → KeySight → Type 0) → ((before behind : KeySight) → Does before behind → behind.tables ≡ before.tables)
+done_stands : (old new : KvSight) (Does : KeySight → KeySight → Type 0)
+    → ((before behind : KeySight) → Does before behind → behind.tables ≡ before.tables)
     → Calls old new ⊥ Does → Stands old new
 done_stands old new Does one calls =
     by_failed old new _ _ _ calls (λ never same. absurd never)
@@ -204,7 +223,8 @@ read_stands old new t k (answer.Trimmed n) h = absurd h
 read_stands old new t k (answer.NotTrimmed e) h = absurd h
 read_stands old new t k (answer.NotDecided e) h = absurd h
 
-write_stands : (old new : KvSight) (t : ℕ) (k : List ℕ) (v : Option (List ℕ)) (a : Answer) → IsWritten old new t k v a → Stands old new
+write_stands : (old new : KvSight) (t : ℕ) (k : List ℕ) (v : Option (List ℕ)) (a : Answer)
+    → IsWritten old new t k v a → Stands old new
 write_stands old new t k v answer.Done h = done_stands old new _ (λ before behind writes. writes.tables) h
 write_stands old new t k v (answer.Refused e) h = refusal_stands old new _ e h.1
 write_stands old new t k v (answer.Code c) h = absurd h
@@ -231,7 +251,8 @@ unbooted_stands old new keep restart_error.Device no_memory h =
 unbooted_stands old new keep restart_error.Unfit no_memory h = h.1.tables
 unbooted_stands old new keep restart_error.Exhausted no_memory h = h.1.tables
 
-boot_moved : (old new : KvSight) (keep : Option ℕ) (a : Answer) → Boots old new keep a → Moved old new (Restart keep) a
+boot_moved : (old new : KvSight) (keep : Option ℕ) (a : Answer) → Boots old new keep a
+    → Moved old new (Restart keep) a
 boot_moved old new keep (answer.Booted n) h = record {
   move = RestartMove (in_doubt_by h.2.left.seen);
   shown = (in_doubt_by h.2.left.seen, refl);
@@ -253,8 +274,10 @@ boot_moved old new keep (answer.NotDecided e) h = absurd h
 trim_moved : (old new : KvSight) (a : Answer) → Trims old new a → Moved old new Trim a
 trim_moved old new (answer.Trimmed n) h = record { move = WorkMove; shown = refl; makes = h.tables }
 trim_moved old new (answer.NotTrimmed trim_error.Memory) h = absurd (h.0 refl)
-trim_moved old new (answer.NotTrimmed trim_error.Device) h = record { move = WorkMove; shown = refl; makes = h.1.tables }
-trim_moved old new (answer.NotTrimmed trim_error.Failed) h = record { move = WorkMove; shown = refl; makes = h.1.0.tables }
+trim_moved old new (answer.NotTrimmed trim_error.Device) h =
+    record { move = WorkMove; shown = refl; makes = h.1.tables }
+trim_moved old new (answer.NotTrimmed trim_error.Failed) h =
+    record { move = WorkMove; shown = refl; makes = h.1.0.tables }
 trim_moved old new (answer.Code c) h = absurd h
 trim_moved old new (answer.Given xs) h = absurd h
 trim_moved old new (answer.Found v) h = absurd h
@@ -266,12 +289,20 @@ trim_moved old new (answer.NotDecided e) h = absurd h
 
 -- Decisions of operators.
 
-decide_moved : (old new : KvSight) (x : Xid) (o : Outcome) (a : Answer) → Decides old new x o a → Moved old new (Decide x o) a
-decide_moved old new x o answer.Done h = record { move = DecideMove x; shown = refl; makes = (h.prepared, h.tables) }
+decide_moved : (old new : KvSight) (x : Xid) (o : Outcome) (a : Answer) → Decides old new x o a
+    → Moved old new (Decide x o) a
+decide_moved old new x o answer.Done h = record {
+  move = DecideMove x;
+  shown = refl;
+  makes = (h.prepared, h.tables);
+}
 decide_moved old new x o (answer.NotDecided decide_error.Memory) h = absurd (h.0 refl)
-decide_moved old new x o (answer.NotDecided decide_error.Device) h = record { move = WorkMove; shown = refl; makes = h.1.tables }
-decide_moved old new x o (answer.NotDecided decide_error.Failed) h = record { move = WorkMove; shown = refl; makes = h.1.1.tables }
-decide_moved old new x o (answer.NotDecided decide_error.NotInDoubt) h = record { move = WorkMove; shown = refl; makes = h.1.2.tables }
+decide_moved old new x o (answer.NotDecided decide_error.Device) h =
+    record { move = WorkMove; shown = refl; makes = h.1.tables }
+decide_moved old new x o (answer.NotDecided decide_error.Failed) h =
+    record { move = WorkMove; shown = refl; makes = h.1.1.tables }
+decide_moved old new x o (answer.NotDecided decide_error.NotInDoubt) h =
+    record { move = WorkMove; shown = refl; makes = h.1.2.tables }
 decide_moved old new x o (answer.Code c) h = absurd h
 decide_moved old new x o (answer.Given xs) h = absurd h
 decide_moved old new x o (answer.Found v) h = absurd h
@@ -285,7 +316,12 @@ decide_moved old new x o (answer.NotTrimmed e) h = absurd h
 
 moved : (old new : KvSight) (r : Request) (a : Answer) → Makes old new r a → Moved old new r a
 moved old new (Open flags migrates) (answer.Code c) h =
-    record { move = OpenMove flags.0 migrates c; shown = refl; makes = open_moved old new flags.0 migrates c h }
+    record {
+      move = OpenMove flags.0 migrates c;
+      shown = refl;
+      makes = open_moved
+          old new flags.0 migrates c h;
+    }
 moved old new (Open flags migrates) (answer.Given xs) h = absurd h
 moved old new (Open flags migrates) (answer.Found v) h = absurd h
 moved old new (Open flags migrates) answer.Done h = absurd h
@@ -307,7 +343,11 @@ moved old new (Close flags) (answer.Trimmed n) h = absurd h
 moved old new (Close flags) (answer.NotTrimmed e) h = absurd h
 moved old new (Close flags) (answer.NotDecided e) h = absurd h
 moved old new (Branch f t x flags) (answer.Code c) h =
-    record { move = BranchMove (verb_of f) t x flags.0 c; shown = refl; makes = branch_moved f old new t x flags.0 c h }
+    record {
+      move = BranchMove (verb_of f) t x flags.0 c;
+      shown = refl;
+      makes = branch_moved f old new t x flags.0 c h;
+    }
 moved old new (Branch f t x flags) (answer.Given xs) h = absurd h
 moved old new (Branch f t x flags) (answer.Found v) h = absurd h
 moved old new (Branch f t x flags) answer.Done h = absurd h
@@ -318,9 +358,19 @@ moved old new (Branch f t x flags) (answer.Trimmed n) h = absurd h
 moved old new (Branch f t x flags) (answer.NotTrimmed e) h = absurd h
 moved old new (Branch f t x flags) (answer.NotDecided e) h = absurd h
 moved old new (Recover t count flags) (answer.Code c) h =
-    record { move = RecoverMove t count flags.0 (Err c); shown = refl; makes = scan_moved old new t count flags.0 (Err c) h }
+    record {
+      move = RecoverMove t count flags.0 (Err c);
+      shown = refl;
+      makes = scan_moved old
+          new t count flags.0 (Err c) h;
+    }
 moved old new (Recover t count flags) (answer.Given xs) h =
-    record { move = RecoverMove t count flags.0 (Ok xs); shown = refl; makes = scan_moved old new t count flags.0 (Ok xs) h }
+    record {
+      move = RecoverMove t count flags.0 (Ok xs);
+      shown = refl;
+      makes = scan_moved old
+          new t count flags.0 (Ok xs) h;
+    }
 moved old new (Recover t count flags) (answer.Found v) h = absurd h
 moved old new (Recover t count flags) answer.Done h = absurd h
 moved old new (Recover t count flags) (answer.Refused e) h = absurd h
@@ -349,7 +399,11 @@ run_of m n (r ∷ rs) [] e = absurd e
 run_of m n (r ∷ rs) (a ∷ given) e =
     let first = moved m e.0 r a e.1 in
     let rest = run_of e.0 n rs given e.2 in
-    record { moves = first.move ∷ rest.moves; shown = (first.shown, rest.shown); leads = (e.0.store.tables, first.makes, rest.leads) }
+    record {
+      moves = first.move ∷ rest.moves;
+      shown = (first.shown, rest.shown);
+      leads = (e.0.store.tables, first.makes, rest.leads);
+    }
 
 -- a new manager has new tables and an empty log
 no_records : (log : LogState) → OpensLog Manager [] 0 0 log → records_of log.sight.kept ≡ []
@@ -363,11 +417,25 @@ seen_nothing ls t none e = let one : seen_of [] ≡ Some t = subst (λ ks. seen_
 new_tables : (m : KvSight) → IsFresh m → IsNew m.store.tables
 new_tables m fresh =
     let left = fresh.starts.left in
-    let nothing = seen_nothing (records_of fresh.log.sight.kept) left.seen (no_records fresh.log fresh.opens) left.read in
-    let tables : Restored [] m.store.tables = subst (λ (s : SeenLog). Restored (in_doubt_by s) m.store.tables) nothing left.tables in
-    record { init = tables.init; branches = tables.branches; scans = tables.scans; associations = tables.associations; seats = tables.seats }
+    let nothing = seen_nothing (records_of fresh.log.sight.kept) left.seen
+    (no_records fresh.log fresh.opens) left.read in
+    let tables : Restored [] m.store.tables =
+    subst (λ (s : SeenLog). Restored (in_doubt_by s) m.store.tables) nothing left.tables in
+    record {
+      init = tables.init;
+      branches = tables.branches;
+      scans = tables.scans;
+      associations = tables.associations;
+      seats = tables.seats;
+    }
 
-pub legal_history_of : (m n : KvSight) (rs : List Request) (given : List Answer) → IsFresh m → Leads m rs given n → IsHistory m rs given n
+pub legal_history_of : (m n : KvSight) (rs : List Request) (given : List Answer) → IsFresh m
+    → Leads m rs given n → IsHistory m rs given n
 legal_history_of m n rs given fresh leads =
     let run = run_of m n rs given leads in
-    record { moves = run.moves; shown = run.shown; legal = legal_history m.store.tables n.store.tables run.moves (new_tables m fresh) run.leads }
+    record {
+      moves = run.moves;
+      shown = run.shown;
+      legal = legal_history m.store.tables n.store.tables
+          run.moves (new_tables m fresh) run.leads;
+    }

@@ -15,26 +15,36 @@ use Rattle.xa_engine.specs.Answers.{answer_text}
 use Rattle.xa_engine.specs.Makes.{CallsBranch, Joins, Makes}
 use Rattle.xa_engine.specs.Runs.{IsFresh, Leads, Reports, Runs}
 
-pub leads_more : (m k n : KvSight) (rs : List Request) (r : Request) (given : List Answer) (a : Answer) → Leads m rs given k → Makes k n r a → Leads m (rs ++ r ∷ []) (given ++ a ∷ []) n
+pub leads_more : (m k n : KvSight) (rs : List Request) (r : Request) (given : List Answer) (a : Answer)
+    → Leads m rs given k → Makes k n r a → Leads m (rs ++ r ∷ []) (given ++ a ∷ []) n
 leads_more m k n [] r [] a e makes = (n, subst (λ (j : KvSight). Makes j n r a) (sym e) makes, refl)
 leads_more m k n [] r (b ∷ given) a e makes = absurd e
 leads_more m k n (s ∷ rs) r [] a e makes = absurd e
 leads_more m k n (s ∷ rs) r (b ∷ given) a e makes = (e.0, e.1, leads_more e.0 k n rs r given a e.2 makes)
 
-pub text_more : (given : List Answer) (a : Answer) → flat_map answer_text (given ++ a ∷ []) ≡ flat_map answer_text given ++ answer_text a
+pub text_more : (given : List Answer) (a : Answer)
+    → flat_map answer_text (given ++ a ∷ []) ≡ flat_map answer_text given ++ answer_text a
 text_more [] a = append-nil (answer_text a)
-text_more (b ∷ given) a = ap (λ t. answer_text b ++ t) (text_more given a) ∙ sym (append_assoc (answer_text b) (flat_map answer_text given) (answer_text a))
+text_more (b ∷ given) a = ap (λ t. answer_text b ++ t) (text_more given a)
+    ∙ sym (append_assoc (answer_text b) (flat_map answer_text given) (answer_text a))
 
 -- a run from a new manager on is a report
-pub reports : {A E : Type 0} (m n : KvSight) (rs : List Request) (text : A → List ℕ) (r : Result A E) → IsFresh m → IfOk r (λ a. Runs m n rs (text a)) → IfOk r (λ a. Reports rs (text a))
+pub reports : {A E : Type 0} (m n : KvSight) (rs : List Request) (text : A → List ℕ) (r : Result A E)
+    → IsFresh m → IfOk r (λ a. Runs m n rs (text a)) → IfOk r (λ a. Reports rs (text a))
 reports m n rs text (Ok a) fresh h = record { old = m; new = n; fresh = fresh; runs = h }
 reports m n rs text (Err e) fresh h = tt
 
 -- a start and an end are calls on a branch
-pub calls_start : {E : Type 0} (f : BranchCall) (old new : KvSight) (t : ℕ) (x : Xid) (flags : ℕ) (r : Result Code E) → f ≡ Start → IfOk r (λ c. Joins verb.Start old new t x flags c) → IfOk r (λ c. CallsBranch f old new t x flags c)
-calls_start f old new t x flags (Ok c) is h = subst (λ (g : BranchCall). CallsBranch g old new t x flags c) (sym is) h
+pub calls_start : {E : Type 0} (f : BranchCall) (old new : KvSight) (t : ℕ)
+    (x : Xid) (flags : ℕ) (r : Result Code E) → f ≡ Start → IfOk r (λ c. Joins verb.Start old new t x flags c)
+    → IfOk r (λ c. CallsBranch f old new t x flags c)
+calls_start f old new t x flags (Ok c) is h =
+    subst (λ (g : BranchCall). CallsBranch g old new t x flags c) (sym is) h
 calls_start f old new t x flags (Err e) is h = tt
 
-pub calls_end : {E : Type 0} (f : BranchCall) (old new : KvSight) (t : ℕ) (x : Xid) (flags : ℕ) (r : Result Code E) → f ≡ End → IfOk r (λ c. Joins verb.End old new t x flags c) → IfOk r (λ c. CallsBranch f old new t x flags c)
-calls_end f old new t x flags (Ok c) is h = subst (λ (g : BranchCall). CallsBranch g old new t x flags c) (sym is) h
+pub calls_end : {E : Type 0} (f : BranchCall) (old new : KvSight) (t : ℕ) (x : Xid) (flags : ℕ)
+    (r : Result Code E) → f ≡ End → IfOk r (λ c. Joins verb.End old new t x flags c)
+    → IfOk r (λ c. CallsBranch f old new t x flags c)
+calls_end f old new t x flags (Ok c) is h = subst
+    (λ (g : BranchCall). CallsBranch g old new t x flags c) (sym is) h
 calls_end f old new t x flags (Err e) is h = tt

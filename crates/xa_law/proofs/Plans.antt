@@ -39,7 +39,8 @@ own_by active seat = if active then T1 else if seat then T2 else T0
 abbrev pub out_by : Seen → Call → Bool
 out_by s c =
     not (has_rows (branch_rows (unwrap_or s.state S0) c))
-    || (if is_work c then (is_start c && s.busy) || not (has_rows (assoc_rows (own_by s.active s.seat) c) || (has_rows (assoc_rows M c) && not s.unmoved))
+    || (if is_work c then (is_start c && s.busy) || not
+    (has_rows (assoc_rows (own_by s.active s.seat) c) || (has_rows (assoc_rows M c) && not s.unmoved))
     else s.held)
 
 abbrev pub limit_by : Seen → Call → Bool
@@ -95,7 +96,8 @@ end_by s lost succeeds =
     else if s.seat then row T2 answer T0
     else Err code.Proto
 
--- a plan does what the checks say: the first that applies refuses it, and else its row leaves the thread's own state
+-- a plan does what the checks say: the first that applies refuses it, and else its row leaves the thread's
+-- own state
 pub record Agrees (s : Seen) (c : Call) (plan : Result Row Code) : Type 0 where
   pub first : first_of (checks_by s c) ≡ refusal_of plan
   pub leaves : IfOk plan (λ r. own_part r.0 ≡ own_by s.active s.seat)
@@ -104,76 +106,128 @@ pub record Agrees (s : Seen) (c : Call) (plan : Result Row Code) : Type 0 where
 
 abbrev seen : Option BranchState → Bool → Bool → Bool → Bool → Bool → Bool → Bool → Bool → Bool → Seen
 seen state busy active seat unmoved migrates spare room full held =
-    record { state = state; busy = busy; active = active; seat = seat; unmoved = unmoved; migrates = migrates; spare = spare; room = room; full = full; held = held }
+    record {
+      state = state;
+      busy = busy;
+      active = active;
+      seat = seat;
+      unmoved = unmoved;
+      migrates = migrates;
+      spare = spare;
+      room = room;
+      full = full;
+      held = held;
+    }
 
-pub begins : (o : Option BranchState) (busy active seat unmoved migrates spare room full held : Bool) → (busy ≡ false → active ≡ false)
-    → Agrees (seen o busy active seat unmoved migrates spare room full held) call.Start (begin_by (seen o busy active seat unmoved migrates spare room full held))
-begins (Some s) busy active seat u m p room full held imp = record { first = refl; leaves = tt; refuses = refl; answers = tt }
-begins None true active seat u m p room full held imp = record { first = refl; leaves = tt; refuses = refl; answers = tt }
+pub begins : (o : Option BranchState) (busy active seat unmoved migrates spare room full held : Bool)
+    → (busy ≡ false → active ≡ false)
+    → Agrees (seen o busy active seat unmoved migrates spare room full held) call.Start
+    (begin_by (seen o busy active seat unmoved migrates spare room full held))
+begins (Some s) busy active seat u m p room full held imp =
+    record { first = refl; leaves = tt; refuses = refl; answers = tt }
+begins None true active seat u m p room full held imp =
+    record { first = refl; leaves = tt; refuses = refl; answers = tt }
 begins None false true seat u m p room full held imp = absurd (let e = imp refl in cc)
-begins None false false true u m p room full held imp = record { first = refl; leaves = tt; refuses = refl; answers = tt }
-begins None false false false u m p room true held imp = record { first = refl; leaves = tt; refuses = refl; answers = tt }
-begins None false false false u m p false false held imp = record { first = refl; leaves = tt; refuses = refl; answers = tt }
-begins None false false false u m p true false held imp = record { first = refl; leaves = refl; refuses = tt; answers = refl }
+begins None false false true u m p room full held imp =
+    record { first = refl; leaves = tt; refuses = refl; answers = tt }
+begins None false false false u m p room true held imp =
+    record { first = refl; leaves = tt; refuses = refl; answers = tt }
+begins None false false false u m p false false held imp =
+    record { first = refl; leaves = tt; refuses = refl; answers = tt }
+begins None false false false u m p true false held imp =
+    record { first = refl; leaves = refl; refuses = tt; answers = refl }
 
-pub joins : (s : BranchState) (busy active seat unmoved migrates spare room full held : Bool) → IsAt false s → (busy ≡ false → active ≡ false)
-    → Agrees (seen (Some s) busy active seat unmoved migrates spare room full held) call.StartJoin (start_by (seen (Some s) busy active seat unmoved migrates spare room full held))
+pub joins : (s : BranchState) (busy active seat unmoved migrates spare room full held : Bool) → IsAt false s
+    → (busy ≡ false → active ≡ false)
+    → Agrees (seen (Some s) busy active seat unmoved migrates spare room full held) call.StartJoin
+    (start_by (seen (Some s) busy active seat unmoved migrates spare room full held))
 joins S0 busy active seat u m p room full held h imp = absurd h
 joins S3 busy active seat u m p room full held h imp = absurd h
 joins S4 busy active seat u m p room full held h imp = absurd h
 joins S5 busy active seat u m p room full held h imp = absurd h
-joins S1 true active seat u m p room full held h imp = record { first = refl; leaves = tt; refuses = refl; answers = tt }
+joins S1 true active seat u m p room full held h imp =
+    record { first = refl; leaves = tt; refuses = refl; answers = tt }
 joins S1 false true seat u m p room full held h imp = absurd (let e = imp refl in cc)
-joins S1 false false true u m p room full held h imp = record { first = refl; leaves = tt; refuses = refl; answers = tt }
-joins S1 false false false u m p true full held h imp = record { first = refl; leaves = refl; refuses = tt; answers = refl }
-joins S1 false false false u m p false full held h imp = record { first = refl; leaves = tt; refuses = refl; answers = tt }
-joins S2 true active seat u m p room full held h imp = record { first = refl; leaves = tt; refuses = refl; answers = tt }
+joins S1 false false true u m p room full held h imp =
+    record { first = refl; leaves = tt; refuses = refl; answers = tt }
+joins S1 false false false u m p true full held h imp =
+    record { first = refl; leaves = refl; refuses = tt; answers = refl }
+joins S1 false false false u m p false full held h imp =
+    record { first = refl; leaves = tt; refuses = refl; answers = tt }
+joins S2 true active seat u m p room full held h imp =
+    record { first = refl; leaves = tt; refuses = refl; answers = tt }
 joins S2 false true seat u m p room full held h imp = absurd (let e = imp refl in cc)
-joins S2 false false true u m p room full held h imp = record { first = refl; leaves = tt; refuses = refl; answers = tt }
-joins S2 false false false u m p true full held h imp = record { first = refl; leaves = refl; refuses = tt; answers = refl }
-joins S2 false false false u m p false full held h imp = record { first = refl; leaves = tt; refuses = refl; answers = tt }
+joins S2 false false true u m p room full held h imp =
+    record { first = refl; leaves = tt; refuses = refl; answers = tt }
+joins S2 false false false u m p true full held h imp =
+    record { first = refl; leaves = refl; refuses = tt; answers = refl }
+joins S2 false false false u m p false full held h imp =
+    record { first = refl; leaves = tt; refuses = refl; answers = tt }
 
 -- a branch at work, or lost, resumes
-works_on : (s : BranchState) → IsAt false s → (busy active seat unmoved migrates spare room full held : Bool) → (busy ≡ false → active ≡ false)
-    → Agrees (seen (Some s) busy active seat unmoved migrates spare room full held) call.StartResume (resume_by (seen (Some s) busy active seat unmoved migrates spare room full held) false)
+works_on : (s : BranchState) → IsAt false s → (busy active seat unmoved migrates spare room full held : Bool)
+    → (busy ≡ false → active ≡ false)
+    → Agrees (seen (Some s) busy active seat unmoved migrates spare room full held) call.StartResume
+    (resume_by (seen (Some s) busy active seat unmoved migrates spare room full held) false)
 works_on S0 h busy active seat u m p room full held imp = absurd h
 works_on S3 h busy active seat u m p room full held imp = absurd h
 works_on S4 h busy active seat u m p room full held imp = absurd h
 works_on S5 h busy active seat u m p room full held imp = absurd h
-works_on S1 h true active seat u m p room full held imp = record { first = refl; leaves = tt; refuses = refl; answers = tt }
+works_on S1 h true active seat u m p room full held imp =
+    record { first = refl; leaves = tt; refuses = refl; answers = tt }
 works_on S1 h false true seat u m p room full held imp = absurd (let e = imp refl in cc)
-works_on S1 h false false true u m p room full held imp = record { first = refl; leaves = refl; refuses = tt; answers = refl }
-works_on S1 h false false false true m p room full held imp = record { first = refl; leaves = tt; refuses = refl; answers = tt }
-works_on S1 h false false false false m p true full held imp = record { first = refl; leaves = refl; refuses = tt; answers = refl }
-works_on S1 h false false false false m p false full held imp = record { first = refl; leaves = tt; refuses = refl; answers = tt }
-works_on S2 h true active seat u m p room full held imp = record { first = refl; leaves = tt; refuses = refl; answers = tt }
+works_on S1 h false false true u m p room full held imp =
+    record { first = refl; leaves = refl; refuses = tt; answers = refl }
+works_on S1 h false false false true m p room full held imp =
+    record { first = refl; leaves = tt; refuses = refl; answers = tt }
+works_on S1 h false false false false m p true full held imp =
+    record { first = refl; leaves = refl; refuses = tt; answers = refl }
+works_on S1 h false false false false m p false full held imp =
+    record { first = refl; leaves = tt; refuses = refl; answers = tt }
+works_on S2 h true active seat u m p room full held imp =
+    record { first = refl; leaves = tt; refuses = refl; answers = tt }
 works_on S2 h false true seat u m p room full held imp = absurd (let e = imp refl in cc)
-works_on S2 h false false true u m p room full held imp = record { first = refl; leaves = refl; refuses = tt; answers = refl }
-works_on S2 h false false false true m p room full held imp = record { first = refl; leaves = tt; refuses = refl; answers = tt }
-works_on S2 h false false false false m p true full held imp = record { first = refl; leaves = refl; refuses = tt; answers = refl }
-works_on S2 h false false false false m p false full held imp = record { first = refl; leaves = tt; refuses = refl; answers = tt }
+works_on S2 h false false true u m p room full held imp =
+    record { first = refl; leaves = refl; refuses = tt; answers = refl }
+works_on S2 h false false false true m p room full held imp =
+    record { first = refl; leaves = tt; refuses = refl; answers = tt }
+works_on S2 h false false false false m p true full held imp =
+    record { first = refl; leaves = refl; refuses = tt; answers = refl }
+works_on S2 h false false false false m p false full held imp =
+    record { first = refl; leaves = tt; refuses = refl; answers = tt }
 
 lost_work : (busy active seat unmoved migrates spare room full held : Bool) → (busy ≡ false → active ≡ false)
-    → Agrees (seen (Some S4) busy active seat unmoved migrates spare room full held) call.StartResume (resume_by (seen (Some S4) busy active seat unmoved migrates spare room full held) true)
-lost_work true active seat u m p room full held imp = record { first = refl; leaves = tt; refuses = refl; answers = tt }
+    → Agrees (seen (Some S4) busy active seat unmoved migrates spare room full held) call.StartResume
+    (resume_by (seen (Some S4) busy active seat unmoved migrates spare room full held) true)
+lost_work true active seat u m p room full held imp =
+    record { first = refl; leaves = tt; refuses = refl; answers = tt }
 lost_work false true seat u m p room full held imp = absurd (let e = imp refl in cc)
-lost_work false false true u m p room full held imp = record { first = refl; leaves = refl; refuses = tt; answers = refl }
-lost_work false false false true m p room full held imp = record { first = refl; leaves = tt; refuses = refl; answers = tt }
-lost_work false false false false m p room full held imp = record { first = refl; leaves = refl; refuses = tt; answers = refl }
+lost_work false false true u m p room full held imp =
+    record { first = refl; leaves = refl; refuses = tt; answers = refl }
+lost_work false false false true m p room full held imp =
+    record { first = refl; leaves = tt; refuses = refl; answers = tt }
+lost_work false false false false m p room full held imp =
+    record { first = refl; leaves = refl; refuses = tt; answers = refl }
 
-pub resumes : (lost : Bool) (s : BranchState) → IsAt lost s → (busy active seat unmoved migrates spare room full held : Bool) → (busy ≡ false → active ≡ false)
-    → Agrees (seen (Some s) busy active seat unmoved migrates spare room full held) call.StartResume (resume_by (seen (Some s) busy active seat unmoved migrates spare room full held) lost)
-resumes true S4 h busy active seat u m p room full held imp = lost_work busy active seat u m p room full held imp
+pub resumes : (lost : Bool) (s : BranchState) → IsAt lost s
+    → (busy active seat unmoved migrates spare room full held : Bool) → (busy ≡ false → active ≡ false)
+    → Agrees (seen (Some s) busy active seat unmoved migrates spare room full held) call.StartResume
+    (resume_by (seen (Some s) busy active seat unmoved migrates spare room full held) lost)
+resumes true S4 h busy active seat u m p room full held imp =
+    lost_work busy active seat u m p room full held imp
 resumes true S0 h busy active seat u m p room full held imp = absurd h
 resumes true S1 h busy active seat u m p room full held imp = absurd h
 resumes true S2 h busy active seat u m p room full held imp = absurd h
 resumes true S3 h busy active seat u m p room full held imp = absurd h
 resumes true S5 h busy active seat u m p room full held imp = absurd h
-resumes false s h busy active seat u m p room full held imp = works_on s h busy active seat u m p room full held imp
+resumes false s h busy active seat u m p room full held imp =
+    works_on s h busy active seat u m p room full held imp
 
 -- a suspension, by whether the work is lost
-pub suspends : (lost migrate : Bool) (s : BranchState) → IsAt lost s → (busy active seat unmoved migrates spare room full held : Bool)
-    → Agrees (seen (Some s) busy active seat unmoved migrates spare room full held) (suspend_call migrate) (suspend_by (seen (Some s) busy active seat unmoved migrates spare room full held) lost migrate)
+pub suspends : (lost migrate : Bool) (s : BranchState) → IsAt lost s
+    → (busy active seat unmoved migrates spare room full held : Bool)
+    → Agrees (seen (Some s) busy active seat unmoved migrates spare room full held) (suspend_call migrate)
+    (suspend_by (seen (Some s) busy active seat unmoved migrates spare room full held) lost migrate)
 suspends true migrate S0 h b active seat u m p room full held = absurd h
 suspends true migrate S1 h b active seat u m p room full held = absurd h
 suspends true migrate S2 h b active seat u m p room full held = absurd h
@@ -183,38 +237,63 @@ suspends false migrate S0 h b active seat u m p room full held = absurd h
 suspends false migrate S3 h b active seat u m p room full held = absurd h
 suspends false migrate S4 h b active seat u m p room full held = absurd h
 suspends false migrate S5 h b active seat u m p room full held = absurd h
-suspends true true S4 h b true seat u m p room full held = record { first = refl; leaves = refl; refuses = tt; answers = refl }
-suspends true false S4 h b true seat u m p room full held = record { first = refl; leaves = refl; refuses = tt; answers = refl }
-suspends true true S4 h b false true u m p room full held = record { first = refl; leaves = tt; refuses = refl; answers = tt }
-suspends true false S4 h b false true u m p room full held = record { first = refl; leaves = tt; refuses = refl; answers = tt }
-suspends true true S4 h b false false u m p room full held = record { first = refl; leaves = tt; refuses = refl; answers = tt }
-suspends true false S4 h b false false u m p room full held = record { first = refl; leaves = tt; refuses = refl; answers = tt }
-suspends false false S1 h b true seat u m p room full held = record { first = refl; leaves = refl; refuses = tt; answers = refl }
-suspends false false S2 h b true seat u m p room full held = record { first = refl; leaves = refl; refuses = tt; answers = refl }
-suspends false true S1 h b true seat u false p room full held = record { first = refl; leaves = refl; refuses = tt; answers = refl }
-suspends false true S2 h b true seat u false p room full held = record { first = refl; leaves = refl; refuses = tt; answers = refl }
-suspends false true S1 h b true seat u true true room full held = record { first = refl; leaves = refl; refuses = tt; answers = refl }
-suspends false true S2 h b true seat u true true room full held = record { first = refl; leaves = refl; refuses = tt; answers = refl }
-suspends false true S1 h b true seat u true false room full held = record { first = refl; leaves = tt; refuses = refl; answers = tt }
-suspends false true S2 h b true seat u true false room full held = record { first = refl; leaves = tt; refuses = refl; answers = tt }
-suspends false true S1 h b false true u m p room full held = record { first = refl; leaves = tt; refuses = refl; answers = tt }
-suspends false true S2 h b false true u m p room full held = record { first = refl; leaves = tt; refuses = refl; answers = tt }
-suspends false true S1 h b false false u m p room full held = record { first = refl; leaves = tt; refuses = refl; answers = tt }
-suspends false true S2 h b false false u m p room full held = record { first = refl; leaves = tt; refuses = refl; answers = tt }
-suspends false false S1 h b false true u m p room full held = record { first = refl; leaves = tt; refuses = refl; answers = tt }
-suspends false false S2 h b false true u m p room full held = record { first = refl; leaves = tt; refuses = refl; answers = tt }
-suspends false false S1 h b false false u m p room full held = record { first = refl; leaves = tt; refuses = refl; answers = tt }
-suspends false false S2 h b false false u m p room full held = record { first = refl; leaves = tt; refuses = refl; answers = tt }
+suspends true true S4 h b true seat u m p room full held =
+    record { first = refl; leaves = refl; refuses = tt; answers = refl }
+suspends true false S4 h b true seat u m p room full held =
+    record { first = refl; leaves = refl; refuses = tt; answers = refl }
+suspends true true S4 h b false true u m p room full held =
+    record { first = refl; leaves = tt; refuses = refl; answers = tt }
+suspends true false S4 h b false true u m p room full held =
+    record { first = refl; leaves = tt; refuses = refl; answers = tt }
+suspends true true S4 h b false false u m p room full held =
+    record { first = refl; leaves = tt; refuses = refl; answers = tt }
+suspends true false S4 h b false false u m p room full held =
+    record { first = refl; leaves = tt; refuses = refl; answers = tt }
+suspends false false S1 h b true seat u m p room full held =
+    record { first = refl; leaves = refl; refuses = tt; answers = refl }
+suspends false false S2 h b true seat u m p room full held =
+    record { first = refl; leaves = refl; refuses = tt; answers = refl }
+suspends false true S1 h b true seat u false p room full held =
+    record { first = refl; leaves = refl; refuses = tt; answers = refl }
+suspends false true S2 h b true seat u false p room full held =
+    record { first = refl; leaves = refl; refuses = tt; answers = refl }
+suspends false true S1 h b true seat u true true room full held =
+    record { first = refl; leaves = refl; refuses = tt; answers = refl }
+suspends false true S2 h b true seat u true true room full held =
+    record { first = refl; leaves = refl; refuses = tt; answers = refl }
+suspends false true S1 h b true seat u true false room full held =
+    record { first = refl; leaves = tt; refuses = refl; answers = tt }
+suspends false true S2 h b true seat u true false room full held =
+    record { first = refl; leaves = tt; refuses = refl; answers = tt }
+suspends false true S1 h b false true u m p room full held =
+    record { first = refl; leaves = tt; refuses = refl; answers = tt }
+suspends false true S2 h b false true u m p room full held =
+    record { first = refl; leaves = tt; refuses = refl; answers = tt }
+suspends false true S1 h b false false u m p room full held =
+    record { first = refl; leaves = tt; refuses = refl; answers = tt }
+suspends false true S2 h b false false u m p room full held =
+    record { first = refl; leaves = tt; refuses = refl; answers = tt }
+suspends false false S1 h b false true u m p room full held =
+    record { first = refl; leaves = tt; refuses = refl; answers = tt }
+suspends false false S2 h b false true u m p room full held =
+    record { first = refl; leaves = tt; refuses = refl; answers = tt }
+suspends false false S1 h b false false u m p room full held =
+    record { first = refl; leaves = tt; refuses = refl; answers = tt }
+suspends false false S2 h b false false u m p room full held =
+    record { first = refl; leaves = tt; refuses = refl; answers = tt }
 
-done_well : (lost succeeds : Bool) → is_refusal (if succeeds && not lost then code.Ok else code.RbRollback) ≡ false
+done_well : (lost succeeds : Bool) → is_refusal
+    (if succeeds && not lost then code.Ok else code.RbRollback) ≡ false
 done_well true true = refl
 done_well true false = refl
 done_well false true = refl
 done_well false false = refl
 
 -- an end, by whether the work is lost
-pub ends : (lost succeeds : Bool) (s : BranchState) → IsAt lost s → (busy active seat unmoved migrates spare room full held : Bool)
-    → Agrees (seen (Some s) busy active seat unmoved migrates spare room full held) (end_call succeeds) (end_by (seen (Some s) busy active seat unmoved migrates spare room full held) lost succeeds)
+pub ends : (lost succeeds : Bool) (s : BranchState) → IsAt lost s
+    → (busy active seat unmoved migrates spare room full held : Bool)
+    → Agrees (seen (Some s) busy active seat unmoved migrates spare room full held) (end_call succeeds)
+    (end_by (seen (Some s) busy active seat unmoved migrates spare room full held) lost succeeds)
 ends true succeeds S0 h b active seat u m p room full held = absurd h
 ends true succeeds S1 h b active seat u m p room full held = absurd h
 ends true succeeds S2 h b active seat u m p room full held = absurd h
@@ -224,21 +303,39 @@ ends false succeeds S0 h b active seat u m p room full held = absurd h
 ends false succeeds S3 h b active seat u m p room full held = absurd h
 ends false succeeds S4 h b active seat u m p room full held = absurd h
 ends false succeeds S5 h b active seat u m p room full held = absurd h
-ends true true S4 h b true seat u m p room full held = record { first = refl; leaves = refl; refuses = tt; answers = done_well true true }
-ends true false S4 h b true seat u m p room full held = record { first = refl; leaves = refl; refuses = tt; answers = done_well true false }
-ends true true S4 h b false true u m p room full held = record { first = refl; leaves = refl; refuses = tt; answers = done_well true true }
-ends true false S4 h b false true u m p room full held = record { first = refl; leaves = refl; refuses = tt; answers = done_well true false }
-ends true true S4 h b false false u m p room full held = record { first = refl; leaves = tt; refuses = refl; answers = tt }
-ends true false S4 h b false false u m p room full held = record { first = refl; leaves = tt; refuses = refl; answers = tt }
-ends false true S1 h b true seat u m p room full held = record { first = refl; leaves = refl; refuses = tt; answers = done_well false true }
-ends false false S1 h b true seat u m p room full held = record { first = refl; leaves = refl; refuses = tt; answers = done_well false false }
-ends false true S1 h b false true u m p room full held = record { first = refl; leaves = refl; refuses = tt; answers = done_well false true }
-ends false false S1 h b false true u m p room full held = record { first = refl; leaves = refl; refuses = tt; answers = done_well false false }
-ends false true S1 h b false false u m p room full held = record { first = refl; leaves = tt; refuses = refl; answers = tt }
-ends false false S1 h b false false u m p room full held = record { first = refl; leaves = tt; refuses = refl; answers = tt }
-ends false true S2 h b true seat u m p room full held = record { first = refl; leaves = refl; refuses = tt; answers = done_well false true }
-ends false false S2 h b true seat u m p room full held = record { first = refl; leaves = refl; refuses = tt; answers = done_well false false }
-ends false true S2 h b false true u m p room full held = record { first = refl; leaves = refl; refuses = tt; answers = done_well false true }
-ends false false S2 h b false true u m p room full held = record { first = refl; leaves = refl; refuses = tt; answers = done_well false false }
-ends false true S2 h b false false u m p room full held = record { first = refl; leaves = tt; refuses = refl; answers = tt }
-ends false false S2 h b false false u m p room full held = record { first = refl; leaves = tt; refuses = refl; answers = tt }
+ends true true S4 h b true seat u m p room full held =
+    record { first = refl; leaves = refl; refuses = tt; answers = done_well true true }
+ends true false S4 h b true seat u m p room full held =
+    record { first = refl; leaves = refl; refuses = tt; answers = done_well true false }
+ends true true S4 h b false true u m p room full held =
+    record { first = refl; leaves = refl; refuses = tt; answers = done_well true true }
+ends true false S4 h b false true u m p room full held =
+    record { first = refl; leaves = refl; refuses = tt; answers = done_well true false }
+ends true true S4 h b false false u m p room full held =
+    record { first = refl; leaves = tt; refuses = refl; answers = tt }
+ends true false S4 h b false false u m p room full held =
+    record { first = refl; leaves = tt; refuses = refl; answers = tt }
+ends false true S1 h b true seat u m p room full held =
+    record { first = refl; leaves = refl; refuses = tt; answers = done_well false true }
+ends false false S1 h b true seat u m p room full held =
+    record { first = refl; leaves = refl; refuses = tt; answers = done_well false false }
+ends false true S1 h b false true u m p room full held =
+    record { first = refl; leaves = refl; refuses = tt; answers = done_well false true }
+ends false false S1 h b false true u m p room full held =
+    record { first = refl; leaves = refl; refuses = tt; answers = done_well false false }
+ends false true S1 h b false false u m p room full held =
+    record { first = refl; leaves = tt; refuses = refl; answers = tt }
+ends false false S1 h b false false u m p room full held =
+    record { first = refl; leaves = tt; refuses = refl; answers = tt }
+ends false true S2 h b true seat u m p room full held =
+    record { first = refl; leaves = refl; refuses = tt; answers = done_well false true }
+ends false false S2 h b true seat u m p room full held =
+    record { first = refl; leaves = refl; refuses = tt; answers = done_well false false }
+ends false true S2 h b false true u m p room full held =
+    record { first = refl; leaves = refl; refuses = tt; answers = done_well false true }
+ends false false S2 h b false true u m p room full held =
+    record { first = refl; leaves = refl; refuses = tt; answers = done_well false false }
+ends false true S2 h b false false u m p room full held =
+    record { first = refl; leaves = tt; refuses = refl; answers = tt }
+ends false false S2 h b false false u m p room full held =
+    record { first = refl; leaves = tt; refuses = refl; answers = tt }

@@ -77,22 +77,27 @@ state_of : (a : AssocList) (t : ℕ) (x : Xid) → own_state a t x ≡ state_by 
 unfolding state_by
 state_of a t x = refl
 
-seat_or : (b : Bool) (t : ℕ) (x : Xid) (seats : List Seat) → list_any (same_seat (record { thread = t; xid = x })) seats ≡ b
+seat_or : (b : Bool) (t : ℕ) (x : Xid) (seats : List Seat)
+    → list_any (same_seat (record { thread = t; xid = x })) seats ≡ b
     → (state_by None seats t x ≡ T0) ⊎ (has_some seats t ≡ true)
 unfolding state_by
 seat_or true t x seats e = inr (has_some-seat t x seats e)
 seat_or false t x seats e = inl (rw e refl)
 
-holds_by : (o : Option Xid) (t : ℕ) (x : Xid) (seats : List Seat) → (state_by o seats t x ≡ T0) ⊎ ((is_some o || has_some seats t) ≡ true)
+holds_by : (o : Option Xid) (t : ℕ) (x : Xid) (seats : List Seat)
+    → (state_by o seats t x ≡ T0) ⊎ ((is_some o || has_some seats t) ≡ true)
 holds_by (Some y) t x seats = inr refl
 holds_by None t x seats = seat_or (list_any (same_seat (record { thread = t; xid = x })) seats) t x seats refl
 
 -- a thread that is not in T0 with a branch holds an association
 holds_or : (a : AssocList) (t : ℕ) (x : Xid) → (own_state a t x ≡ T0) ⊎ (holds_any a t ≡ true)
-holds_or a t x = elim (holds_by (active_of a t) t x a.seats) [ inl e ↦ inl (state_of a t x ∙ e) | inr h ↦ inr h ]
+holds_or a t x = elim (holds_by (active_of a t) t x a.seats)
+    [ inl e ↦ inl (state_of a t x ∙ e) | inr h ↦ inr h ]
 
--- the call's thread holds what it did, where what belongs to nobody goes, and else is listed where it holds something
-listed_cases : (old new : AssocList) (t : ℕ) (from to : AssocState) → ((from ≡ M) × (to ≡ T0)) ⊎ (listed_after old new t from to ≡ holds_any new t)
+-- the call's thread holds what it did, where what belongs to nobody goes, and else is listed where it holds
+-- something
+listed_cases : (old new : AssocList) (t : ℕ) (from to : AssocState)
+    → ((from ≡ M) × (to ≡ T0)) ⊎ (listed_after old new t from to ≡ holds_any new t)
 listed_cases old new t M T0 = inl (refl, refl)
 listed_cases old new t M T1 = inr refl
 listed_cases old new t M T2 = inr refl
@@ -108,39 +113,50 @@ and_false : (b : Bool) → (b && false) ≡ false
 and_false true = refl
 and_false false = refl
 
-pub seats_apart : (u t : ℕ) (y x : Xid) → u ≢ t → same_seat (record { thread = u; xid = y }) (record { thread = t; xid = x }) ≡ false
+pub seats_apart : (u t : ℕ) (y x : Xid) → u ≢ t
+    → same_seat (record { thread = u; xid = y }) (record { thread = t; xid = x }) ≡ false
 seats_apart u t y x differs = ap (λ b. b && same y x) (not_equal u t differs)
 
-pub names_apart : (u t : ℕ) (y x : Xid) → same y x ≡ false → same_seat (record { thread = u; xid = y }) (record { thread = t; xid = x }) ≡ false
+pub names_apart : (u t : ℕ) (y x : Xid) → same y x ≡ false
+    → same_seat (record { thread = u; xid = y }) (record { thread = t; xid = x }) ≡ false
 names_apart u t y x differs = ap (λ b. nat_eq u t && b) differs ∙ and_false (nat_eq u t)
 
-here : (old new : AssocList) (t : ℕ) (x y : Xid) (from to : AssocState) (b : Bool) → same y x ≡ b → from ≡ M → to ≡ T0 → AssocMoves old new t x from to → IsKept old
+here : (old new : AssocList) (t : ℕ) (x y : Xid) (from to : AssocState) (b : Bool) → same y x ≡ b → from ≡ M
+    → to ≡ T0 → AssocMoves old new t x from to → IsKept old
     → (own_state new t y ≡ T0) ⊎ (is_holder new t ≡ true)
 here old new t x y from to true e is_from is_to moves kept =
     inl (ap (own_state new t) (same_is y x e) ∙ moves.turns.own ∙ ap own_part is_to)
 here old new t x y from to false e is_from is_to moves kept =
     let state = moves.turns.others t y (names_apart t t y x e) in
     let listed : is_holder new t ≡ is_holder old t =
-    moves.holder ∙ ap (λ (s : AssocState). listed_after old new t s to) is_from ∙ ap (λ (s : AssocState). listed_after old new t M s) is_to in
+    moves.holder ∙ ap (λ (s : AssocState). listed_after old new t s to) is_from
+    ∙ ap (λ (s : AssocState). listed_after old new t M s) is_to in
     elim (kept t y) [ inl none ↦ inl (state ∙ none) | inr held ↦ inr (listed ∙ held) ]
 
-at_thread : (old new : AssocList) (t : ℕ) (x y : Xid) (from to : AssocState) → AssocMoves old new t x from to → IsKept old
+at_thread : (old new : AssocList) (t : ℕ) (x y : Xid) (from to : AssocState)
+    → AssocMoves old new t x from to → IsKept old
     → (own_state new t y ≡ T0) ⊎ (is_holder new t ≡ true)
 at_thread old new t x y from to moves kept =
     elim (listed_cases old new t from to) [
       | inl gone ↦ here old new t x y from to (same y x) refl gone.0 gone.1 moves kept
-      | inr listed ↦ elim (holds_or new t y) [ inl none ↦ inl none | inr holds ↦ inr (moves.holder ∙ listed ∙ holds) ]
+      | inr listed ↦ elim (holds_or new t y) [
+        | inl none ↦ inl none
+        | inr holds ↦ inr
+            (moves.holder ∙ listed ∙ holds)
+      ]
     ]
 
 -- a move of an association leaves each thread listed that has one
-pub moved_kept : (old new : AssocList) (t : ℕ) (x : Xid) (from to : AssocState) → AssocMoves old new t x from to → IsKept old → IsKept new
+pub moved_kept : (old new : AssocList) (t : ℕ) (x : Xid) (from to : AssocState)
+    → AssocMoves old new t x from to → IsKept old → IsKept new
 moved_kept old new t x from to moves kept u y =
     elim (cases_eq u t) [
       | inr differs ↦ (
           let state = moves.turns.others u y (seats_apart u t y x differs) in
           let listed = moves.turns.holders u differs in
           elim (kept u y) [ inl none ↦ inl (state ∙ none) | inr held ↦ inr (listed ∙ held) ])
-      | inl is ↦ subst (λ (n : ℕ). (own_state new n y ≡ T0) ⊎ (is_holder new n ≡ true)) (sym is) (at_thread old new t x y from to moves kept)
+      | inl is ↦ subst (λ (n : ℕ). (own_state new n y ≡ T0) ⊎ (is_holder new n ≡ true)) (sym is)
+          (at_thread old new t x y from to moves kept)
     ]
 
 lookup_none : {V : Type 0} (es : List (ℕ × V)) (t : ℕ) → length es ≡ 0 → lookup (nat_eq t) es ≡ None
@@ -156,7 +172,8 @@ pub bare_states : (a : AssocList) → IsBare a → IsKept a → (t : ℕ) (x : X
 bare_states a bare kept t x =
     elim (kept t x) [
       | inl e ↦ e
-      | inr held ↦ absurd (let none : is_holder a t ≡ false = ap is_some (lookup_none a.holders t bare.holders) in let f : true ≡ false = sym held ∙ none in cc)
+      | inr held ↦ absurd (let none : is_holder a t ≡ false = ap is_some
+          (lookup_none a.holders t bare.holders) in let f : true ≡ false = sym held ∙ none in cc)
     ]
 
 -- and no branch is suspended for migration

@@ -24,7 +24,8 @@ pub record IsLegalStep (old : States) (m : Move) (new : States) : Type 0 where
   pub answers : AnswersFirst old m new
   pub manager : InitStep old.init m new.init
   pub branch : (x : Xid) → BranchStep x (state_at old x) m (state_at new x)
-  pub association : (t : ℕ) (x : Xid) → OwnStep t x (own_state old.associations t x) m (own_state new.associations t x)
+  pub association : (t : ℕ) (x : Xid) → OwnStep t x (own_state old.associations t x) m
+      (own_state new.associations t x)
   pub migration : (x : Xid) → MigrationStep x (moved_of old.associations x) m (moved_of new.associations x)
 
 abbrev pub Steps : States → Move → States → Type 0
@@ -37,7 +38,8 @@ stays_put true false P Q e h = absurd cc
 stays_put false q P Q e h = h
 
 -- what is not refused moves where it is named
-pub moves_on : (b q : Bool) (P Q : Type 0) → q ≡ false → (b ≡ true → P) → (b ≡ false → Q) → MatchBool (b && not q) P Q
+pub moves_on : (b q : Bool) (P Q : Type 0) → q ≡ false → (b ≡ true → P) → (b ≡ false → Q)
+    → MatchBool (b && not q) P Q
 moves_on true false P Q e p q = p refl
 moves_on true true P Q e p q = absurd cc
 moves_on false r P Q e p q = q refl
@@ -50,10 +52,12 @@ decides_on false P Q p q = q refl
 pub kept_branch : (old new : States) (x : Xid) → Same old new → state_at new x ≡ state_at old x
 kept_branch old new x stays = ap (λ (bs : List (Xid × BranchState)). state_in bs x) stays.branches.branches
 
-pub kept_own : (old new : States) (t : ℕ) (x : Xid) → Same old new → own_state new.associations t x ≡ own_state old.associations t x
+pub kept_own : (old new : States) (t : ℕ) (x : Xid) → Same old new
+    → own_state new.associations t x ≡ own_state old.associations t x
 kept_own old new t x stays = ap (λ (a : AssocList). own_state a t x) stays.associations
 
-pub kept_moved : (old new : States) (x : Xid) → Same old new → moved_of new.associations x ≡ moved_of old.associations x
+pub kept_moved : (old new : States) (x : Xid) → Same old new
+    → moved_of new.associations x ≡ moved_of old.associations x
 kept_moved old new x stays = ap (λ (a : AssocList). moved_of a x) stays.associations
 
 -- a call is refused by this code
@@ -66,8 +70,10 @@ some_is c d e = cc
 same_refusal : (c d : Code) → Some c ≡ Some d → is_refusal d ≡ true → is_refusal c ≡ true
 same_refusal c d e h = ap is_refusal (some_is c d e) ∙ h
 
-refused_manager : (old new : States) (m : Move) (c : Code) → IsRefusedBy m c → Same old new → InitStep old.init m new.init
-refused_manager old new (Open flags migrates answer) c by stays = rw (same_refusal answer c by.0 by.1) stays.init
+refused_manager : (old new : States) (m : Move) (c : Code) → IsRefusedBy m c → Same old new
+    → InitStep old.init m new.init
+refused_manager old new (Open flags migrates answer) c by stays =
+    rw (same_refusal answer c by.0 by.1) stays.init
 refused_manager old new (Close flags answer) c by stays = rw (same_refusal answer c by.0 by.1) stays.init
 refused_manager old new (Restart left) c by stays = absurd (let e = by.0 in cc)
 refused_manager old new _ c by stays = stays.init
@@ -75,7 +81,8 @@ refused_manager old new _ c by stays = stays.init
 refused_branch : (old new : States) (m : Move) (c : Code) → IsRefusedBy m c → Same old new → (x : Xid)
     → BranchStep x (state_at old x) m (state_at new x)
 refused_branch old new (Branch v t y flags answer) c by stays x =
-    stays_put (same y x) (is_refusal answer) _ _ (same_refusal answer c by.0 by.1) (kept_branch old new x stays)
+    stays_put (same y x) (is_refusal answer) _ _ (same_refusal answer c by.0 by.1)
+    (kept_branch old new x stays)
 refused_branch old new (Decide y) c by stays x = absurd (let e = by.0 in cc)
 refused_branch old new (Restart left) c by stays x = absurd (let e = by.0 in cc)
 refused_branch old new _ c by stays x = kept_branch old new x stays
@@ -91,12 +98,14 @@ refused_own old new _ c by stays t x = kept_own old new t x stays
 refused_migration : (old new : States) (m : Move) (c : Code) → IsRefusedBy m c → Same old new → (x : Xid)
     → MigrationStep x (moved_of old.associations x) m (moved_of new.associations x)
 refused_migration old new (Branch v u y flags answer) c by stays x =
-    stays_put (is_work_on x v flags y) (is_refusal answer) _ _ (same_refusal answer c by.0 by.1) (kept_moved old new x stays)
+    stays_put (is_work_on x v flags y) (is_refusal answer) _ _ (same_refusal answer c by.0 by.1)
+    (kept_moved old new x stays)
 refused_migration old new (Restart left) c by stays x = absurd (let e = by.0 in cc)
 refused_migration old new _ c by stays x = kept_moved old new x stays
 
 -- a call that is refused, for a reason that is given
-refused_for : (old new : States) (m : Move) (c : Code) → IsReached old → AnswersFirst old m new → IsRefusedBy m c
+refused_for : (old new : States) (m : Move) (c : Code) → IsReached old
+    → AnswersFirst old m new → IsRefusedBy m c
     → Same old new → Steps old m new
 refused_for old new m c ok answers by stays = (
   record {
@@ -109,7 +118,8 @@ refused_for old new m c ok answers by stays = (
   same_reached old new stays ok,
 )
 
-pub refused_step : (old new : States) (m : Move) (c : Code) → IsReached old → code_of m ≡ Some c → first_refusal old m ≡ Some c
+pub refused_step : (old new : States) (m : Move) (c : Code) → IsReached old → code_of m ≡ Some c
+    → first_refusal old m ≡ Some c
     → is_refusal c ≡ true → Same old new → Steps old m new
 refused_step old new m c ok by first refuses stays =
     refused_for old new m c ok (Refused c first by stays) (by, refuses) stays
@@ -119,31 +129,43 @@ own_refuses code.RmFail e = refl
 own_refuses code.RmErr e = refl
 own_refuses _ e = absurd cc
 
-pub declined_step : (old new : States) (m : Move) (c : Code) → IsReached old → code_of m ≡ Some c → Declines old new c
+pub declined_step : (old new : States) (m : Move) (c : Code) → IsReached old
+    → code_of m ≡ Some c → Declines old new c
     → Steps old m new
 declined_step old new m c ok by h =
     refused_for old new m c ok
-    (Declined (subst (λ (o : Option Code). IsSomeAnd o (λ d. is_own d ≡ true)) (sym by) h.0) h.1) (by, own_refuses c h.0) h.1
+    (Declined (subst (λ (o : Option Code). IsSomeAnd o (λ d. is_own d ≡ true)) (sym by) h.0)
+    h.1) (by, own_refuses c h.0) h.1
 
 -- Flags that are refused.
 
-either_refuses : (b : Bool) (o : Option Call) (e : Code) → (if b then Err code.Inval else refused_async o) ≡ Err e → is_refusal e ≡ true
+either_refuses : (b : Bool) (o : Option Call) (e : Code)
+    → (if b then Err code.Inval else refused_async o) ≡ Err e → is_refusal e ≡ true
 either_refuses true o e h = let is : e ≡ code.Inval = cc in rw is refl
 either_refuses false None e h = let is : e ≡ code.Inval = cc in rw is refl
 either_refuses false (Some c) e h = let is : e ≡ code.Async = cc in rw is refl
 
 refused_refuses : (v : Verb) (flags : ℕ) (e : Code) → refused v flags ≡ Err e → is_refusal e ≡ true
 refused_refuses verb.Recover flags e h = let is : e ≡ code.Inval = cc in rw is refl
-refused_refuses verb.Open flags e h = either_refuses (nat_lt flags async) (call_of verb.Open (flags - async)) e h
-refused_refuses verb.Close flags e h = either_refuses (nat_lt flags async) (call_of verb.Close (flags - async)) e h
-refused_refuses verb.Start flags e h = either_refuses (nat_lt flags async) (call_of verb.Start (flags - async)) e h
-refused_refuses verb.End flags e h = either_refuses (nat_lt flags async) (call_of verb.End (flags - async)) e h
-refused_refuses verb.Prepare flags e h = either_refuses (nat_lt flags async) (call_of verb.Prepare (flags - async)) e h
-refused_refuses verb.Commit flags e h = either_refuses (nat_lt flags async) (call_of verb.Commit (flags - async)) e h
-refused_refuses verb.Rollback flags e h = either_refuses (nat_lt flags async) (call_of verb.Rollback (flags - async)) e h
-refused_refuses verb.Forget flags e h = either_refuses (nat_lt flags async) (call_of verb.Forget (flags - async)) e h
+refused_refuses verb.Open flags e h = either_refuses (nat_lt flags async)
+    (call_of verb.Open (flags - async)) e h
+refused_refuses verb.Close flags e h = either_refuses (nat_lt flags async)
+    (call_of verb.Close (flags - async)) e h
+refused_refuses verb.Start flags e h = either_refuses (nat_lt flags async)
+    (call_of verb.Start (flags - async)) e h
+refused_refuses verb.End flags e h = either_refuses (nat_lt flags async)
+    (call_of verb.End (flags - async)) e h
+refused_refuses verb.Prepare flags e h = either_refuses (nat_lt flags async)
+    (call_of verb.Prepare (flags - async)) e h
+refused_refuses verb.Commit flags e h = either_refuses (nat_lt flags async)
+    (call_of verb.Commit (flags - async)) e h
+refused_refuses verb.Rollback flags e h = either_refuses (nat_lt flags async)
+    (call_of verb.Rollback (flags - async)) e h
+refused_refuses verb.Forget flags e h = either_refuses (nat_lt flags async)
+    (call_of verb.Forget (flags - async)) e h
 
-legal_by : (o : Option Call) (v : Verb) (flags : ℕ) (e : Code) → call_or o (refused v flags) ≡ Err e → is_refusal e ≡ true
+legal_by : (o : Option Call) (v : Verb) (flags : ℕ) (e : Code)
+    → call_or o (refused v flags) ≡ Err e → is_refusal e ≡ true
 legal_by None v flags e h = refused_refuses v flags e h
 legal_by (Some c) v flags e h = absurd cc
 

@@ -28,7 +28,8 @@ code_fits : (o : Outcome) → Contains heuristic (heur_code o, S5)
 code_fits Committed = (1, omega arith, refl)
 code_fits Aborted = (2, omega arith, refl)
 
-told_fits : (b : Branch) (o : Outcome) (d : Decision) (told : Option Outcome) → Contains heuristic (row_of (tell_turn b o d told))
+told_fits : (b : Branch) (o : Outcome) (d : Decision) (told : Option Outcome)
+    → Contains heuristic (row_of (tell_turn b o d told))
 told_fits b o d None = code_fits d.outcome
 told_fits b o d (Some t) = code_fits d.outcome
 

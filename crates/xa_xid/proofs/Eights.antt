@@ -7,7 +7,8 @@ use Rattle.std.specs.Int.{w64, from_le_bytes, to_le_bytes}
 use Rattle.std.specs.Simd.{first_chunks}
 
 -- a number that is read from eight bytes tells them
-told_by : (a b : List ℕ) (x y : ℕ) → length a ≡ 8 → length b ≡ 8 → ((i : ℕ) → get_or a i 0 < 256) → ((i : ℕ) → get_or b i 0 < 256)
+told_by : (a b : List ℕ) (x y : ℕ) → length a ≡ 8 → length b ≡ 8 → ((i : ℕ) → get_or a i 0 < 256)
+    → ((i : ℕ) → get_or b i 0 < 256)
     → x ≡ from_le_bytes w64 a → y ≡ from_le_bytes w64 b → x ≡ y → a ≡ b
 told_by a b x y la lb fa fb ra rb same =
     sym (le_bytes_8 a x la fa ra) ∙ ap (to_le_bytes w64) same ∙ le_bytes_8 b y lb fb rb
@@ -25,7 +26,8 @@ as_many zero xs = refl
 as_many (suc k) xs = ap (λ n. suc n) (as_many k (drop 8 xs))
 
 -- bytes are told by their eights
-from_eights : (k : ℕ) (a b : List ℕ) → length a ≡ k * 8 → length b ≡ k * 8 → first_chunks 8 k a ≡ first_chunks 8 k b → a ≡ b
+from_eights : (k : ℕ) (a b : List ℕ) → length a ≡ k * 8 → length b ≡ k * 8
+    → first_chunks 8 k a ≡ first_chunks 8 k b → a ≡ b
 from_eights zero [] [] la lb same = refl
 from_eights zero [] (y ∷ b) la lb same = absurd (omega arith)
 from_eights zero (x ∷ a) b la lb same = absurd (omega arith)
@@ -33,8 +35,10 @@ from_eights (suc k) a b la lb same =
     let first : take 8 a ≡ take 8 b = cc in
     let others : first_chunks 8 k (drop 8 a) ≡ first_chunks 8 k (drop 8 b) = cc in
     let rest : drop 8 a ≡ drop 8 b =
-    from_eights k (drop 8 a) (drop 8 b) (omega (arith, length-drop 8 a)) (omega (arith, length-drop 8 b)) others in
-    sym (take-append-drop 8 a) ∙ ap (λ xs. xs ++ drop 8 a) first ∙ ap (λ xs. take 8 b ++ xs) rest ∙ take-append-drop 8 b
+    from_eights k (drop 8 a) (drop 8 b) (omega (arith, length-drop 8 a))
+    (omega (arith, length-drop 8 b)) others in
+    sym (take-append-drop 8 a) ∙ ap (λ xs. xs ++ drop 8 a) first
+    ∙ ap (λ xs. take 8 b ++ xs) rest ∙ take-append-drop 8 b
 
 drop_fits : (n : ℕ) (xs : List ℕ) → ((k : ℕ) → get_or xs k 0 < 256) → (k : ℕ) → get_or (drop n xs) k 0 < 256
 drop_fits zero xs f k = f k
@@ -69,8 +73,10 @@ more a b eights others i x y la lb fa fb ea eb h inv rx ry same =
     let na : length eights ≡ 8 = ap length wa ∙ as_many 8 a in
     let nb : length others ≡ 8 = ap length wb ∙ as_many 8 b in
     let here : take 8 (drop (i * 8) a) ≡ take 8 (drop (i * 8) b) =
-    told_by (take 8 (drop (i * 8) a)) (take 8 (drop (i * 8) b)) x y (eight_long i a la h) (eight_long i b lb h)
-    (take_fits 8 (drop (i * 8) a) (drop_fits (i * 8) a fa)) (take_fits 8 (drop (i * 8) b) (drop_fits (i * 8) b fb))
+    told_by (take 8 (drop (i * 8) a)) (take 8 (drop (i * 8) b)) x y
+    (eight_long i a la h) (eight_long i b lb h)
+    (take_fits 8 (drop (i * 8) a) (drop_fits (i * 8) a fa))
+    (take_fits 8 (drop (i * 8) b) (drop_fits (i * 8) b fb))
     (rx ∙ ap (from_le_bytes w64) ga) (ry ∙ ap (from_le_bytes w64) gb) same in
     take_more eights i [] (omega arith)
     ∙ ap (λ (l : List (List ℕ)). l ++ get_or eights i [] ∷ []) inv
@@ -85,5 +91,6 @@ whole a b eights others i la lb ea eb h inv =
     let wb = all_eights b others lb eb in
     let na : length eights ≡ 8 = ap length wa ∙ as_many 8 a in
     let nb : length others ≡ 8 = ap length wb ∙ as_many 8 b in
-    let same : eights ≡ others = sym (take_all i eights (omega arith)) ∙ inv ∙ take_all i others (omega arith) in
+    let same : eights ≡ others = sym (take_all i eights (omega arith)) ∙ inv
+    ∙ take_all i others (omega arith) in
     sym ((bytes_decides a b).1 (from_eights 8 a b la lb (sym wa ∙ same ∙ wb)))

@@ -81,11 +81,13 @@ module _ (me : ProcessId) (boot : ℕ) (c : Case) (m : Memory) where
       by_case false = keeps refl
 
   voted : (d : Case) (w : Vote)
-      → (if same_txn d.txn c.txn then of_ticket d.ticket m (λ t. takes_vote m t w m.phase) else m).acks ≡ m.acks
+      → (if same_txn d.txn c.txn then of_ticket d.ticket m
+      (λ t. takes_vote m t w m.phase) else m).acks ≡ m.acks
   voted d w = kept_if (same_txn d.txn c.txn) m _ m
       (kept_ticket d.ticket m (λ t. takes_vote m t w m.phase) (λ t. kept_takes m t w m.phase)) refl
 
-  acked : (j : ℕ) (x : Txn) (u : Option Ticket) (o : Outcome) → let d : Case = record { txn = x; ticket = u } in
+  acked : (j : ℕ) (x : Txn) (u : Option Ticket) (o : Outcome)
+      → let d : Case = record { txn = x; ticket = u } in
       AcksMove c m (MessageInput j (Ack d o))
       (if same_txn x c.txn then of_ticket u m (λ t. takes_ack m t o m.phase) else m)
   acked j x None o = keeps (kept_if (same_txn x c.txn) m m m refl refl)
@@ -106,8 +108,10 @@ module _ (me : ProcessId) (boot : ℕ) (c : Case) (m : Memory) where
   hears : (j : ℕ) (x : Message) → Moves (MessageInput j x)
   hears j (Join d) = joined (MessageInput j (Join d)) d (active_ticket m.active d)
   hears j (Joined d t) = keeps (kept_if (same_case d c) m _ m (kept_accepts m t m.phase) refl)
-  hears j (Prepare d k) = keeps (kept_if (same_case d c) m _ (retires m d) (kept_asks (retires m d) m.phase) refl)
-  hears j (Abort d) = keeps (kept_if (same_case d c) m _ (retires m d) (kept_closes (retires m d) m.phase) refl)
+  hears j (Prepare d k) = keeps (kept_if (same_case d c) m _ (retires m d)
+      (kept_asks (retires m d) m.phase) refl)
+  hears j (Abort d) = keeps (kept_if (same_case d c) m _ (retires m d)
+      (kept_closes (retires m d) m.phase) refl)
   hears j (Yes d) = keeps (voted d VoteYes)
   hears j (No d) = keeps (voted d VoteNo)
   hears j (Read d) = keeps (voted d VoteRead)

@@ -70,4 +70,5 @@ module _ (me p : ProcessId) (tree : List TreeEntry) (net : List Envelope) (n : N
           → (coordinator_view place n (root_case x)).standing ≡ Unknown
       by_known false gone = unknown_if (coordinator_view place n (root_case x)).standing gone
       by_known true known =
-          absurd (never_given x net (is_given (known_not (coordinator_view place n (root_case x)).standing known)))
+          absurd (never_given x net (is_given
+          (known_not (coordinator_view place n (root_case x)).standing known)))

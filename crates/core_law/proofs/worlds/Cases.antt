@@ -46,7 +46,8 @@ module _ (c : Case) where
   none_owing (Abort d ts) e = ap (λ b. if b then ts else []) e
   none_owing r e = refl
 
-  nobody : (f : Record → List Ticket) → ((r : Record) → is_record_of c r ≡ false → f r ≡ []) → (rs : List Record)
+  nobody : (f : Record → List Ticket) → ((r : Record) → is_record_of c r ≡ false
+      → f r ≡ []) → (rs : List Record)
       → has (is_record_of c) rs ≡ false → flat_map f rs ≡ []
   unfolding has
   nobody f none [] e = refl
@@ -82,7 +83,8 @@ alone : (c : Case) → has_case (c ∷ []) c ≡ true
 unfolding has_case
 alone c = rw (same_case-refl c) refl
 
-still_with : (cs : List Case) (o : Option Case) (c : Case) → has_case cs c ≡ true → has_case (with_case cs o) c ≡ true
+still_with : (cs : List Case) (o : Option Case) (c : Case) → has_case cs c ≡ true
+    → has_case (with_case cs o) c ≡ true
 still_with cs None c e = e
 still_with cs (Some d) c e = by_test (has_case cs d)
   where
@@ -90,10 +92,12 @@ still_with cs (Some d) c e = by_test (has_case cs d)
     by_test true = e
     by_test false = in_more cs (d ∷ []) c e
 
-now_with : (cs : List Case) (o : Option Case) (c : Case) → is_of c o ≡ true → has_case (with_case cs o) c ≡ true
+now_with : (cs : List Case) (o : Option Case) (c : Case) → is_of c o ≡ true
+    → has_case (with_case cs o) c ≡ true
 now_with cs None c e = absurd (cc)
 now_with cs (Some d) c e =
-    subst (λ (x : Case). has_case (with_case cs (Some d)) x ≡ true) (case_is d c e) (by_test (has_case cs d) refl)
+    subst (λ (x : Case). has_case (with_case cs (Some d)) x ≡ true) (case_is d c e)
+    (by_test (has_case cs d) refl)
   where
     by_test : (b : Bool) → has_case cs d ≡ b → has_case (if b then cs else cs ++ d ∷ []) d ≡ true
     by_test true there = there
@@ -113,7 +117,8 @@ listed_from cs (r ∷ rs) c e = elim (either (is_record_of c r) (has (is_record_
   | inr rest ↦ listed_from (with_record cs r) rs c rest
 ]
 
-pub recorded_listed : (rs : List Record) (c : Case) → has (is_record_of c) rs ≡ true → has_case (cases_in rs) c ≡ true
+pub recorded_listed : (rs : List Record) (c : Case) → has (is_record_of c) rs ≡ true
+    → has_case (cases_in rs) c ≡ true
 unfolding cases_in
 recorded_listed rs c e = listed_from [] rs c e
 
@@ -130,7 +135,8 @@ filtered f (d ∷ cs) c e g = by_test (f d) refl (filtered f cs c)
       | inr rest ↦ right (same_case d c) (has_case (filter f cs) c) (r rest g)
     ]
     by_test false h r = elim (either (same_case d c) (has_case cs c) e) [
-      | inl now ↦ absurd (let k = subst (λ (x : Case). f x ≡ false) (case_is d c now) h in let l = sym k ∙ g in cc)
+      | inl now ↦ absurd (let k = subst (λ (x : Case). f x ≡ false) (case_is d c now)
+          h in let l = sym k ∙ g in cc)
       | inr rest ↦ r rest g
     ]
 
@@ -146,7 +152,8 @@ own_issued rs issued c e =
     filtered (λ d. same_txn d.txn c.txn) _ c (in_last (cases_in rs) issued c e) (same_txn-refl c.txn)
 
 -- what is given out next was not given out
-pub not_given : {A : Type 0} (boot given number : ℕ) → number ≡ given + 1 → IsGivenOut boot number boot given → A
+pub not_given : {A : Type 0} (boot given number : ℕ) → number ≡ given + 1
+    → IsGivenOut boot number boot given → A
 not_given boot given number e (inl f) = absurd (omega (arith, f))
 not_given boot given number e (inr f) = absurd (omega (arith, e, f.1))
 

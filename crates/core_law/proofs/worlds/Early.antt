@@ -1,5 +1,5 @@
--- At a coordinator below the root no acknowledgement of a promised child was noted before the parent decided: it is
--- passed over.
+-- At a coordinator below the root no acknowledgement of a promised child was noted before the parent
+-- decided: it is passed over.
 use Rattle.std.proofs.Common.{◌≡◌, ◌∙◌, inl, inr, ◌||◌, ◌&&◌, ℕ, Bool, true, false, if◌then◌else◌, Option, None, Some, List, [], ◌∷◌, ◌++◌, refl, sym, ap, subst, arith}
 use Rattle.std.proofs.lemmas.List.{append-nil}
 use Rattle.std.proofs.lemmas.List.Folds.{list_any-append}
@@ -67,13 +67,15 @@ module _ (c : Case) (t : Ticket) where
   pub promised_so : (rs : List Record) → in_list (promised_by c rs) t ≡ has (is_prepare_naming c t) rs
   unfolding promised_by has
   promised_so [] = in_none t
-  promised_so (r ∷ rs) = in_both (promised_in c r) (promised_by c rs) t ∙ (λ i. promised_one r i || promised_so rs i)
+  promised_so (r ∷ rs) = in_both (promised_in c r) (promised_by c rs) t
+      ∙ (λ i. promised_one r i || promised_so rs i)
 
   named_one : (r : Record) → is_prepare_naming c t r ≡ true → in_list (named_in c r) t ≡ true
   named_one (PrepareRecord d ts) e = if_in (same_case d c) ts t ∙ e
   named_one r e = absurd (cc)
 
-  pub prepared_named : (rs : List Record) → has (is_prepare_naming c t) rs ≡ true → in_list (named_by c rs) t ≡ true
+  pub prepared_named : (rs : List Record) → has (is_prepare_naming c t) rs ≡ true
+      → in_list (named_by c rs) t ≡ true
   unfolding named_by has
   prepared_named [] e = absurd (cc)
   prepared_named (r ∷ rs) e = in_both (named_in c r) (named_by c rs) t
@@ -123,10 +125,12 @@ module _ (me p : ProcessId) (tree : List TreeEntry) where
   -- no acknowledgement of a child that an undecided promise names was noted
   abbrev pub NoneEarly : Node → Type 0
   NoneEarly n =
-      (c : Case) (t : Ticket) (o : Outcome) → has (is_prepare_naming c t) (kept n) ≡ true → Undecided c (kept n)
+      (c : Case) (t : Ticket) (o : Outcome) → has (is_prepare_naming c t) (kept n)
+      ≡ true → Undecided c (kept n)
       → has_acked (memory_of (cascaded_place me p tree) n c).acks o t ≡ false
 
-  module _ (net : List Envelope) (n : Node) (holds : NodeHolds (cascaded_place me p tree) net n) (once : JoinedOnce net)
+  module _ (net : List Envelope) (n : Node) (holds : NodeHolds (cascaded_place me p tree)
+      net n) (once : JoinedOnce net)
       (up : n.failed ≡ false)
       (old : NoneEarly n) where
     fit : ChildrenFit (cascaded_place me p tree) n
@@ -144,7 +148,8 @@ module _ (me p : ProcessId) (tree : List TreeEntry) where
         viewed place n c ∙ rw (undecided.no_end, undecided.no_commit, undecided.no_abort, prepared) refl
 
     -- an acknowledgement of the child is passed over
-    early : (c : Case) (t : Ticket) (o : Outcome) (j : ℕ) (x : Txn) → has (is_prepare_naming c t) (kept n) ≡ true
+    early : (c : Case) (t : Ticket) (o : Outcome) (j : ℕ) (x : Txn)
+        → has (is_prepare_naming c t) (kept n) ≡ true
         → Undecided c (kept n)
         → same_txn x c.txn ≡ true → is_passed_over place n (MessageInput j (Ack (child_case x t) o)) ≡ true
     early c t o j x named undecided of =
@@ -167,11 +172,13 @@ module _ (me p : ProcessId) (tree : List TreeEntry) where
 
       same_boot : boot_of (kept n ++ new) ≡ boot_of (kept n)
       same_boot =
-          boot_append (kept n) new ∙ others_boot (boot_of (kept n)) new (turn_none (Below p) place n h e turn.turn)
+          boot_append (kept n) new ∙ others_boot (boot_of (kept n)) new
+          (turn_none (Below p) place n h e turn.turn)
 
       not_early : {A : Type 0} (c : Case) (t : Ticket) (o : Outcome) (j : ℕ) (x : Txn) (u : Ticket)
           → h.input ≡ MessageInput j (Ack (child_case x u) o)
-          → same_txn x c.txn ≡ true → has (is_prepare_naming c t) (kept n) ≡ true → Undecided c (kept n) → u ≡ t → A
+          → same_txn x c.txn ≡ true → has (is_prepare_naming c t) (kept n) ≡ true
+          → Undecided c (kept n) → u ≡ t → A
       not_early c t o j x u is of named undecided same =
           let over : is_passed_over place n h.input ≡ true =
           ap (is_passed_over place n) (is ∙ ap (λ v. MessageInput j (Ack (child_case x v) o)) same)
@@ -185,14 +192,17 @@ module _ (me p : ProcessId) (tree : List TreeEntry) where
       before : (c : Case) (t : Ticket) (o : Outcome) → has (is_prepare_naming c t) (kept n) ≡ true
           → Undecided c (kept n) → (k : Memory)
           → AcksMove c (memory c) h.input k → has_acked k.acks o t ≡ false
-      before c t o named undecided k (keeps same) = ap (λ as'. has_acked as' o t) same ∙ old c t o named undecided
+      before c t o named undecided k (keeps same) =
+          ap (λ as'. has_acked as' o t) same ∙ old c t o named undecided
       before c t o named undecided k (starts none) = ap (λ as'. has_acked as' o t) none ∙ none_acked o t
       before c t o named undecided k (notes j x u a is of late more) =
           ap (λ as'. has_acked as' o t) more ∙ by_ticket (same_ticket u t) refl
         where
-          by_ticket : (b : Bool) → same_ticket u t ≡ b → has_acked ((memory c).acks ++ (u, a) ∷ []) o t ≡ false
+          by_ticket : (b : Bool) → same_ticket u t ≡ b
+              → has_acked ((memory c).acks ++ (u, a) ∷ []) o t ≡ false
           by_ticket true same = not_early c t a j x u is of named undecided ((ticket_tells u t).0 same)
-          by_ticket false apart = not_acked _ (has_acked (memory c).acks o t) (same_outcome a o) (same_ticket u t)
+          by_ticket false apart = not_acked _ (has_acked (memory c).acks o t)
+              (same_outcome a o) (same_ticket u t)
               (has_acked-push (memory c).acks u t a o) (old c t o named undecided) apart
 
       -- of a case that promises now
@@ -218,9 +228,11 @@ module _ (me p : ProcessId) (tree : List TreeEntry) where
           ∙ elim (in_either (is_prepare_naming c t) (kept n) new
           (ap (has (is_prepare_naming c t)) (sym (kept-after n h e)) ∙ named)) [
             | inl then_named ↦
-                before c t o then_named (undecided_before c (subst (Undecided c) (kept-after n h e) undecided)) _
+                before c t o then_named (undecided_before c
+                (subst (Undecided c) (kept-after n h e) undecided)) _
                 (acks_move me (boot_of (kept n)) c (memory c) h.input)
-            | inr now ↦ asked_now c t o (((coordinates me p tree net n holds up).alike up c).collecting_is_asked
+            | inr now ↦ asked_now c t o
+                (((coordinates me p tree net n holds up).alike up c).collecting_is_asked
                 (effect_promises place (Some p) n h e (coordinator_turn_of place n h e does) c
                 (has_other (is_prepare_naming c t) (is_promise c) new (naming_promises c t) now)))
                 _ (acks_move me (boot_of (kept n)) c (memory c) h.input)
@@ -265,15 +277,18 @@ module _ (me p : ProcessId) (tree : List TreeEntry) where
         | inr later ↦ rest later
       ]
 
-  trimmed_known : (c : Case) (t : Ticket) (rs : List Record) → has (is_prepare_naming c t) (trimmed AtRoot rs) ≡ true
+  trimmed_known : (c : Case) (t : Ticket) (rs : List Record)
+      → has (is_prepare_naming c t) (trimmed AtRoot rs) ≡ true
       → is_known (recorded_view rs c).standing ≡ true
   unfolding trimmed
-  trimmed_known c t rs e = elim (in_either (is_prepare_naming c t) (Opened (boot_of rs) ∷ staying AtRoot rs rs) [] e) [
-    | inl first ↦ stays_known c (is_prepare_naming c t) (λ r e. own r (naming_prepares c t r e)) rs rs
-        (sym (has-cons (is_prepare_naming c t) (Opened (boot_of rs)) (staying AtRoot rs rs)) ∙ first)
-    | inr last ↦
-        not_both (is_prepare_naming c t) (has (is_prepare_naming c t) []) last (has-nil (is_prepare_naming c t))
-  ]
+  trimmed_known c t rs e = elim (in_either (is_prepare_naming c t)
+      (Opened (boot_of rs) ∷ staying AtRoot rs rs) [] e) [
+        | inl first ↦ stays_known c (is_prepare_naming c t) (λ r e. own r (naming_prepares c t r e)) rs rs
+            (sym (has-cons (is_prepare_naming c t) (Opened (boot_of rs)) (staying AtRoot rs rs)) ∙ first)
+        | inr last ↦
+            not_both (is_prepare_naming c t) (has (is_prepare_naming c t) []) last
+            (has-nil (is_prepare_naming c t))
+      ]
     where
       own : (r : Record) → is_prepare c r ≡ true → is_record_of c r ≡ true
       own r e = grind arith
@@ -298,7 +313,11 @@ module _ (me p : ProcessId) (tree : List TreeEntry) where
   trim_left_of : (q : Record → Bool) → ((k : ℕ) → q (Opened k) ≡ false) → (rs : List Record)
       → has q (trimmed AtRoot rs) ≡ true → has q rs ≡ true
   trim_left_of q none rs e =
-      elim (trim_left q none AtRoot rs e) [ inl old ↦ old | inr nothing ↦ not_both q (has q []) nothing (has-nil q) ]
+      elim (trim_left q none AtRoot rs e) [
+        | inl old ↦ old
+        | inr nothing ↦ not_both q
+            (has q []) nothing (has-nil q)
+      ]
 
   kept_trims : (n : Node) → kept (trims place n) ≡ trimmed AtRoot (kept n)
   kept_trims n = append-nil (trimmed (Below p) (kept n)) ∙ same_trimmed (kept n)
@@ -309,7 +328,8 @@ module _ (me p : ProcessId) (tree : List TreeEntry) where
       ap (has (is_prepare_naming c t)) (sym (kept_trims n)) ∙ named in
       ap (λ (m : Memory). has_acked m.acks o t) (trims_memory place n c)
       ∙ old c t o (trim_left_of (is_prepare_naming c t) (λ k. refl) (kept n) left)
-      (undecided_trim c (kept n) (trimmed_known c t (kept n) left) (subst (Undecided c) (kept_trims n) undecided))
+      (undecided_trim c (kept n) (trimmed_known c t (kept n) left)
+      (subst (Undecided c) (kept_trims n) undecided))
 
   -- A restart.
 

@@ -35,14 +35,16 @@ module _ (journal : List Made → List Entry) where
     pub goes_on_so : GoesOnBy journal es w s
     pub tree_stays : s.tree ≡ tree
 
-  pub waits : (tree : List TreeEntry) (es : List Made) (w : World) (s : WorldState) → FollowsBy journal es w s → s.tree ≡ tree → GoesOnIn tree es w s
+  pub waits : (tree : List TreeEntry) (es : List Made) (w : World) (s : WorldState) → FollowsBy journal es w s
+      → s.tree ≡ tree → GoesOnIn tree es w s
   waits tree es w s f is = record {
     goes_on_so = record { later = []; world = w; leads = stays; follows = f };
     tree_stays = is;
   }
 
   pub then_on : (tree : List TreeEntry) (es : List Made) (w : World) (s t : WorldState) → GoesOnIn tree es w s
-      → ((es' : List Made) (w' : World) → FollowsBy journal es' w' s → GoesOnIn tree es' w' t) → GoesOnIn tree es w t
+      → ((es' : List Made) (w' : World) → FollowsBy journal es' w' s
+      → GoesOnIn tree es' w' t) → GoesOnIn tree es w t
   then_on tree es w s t first next =
       let one = first.goes_on_so in
       let two = next (one.later ++ es) one.world one.follows in
@@ -51,42 +53,56 @@ module _ (journal : List Made → List Entry) where
         goes_on_so = record {
           later = last.later ++ one.later;
           world = last.world;
-          leads = continues_on t.tree w one.world one.later (subst (λ z. Continues z w one.later one.world) (first.tree_stays ∙ sym two.tree_stays) one.leads)
+          leads = continues_on t.tree w one.world one.later (subst (λ z. Continues z w one.later one.world)
+              (first.tree_stays ∙ sym two.tree_stays) one.leads)
               last.later last.world last.leads;
-          follows = subst (λ xs. FollowsBy journal xs last.world t) (sym (append_assoc last.later one.later es)) last.follows;
+          follows = subst (λ xs. FollowsBy journal xs last.world t)
+              (sym (append_assoc last.later one.later es)) last.follows;
         };
         tree_stays = two.tree_stays;
       }
 
 module _ (journal : List Made → List Entry) (shows : ShowsMoves journal)
-    (law : (tree : List TreeEntry) → IsTree tree → InputsAsTheModel tree) (tree : List TreeEntry) (is_tree : IsTree tree) where
+    (law : (tree : List TreeEntry) → IsTree tree → InputsAsTheModel tree) (tree : List TreeEntry)
+    (is_tree : IsTree tree) where
   -- one delivery
-  delivered_on : (s t : WorldState) (k : ℕ) (es : List Made) (w : World) → s.tree ≡ tree → FollowsBy journal es w s → Delivers s t k → GoesOnIn journal tree es w t
+  delivered_on : (s t : WorldState) (k : ℕ) (es : List Made) (w : World) → s.tree ≡ tree
+      → FollowsBy journal es w s → Delivers s t k → GoesOnIn journal tree es w t
   delivered_on s t k es w is f made =
       let envelope = made.envelope in
       record {
-        goes_on_so = step_goes_on journal shows law es w s t envelope.to (MessageInput k envelope.message) (marks s.delivered k) (subst IsTree (sym is) is_tree) f
-            (sent_stands w.net k envelope (ap (λ xs. sent_as xs k) (sym f.follows.net) ∙ made.sent)) made.steps;
+        goes_on_so = step_goes_on journal shows law es w s t envelope.to (MessageInput k envelope.message)
+            (marks s.delivered k) (subst IsTree (sym is) is_tree) f
+            (sent_stands w.net k envelope (ap (λ xs. sent_as xs k) (sym f.follows.net) ∙ made.sent))
+            made.steps;
         tree_stays = made.steps.moves.tree ∙ is;
       }
 
   settle_step : (n : ℕ) (s t : WorldState) (o : Option ℕ) (es : List Made) (w : World)
-      → ((mid : WorldState) (es' : List Made) (w' : World) → mid.tree ≡ tree → FollowsBy journal es' w' mid → Settles n mid t → GoesOnIn journal tree es' w' t)
-      → s.tree ≡ tree → FollowsBy journal es w s → settles_by s t (λ mid. Settles n mid t) o → GoesOnIn journal tree es w t
-  settle_step n s t None es w again is f made = subst (λ z. GoesOnIn journal tree es w z) (sym made) (waits journal tree es w s f is)
+      → ((mid : WorldState) (es' : List Made) (w' : World) → mid.tree ≡ tree → FollowsBy journal es' w' mid
+      → Settles n mid t → GoesOnIn journal tree es' w' t)
+      → s.tree ≡ tree → FollowsBy journal es w s → settles_by s t (λ mid. Settles n mid t) o
+      → GoesOnIn journal tree es w t
+  settle_step n s t None es w again is f made =
+      subst (λ z. GoesOnIn journal tree es w z) (sym made) (waits journal tree es w s f is)
   settle_step n s t (Some k) es w again is f made =
       then_on journal tree es w made.0 t (delivered_on s made.0 k es w is f made.1)
       (λ es' w' g. again made.0 es' w' (made.1.steps.moves.tree ∙ is) g made.2)
 
-  pub settles_on : (n : ℕ) (s t : WorldState) (es : List Made) (w : World) → s.tree ≡ tree → FollowsBy journal es w s → Settles n s t → GoesOnIn journal tree es w t
-  settles_on zero s t es w is f made = subst (λ z. GoesOnIn journal tree es w z) (sym made) (waits journal tree es w s f is)
+  pub settles_on : (n : ℕ) (s t : WorldState) (es : List Made) (w : World) → s.tree ≡ tree
+      → FollowsBy journal es w s → Settles n s t → GoesOnIn journal tree es w t
+  settles_on zero s t es w is f made = subst (λ z. GoesOnIn journal tree es w z) (sym made)
+      (waits journal tree es w s f is)
   settles_on (suc n) s t es w is f made =
-      settle_step n s t (least_open 1 s.delivered) es w (λ mid es' w' still g. settles_on n mid t es' w' still g) is f made
+      settle_step n s t (least_open 1 s.delivered) es w
+      (λ mid es' w' still g. settles_on n mid t es' w' still g) is f made
 
   -- an event that was made
-  pub applied_on : (s t : WorldState) (event : Event) (es : List Made) (w : World) → s.tree ≡ tree → FollowsBy journal es w s → Applies s event t → GoesOnIn journal tree es w t
+  pub applied_on : (s t : WorldState) (event : Event) (es : List Made) (w : World) → s.tree ≡ tree
+      → FollowsBy journal es w s → Applies s event t → GoesOnIn journal tree es w t
   applied_on s t (ActOf a) es w is f made = record {
-    goes_on_so = step_goes_on journal shows law es w s t (process_of_act (root_of s.tree) a) (ActInput a) s.delivered (subst IsTree (sym is) is_tree) f tt made;
+    goes_on_so = step_goes_on journal shows law es w s t (process_of_act (root_of s.tree) a) (ActInput a)
+        s.delivered (subst IsTree (sym is) is_tree) f tt made;
     tree_stays = made.moves.tree ∙ is;
   }
   applied_on s t (Deliver k) es w is f made = delivered_on s t k es w is f made
@@ -102,16 +118,19 @@ module _ (journal : List Made → List Entry) (shows : ShowsMoves journal)
 
   -- one that was not made; where a device failed in it, of a journal that does not show such moves
 
-  same_on : (s t : WorldState) (es : List Made) (w : World) → s.tree ≡ tree → FollowsBy journal es w s → Same s t → GoesOnIn journal tree es w t
+  same_on : (s t : WorldState) (es : List Made) (w : World) → s.tree ≡ tree → FollowsBy journal es w s
+      → Same s t → GoesOnIn journal tree es w t
   same_on s t es w is f same = waits journal tree es w t (same_by journal es w s t f same) (same.tree ∙ is)
 
-  undelivered_on : (s t : WorldState) (k : ℕ) (e : StepError) (es : List Made) (w : World) → (e ≡ step_error.Device → HidesFaults journal) → s.tree ≡ tree → FollowsBy journal es w s
+  undelivered_on : (s t : WorldState) (k : ℕ) (e : StepError) (es : List Made) (w : World)
+      → (e ≡ step_error.Device → HidesFaults journal) → s.tree ≡ tree → FollowsBy journal es w s
       → NotDelivered s t k e → GoesOnIn journal tree es w t
   undelivered_on s t k step_error.Memory es w faults is f h = same_on s t es w is f h
   undelivered_on s t k step_error.Device es w faults is f h =
       by_message (sent_as s.net k) refl h
     where
-      by_message : (o : Option Envelope) → sent_as s.net k ≡ o → DeviceFailsUnder s t k o → GoesOnIn journal tree es w t
+      by_message : (o : Option Envelope) → sent_as s.net k ≡ o → DeviceFailsUnder s t k o
+          → GoesOnIn journal tree es w t
       by_message None sent failed = absurd failed
       by_message (Some l) sent failed = record {
         goes_on_so = input_fails_on journal (faults refl) es w s t f l.to (MessageInput k l.message)
@@ -126,7 +145,8 @@ module _ (journal : List Made → List Entry) (shows : ShowsMoves journal)
   undelivered_on s t k step_error.Failed es w faults is f h = same_on s t es w is f h.0
   undelivered_on s t k step_error.NoSuch es w faults is f h = same_on s t es w is f h.0
 
-  unacted_on : (s t : WorldState) (q : ProcessId) (a : Act) (e : StepError) (es : List Made) (w : World) → (e ≡ step_error.Device → HidesFaults journal) → s.tree ≡ tree → FollowsBy journal es w s
+  unacted_on : (s t : WorldState) (q : ProcessId) (a : Act) (e : StepError) (es : List Made) (w : World)
+      → (e ≡ step_error.Device → HidesFaults journal) → s.tree ≡ tree → FollowsBy journal es w s
       → NotActed s t q a e → GoesOnIn journal tree es w t
   unacted_on s t q a step_error.Memory es w faults is f h = same_on s t es w is f h
   unacted_on s t q a step_error.Device es w faults is f h = record {
@@ -141,7 +161,8 @@ module _ (journal : List Made → List Entry) (shows : ShowsMoves journal)
   unacted_on s t q a step_error.Failed es w faults is f h = same_on s t es w is f h.0
   unacted_on s t q a step_error.NoSuch es w faults is f h = same_on s t es w is f h.0
 
-  unrestarted_on : (s t : WorldState) (q : ProcessId) (bytes : Option ℕ) (e : StepError) (es : List Made) (w : World) → (e ≡ step_error.Device → HidesFaults journal)
+  unrestarted_on : (s t : WorldState) (q : ProcessId) (bytes : Option ℕ) (e : StepError) (es : List Made)
+      (w : World) → (e ≡ step_error.Device → HidesFaults journal)
       → s.tree ≡ tree → FollowsBy journal es w s → NotRestartedAt s t q bytes e → GoesOnIn journal tree es w t
   unrestarted_on s t q bytes step_error.Memory es w faults is f h = same_on s t es w is f h
   unrestarted_on s t q bytes step_error.Device es w faults is f h = record {
@@ -156,7 +177,8 @@ module _ (journal : List Made → List Entry) (shows : ShowsMoves journal)
   unrestarted_on s t q bytes step_error.Failed es w faults is f h = absurd h
   unrestarted_on s t q bytes step_error.NoSuch es w faults is f h = same_on s t es w is f h.0
 
-  untrimmed_on : (s t : WorldState) (q : ProcessId) (e : StepError) (es : List Made) (w : World) → (e ≡ step_error.Device → HidesFaults journal) → s.tree ≡ tree → FollowsBy journal es w s
+  untrimmed_on : (s t : WorldState) (q : ProcessId) (e : StepError) (es : List Made) (w : World)
+      → (e ≡ step_error.Device → HidesFaults journal) → s.tree ≡ tree → FollowsBy journal es w s
       → NotTrimmedAt s t q e → GoesOnIn journal tree es w t
   untrimmed_on s t q step_error.Memory es w faults is f h = same_on s t es w is f h
   untrimmed_on s t q step_error.Device es w faults is f h = record {
@@ -171,21 +193,26 @@ module _ (journal : List Made → List Entry) (shows : ShowsMoves journal)
   untrimmed_on s t q step_error.Failed es w faults is f h = same_on s t es w is f h.0
   untrimmed_on s t q step_error.NoSuch es w faults is f h = same_on s t es w is f h.0
 
-  none_on : (s t : WorldState) (e : StepError) (o : Option ℕ) (es : List Made) (w : World) → (e ≡ step_error.Device → HidesFaults journal) → s.tree ≡ tree → FollowsBy journal es w s
+  none_on : (s t : WorldState) (e : StepError) (o : Option ℕ) (es : List Made) (w : World)
+      → (e ≡ step_error.Device → HidesFaults journal) → s.tree ≡ tree → FollowsBy journal es w s
       → NoneDelivered s t e o → GoesOnIn journal tree es w t
   none_on s t e None es w faults is f h = same_on s t es w is f h.1
   none_on s t e (Some k) es w faults is f h = undelivered_on s t k e es w faults is f h
 
-  settle_stops_on : (limit : ℕ) (s t : WorldState) (e : StepError) (es : List Made) (w : World) → (e ≡ step_error.Device → HidesFaults journal) → s.tree ≡ tree → FollowsBy journal es w s
+  settle_stops_on : (limit : ℕ) (s t : WorldState) (e : StepError) (es : List Made) (w : World)
+      → (e ≡ step_error.Device → HidesFaults journal) → s.tree ≡ tree → FollowsBy journal es w s
       → SettleStops limit s t e → GoesOnIn journal tree es w t
   settle_stops_on limit s t e es w faults is f h =
       let first = settles_on h.count s h.before es w is f h.settles in
       then_on journal tree es w h.before t first
-      (λ es' w' g. none_on h.before t e (least_open 1 h.before.delivered) es' w' faults first.tree_stays g h.stops)
+      (λ es' w' g. none_on h.before t e (least_open 1 h.before.delivered) es' w'
+      faults first.tree_stays g h.stops)
 
-  pub stopped_on : (s t : WorldState) (event : Event) (e : StepError) (es : List Made) (w : World) → (e ≡ step_error.Device → HidesFaults journal) → s.tree ≡ tree → FollowsBy journal es w s
+  pub stopped_on : (s t : WorldState) (event : Event) (e : StepError) (es : List Made) (w : World)
+      → (e ≡ step_error.Device → HidesFaults journal) → s.tree ≡ tree → FollowsBy journal es w s
       → Stops s event e t → GoesOnIn journal tree es w t
-  stopped_on s t (ActOf a) e es w faults is f h = unacted_on s t (process_of_act (root_of s.tree) a) a e es w faults is f h
+  stopped_on s t (ActOf a) e es w faults is f h =
+      unacted_on s t (process_of_act (root_of s.tree) a) a e es w faults is f h
   stopped_on s t (Deliver k) e es w faults is f h = undelivered_on s t k e es w faults is f h
   stopped_on s t Settle e es w faults is f h = settle_stops_on 10000 s t e es w faults is f h
   stopped_on s t (Restart q bytes) e es w faults is f h = unrestarted_on s t q bytes e es w faults is f h
@@ -193,14 +220,19 @@ module _ (journal : List Made → List Entry) (shows : ShowsMoves journal)
 
   -- Lists of events.
 
-  pub leads_on : (s t : WorldState) (events : List Event) (es : List Made) (w : World) → s.tree ≡ tree → FollowsBy journal es w s → Leads s events t → GoesOnIn journal tree es w t
-  leads_on s t [] es w is f made = subst (λ z. GoesOnIn journal tree es w z) (sym made) (waits journal tree es w s f is)
+  pub leads_on : (s t : WorldState) (events : List Event) (es : List Made) (w : World) → s.tree ≡ tree
+      → FollowsBy journal es w s → Leads s events t → GoesOnIn journal tree es w t
+  leads_on s t [] es w is f made = subst (λ z. GoesOnIn journal tree es w z) (sym made)
+      (waits journal tree es w s f is)
   leads_on s t (e ∷ events) es w is f made =
       let first = applied_on s made.0 e es w is f made.1 in
-      then_on journal tree es w made.0 t first (λ es' w' g. leads_on made.0 t events es' w' first.tree_stays g made.2)
+      then_on journal tree es w made.0 t first
+      (λ es' w' g. leads_on made.0 t events es' w' first.tree_stays g made.2)
 
-  pub leads_until_on : (s t : WorldState) (events : List Event) (n : ℕ) (e : StepError) (es : List Made) (w : World) → (e ≡ step_error.Device → HidesFaults journal) → s.tree ≡ tree
+  pub leads_until_on : (s t : WorldState) (events : List Event) (n : ℕ) (e : StepError) (es : List Made)
+      (w : World) → (e ≡ step_error.Device → HidesFaults journal) → s.tree ≡ tree
       → FollowsBy journal es w s → LeadsUntil s events n e t → GoesOnIn journal tree es w t
   leads_until_on s t events n e es w faults is f made =
       let first = leads_on s made.before (take n events) es w is f made.leads in
-      then_on journal tree es w made.before t first (λ es' w' g. stopped_on made.before t made.event e es' w' faults first.tree_stays g made.stops)
+      then_on journal tree es w made.before t first
+      (λ es' w' g. stopped_on made.before t made.event e es' w' faults first.tree_stays g made.stops)

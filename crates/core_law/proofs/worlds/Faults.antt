@@ -1,5 +1,5 @@
--- What a tree that runs comes to where a device fails in an input, a restart or a trim stands for a run that goes on
--- by a move with a fault in it, where the journal does not show such moves.
+-- What a tree that runs comes to where a device fails in an input, a restart or a trim stands for a run that
+-- goes on by a move with a fault in it, where the journal does not show such moves.
 use Rattle.std.proofs.Common.{◌≡◌, ◌∙◌, ap, sym, subst, refl, ℕ, Bool, true, false, ◌&&◌, not, Option, Some, None, List, [], ◌++◌, if◌then◌else◌, drop, take}
 use Rattle.std.proofs.Math.Seq.{take-nil}
 use Rattle.std.proofs.lemmas.List.{append-nil}
@@ -56,23 +56,28 @@ same_effect a b m n h = cc
 unsent : (d e : Effect) (m n : Node) → Leaves d m ≡ Leaves e n → d.messages ≡ [] → e.messages ≡ []
 unsent d e m n same none = ap (λ (x : Effect). x.messages) (sym (same_effect d e m n same)) ∙ none
 
-module _ (place : Place) (n : Node) (q : ProcessId) (f : Fault) (a : DataAnswer) (e : Effect) (left : Node) where
+module _ (place : Place) (n : Node) (q : ProcessId) (f : Fault) (a : DataAnswer)
+    (e : Effect) (left : Node) where
   input_unsent : (i : Input) (b : Bool) (r : Reacts)
-      → (if b then passes_over n (Some f) else input_makes n (record { input = i; data_answer = a }) (Some f) r) ≡ Leaves e left
+      → (if b then passes_over n (Some f) else input_makes n
+      (record { input = i; data_answer = a }) (Some f) r) ≡ Leaves e left
       → e.messages ≡ []
   input_unsent i true r h = unsent no_effect e _ left h refl
   input_unsent i false (Refused x) h = absurd (cc)
   input_unsent i false (Does d) h = unsent (fault_effect d f.appended) e _ left h refl
 
-  trim_unsent : (b : Bool) → (if b then RefusesMove Failed else trim_makes place n (Some f)) ≡ Leaves e left → e.messages ≡ []
+  trim_unsent : (b : Bool) → (if b then RefusesMove Failed else trim_makes place n (Some f))
+      ≡ Leaves e left → e.messages ≡ []
   trim_unsent true h = absurd (cc)
   trim_unsent false h = unsent (fault_effect (trim_effect place n) 0) e _ left h refl
 
-  nothing_sent : (h : Happening) → node_makes place n (move_with q h (Some f) a) ≡ Leaves e left → e.messages ≡ []
+  nothing_sent : (h : Happening) → node_makes place n (move_with q h (Some f) a)
+      ≡ Leaves e left → e.messages ≡ []
   unfolding node_makes
   nothing_sent (Handles i) made =
       input_unsent i (is_passed_over place n i) (reacts place n (record { input = i; data_answer = a })) made
-  nothing_sent (Restarting k) made = unsent (fault_effect (restart_effect place n k) f.appended) e _ left made refl
+  nothing_sent (Restarting k) made = unsent (fault_effect (restart_effect place n k)
+      f.appended) e _ left made refl
   nothing_sent Trimming made = trim_unsent n.failed made
 
 -- An acknowledgement that the model passes over writes nothing, and the case that it is of may ask.
@@ -104,16 +109,19 @@ module _ (me p : ProcessId) (tree : List TreeEntry) (n : Node) (a : DataAnswer) 
     pub prepared : (view own).standing ≡ standing.Prepared
     pub unwritten : e.written ≡ []
 
-  ack_quiet : (t : Ticket) (o : Outcome) (c : Option Case) → is_prepared_case place n c ≡ true → Quiet (ack_for place (Some p) n t o c)
+  ack_quiet : (t : Ticket) (o : Outcome) (c : Option Case) → is_prepared_case place n c ≡ true
+      → Quiet (ack_for place (Some p) n t o c)
   ack_quiet t o None h = absurd (cc)
   ack_quiet t o (Some c) h = record {
     own = c;
     prepared = prepared_is (view c).standing h;
-    unwritten = ap (λ st. (row_effect c (on_ack (seat_of place (Some p) c) t o (view c) st)).written) (prepared_is (view c).standing h)
+    unwritten = ap (λ st. (row_effect c (on_ack (seat_of place (Some p) c) t o (view c) st)).written)
+        (prepared_is (view c).standing h)
         ∙ by_outcome o;
   }
     where
-      by_outcome : (o : Outcome) → (row_effect c (on_ack (seat_of place (Some p) c) t o (view c) standing.Prepared)).written ≡ []
+      by_outcome : (o : Outcome)
+          → (row_effect c (on_ack (seat_of place (Some p) c) t o (view c) standing.Prepared)).written ≡ []
       by_outcome Committed = refl
       by_outcome Aborted = refl
 
@@ -144,7 +152,8 @@ module _ (me p : ProcessId) (tree : List TreeEntry) (n : Node) (a : DataAnswer) 
   input_quiet (MessageInput k m) over e does =
       let so = both (is_early_ack place n m) n.failed over in
       let is : hears (Below p) place n a m ≡ e =
-      does_one _ e (ap (λ b. if b then Refused Failed else Does (hears (Below p) place n a m)) (sym so.1) ∙ does) in
+      does_one _ e
+      (ap (λ b. if b then Refused Failed else Does (hears (Below p) place n a m)) (sym so.1) ∙ does) in
       (so.1, subst Quiet is (message_quiet m so.0))
     where
       does_one : (x y : Effect) → Does x ≡ Does y → x ≡ y
@@ -152,7 +161,8 @@ module _ (me p : ProcessId) (tree : List TreeEntry) (n : Node) (a : DataAnswer) 
 
   -- a case in doubt asks
   asks : (c : Case) → n.failed ≡ false → (view c).standing ≡ standing.Prepared
-      → reacts place n (record { input = ActInput (Ask c); data_answer = a }) ≡ Does (row_effect c (prepared_ask (seat_of place (Some p) c) (view c)))
+      → reacts place n (record { input = ActInput (Ask c); data_answer = a })
+      ≡ Does (row_effect c (prepared_ask (seat_of place (Some p) c) (view c)))
   unfolding reacts
   asks c up prepared =
       ap (λ b. if b then Refused Failed else acts (Below p) place n (Ask c)) up
@@ -166,13 +176,16 @@ module _ (me p : ProcessId) (tree : List TreeEntry) (n : Node) (a : DataAnswer) 
 
   -- and where its device fails in that, some of the records are forced
   pub ask_fails : (c : Case) → n.failed ≡ false → (view c).standing ≡ standing.Prepared → (forced : ℕ)
-      → node_makes place n (move_with me (Handles (ActInput (Ask c))) (Some (record { appended = 0; forced = forced })) a)
+      → node_makes place n (move_with me (Handles (ActInput (Ask c)))
+      (Some (record { appended = 0; forced = forced })) a)
       ≡ Leaves (fault_effect (asked c) 0) (fails_in n (asking c) (asked c) 0 forced)
   unfolding node_makes
-  ask_fails c up prepared forced = ap (input_makes n (asking c) (Some (record { appended = 0; forced = forced }))) (asks c up prepared)
+  ask_fails c up prepared forced = ap (input_makes n (asking c)
+      (Some (record { appended = 0; forced = forced }))) (asks c up prepared)
 
   -- what is left of the process stands as it did
-  pub stands_asking : (c : Case) (h : Heard) (e : Effect) (appended forced : ℕ) (new : CoreState) → e.written ≡ []
+  pub stands_asking : (c : Case) (h : Heard) (e : Effect) (appended forced : ℕ)
+      (new : CoreState) → e.written ≡ []
       → Stands (fails_in n h e appended forced) new → Stands (fails_in n (asking c) (asked c) 0 forced) new
   stands_asking c h e appended forced new unwritten stands =
       let none : take appended (entries_written e.written) ≡ [] =
@@ -181,15 +194,24 @@ module _ (me p : ProcessId) (tree : List TreeEntry) (n : Node) (a : DataAnswer) 
         forced = n.forced ++ take forced (n.unforced ++ xs);
         unforced = drop forced (n.unforced ++ xs);
       }) new) none stands in
-      record { forced = left.forced; unforced = left.unforced; failed = left.failed; up = λ runs. absurd (cc) }
+      record {
+        forced = left.forced;
+        unforced = left.unforced;
+        failed = left.failed;
+        up = λ runs. absurd (cc);
+      }
 
 -- A run goes on by a move in which a device fails.
 
-module _ (journal : List Made → List Entry) (hides : HidesFaults journal) (es : List Made) (w : World) (s s' : WorldState)
+module _ (journal : List Made → List Entry) (hides : HidesFaults journal) (es : List Made)
+    (w : World) (s s' : WorldState)
     (f : FollowsBy journal es w s) (q : ProcessId) where
-  fault_goes_on : (h : Happening) (a : DataAnswer) (before behind : CoreState) → Happens w.net q h → MovesNode s s' q before behind
-      → s'.net ≡ s.net → s'.entries ≡ s.entries → behind.place ≡ before.place → (fault : Fault) (e : Effect) (n : Node)
-      → world_makes s.tree w (move_with q h (Some fault) a) ≡ Some (e, world_after w q n e) → Stands n behind → GoesOnBy journal es w s'
+  fault_goes_on : (h : Happening) (a : DataAnswer) (before behind : CoreState) → Happens w.net q h
+      → MovesNode s s' q before behind
+      → s'.net ≡ s.net → s'.entries ≡ s.entries → behind.place ≡ before.place
+      → (fault : Fault) (e : Effect) (n : Node)
+      → world_makes s.tree w (move_with q h (Some fault) a) ≡ Some (e, world_after w q n e)
+      → Stands n behind → GoesOnBy journal es w s'
   fault_goes_on h a before behind happens moves net entries place fault e n step stands =
       let at = makes_at s.tree w (move_with q h (Some fault) a) e (world_after w q n e) step in
       let none = nothing_sent (place_of s.tree q) (w.at q) q fault a e at.node h at.made in
@@ -211,48 +233,61 @@ module _ (journal : List Made → List Entry) (hides : HidesFaults journal) (es 
 
     heard_on : is_passed_over h.before.place (w.at q) i ≡ false → GoesOnBy journal es w s'
     heard_on late =
-        let broken = faults_move s.tree es w f.follows.is_run q h.before h.behind h.answer i sits stands listed
+        let broken = faults_move s.tree es w f.follows.is_run q h.before h.behind
+        h.answer i sits stands listed
         (λ over. absurd (let clash : true ≡ false = sym over ∙ late in cc)) h.broken in
-        fault_goes_on (Handles i) h.answer h.before h.behind happens h.moves h.net h.entries h.broken.breaks.2.place
+        fault_goes_on (Handles i) h.answer h.before h.behind happens h.moves h.net
+        h.entries h.broken.breaks.2.place
         broken.fault broken.effect broken.left broken.makes broken.stands
 
-    -- The model lets nothing be forced in an input that it passes over; so the run goes on by a fault in an ask of the case
-    -- that is in doubt, which comes to the same.
+    -- The model lets nothing be forced in an input that it passes over; so the run goes on by a fault in an
+    -- ask of the case that is in doubt, which comes to the same.
     passed_on : is_passed_over h.before.place (w.at q) i ≡ true → GoesOnBy journal es w s'
     passed_on over = by_role h.before.place.role refl
       where
         not_passed : (r : Role) → h.before.place.role ≡ r → passes_at r h.before.place (w.at q) i ≡ true
         not_passed r is = ap (λ x. passes_at x h.before.place (w.at q) i) (sym is) ∙ over
 
-        fits : (r : Role) → h.before.place.role ≡ r → (w.at q).failed ≡ false → NodeFits r h.before.place (w.at q)
+        fits : (r : Role) → h.before.place.role ≡ r → (w.at q).failed ≡ false
+            → NodeFits r h.before.place (w.at q)
         fits r is up = subst (λ x. NodeFits x h.before.place (w.at q)) is
-            (subst (λ (x : Place). NodeFits x.role x (w.at q)) (sym sits) (runs_fit s.tree es w f.follows.is_run q up))
+            (subst (λ (x : Place). NodeFits x.role x (w.at q)) (sym sits)
+            (runs_fit s.tree es w f.follows.is_run q up))
 
-        children : (p : ProcessId) → h.before.place.role ≡ Below p → (w.at q).failed ≡ false → ChildrenFit h.before.place (w.at q)
+        children : (p : ProcessId) → h.before.place.role ≡ Below p → (w.at q).failed ≡ false
+            → ChildrenFit h.before.place (w.at q)
         children p is up = (fits (Below p) is up).children
 
         by_role : (r : Role) → h.before.place.role ≡ r → GoesOnBy journal es w s'
-        by_role AtRoot is = absurd (let never : passes_at AtRoot h.before.place (w.at q) i ≡ true = not_passed AtRoot is in cc)
-        by_role (AtLeaf p) is = absurd (let never : passes_at (AtLeaf p) h.before.place (w.at q) i ≡ true = not_passed (AtLeaf p) is in cc)
+        by_role AtRoot is = absurd (let never : passes_at AtRoot h.before.place (w.at q) i
+            ≡ true = not_passed AtRoot is in cc)
+        by_role (AtLeaf p) is = absurd (let never : passes_at (AtLeaf p) h.before.place (w.at q) i
+            ≡ true = not_passed (AtLeaf p) is in cc)
         by_role (Below p) is =
             let n = w.at q in
             let me = h.before.place.me in
             let tree = h.before.place.tree in
             let here = is_cascaded_place h.before.place p is in
             let so = breaks_so n h.before h.behind h.answer i stands h.broken (children p is) in
-            let quiet = input_quiet me p tree n h.answer i (subst (λ x. is_passed_over x n i ≡ true) here over) so.effect
-            (subst (λ x. reacts x n (record { input = i; data_answer = h.answer }) ≡ Does so.effect) here so.does) in
+            let quiet = input_quiet me p tree n h.answer i
+            (subst (λ x. is_passed_over x n i ≡ true) here over) so.effect
+            (subst (λ x. reacts x n (record { input = i; data_answer = h.answer })
+            ≡ Does so.effect) here so.does) in
             let c = quiet.1.own in
             let e = asked me p tree n h.answer c in
             let left = fails_in n (asking me p tree n h.answer c) e 0 so.forced in
             let fault : Fault = record { appended = 0; forced = so.forced } in
-            let made = subst (λ (x : Place). node_makes x n (move_with x.me (Handles (ActInput (Ask c))) (Some fault) h.answer)
+            let made = subst (λ (x : Place). node_makes x n
+            (move_with x.me (Handles (ActInput (Ask c))) (Some fault) h.answer)
             ≡ Leaves (fault_effect e 0) left) (sym here ∙ sits)
             (ask_fails me p tree n h.answer c quiet.0 quiet.1.prepared so.forced) in
-            fault_goes_on (Handles (ActInput (Ask c))) h.answer h.before h.behind tt h.moves h.net h.entries h.broken.breaks.2.place
+            fault_goes_on (Handles (ActInput (Ask c))) h.answer h.before h.behind tt h.moves h.net
+            h.entries h.broken.breaks.2.place
             fault (fault_effect e 0) left
-            (made_at s.tree w (move_with q (Handles (ActInput (Ask c))) (Some fault) h.answer) (fault_effect e 0) left listed made)
-            (stands_asking me p tree n h.answer c (record { input = i; data_answer = h.answer }) so.effect so.appended so.forced
+            (made_at s.tree w (move_with q (Handles (ActInput (Ask c))) (Some fault) h.answer)
+            (fault_effect e 0) left listed made)
+            (stands_asking me p tree n h.answer c (record { input = i; data_answer = h.answer })
+            so.effect so.appended so.forced
             h.behind quiet.1.unwritten so.stands)
 
     pub input_fails_on : GoesOnBy journal es w s'
@@ -270,7 +305,8 @@ module _ (journal : List Made → List Entry) (hides : HidesFaults journal) (es 
         let listed = listed_at es w (in_full s es) q h.before f.follows h.moves.stood in
         let broken = restart_faults_move s.tree w q h.before h.behind here.place here.stands listed
         (keeps_own s.tree es w is_tree f.follows.is_run q listed) h.keep h.broken in
-        fault_goes_on (restart_of h.before h.keep) no_answer h.before h.behind tt h.moves h.net h.entries h.broken.1
+        fault_goes_on (restart_of h.before h.keep) no_answer h.before h.behind tt
+        h.moves h.net h.entries h.broken.1
         broken.fault broken.effect broken.left broken.makes broken.stands
 
     pub trim_fails_on : TrimFails s s' q → GoesOnBy journal es w s'
@@ -279,6 +315,7 @@ module _ (journal : List Made → List Entry) (hides : HidesFaults journal) (es 
         let listed = listed_at es w (in_full s es) q h.before f.follows h.moves.stood in
         let up : (w.at q).failed ≡ false = sym here.stands.failed ∙ h.works in
         let broken = trim_faults_move s.tree w q h.before h.behind here.place here.stands listed
-        (keeps_own s.tree es w is_tree f.follows.is_run q listed) up (all_opened s.tree es w f.follows.is_run q) h.sound h.broken in
+        (keeps_own s.tree es w is_tree f.follows.is_run q listed) up
+        (all_opened s.tree es w f.follows.is_run q) h.sound h.broken in
         fault_goes_on Trimming no_answer h.before h.behind tt h.moves h.net h.entries h.broken.place
         broken.fault broken.effect broken.left broken.makes broken.stands

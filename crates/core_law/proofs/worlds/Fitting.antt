@@ -42,9 +42,11 @@ module _ (tree : List TreeEntry) where
   abbrev at : ProcessId → Role → Place
   at q role = record { me = q; role = role; tree = tree }
 
-  holds_at : (es : List Made) (w : World) → IsRun tree es w → (q : ProcessId) (role : Role) → role_of tree q ≡ role
+  holds_at : (es : List Made) (w : World) → IsRun tree es w
+      → (q : ProcessId) (role : Role) → role_of tree q ≡ role
       → NodeHolds (at q role) w.net (w.at q)
-  holds_at es w run q role e = subst (λ (r : Role). NodeHolds (at q r) w.net (w.at q)) e (nodes_hold tree es w run q)
+  holds_at es w run q role e = subst (λ (r : Role). NodeHolds (at q r) w.net (w.at q)) e
+      (nodes_hold tree es w run q)
 
   -- what an acknowledgement may have left, at a coordinator below the root that is up
   abbrev Early : ProcessId → Node → Type 0
@@ -57,7 +59,8 @@ module _ (tree : List TreeEntry) where
   step_early net q p n holds once old m _ _ (handled i g happens heard does) up = by_failed n.failed refl
     where
       by_failed : (b : Bool) → n.failed ≡ b → NoneEarly q p tree (after n (heard_in m i) g)
-      by_failed false was = still_none_early q p tree net n holds once was (old was) (heard_in m i) g heard does
+      by_failed false was = still_none_early q p tree net n holds once was
+          (old was) (heard_in m i) g heard does
       by_failed true was = not_up _ (failed-after n (heard_in m i) g ∙ was) up
   step_early net q p n holds once old m _ _ (passed i happens heard) up = old up
   step_early net q p n holds once old m _ _ (reopened k happens) up = restarted_none_early q p tree n k
@@ -100,7 +103,8 @@ module _ (tree : List TreeEntry) where
       early c t o (sym (promised_so c t rs) ∙ named)
       (record { no_end = open_so.0; no_commit = open_so.1; no_abort = open_so.2 })
 
-  cascade_fits : (net : List Envelope) (q p : ProcessId) (n : Node) → NodeHolds (cascaded_place q p tree) net n
+  cascade_fits : (net : List Envelope) (q p : ProcessId) (n : Node)
+      → NodeHolds (cascaded_place q p tree) net n
       → JoinedOnce net → n.failed ≡ false
       → NoneEarly q p tree n → CascadeFits (cascaded_place q p tree) n
   cascade_fits net q p n holds once up early =
@@ -108,7 +112,8 @@ module _ (tree : List TreeEntry) where
         children = cascade_children q p tree net n holds up once;
         alike = (coordinates q p tree net n holds up).alike up;
         fresh = λ d. unrecorded (fresh_case (cascaded_place q p tree) n d) (kept n)
-            (fresh_unrecorded (cascaded_place q p tree) net n holds.lasts.nested up (issues q p tree net n holds up) d);
+            (fresh_unrecorded (cascaded_place q p tree) net n holds.lasts.nested up
+            (issues q p tree net n holds up) d);
         ticketed = ticketed q p tree net n holds up;
         none_early = none_early q p n early;
       }
@@ -117,12 +122,14 @@ module _ (tree : List TreeEntry) where
       → NodeFits (role_of tree q) (place_of tree q) (w.at q)
   runs_fit es w run q up = by_role (role_of tree q) refl
     where
-      by_role : (role : Role) → role_of tree q ≡ role → NodeFits (role_of tree q) (at q (role_of tree q)) (w.at q)
+      by_role : (role : Role) → role_of tree q ≡ role
+          → NodeFits (role_of tree q) (at q (role_of tree q)) (w.at q)
       by_role AtRoot e = subst (λ (r : Role). NodeFits r (at q r) (w.at q)) (sym e)
           (root_fits q tree w.net (w.at q) (holds_at es w run q AtRoot e) up)
       by_role (Below p) e =
           subst (λ (r : Role). NodeFits r (at q r) (w.at q)) (sym e)
-          (cascade_fits w.net q p (w.at q) (holds_at es w run q (Below p) e) (tickets_have_one_case tree es w run) up
+          (cascade_fits w.net q p (w.at q) (holds_at es w run q (Below p) e)
+          (tickets_have_one_case tree es w run) up
           (all_early es w run q p e up))
       by_role (AtLeaf p) e = subst (λ (r : Role). NodeFits r (at q r) (w.at q)) (sym e)
           (leaf_fits q p tree w.net (w.at q) (holds_at es w run q (AtLeaf p) e) up)

@@ -1,4 +1,5 @@
--- A process that gives tickets: a child belongs to one of its cases, and no record is of the ticket that is given next.
+-- A process that gives tickets: a child belongs to one of its cases, and no record is of the ticket that is
+-- given next.
 use Rattle.std.proofs.Common.{◌≡◌, inl, inr, ◌+◌, Bool, true, false, List, refl, ap}
 use Rattle.tree_model.specs.declared.names.Case.{Case}
 use Rattle.tree_model.specs.declared.names.Ticket.{Ticket}
@@ -17,8 +18,10 @@ use Rattle.tree_nodes.proofs.Selves.{Self, self_same}
 use Rattle.tree_nodes.proofs.Tests.{case_is, either}
 use Rattle.core_law.proofs.worlds.Cases.{not_given}
 
-module _ (place : Place) (net : List Envelope) (n : Node) (nested : Nested (logs_of n)) (up : n.failed ≡ false) where
-  pub fresh_unrecorded : Issues place net n → (d : Case) → has (is_record_of (fresh_case place n d)) (kept n) ≡ false
+module _ (place : Place) (net : List Envelope) (n : Node) (nested : Nested (logs_of n))
+    (up : n.failed ≡ false) where
+  pub fresh_unrecorded : Issues place net n → (d : Case)
+      → has (is_record_of (fresh_case place n d)) (kept n) ≡ false
   fresh_unrecorded issues d = by_test (has (is_record_of (fresh_case place n d)) (kept n)) refl
     where
       by_test : (b : Bool) → has (is_record_of (fresh_case place n d)) (kept n) ≡ b
@@ -34,7 +37,8 @@ module _ (place : Place) (net : List Envelope) (n : Node) (nested : Nested (logs
           (issues.given_once up parent.of t refl parent.joined)
 
   -- a child belongs to a case that accepted it, and JOINED gave its ticket to that
-  accepts : Coordinates place net n → (c : Case) (t : Ticket) → belongs (memory_of place n c) (kept n) c t ≡ true
+  accepts : Coordinates place net n → (c : Case) (t : Ticket)
+      → belongs (memory_of place n c) (kept n) c t ≡ true
       → sent (is_joined_message c t) net ≡ true
   accepts coordinates c t its = (coordinates.accepted_was_joined c t (elim (either _ _ its) [
     | inl accepted ↦ coordinates.remembered_accepted c t accepted

@@ -29,10 +29,12 @@ entered_hides es q h f a e =
 -- A journal that shows each of them.
 
 -- where a process stands the journal is not looked at
-at_full : (es : List Made) (w : World) (s : WorldState) (q : ProcessId) (c : CoreState) → StandsAt w (in_full s es) q c → StandsAt w s q c
+at_full : (es : List Made) (w : World) (s : WorldState) (q : ProcessId) (c : CoreState)
+    → StandsAt w (in_full s es) q c → StandsAt w s q c
 at_full es w s q c h = record { place = h.place; stands = h.stands }
 
-in_full_at : (es : List Made) (w : World) (s : WorldState) (q : ProcessId) (c : CoreState) → StandsAt w s q c → StandsAt w (in_full s es) q c
+in_full_at : (es : List Made) (w : World) (s : WorldState) (q : ProcessId) (c : CoreState) → StandsAt w s q c
+    → StandsAt w (in_full s es) q c
 in_full_at es w s q c h = record { place = h.place; stands = h.stands }
 
 -- a state that stands for a run stands for it with every step in its journal
@@ -48,7 +50,8 @@ full es w s f = record {
 pub by_whole : (es : List Made) (w : World) (s : WorldState) → Follows es w s → FollowsBy journal_of es w s
 by_whole es w s f = record { follows = full es w s f; shown = f.shown }
 
-pub whole_follows : (es : List Made) (w : World) (s : WorldState) → FollowsBy journal_of es w s → Follows es w s
+pub whole_follows : (es : List Made) (w : World) (s : WorldState)
+    → FollowsBy journal_of es w s → Follows es w s
 whole_follows es w s f = record {
   is_run = f.follows.is_run;
   shown = f.shown;
@@ -65,11 +68,14 @@ whole_goes_on es w s g = record {
   follows = whole_follows (g.later ++ es) g.world s g.follows;
 }
 
--- a state that stands for a run, and has entered no failed step, stands for one in which devices may have failed
-pub entered_follows : (s : WorldState) (es : List Made) (w : World) → Follows es w s → unfailed s.entries ≡ s.entries → FollowsBehindFaults es w s
+-- a state that stands for a run, and has entered no failed step, stands for one in which devices may have
+-- failed
+pub entered_follows : (s : WorldState) (es : List Made) (w : World) → Follows es w s
+    → unfailed s.entries ≡ s.entries → FollowsBehindFaults es w s
 entered_follows s es w f none = record { follows = full es w s f; shown = ap unfailed f.shown ∙ none }
 
-pub opened_behind_faults : (tree : List TreeEntry) (s : WorldState) → IsOpened s tree → FollowsBehindFaults [] opened_world s
+pub opened_behind_faults : (tree : List TreeEntry) (s : WorldState) → IsOpened s tree
+    → FollowsBehindFaults [] opened_world s
 unfolding journal_of
 opened_behind_faults tree s opened =
     let f = opened_follows tree s opened in

@@ -86,7 +86,8 @@ of_root c q none own = by_ticket c.ticket none own
 -- a case that was given is of a transaction of the tree's root, and has a ticket
 record GivenIn (tree : List TreeEntry) (c : Case) : Type 0 where
   root : c.txn.root ≡ root_of tree
-  ticketed : (p : ProcessId) → (is_ticketed (Below p) c.ticket ≡ true) × (is_ticketed (AtLeaf p) c.ticket ≡ true)
+  ticketed : (p : ProcessId) → (is_ticketed (Below p) c.ticket ≡ true)
+      × (is_ticketed (AtLeaf p) c.ticket ≡ true)
 
 given_in : (tree : List TreeEntry) (net : List Envelope) → IsTree tree → AllGo tree net → (c : Case)
     → sent (gives_case c) net ≡ true → GivenIn tree c
@@ -152,7 +153,8 @@ open_fits tree es w run q up = by_role (role_of tree q) refl
 
     by_role : (role : Role) → role_of tree q ≡ role → OpenFits (role_of tree q) (place_of tree q) (w.at q)
     by_role AtRoot e = subst (λ r. OpenFits r (at r) (w.at q)) (sym e) ((holds AtRoot e).role.0.alike up)
-    by_role (Below p) e = subst (λ r. OpenFits r (at r) (w.at q)) (sym e) ((holds (Below p) e).role.0.alike up)
+    by_role (Below p) e = subst (λ r. OpenFits r (at r) (w.at q)) (sym e)
+        ((holds (Below p) e).role.0.alike up)
     by_role (AtLeaf p) e =
         subst (λ r. OpenFits r (at r) (w.at q)) (sym e) ((holds (AtLeaf p) e).role.0.open_is_unmarked up)
 
@@ -168,10 +170,12 @@ trims_open role rs = refl
 front_opened : (xs ys : List Record) → has is_opened xs ≡ true → has is_opened (xs ++ ys) ≡ true
 front_opened xs ys e = in_first is_opened xs ys e
 
-still_opened : (place : Place) (n : Node) → Opens n → (m : Move) (e : Effect) (k : Node) → StepOf place n m e k
+still_opened : (place : Place) (n : Node) → Opens n
+    → (m : Move) (e : Effect) (k : Node) → StepOf place n m e k
     → Opens k
 still_opened place n old m _ _ (handled i g happens heard does) =
-    either_logs n (entries_written g.written) (is_any_forced g.written) (λ (l : Logs). has is_opened l.forced ≡ true)
+    either_logs n (entries_written g.written) (is_any_forced g.written)
+    (λ (l : Logs). has is_opened l.forced ≡ true)
     (λ b. front_opened (kept n) _ (front_opened n.forced n.unforced old)) (λ b. old)
 still_opened place n old m _ _ (failed_in i f g fault happens heard does) = front_opened n.forced _ old
 still_opened place n old m _ _ (passed i happens heard) = old
@@ -186,7 +190,8 @@ still_opened place n old m _ _ (failed_trimming f fault happens was) = fails f.a
     fails zero = old
     fails (suc a) = trims_open place.role (kept n)
 
-front_of : (tree : List TreeEntry) (es : List Made) (w : World) → IsRun tree es w → (q : ProcessId) → Opens (w.at q)
+front_of : (tree : List TreeEntry) (es : List Made) (w : World) → IsRun tree es w
+    → (q : ProcessId) → Opens (w.at q)
 unfolding has
 front_of tree _ _ opens q = refl
 front_of tree _ _ (makes es w m e w' run stands step) q =

@@ -55,7 +55,8 @@ module _ (me : ProcessId) (boot : ℕ) (c : Case) where
   kept_if true m k first second = second
   kept_if false m k first second = first
 
-  given : (m : Memory) (d : Case) (b : Bool) → same_case c (child_case d.txn (next_ticket me boot m)) ≡ b → Kept c m
+  given : (m : Memory) (d : Case) (b : Bool) → same_case c
+      (child_case d.txn (next_ticket me boot m)) ≡ b → Kept c m
       → let t = next_ticket me boot m in Kept c (if b then opens_case (gives m d t) else gives m d t)
   given m d true is old =
       record { awake = λ f. in_last m.issued c (child_case d.txn (next_ticket me boot m)) is; alone = refl }
@@ -91,7 +92,8 @@ module _ (me : ProcessId) (boot : ℕ) (c : Case) where
   kept_hears m a (Work d i op) old = kept_if (same_case d c) m _ old (worked m i a.does m.phase old)
   kept_hears m a (Prepare d k) old =
       kept_if (same_case d c) (retires m d) _ (retired m d old) (closed m d m.phase refl old)
-  kept_hears m a (Abort d) old = kept_if (same_case d c) (retires m d) _ (retired m d old) (closed m d m.phase refl old)
+  kept_hears m a (Abort d) old = kept_if (same_case d c) (retires m d) _ (retired m d old)
+      (closed m d m.phase refl old)
   kept_hears m a (Joined d t) old = old
   kept_hears m a (Yes d) old = old
   kept_hears m a (No d) old = old
@@ -100,7 +102,8 @@ module _ (me : ProcessId) (boot : ℕ) (c : Case) where
   kept_hears m a (Ack d o) old = old
   kept_hears m a (Inquire d) old = old
 
-  kept_heard : (m : Memory) (a : DataAnswer) (i : Input) → Kept c m → Kept c (manager_remembers me boot c m a i)
+  kept_heard : (m : Memory) (a : DataAnswer) (i : Input) → Kept c m
+      → Kept c (manager_remembers me boot c m a i)
   kept_heard m a (ActInput x) old = old
   kept_heard m a (MessageInput k x) old = kept_hears m a x old
 
@@ -108,7 +111,8 @@ module _ (me : ProcessId) (boot : ℕ) (c : Case) where
       → Kept c (fold (remembers me (AtLeaf p) boot c) m hs)
   kept_all p m [] old = old
   kept_all p m (h ∷ hs) old =
-      kept_all p (manager_remembers me boot c m h.data_answer h.input) hs (kept_heard m h.data_answer h.input old)
+      kept_all p (manager_remembers me boot c m h.data_answer h.input) hs
+      (kept_heard m h.data_answer h.input old)
 
 none_in : (t : Ticket) → in_list [] t ≡ false
 unfolding in_list
@@ -129,13 +133,15 @@ module _ (me p : ProcessId) (tree : List TreeEntry) (net : List Envelope) (n : N
   kept_of : (c : Case) → Kept c (memory_of place n c)
   unfolding memory_of
   kept_of c =
-      kept_all me (boot_of (kept n)) c p fresh_memory n.heard (record { awake = λ f. absurd (f refl); alone = refl })
+      kept_all me (boot_of (kept n)) c p fresh_memory n.heard
+      (record { awake = λ f. absurd (f refl); alone = refl })
 
   listed : (c : Case) → is_known (coordinator_view place n c).standing ≡ true
       → has_case (own_cases (AtLeaf p) place n c.txn) c ≡ true
   listed c known = elim (known_by place n c (known_not (coordinator_view place n c).standing known)) [
     | inl awake ↦ own_issued (kept n) (memory_of place n (some_case place)).issued c
-        (ap (λ (s : Self). has_case s.issued c) (self_same place n (some_case place) c) ∙ (kept_of c).awake awake)
+        (ap (λ (s : Self). has_case s.issued c)
+        (self_same place n (some_case place) c) ∙ (kept_of c).awake awake)
     | inr recorded ↦ own_recorded (kept n) (memory_of place n (some_case place)).issued c recorded
   ]
 
@@ -146,7 +152,8 @@ module _ (me p : ProcessId) (tree : List TreeEntry) (net : List Envelope) (n : N
         (ap (λ ts. in_list ts t) (kept_of c).alone ∙ none_in t)
     | inr named ↦ not_both (is_naming c t) (has is_coordinators n.life)
         (holds.lasts.nested.kept_was_written is_coordinators (λ k. refl)
-        (has_other (is_naming c t) is_coordinators (kept n) (coordinators c t) (records_name c t (kept n) named)))
+        (has_other (is_naming c t) is_coordinators (kept n) (coordinators c t)
+        (records_name c t (kept n) named)))
         holds.lasts.by_role.no_coordinators_record
   ]
 
@@ -160,11 +167,16 @@ module _ (me p : ProcessId) (tree : List TreeEntry) (net : List Envelope) (n : N
           → has (is_branch_record (fresh_case place n d)) (kept n) ≡ false
       by_test false e = e
       by_test true e =
-          not_both (is_branch_record (fresh_case place n d)) (has (is_record_of (fresh_case place n d)) (kept n))
+          not_both (is_branch_record (fresh_case place n d))
+          (has (is_record_of (fresh_case place n d)) (kept n))
           (has_other (is_branch_record (fresh_case place n d)) (is_record_of (fresh_case place n d)) (kept n)
           (branch_record (fresh_case place n d)) e)
           (fresh_unrecorded place net n holds.lasts.nested up issues d)
 
   pub leaf_fits : LeafFits place n
   leaf_fits =
-      record { children = leaf_children; fresh = λ d. unmarked_so (fresh_case place n d) (kept n) (unbranched d) }
+      record {
+        children = leaf_children;
+        fresh = λ d. unmarked_so
+            (fresh_case place n d) (kept n) (unbranched d);
+      }

@@ -25,7 +25,8 @@ module _ (tree : List TreeEntry) (es : List Made) (w : World) (run : IsRun tree 
   fits runs = subst (λ (p : Place). NodeFits p.role p (w.at q)) (sym at) (runs_fit tree es w run q runs)
 
   -- a move at the process's place is one at its place in the tree
-  placed : (f : Option Fault) (s : Stepped) → node_makes old.place (w.at q) (input_move old.place.me i f a) ≡ s
+  placed : (f : Option Fault) (s : Stepped) → node_makes old.place (w.at q)
+      (input_move old.place.me i f a) ≡ s
       → node_makes (place_of tree q) (w.at q) (input_move q i f a) ≡ s
   placed f s = subst (λ (p : Place). node_makes p (w.at q) (input_move p.me i f a) ≡ s) at
 
@@ -63,10 +64,12 @@ module _ (tree : List TreeEntry) (es : List Made) (w : World) (run : IsRun tree 
       either true = refl
       either false = refl
 
-  pub faults_move : is_listed tree q ≡ true → (is_passed_over old.place (w.at q) i ≡ true → new.log.kept ≡ old.log.kept)
+  pub faults_move : is_listed tree q ≡ true → (is_passed_over old.place (w.at q) i ≡ true
+      → new.log.kept ≡ old.log.kept)
       → IsBroken old new a i → BreaksWorld tree w q new i a
   faults_move listed same broken =
-      let step : FaultsAs (w.at q) old new old.place.me i a = faults_so (w.at q) old new a i stands fits same broken in
+      let step : FaultsAs (w.at q) old new old.place.me i a =
+      faults_so (w.at q) old new a i stands fits same broken in
       record {
         fault = step.fault;
         effect = step.effect;

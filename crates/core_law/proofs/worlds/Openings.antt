@@ -34,21 +34,25 @@ recorded : (place : Place) (c : Case) → recorded_view (Opened 1 ∷ []) c ≡ 
 unfolding recorded_view coordinator_view memory_of
 recorded place c = refl
 
-recorded_one : (place : Place) (c : Case) → recorded_branch (Opened 1 ∷ []) c ≡ manager_view place opened_node c
+recorded_one : (place : Place) (c : Case) → recorded_branch (Opened 1 ∷ []) c
+    ≡ manager_view place opened_node c
 unfolding recorded_branch manager_view memory_of
 recorded_one place c = refl
 
-views : (role : Role) (place : Place) (c : Case) → recorded_view_at role (Opened 1 ∷ []) c ≡ view_at role place opened_node c
+views : (role : Role) (place : Place) (c : Case)
+    → recorded_view_at role (Opened 1 ∷ []) c ≡ view_at role place opened_node c
 views AtRoot place c = recorded place c
 views (Below p) place c = recorded place c
 views (AtLeaf p) place c = refl
 
-branches : (role : Role) (place : Place) (c : Case) → recorded_branch_at role (Opened 1 ∷ []) c ≡ branch_at role place opened_node c
+branches : (role : Role) (place : Place) (c : Case)
+    → recorded_branch_at role (Opened 1 ∷ []) c ≡ branch_at role place opened_node c
 branches AtRoot place c = refl
 branches (Below p) place c = refl
 branches (AtLeaf p) place c = recorded_one place c
 
-pub opened_stands : (s : CoreState) (place : Place) (failures : ℕ) → OpensAt s place failures → Stands opened_node s
+pub opened_stands : (s : CoreState) (place : Place) (failures : ℕ)
+    → OpensAt s place failures → Stands opened_node s
 opened_stands s place failures h =
     record {
       forced = ap (λ (l : LogSight). l.kept.forced) h.log;

@@ -1,4 +1,5 @@
--- In every run each process makes of an input what the model's process makes of it, and refuses what that refuses.
+-- In every run each process makes of an input what the model's process makes of it, and refuses what that
+-- refuses.
 use Rattle.std.proofs.Common.{◌≡◌, ◌∙◌, ap, sym, subst, refl, Bool, true, false, List, Option, Some, None, is_some}
 use Rattle.std.specs.Prelude.{if◌then◌else◌}
 use Rattle.tree_model.specs.declared.names.ProcessId.{ProcessId}
@@ -26,9 +27,11 @@ use Rattle.core_law.specs.worlds.Ties.{Follows}
 use Rattle.core_law.specs.worlds.Refusals.{RefusesSo, refusal_in}
 use Rattle.core_law.proofs.worlds.Steps.{InputsAsTheModel}
 
-fits_at : (tree : List TreeEntry) (es : List Made) (w : World) (q : ProcessId) (place : Place) → IsRun tree es w → place ≡ place_of tree q
+fits_at : (tree : List TreeEntry) (es : List Made) (w : World) (q : ProcessId) (place : Place)
+    → IsRun tree es w → place ≡ place_of tree q
     → (w.at q).failed ≡ false → NodeFits place.role place (w.at q)
-fits_at tree es w q place run is works = subst (λ p. NodeFits p.role p (w.at q)) (sym is) (runs_fit tree es w run q works)
+fits_at tree es w q place run is works = subst (λ p. NodeFits p.role p (w.at q)) (sym is)
+    (runs_fit tree es w run q works)
 
 pub as_the_model : (tree : List TreeEntry) → IsTree tree → InputsAsTheModel tree
 as_the_model tree is_tree es w q old new a i reaction run listed stands place kept made =
@@ -36,7 +39,8 @@ as_the_model tree is_tree es w q old new a i reaction run listed stands place ke
     record {
       effect = step.effect;
       node = step.left;
-      makes = subst (λ p. node_makes p (w.at q) (move_of p.me (Handles i) a) ≡ Leaves step.effect step.left) place step.makes;
+      makes = subst (λ p. node_makes p (w.at q) (move_of p.me (Handles i) a)
+          ≡ Leaves step.effect step.left) place step.makes;
       shown = step.shown;
       place = place_stays old new i (turn_of old a made.found i) made.moves ∙ place;
       stands = step.stands;
@@ -46,23 +50,30 @@ as_the_model tree is_tree es w q old new a i reaction run listed stands place ke
 
 -- a process refuses an input whatever its manager's data answer
 refuses_any : (place : Place) (n : Node) (q : ProcessId) (i : Input) (a d : DataAnswer) (e : StepError)
-    → node_makes place n (move_of q (Handles i) a) ≡ RefusesMove e → node_makes place n (move_of q (Handles i) d) ≡ RefusesMove e
+    → node_makes place n (move_of q (Handles i) a) ≡ RefusesMove e
+    → node_makes place n (move_of q (Handles i) d) ≡ RefusesMove e
 unfolding node_makes reacts
-refuses_any place n q (ActInput x) a d e h = by_test (is_passed_over place n (ActInput x)) (reacts place n (record { input = ActInput x; data_answer = a })) h
+refuses_any place n q (ActInput x) a d e h = by_test (is_passed_over place n (ActInput x))
+    (reacts place n (record { input = ActInput x; data_answer = a })) h
   where
     by_test : (b : Bool) (r : Reacts)
-        → (if b then passes_over n None else input_makes n (record { input = ActInput x; data_answer = a }) None r) ≡ RefusesMove e
-        → (if b then passes_over n None else input_makes n (record { input = ActInput x; data_answer = d }) None r) ≡ RefusesMove e
+        → (if b then passes_over n None else input_makes n
+        (record { input = ActInput x; data_answer = a }) None r) ≡ RefusesMove e
+        → (if b then passes_over n None else input_makes n
+        (record { input = ActInput x; data_answer = d }) None r) ≡ RefusesMove e
     by_test true r h = h
     by_test false (Refused f) h = h
     by_test false (Does f) h = absurd (cc)
-refuses_any place n q (MessageInput k m) a d e h = by_test (is_passed_over place n (MessageInput k m)) n.failed (hears place.role place n a m) (hears place.role place n d m) h
+refuses_any place n q (MessageInput k m) a d e h = by_test (is_passed_over place n (MessageInput k m))
+    n.failed (hears place.role place n a m) (hears place.role place n d m) h
   where
     by_test : (b f : Bool) (x y : Effect)
         → (if b then passes_over n None
-        else input_makes n (record { input = MessageInput k m; data_answer = a }) None (if f then Refused Failed else Does x)) ≡ RefusesMove e
+        else input_makes n (record { input = MessageInput k m; data_answer = a }) None
+        (if f then Refused Failed else Does x)) ≡ RefusesMove e
         → (if b then passes_over n None
-        else input_makes n (record { input = MessageInput k m; data_answer = d }) None (if f then Refused Failed else Does y)) ≡ RefusesMove e
+        else input_makes n (record { input = MessageInput k m; data_answer = d }) None
+        (if f then Refused Failed else Does y)) ≡ RefusesMove e
     by_test true f x y h = h
     by_test false true x y h = h
     by_test false false x y h = absurd (cc)
@@ -81,20 +92,24 @@ same_core s = record {
   };
 }
 
-refused_by : (es : List Made) (w : World) (s : WorldState) (q : ProcessId) (o : Option CoreState) (i : Input) (e : StepError) → Follows es w s
+refused_by : (es : List Made) (w : World) (s : WorldState) (q : ProcessId) (o : Option CoreState) (i : Input)
+    (e : StepError) → Follows es w s
     → s.node_at q ≡ o → RefusesAt o i e → RefusesSo s.tree w q i e
 refused_by es w s q None i e f there why d =
-    let unlisted : is_listed s.tree q ≡ false = sym (f.listed q) ∙ ap is_some there in rw unlisted (ap Some (sym why))
+    let unlisted : is_listed s.tree q ≡ false = sym (f.listed q)
+    ∙ ap is_some there in rw unlisted (ap Some (sym why))
 refused_by es w s q (Some c) i e f there why d =
     let here = f.nodes q c there in
     let listed : is_listed s.tree q ≡ true = sym (f.listed q) ∙ ap is_some there in
-    let is = refusals_so (w.at q) c c why.0 i here.stands (fits_at s.tree es w q c.place f.is_run here.place) e
+    let is = refusals_so (w.at q) c c why.0 i here.stands
+    (fits_at s.tree es w q c.place f.is_run here.place) e
     (record { same = same_core c; found = why.1; finds = why.2; refuses = why.3 }) in
     let made : node_makes (place_of s.tree q) (w.at q) (move_of q (Handles i) why.0) ≡ RefusesMove e =
     subst (λ p. node_makes p (w.at q) (move_of p.me (Handles i) why.0) ≡ RefusesMove e) here.place is.0 in
     rw listed (ap refusal_in (refuses_any (place_of s.tree q) (w.at q) q i why.0 d e made))
 
 -- what a process of a tree that runs refuses, the model refuses so
-pub refused_so : (es : List Made) (w : World) (s : WorldState) (q : ProcessId) (i : Input) (e : StepError) → Follows es w s → RefusesAt (s.node_at q) i e
+pub refused_so : (es : List Made) (w : World) (s : WorldState) (q : ProcessId) (i : Input) (e : StepError)
+    → Follows es w s → RefusesAt (s.node_at q) i e
     → RefusesSo s.tree w q i e
 refused_so es w s q i e f why = refused_by es w s q (s.node_at q) i e f refl why

@@ -1,5 +1,5 @@
--- What a tree that runs comes to by a restart or a trim stands for a run that goes on, and what it refuses the
--- model refuses.
+-- What a tree that runs comes to by a restart or a trim stands for a run that goes on, and what it refuses
+-- the model refuses.
 use Rattle.std.proofs.Common.{◌≡◌, ◌∙◌, ap, sym, refl, ℕ, true, false, None, Option, Some, is_some, List}
 use Rattle.tree_model.specs.declared.names.ProcessId.{ProcessId}
 use Rattle.tree_model.specs.declared.events.Entry.{Entry}
@@ -18,7 +18,8 @@ use Rattle.core_law.specs.worlds.Ties.{Follows, FollowsBy, GoesOnBy}
 use Rattle.core_law.specs.worlds.Refusals.{model_refusal, refusal_in}
 use Rattle.core_law.proofs.worlds.Steps.{ShowsMoves, entered_goes_on, in_full, listed_at}
 
-module _ (journal : List Made → List Entry) (shows : ShowsMoves journal) (es : List Made) (w : World) (s s' : WorldState)
+module _ (journal : List Made → List Entry) (shows : ShowsMoves journal) (es : List Made)
+    (w : World) (s s' : WorldState)
     (f : FollowsBy journal es w s) (q : ProcessId) (is_tree : IsTree s.tree) where
   pub restart_goes_on : (bytes : Option ℕ) → RestartsAt s s' q bytes → GoesOnBy journal es w s'
   restart_goes_on bytes h =
@@ -26,7 +27,8 @@ module _ (journal : List Made → List Entry) (shows : ShowsMoves journal) (es :
       let listed = listed_at es w (in_full s es) q h.before f.follows h.moves.stood in
       let made = restarts_move s.tree w q h.before h.behind here.place here.stands listed
       (keeps_own s.tree es w is_tree f.follows.is_run q listed) h.keep h.reaction h.restarts in
-      entered_goes_on journal es w s s' f q (restart_of h.before h.keep) no_answer h.before h.behind tt h.moves
+      entered_goes_on journal es w s s' f q (restart_of h.before h.keep) no_answer
+      h.before h.behind tt h.moves
       shows h.reaction s.delivered h.enters made.effect made.left made.makes made.shown
       (h.restarts.place ∙ here.place) made.stands
 
@@ -36,7 +38,8 @@ module _ (journal : List Made → List Entry) (shows : ShowsMoves journal) (es :
       let listed = listed_at es w (in_full s es) q h.before f.follows h.moves.stood in
       let up : (w.at q).failed ≡ false = sym here.stands.failed ∙ h.works in
       let made = trims_move s.tree w q h.before h.behind here.place here.stands listed
-      (keeps_own s.tree es w is_tree f.follows.is_run q listed) up (all_opened s.tree es w f.follows.is_run q) h.sound
+      (keeps_own s.tree es w is_tree f.follows.is_run q listed) up
+      (all_opened s.tree es w f.follows.is_run q) h.sound
       (open_fits s.tree es w f.follows.is_run q up) h.remain h.trims in
       entered_goes_on journal es w s s' f q Trimming no_answer h.before h.behind tt h.moves
       shows (trim_reaction h.remain) s.delivered h.enters made.effect made.left made.makes made.shown
@@ -48,7 +51,8 @@ module _ (es : List Made) (w : World) (s : WorldState) (f : Follows es w s) wher
   -- no move is made at a process that is not there
   nobody : (m : Move) → s.node_at m.step.process ≡ None → model_refusal s.tree w m ≡ Some NoSuch
   nobody m none =
-      let unlisted : is_listed s.tree m.step.process ≡ false = sym (f.listed m.step.process) ∙ ap is_some none in
+      let unlisted : is_listed s.tree m.step.process ≡ false =
+      sym (f.listed m.step.process) ∙ ap is_some none in
       rw unlisted refl
 
   pub restart_refused : (q : ProcessId) → s.node_at q ≡ None → (k : ℕ)
@@ -64,7 +68,8 @@ module _ (es : List Made) (w : World) (s : WorldState) (f : Follows es w s) wher
   failed_at q c stood failed =
       let here = f.nodes q c stood in
       let listed = listed_at es w s q c f stood in
-      rw listed (ap refusal_in (trim_done (place_of s.tree q) (w.at q) None true (sym here.stands.failed ∙ failed)))
+      rw listed
+      (ap refusal_in (trim_done (place_of s.tree q) (w.at q) None true (sym here.stands.failed ∙ failed)))
 
   pub trim_failed : (q : ProcessId) → HasFailed (s.node_at q)
       → model_refusal s.tree w (quiet_move q Trimming None) ≡ Some Failed

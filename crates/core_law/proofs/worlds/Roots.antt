@@ -39,14 +39,19 @@ module _ (me : ProcessId) (tree : List TreeEntry) (net : List Envelope) (n : Nod
     | inr recorded ↦ (begins.own_records c (written c recorded)).0
   ]
 
-  listed : (c : Case) → is_known (coordinator_view place n c).standing ≡ true → has_case (root_case c.txn ∷ []) c ≡ true
+  listed : (c : Case) → is_known (coordinator_view place n c).standing ≡ true
+      → has_case (root_case c.txn ∷ []) c ≡ true
   listed c known =
       let own : c ≡ root_case c.txn = (λ i. record { txn = c.txn; ticket = no_ticket c known i }) in
       subst (λ (d : Case). has_case (root_case c.txn ∷ []) d ≡ true) (sym own) (root_is_own me tree n c.txn)
 
   pub root_children : ChildrenFit place n
   root_children =
-      record { listed = listed; one = λ x t c d e f g h. one_of (root_case x) c e ∙ sym (one_of (root_case x) d g) }
+      record {
+        listed = listed;
+        one = λ x t c d e f g h. one_of (root_case x) c e
+            ∙ sym (one_of (root_case x) d g);
+      }
 
   fresh : (p : Presumption) → has (is_record_of (root_case (next_begun place n p))) (kept n) ≡ false
   fresh p = by_test (has (is_record_of (root_case (next_begun place n p))) (kept n)) refl

@@ -37,7 +37,8 @@ module _ (tree : List TreeEntry) (w : World) (q : ProcessId) (old new : CoreStat
       → (world_makes tree w (quiet_move q Trim None) ≡ None) × Stands (w.at q) new
   trim_refusals_move refused =
       let so = trim_refused (w.at q) old new stands refused in (
-        in_world (is_listed tree q) refl Trim None (StepRefuses Failed) (placed Trim None (StepRefuses Failed) so.0)
+        in_world (is_listed tree q) refl Trim None (StepRefuses Failed)
+            (placed Trim None (StepRefuses Failed) so.0)
             ∙ either (is_listed tree q),
         so.1,
       )
@@ -78,7 +79,8 @@ module _ (tree : List TreeEntry) (w : World) (q : ProcessId) (old new : CoreStat
       pub restarts_move : (keep : ℕ) (reaction : Reaction) → Restarts old keep new reaction
           → MovesWorld tree w q new (quiet_move q (restart_of old keep) None) reaction
       restarts_move keep reaction made =
-          moves (restart_of old keep) reaction (restarts_so (w.at q) old new keep stands own_here reaction made)
+          moves (restart_of old keep) reaction
+          (restarts_so (w.at q) old new keep stands own_here reaction made)
 
       pub restart_faults_move : (keep : ℕ) → NotRestarted old keep new Device
           → BreaksOffWorld tree w q new (restart_of old keep)

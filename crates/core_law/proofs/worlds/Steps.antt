@@ -25,7 +25,8 @@ use Rattle.core_law.specs.worlds.Worlds.{Enters, MovesNode, Steps, WorldState, s
 use Rattle.core_law.specs.worlds.Ties.{Follows, FollowsBy, GoesOnBy, StandsAt}
 
 -- the model's process makes the input too and shows the same, and what is kept stands for what that leaves
-pub record MadeSo (tree : List TreeEntry) (w : World) (q : ProcessId) (a : DataAnswer) (i : Input) (new : CoreState) (reaction : Reaction) : Type 0 where
+pub record MadeSo (tree : List TreeEntry) (w : World) (q : ProcessId) (a : DataAnswer) (i : Input)
+    (new : CoreState) (reaction : Reaction) : Type 0 where
   pub effect : Effect
   pub node : Node
   pub makes : node_makes (place_of tree q) (w.at q) (move_of q (Handles i) a) ≡ Leaves effect node
@@ -35,15 +36,18 @@ pub record MadeSo (tree : List TreeEntry) (w : World) (q : ProcessId) (a : DataA
 
 -- in every run each process makes of an input what the model's process makes of it
 abbrev pub InputsAsTheModel : List TreeEntry → Type 0
-InputsAsTheModel tree = (es : List Made) (w : World) (q : ProcessId) (old new : CoreState) (a : DataAnswer) (i : Input) (reaction : Reaction)
-    → IsRun tree es w → is_listed tree q ≡ true → InputStands w.net q i → old.place ≡ place_of tree q → Stands (w.at q) old
+InputsAsTheModel tree = (es : List Made) (w : World) (q : ProcessId) (old new : CoreState) (a : DataAnswer)
+    (i : Input) (reaction : Reaction)
+    → IsRun tree es w → is_listed tree q ≡ true → InputStands w.net q i
+    → old.place ≡ place_of tree q → Stands (w.at q) old
     → Makes old new a i reaction → MadeSo tree w q a i new reaction
 
 -- The world behind a move.
 
 -- a move in which a device fails so, or none does
 abbrev pub move_with : ProcessId → Happening → Option Fault → DataAnswer → Move
-move_with q h fault a = record { step = record { process = q; happening = h; fault = fault }; data_answer = a }
+move_with q h fault a =
+    record { step = record { process = q; happening = h; fault = fault }; data_answer = a }
 
 abbrev pub made_with : ProcessId → Happening → Option Fault → DataAnswer → Effect → Made
 made_with q h fault a e = record { move = move_with q h fault a; effect = e }
@@ -51,7 +55,8 @@ made_with q h fault a e = record { move = move_with q h fault a; effect = e }
 abbrev pub world_after : World → ProcessId → Node → Effect → World
 world_after w q n e = record { at = put_at q n w.at; net = w.net ++ e.messages }
 
-pub made_at : (tree : List TreeEntry) (w : World) (m : Move) (e : Effect) (n : Node) → is_listed tree m.step.process ≡ true
+pub made_at : (tree : List TreeEntry) (w : World) (m : Move) (e : Effect) (n : Node)
+    → is_listed tree m.step.process ≡ true
     → node_makes (place_of tree m.step.process) (w.at m.step.process) m ≡ Leaves e n
     → world_makes tree w m ≡ Some (e, world_after w m.step.process n e)
 unfolding world_makes
@@ -63,7 +68,8 @@ same_self q = elim (same_process_tells q q) [ inl t ↦ t.0 | inr z ↦ absurd (
 put_here : (q : ProcessId) (n : Node) (at : ProcessId → Node) → put_at q n at q ≡ n
 put_here q n at = rw (same_self q) refl
 
-put_there : (q p : ProcessId) (n : Node) (at : ProcessId → Node) → same_process q p ≡ false → put_at q n at p ≡ at p
+put_there : (q p : ProcessId) (n : Node) (at : ProcessId → Node)
+    → same_process q p ≡ false → put_at q n at p ≡ at p
 put_there q p n at h = rw h refl
 
 -- A journal of a run's moves.
@@ -75,12 +81,14 @@ ShowsMoves journal = (es : List Made) (q : ProcessId) (h : Happening) (a : DataA
 
 -- one in which a device fails is not shown
 abbrev pub HidesFaults : (List Made → List Entry) → Type 0
-HidesFaults journal = (es : List Made) (q : ProcessId) (h : Happening) (f : Fault) (a : DataAnswer) (e : Effect)
+HidesFaults journal = (es : List Made) (q : ProcessId) (h : Happening) (f : Fault)
+    (a : DataAnswer) (e : Effect)
     → journal (made_with q h (Some f) a e ∷ es) ≡ journal es
 
 -- The net grows by the step.
 
-sent_by : (w : World) (s s' : WorldState) (e : Effect) (reaction : Reaction) → s.net ≡ w.net → reaction ≡ reaction_of e
+sent_by : (w : World) (s s' : WorldState) (e : Effect) (reaction : Reaction)
+    → s.net ≡ w.net → reaction ≡ reaction_of e
     → s'.net ≡ s.net ++ reaction.messages → s'.net ≡ w.net ++ e.messages
 sent_by w s s' e reaction before shown grown =
     grown ∙ (ap (λ xs. xs ++ reaction.messages) before ∙ ap (λ (y : Reaction). w.net ++ y.messages) shown)
@@ -88,16 +96,19 @@ sent_by w s s' e reaction before shown grown =
 some_one : (a b : CoreState) → Some a ≡ Some b → a ≡ b
 some_one a b h = cc
 
-module _ (es : List Made) (w : World) (s s' : WorldState) (q : ProcessId) (n : Node) (e : Effect) (tree : s'.tree ≡ s.tree) where
+module _ (es : List Made) (w : World) (s s' : WorldState) (q : ProcessId) (n : Node) (e : Effect)
+    (tree : s'.tree ≡ s.tree) where
   -- a process that did not move stands as before
-  stays_at : (p : ProcessId) (c : CoreState) → same_process q p ≡ false → StandsAt w s p c → StandsAt (world_after w q n e) s' p c
+  stays_at : (p : ProcessId) (c : CoreState) → same_process q p ≡ false → StandsAt w s p c
+      → StandsAt (world_after w q n e) s' p c
   stays_at p c away h = record {
     place = h.place ∙ ap (λ t. place_of t p) (sym tree);
     stands = subst (λ m. Stands m c) (sym (put_there q p n w.at away)) h.stands;
   }
 
   -- and the one that moved as it was left
-  moved_at : (p : ProcessId) (b c : CoreState) → q ≡ p → b.place ≡ place_of s.tree q → Stands n b → b ≡ c → StandsAt (world_after w q n e) s' p c
+  moved_at : (p : ProcessId) (b c : CoreState) → q ≡ p → b.place ≡ place_of s.tree q → Stands n b → b ≡ c
+      → StandsAt (world_after w q n e) s' p c
   moved_at p b c here place stands is =
       subst (λ r. StandsAt (world_after w q n e) s' r c) here
       (subst (λ k. StandsAt (world_after w q n e) s' q k) is
@@ -107,17 +118,22 @@ module _ (es : List Made) (w : World) (s s' : WorldState) (q : ProcessId) (n : N
       }))
 
   -- so each process of the new state stands for the model's
-  nodes_after : (before behind : CoreState) → s'.node_at q ≡ Some behind → ((p : ProcessId) → same_process q p ≡ false → s'.node_at p ≡ s.node_at p)
-      → ((p : ProcessId) (c : CoreState) → s.node_at p ≡ Some c → StandsAt w s p c) → behind.place ≡ place_of s.tree q → Stands n behind
+  nodes_after : (before behind : CoreState) → s'.node_at q ≡ Some behind
+      → ((p : ProcessId) → same_process q p ≡ false → s'.node_at p ≡ s.node_at p)
+      → ((p : ProcessId) (c : CoreState) → s.node_at p ≡ Some c → StandsAt w s p c)
+      → behind.place ≡ place_of s.tree q → Stands n behind
       → (p : ProcessId) (c : CoreState) → s'.node_at p ≡ Some c → StandsAt (world_after w q n e) s' p c
   nodes_after before behind left others nodes place stands p c there = elim (same_process_tells q p) [
-    | inl t ↦ moved_at p behind c t.1 place stands (some_one behind c (sym left ∙ (ap s'.node_at t.1 ∙ there)))
+    | inl t ↦ moved_at p behind c t.1 place stands
+        (some_one behind c (sym left ∙ (ap s'.node_at t.1 ∙ there)))
     | inr z ↦ stays_at p c z.0 (nodes p c (sym (others p z.0) ∙ there))
   ]
 
 -- the processes are still those of the tree
-listed_after : (s s' : WorldState) (q : ProcessId) (before behind : CoreState) → s'.tree ≡ s.tree → s.node_at q ≡ Some before → s'.node_at q ≡ Some behind
-    → ((p : ProcessId) → same_process q p ≡ false → s'.node_at p ≡ s.node_at p) → ((p : ProcessId) → is_some (s.node_at p) ≡ is_listed s.tree p)
+listed_after : (s s' : WorldState) (q : ProcessId) (before behind : CoreState) → s'.tree ≡ s.tree
+    → s.node_at q ≡ Some before → s'.node_at q ≡ Some behind
+    → ((p : ProcessId) → same_process q p ≡ false → s'.node_at p ≡ s.node_at p)
+    → ((p : ProcessId) → is_some (s.node_at p) ≡ is_listed s.tree p)
     → (p : ProcessId) → is_some (s'.node_at p) ≡ is_listed s'.tree p
 listed_after s s' q before behind tree stood left others listed p = elim (same_process_tells q p) [
   | inl t ↦ ap (λ r. is_some (s'.node_at r)) (sym t.1) ∙ (ap is_some left ∙ (ap is_some (sym stood)
@@ -134,7 +150,8 @@ listed_at es w s q c f stood = sym (f.listed q) ∙ ap is_some stood
 abbrev pub in_full : WorldState → List Made → WorldState
 in_full s es = record s { entries = journal_of es }
 
-module _ (journal : List Made → List Entry) (es : List Made) (w : World) (s s' : WorldState) (f : FollowsBy journal es w s)
+module _ (journal : List Made → List Entry) (es : List Made) (w : World) (s s' : WorldState)
+    (f : FollowsBy journal es w s)
     (q : ProcessId) (h : Happening) (a : DataAnswer) (before behind : CoreState) (happens : Happens w.net q h)
     (moves : MovesNode s s' q before behind) where
   -- a move of the model's world behind which the process stands as it was left: the run goes on by it
@@ -150,44 +167,54 @@ module _ (journal : List Made → List Entry) (es : List Made) (w : World) (s s'
       record {
         later = m ∷ [];
         world = w';
-        leads = subst (λ t. Continues t w (m ∷ []) w') (sym moves.tree) (goes_on [] w m.move e w' stays happens step);
+        leads = subst (λ t. Continues t w (m ∷ []) w') (sym moves.tree)
+            (goes_on [] w m.move e w' stays happens step);
         follows = record {
           follows = record {
-            is_run = subst (λ t. IsRun t (m ∷ es) w') (sym moves.tree) (makes es w m.move e w' f.follows.is_run happens step);
+            is_run = subst (λ t. IsRun t (m ∷ es) w') (sym moves.tree)
+                (makes es w m.move e w' f.follows.is_run happens step);
             shown = refl;
             net = net;
-            nodes = nodes_after es w old new q n e moves.tree before behind moves.stands moves.others f.follows.nodes place stands;
-            listed = listed_after old new q before behind moves.tree moves.stood moves.stands moves.others f.follows.listed;
+            nodes = nodes_after es w old new q n e moves.tree before behind moves.stands moves.others
+                f.follows.nodes place stands;
+            listed = listed_after old new q before behind moves.tree moves.stood moves.stands
+                moves.others f.follows.listed;
           };
           shown = shown;
         };
       }
 
   -- one in which no device failed, and which is entered
-  pub entered_goes_on : ShowsMoves journal → (reaction : Reaction) (marked : List Bool) → Enters s s' q h reaction marked
+  pub entered_goes_on : ShowsMoves journal → (reaction : Reaction) (marked : List Bool)
+      → Enters s s' q h reaction marked
       → (e : Effect) (n : Node) → world_makes s.tree w (move_with q h None a) ≡ Some (e, world_after w q n e)
-      → reaction ≡ reaction_of e → behind.place ≡ place_of s.tree q → Stands n behind → GoesOnBy journal es w s'
+      → reaction ≡ reaction_of e → behind.place ≡ place_of s.tree q
+      → Stands n behind → GoesOnBy journal es w s'
   entered_goes_on shows reaction marked enters e n step shown =
       move_goes_on None e n step (sent_by w s s' e reaction f.follows.net shown enters.net)
       (shows es q h a e ∙ (ap (λ xs. xs ++ step_entry q h (reaction_of e) ∷ []) f.shown
       ∙ (ap (λ y. s.entries ++ step_entry q h y ∷ []) (sym shown) ∙ sym enters.entries)))
 
 pub step_goes_on : (journal : List Made → List Entry) → ShowsMoves journal
-    → (law : (tree : List TreeEntry) → IsTree tree → InputsAsTheModel tree) (es : List Made) (w : World) (s s' : WorldState)
-    (q : ProcessId) (i : Input) (marked : List Bool) → IsTree s.tree → FollowsBy journal es w s → InputStands w.net q i
+    → (law : (tree : List TreeEntry) → IsTree tree → InputsAsTheModel tree) (es : List Made)
+    (w : World) (s s' : WorldState)
+    (q : ProcessId) (i : Input) (marked : List Bool) → IsTree s.tree
+    → FollowsBy journal es w s → InputStands w.net q i
     → Steps s s' q i marked → GoesOnBy journal es w s'
 step_goes_on journal shows law es w s s' q i marked is_tree f stands h =
     let here = f.follows.nodes q h.before h.moves.stood in
     let listed = listed_at es w (in_full s es) q h.before f.follows h.moves.stood in
     let made : MadeSo s.tree w q h.handles.answer i h.behind h.reaction =
-    law s.tree is_tree es w q h.before h.behind h.handles.answer i h.reaction f.follows.is_run listed stands here.place here.stands h.handles.makes in
+    law s.tree is_tree es w q h.before h.behind h.handles.answer i h.reaction f.follows.is_run listed stands
+    here.place here.stands h.handles.makes in
     entered_goes_on journal es w s s' f q (Handles i) h.handles.answer h.before h.behind stands h.moves
     shows h.reaction marked h.enters made.effect made.node
     (made_at s.tree w (move_of q (Handles i) h.handles.answer) made.effect made.node listed made.makes)
     made.shown made.place made.stands
 
 -- a message with a number stands in the net
-pub sent_stands : (net : List Envelope) (k : ℕ) (envelope : Envelope) → sent_as net k ≡ Some envelope → IsSent net envelope.to k envelope.message
+pub sent_stands : (net : List Envelope) (k : ℕ) (envelope : Envelope) → sent_as net k ≡ Some envelope
+    → IsSent net envelope.to k envelope.message
 sent_stands net zero envelope h = absurd (cc)
 sent_stands net (suc j) envelope h =
     let e : suc j - 1 ≡ j = omega arith in

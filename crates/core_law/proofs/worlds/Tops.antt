@@ -59,7 +59,8 @@ top_counted (x ∷ xs) q listed role = by_test (same_process x.id q) refl listed
         → 1 ≤ count_by is_top (x ∷ xs)
     by_test true is listed role more =
         counted (is_top x) _ (count_by is_top xs) (one_more x xs) (is_on_top x (on_top x.kind x.parent role))
-    by_test false is listed role more = counts_more (is_top x) _ (count_by is_top xs) (one_more x xs) (more listed role)
+    by_test false is listed role more = counts_more (is_top x) _ (count_by is_top xs)
+        (one_more x xs) (more listed role)
 
 -- where there is one at most, it is the first
 first_top : (xs : List TreeEntry) (q : ProcessId) → is_listed xs q ≡ true → role_of xs q ≡ AtRoot
@@ -89,4 +90,5 @@ pub top_is_root : (tree : List TreeEntry) → IsTree tree → (q : ProcessId) �
     → role_of tree q ≡ AtRoot → q ≡ root_of tree
 unfolding root_of has_wrong_roots
 top_is_root tree is q listed role =
-    sym (first_top tree q listed role (few_if (count_by is_top tree) (first_false _ _ is.one_coordinator_on_top)))
+    sym (first_top tree q listed role (few_if (count_by is_top tree)
+    (first_false _ _ is.one_coordinator_on_top)))

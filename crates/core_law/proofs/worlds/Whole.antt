@@ -30,7 +30,8 @@ pub record ForItself (e : StepError) : Type 0 where
   pub memory : e ≢ step_error.Memory
   pub device : e ≢ step_error.Device
 
-not_acted : (s t : WorldState) (q : ProcessId) (a : Act) (e : StepError) → ForItself e → NotActed s t q a e → Same s t × RefusesAt (s.node_at q) (ActInput a) e
+not_acted : (s t : WorldState) (q : ProcessId) (a : Act) (e : StepError) → ForItself e → NotActed s t q a e
+    → Same s t × RefusesAt (s.node_at q) (ActInput a) e
 not_acted s t q a step_error.Memory itself h = absurd (itself.memory refl)
 not_acted s t q a step_error.Device itself h = absurd (itself.device refl)
 not_acted s t q a step_error.UnknownTxn itself h = h
@@ -41,7 +42,8 @@ not_acted s t q a step_error.NothingToForget itself h = h
 not_acted s t q a step_error.Failed itself h = h
 not_acted s t q a step_error.NoSuch itself h = h
 
-not_delivered : (s t : WorldState) (k : ℕ) (e : StepError) → ForItself e → NotDelivered s t k e → Same s t × RefusesMessage s k (sent_as s.net k) e
+not_delivered : (s t : WorldState) (k : ℕ) (e : StepError) → ForItself e → NotDelivered s t k e → Same s t
+    × RefusesMessage s k (sent_as s.net k) e
 not_delivered s t k step_error.Memory itself h = absurd (itself.memory refl)
 not_delivered s t k step_error.Device itself h = absurd (itself.device refl)
 not_delivered s t k step_error.UnknownTxn itself h = h
@@ -52,18 +54,22 @@ not_delivered s t k step_error.NothingToForget itself h = h
 not_delivered s t k step_error.Failed itself h = h
 not_delivered s t k step_error.NoSuch itself h = h
 
-refused_message : (es : List Made) (w : World) (s : WorldState) (k : ℕ) (o : Option Envelope) (e : StepError) → Follows es w s → RefusesMessage s k o e
+refused_message : (es : List Made) (w : World) (s : WorldState) (k : ℕ) (o : Option Envelope) (e : StepError)
+    → Follows es w s → RefusesMessage s k o e
     → RefusesDelivery s.tree w k o e
 refused_message es w s k None e f h = h
 refused_message es w s k (Some l) e f h = refused_so es w s l.to (MessageInput k l.message) e f h
 
-refused_delivery : (es : List Made) (w : World) (s : WorldState) (k : ℕ) (e : StepError) → Follows es w s → RefusesMessage s k (sent_as s.net k) e
+refused_delivery : (es : List Made) (w : World) (s : WorldState) (k : ℕ) (e : StepError) → Follows es w s
+    → RefusesMessage s k (sent_as s.net k) e
     → RefusesDelivery s.tree w k (sent_as w.net k) e
 refused_delivery es w s k e f h =
-    subst (λ net. RefusesDelivery s.tree w k (sent_as net k) e) f.net (refused_message es w s k (sent_as s.net k) e f h)
+    subst (λ net. RefusesDelivery s.tree w k (sent_as net k) e) f.net
+    (refused_message es w s k (sent_as s.net k) e f h)
 
 -- a restart that was refused for itself is of no process of the tree
-not_restarted : (s t : WorldState) (q : ProcessId) (bytes : Option ℕ) (e : StepError) → ForItself e → NotRestartedAt s t q bytes e
+not_restarted : (s t : WorldState) (q : ProcessId) (bytes : Option ℕ) (e : StepError) → ForItself e
+    → NotRestartedAt s t q bytes e
     → Same s t × (s.node_at q ≡ None) × (e ≡ step_error.NoSuch)
 not_restarted s t q bytes step_error.Memory itself h = absurd (itself.memory refl)
 not_restarted s t q bytes step_error.Device itself h = absurd (itself.device refl)
@@ -76,7 +82,8 @@ not_restarted s t q bytes step_error.Failed itself h = absurd h
 not_restarted s t q bytes step_error.NoSuch itself h = (h.0, h.1, refl)
 
 -- of a trim that was refused for itself there is no process, or it has failed
-not_trimmed : (es : List Made) (w : World) (s t : WorldState) (q : ProcessId) (e : StepError) → Follows es w s → ForItself e → NotTrimmedAt s t q e
+not_trimmed : (es : List Made) (w : World) (s t : WorldState) (q : ProcessId) (e : StepError) → Follows es w s
+    → ForItself e → NotTrimmedAt s t q e
     → Same s t × RefusesEvent s.tree w (Trim q) e
 not_trimmed es w s t q step_error.Memory f itself h = absurd (itself.memory refl)
 not_trimmed es w s t q step_error.Device f itself h = absurd (itself.device refl)
@@ -97,7 +104,8 @@ record StoppedSo (tree : List TreeEntry) (t : WorldState) (event : Event) (e : S
   refuses : RefusesEvent tree world event e
 
 module _ (tree : List TreeEntry) (is_tree : IsTree tree) where
-  settle_refused : (before t : WorldState) (e : StepError) (o : Option ℕ) (es : List Made) (w : World) → before.tree ≡ tree → ForItself e → Follows es w before
+  settle_refused : (before t : WorldState) (e : StepError) (o : Option ℕ) (es : List Made) (w : World)
+      → before.tree ≡ tree → ForItself e → Follows es w before
       → NoneDelivered before t e o → StoppedSo tree t Settle e
   settle_refused before t e None es w is itself f h = absurd (itself.memory h.0)
   settle_refused before t e (Some k) es w is itself f h =
@@ -107,10 +115,15 @@ module _ (tree : List TreeEntry) (is_tree : IsTree tree) where
         world = w;
         tree_is = why.0.tree ∙ is;
         follows = same_follows es w before t f why.0;
-        refuses = (k, subst (λ z. RefusesDelivery z w k (sent_as w.net k) e) is (refused_delivery es w before k e f why.1));
+        refuses = (
+          k,
+          subst (λ z. RefusesDelivery z w k (sent_as w.net k) e) is
+              (refused_delivery es w before k e f why.1),
+        );
       }
 
-  stopped_so : (s t : WorldState) (event : Event) (e : StepError) (es : List Made) (w : World) → s.tree ≡ tree → ForItself e → Follows es w s
+  stopped_so : (s t : WorldState) (event : Event) (e : StepError) (es : List Made) (w : World) → s.tree ≡ tree
+      → ForItself e → Follows es w s
       → Stops s event e t → StoppedSo tree t event e
   stopped_so s t (ActOf a) e es w is itself f h =
       let why = not_acted s t (process_of_act (root_of s.tree) a) a e itself h in
@@ -119,7 +132,8 @@ module _ (tree : List TreeEntry) (is_tree : IsTree tree) where
         world = w;
         tree_is = why.0.tree ∙ is;
         follows = same_follows es w s t f why.0;
-        refuses = subst (λ z. RefusesEvent z w (ActOf a) e) is (refused_so es w s (process_of_act (root_of s.tree) a) (ActInput a) e f why.1);
+        refuses = subst (λ z. RefusesEvent z w (ActOf a) e) is
+            (refused_so es w s (process_of_act (root_of s.tree) a) (ActInput a) e f why.1);
       }
   stopped_so s t (Deliver k) e es w is itself f h =
       let why = not_delivered s t k e itself h in
@@ -128,11 +142,15 @@ module _ (tree : List TreeEntry) (is_tree : IsTree tree) where
         world = w;
         tree_is = why.0.tree ∙ is;
         follows = same_follows es w s t f why.0;
-        refuses = subst (λ z. RefusesDelivery z w k (sent_as w.net k) e) is (refused_delivery es w s k e f why.1);
+        refuses = subst (λ z. RefusesDelivery z w k (sent_as w.net k) e) is
+            (refused_delivery es w s k e f why.1);
       }
   stopped_so s t Settle e es w is itself f h =
-      let g = settles_on journal_of whole_shows as_the_model tree is_tree h.count s h.before es w is (by_whole es w s f) h.settles in
-      settle_refused h.before t e (least_open 1 h.before.delivered) (g.goes_on_so.later ++ es) g.goes_on_so.world g.tree_stays itself (whole_follows (g.goes_on_so.later ++ es) g.goes_on_so.world h.before g.goes_on_so.follows) h.stops
+      let g = settles_on journal_of whole_shows as_the_model tree is_tree h.count s h.before es w is
+      (by_whole es w s f) h.settles in
+      settle_refused h.before t e (least_open 1 h.before.delivered)
+      (g.goes_on_so.later ++ es) g.goes_on_so.world g.tree_stays itself
+      (whole_follows (g.goes_on_so.later ++ es) g.goes_on_so.world h.before g.goes_on_so.follows) h.stops
   stopped_so s t (Restart q bytes) e es w is itself f h =
       let why = not_restarted s t q bytes e itself h in
       record {
@@ -141,7 +159,8 @@ module _ (tree : List TreeEntry) (is_tree : IsTree tree) where
         tree_is = why.0.tree ∙ is;
         follows = same_follows es w s t f why.0;
         refuses = subst (λ z. RefusesEvent z w (Restart q bytes) e) is
-            (subst (λ x. RefusesEvent s.tree w (Restart q bytes) x) (sym why.2) (restart_refused es w s f q why.1));
+            (subst (λ x. RefusesEvent s.tree w (Restart q bytes) x) (sym why.2)
+            (restart_refused es w s f q why.1));
       }
   stopped_so s t (Trim q) e es w is itself f h =
       let why = not_trimmed es w s t q e f itself h in
@@ -153,13 +172,16 @@ module _ (tree : List TreeEntry) (is_tree : IsTree tree) where
         refuses = subst (λ z. RefusesEvent z w (Trim q) e) is why.1;
       }
 
-  headline_of : (s : WorldState) (es : List Made) (w : World) → s.tree ≡ tree → Follows es w s → Headline tree es w
+  headline_of : (s : WorldState) (es : List Made) (w : World) → s.tree ≡ tree
+      → Follows es w s → Headline tree es w
   headline_of s es w is f = runs.headline tree is_tree es w (subst (λ z. IsRun z es w) is f.is_run)
 
-  pub run_so : (start end : WorldState) (events : List Event) (refusal : Refusal) → IsOpened start tree → LeadsTo start events refusal end → IsForItself refusal
+  pub run_so : (start end : WorldState) (events : List Event) (refusal : Refusal) → IsOpened start tree
+      → LeadsTo start events refusal end → IsForItself refusal
       → IsRunOf tree events refusal end
   run_so start end events None opened leads itself =
-      let g = leads_on journal_of whole_shows as_the_model tree is_tree start end events [] opened_world opened.tree_is
+      let g = leads_on journal_of whole_shows as_the_model tree is_tree start end events
+      [] opened_world opened.tree_is
       (by_whole [] opened_world start (opened_follows tree start opened)) leads in
       let follows = whole_follows (g.goes_on_so.later ++ []) g.goes_on_so.world end g.goes_on_so.follows in
       record {
@@ -171,11 +193,14 @@ module _ (tree : List TreeEntry) (is_tree : IsTree tree) where
         refuses = tt;
       }
   run_so start end events (Some refused) opened leads itself =
-      let g = leads_on journal_of whole_shows as_the_model tree is_tree start leads.before (take refused.0 events) [] opened_world opened.tree_is
+      let g = leads_on journal_of whole_shows as_the_model tree is_tree start leads.before
+      (take refused.0 events) [] opened_world opened.tree_is
       (by_whole [] opened_world start (opened_follows tree start opened)) leads.leads in
-      let last = stopped_so leads.before end leads.event refused.1 (g.goes_on_so.later ++ []) g.goes_on_so.world g.tree_stays
+      let last = stopped_so leads.before end leads.event refused.1 (g.goes_on_so.later ++ [])
+      g.goes_on_so.world g.tree_stays
       (record { memory = itself.0; device = itself.1 })
-      (whole_follows (g.goes_on_so.later ++ []) g.goes_on_so.world leads.before g.goes_on_so.follows) leads.stops in
+      (whole_follows (g.goes_on_so.later ++ []) g.goes_on_so.world leads.before
+      g.goes_on_so.follows) leads.stops in
       record {
         moves = last.moves;
         world = last.world;
@@ -185,12 +210,21 @@ module _ (tree : List TreeEntry) (is_tree : IsTree tree) where
         refuses = record { event = leads.event; next = leads.next; refused = last.refuses };
       }
 
-pub run_of : (tree : List TreeEntry) (start end : WorldState) (events : List Event) (refusal : Refusal) → IsTree tree → IsOpened start tree
+pub run_of : (tree : List TreeEntry) (start end : WorldState) (events : List Event) (refusal : Refusal)
+    → IsTree tree → IsOpened start tree
     → LeadsTo start events refusal end → IsForItself refusal → IsRunOf tree events refusal end
-run_of tree start end events refusal is_tree opened leads itself = run_so tree is_tree start end events refusal opened leads itself
+run_of tree start end events refusal is_tree opened leads itself =
+    run_so tree is_tree start end events refusal opened leads itself
 
 pub modelled : (s : WorldState) (es : List Made) (w : World) → IsTree s.tree → Follows es w s → IsModelled s
-modelled s es w is_tree f = record { moves = es; world = w; follows = f; headline = headline_of s.tree is_tree s es w refl f }
+modelled s es w is_tree f = record {
+  moves = es;
+  world = w;
+  follows = f;
+  headline = headline_of
+      s.tree is_tree s es w refl f;
+}
 
-pub modelled_behind_faults : (s : WorldState) (es : List Made) (w : World) → IsTree s.tree → FollowsBehindFaults es w s → Headline s.tree es w
+pub modelled_behind_faults : (s : WorldState) (es : List Made) (w : World) → IsTree s.tree
+    → FollowsBehindFaults es w s → Headline s.tree es w
 modelled_behind_faults s es w is_tree f = runs.headline s.tree is_tree es w f.follows.is_run

@@ -23,14 +23,17 @@ found_is_named (w ∷ ws) k = by_test (same_bytes w.key k) (found_is_named ws k)
     by_test false h = h
 
 -- the write in its place, and behind the others
-pub put_there : (ws : List Write) (k : List ℕ) (v : Option (List ℕ)) → position_or_len (is_of k) ws < length ws
+pub put_there : (ws : List Write) (k : List ℕ) (v : Option (List ℕ))
+    → position_or_len (is_of k) ws < length ws
     → slice_set ws (position_or_len (is_of k) ws) (record { key = k; value = v }) ≡ with_write ws k v
 put_there [] k v few = absurd (omega arith)
 put_there (w ∷ ws) k v few = by_test (same_bytes w.key k) refl (put_there ws k v)
   where
     by_test : (b : Bool) → same_bytes w.key k ≡ b
-        → (position_or_len (is_of k) ws < length ws → slice_set ws (position_or_len (is_of k) ws) (record { key = k; value = v }) ≡ with_write ws k v)
-        → slice_set (w ∷ ws) (position_or_len (is_of k) (w ∷ ws)) (record { key = k; value = v }) ≡ with_write (w ∷ ws) k v
+        → (position_or_len (is_of k) ws < length ws
+        → slice_set ws (position_or_len (is_of k) ws) (record { key = k; value = v }) ≡ with_write ws k v)
+        → slice_set (w ∷ ws) (position_or_len (is_of k) (w ∷ ws))
+        (record { key = k; value = v }) ≡ with_write (w ∷ ws) k v
     by_test true e h = grind (arith, common_steps)
     by_test false e h = grind (arith, common_steps, h)
 
@@ -40,7 +43,8 @@ put_last [] k v none = refl
 put_last (w ∷ ws) k v none = by_test (same_bytes w.key k) refl (put_last ws k v)
   where
     by_test : (b : Bool) → same_bytes w.key k ≡ b
-        → (length ws ≤ position_or_len (is_of k) ws → ws ++ record { key = k; value = v } ∷ [] ≡ with_write ws k v)
+        → (length ws ≤ position_or_len (is_of k) ws
+        → ws ++ record { key = k; value = v } ∷ [] ≡ with_write ws k v)
         → w ∷ (ws ++ record { key = k; value = v } ∷ []) ≡ with_write (w ∷ ws) k v
     by_test true e h = grind (arith, common_steps)
     by_test false e h = grind (arith, common_steps, h)
@@ -54,11 +58,13 @@ with_write_length [] k v = refl
 with_write_length (w ∷ ws) k v = by_test (same_bytes w.key k) (with_write_length ws k v)
   where
     by_test : (b : Bool) → length (with_write ws k v) ≡ cond (names_key ws k) (length ws) (length ws + 1)
-        → length (cond b (record { key = k; value = v } ∷ ws) (w ∷ with_write ws k v)) ≡ cond (b || names_key ws k) (length (w ∷ ws)) (length (w ∷ ws) + 1)
+        → length (cond b (record { key = k; value = v } ∷ ws) (w ∷ with_write ws k v))
+        ≡ cond (b || names_key ws k) (length (w ∷ ws)) (length (w ∷ ws) + 1)
     by_test true h = refl
     by_test false h = grind (arith, common_steps, h)
 
-with_write_each : (ws : List Write) (k : List ℕ) (v : Option (List ℕ)) → IsSoundWrite (record { key = k; value = v })
+with_write_each : (ws : List Write) (k : List ℕ) (v : Option (List ℕ))
+    → IsSoundWrite (record { key = k; value = v })
     → AllByRecursion IsSoundWrite ws → AllByRecursion IsSoundWrite (with_write ws k v)
 with_write_each [] k v sound all = (sound, tt)
 with_write_each (w ∷ ws) k v sound all = by_test (same_bytes w.key k) (with_write_each ws k v sound all.1)
@@ -68,13 +74,15 @@ with_write_each (w ∷ ws) k v sound all = by_test (same_bytes w.key k) (with_wr
     by_test true h = (sound, all.1)
     by_test false h = (all.0, h)
 
-pub with_write_names : (ws : List Write) (k l : List ℕ) (v : Option (List ℕ)) → names_key ws l ≡ false → same_bytes k l ≡ false
+pub with_write_names : (ws : List Write) (k l : List ℕ) (v : Option (List ℕ))
+    → names_key ws l ≡ false → same_bytes k l ≡ false
     → names_key (with_write ws k v) l ≡ false
 unfolding names_key
 with_write_names [] k l v none other = grind (arith, common_steps)
 with_write_names (w ∷ ws) k l v none other = by_test (same_bytes w.key k) (with_write_names ws k l v)
   where
-    by_test : (b : Bool) → (names_key ws l ≡ false → same_bytes k l ≡ false → names_key (with_write ws k v) l ≡ false)
+    by_test : (b : Bool) → (names_key ws l ≡ false → same_bytes k l ≡ false
+        → names_key (with_write ws k v) l ≡ false)
         → names_key (cond b (record { key = k; value = v } ∷ ws) (w ∷ with_write ws k v)) l ≡ false
     by_test true h = grind (arith, common_steps)
     by_test false h = grind (arith, common_steps, h)
@@ -85,7 +93,8 @@ unfolding keys_once names_key
 with_write_once [] k v once = refl
 with_write_once (w ∷ ws) k v once = by_test (same_bytes w.key k) refl (with_write_once ws k v)
   where
-    by_test : (b : Bool) → same_bytes w.key k ≡ b → (keys_once ws ≡ true → keys_once (with_write ws k v) ≡ true)
+    by_test : (b : Bool) → same_bytes w.key k ≡ b
+        → (keys_once ws ≡ true → keys_once (with_write ws k v) ≡ true)
         → keys_once (cond b (record { key = k; value = v } ∷ ws) (w ∷ with_write ws k v)) ≡ true
     by_test true e h =
         let one : w.key ≡ k = same_is w.key k e in
@@ -94,7 +103,8 @@ with_write_once (w ∷ ws) k v once = by_test (same_bytes w.key k) refl (with_wr
         let other : same_bytes k w.key ≡ false = same_other_way k w.key ∙ e in
         grind (arith, common_steps, h, with_write_names ws k w.key v)
 
-pub with_write_kept : (ws : List Write) (k : List ℕ) (v : Option (List ℕ)) → AreWrites ws → is_within_limit ws k ≡ true
+pub with_write_kept : (ws : List Write) (k : List ℕ) (v : Option (List ℕ)) → AreWrites ws
+    → is_within_limit ws k ≡ true
     → IsSoundWrite (record { key = k; value = v }) → AreWrites (with_write ws k v)
 with_write_kept ws k v kept within sound = record {
   few = by_test (names_key ws k) (with_write_length ws k v) within;
@@ -102,7 +112,8 @@ with_write_kept ws k v kept within sound = record {
   once = with_write_once ws k v kept.once;
 }
   where
-    by_test : (b : Bool) → length (with_write ws k v) ≡ cond b (length ws) (length ws + 1) → (b || nat_lt (length ws) 64) ≡ true
+    by_test : (b : Bool) → length (with_write ws k v) ≡ cond b (length ws) (length ws + 1)
+        → (b || nat_lt (length ws) 64) ≡ true
         → length (with_write ws k v) ≤ 64
     by_test true e h = let few = kept.few in omega arith
     by_test false e h = grind (arith, common_steps, nat_tests)

@@ -15,12 +15,14 @@ abbrev pub Lists : Type 0
 Lists = List (Xid × Vec Write)
 
 -- what the table says of a branch is what the map holds
-pub space_is : (es : Lists) (x : Xid) → lookup (same x) (table_of es) ≡ option_map workspace_of (lookup (same x) es)
+pub space_is : (es : Lists) (x : Xid) → lookup (same x) (table_of es)
+    ≡ option_map workspace_of (lookup (same x) es)
 space_is [] x = refl
 space_is (e ∷ es) x = by_test (same x e.0) (space_is es x)
   where
     by_test : (b : Bool) → lookup (same x) (table_of es) ≡ option_map workspace_of (lookup (same x) es)
-        → cond b (Some (workspace_of e.1)) (lookup (same x) (table_of es)) ≡ option_map workspace_of (cond b (Some e.1) (lookup (same x) es))
+        → cond b (Some (workspace_of e.1)) (lookup (same x) (table_of es))
+        ≡ option_map workspace_of (cond b (Some e.1) (lookup (same x) es))
     by_test true h = refl
     by_test false h = h
 
@@ -39,7 +41,8 @@ pub leaves : (es fs : Lists) (x : Xid) (o : Option (Vec Write)) (ws : List Write
     → Leaves (table_of es) (table_of fs) x ws
 leaves es fs x o ws each here is = record {
   own = writes_are fs x o here ∙ is;
-  others = λ y apart. writes_are fs y (lookup (same y) es) (each y ∙ ap (λ b. cond b o (lookup (same y) es)) apart)
+  others = λ y apart. writes_are fs y (lookup (same y) es)
+      (each y ∙ ap (λ b. cond b o (lookup (same y) es)) apart)
       ∙ sym (writes_are es y (lookup (same y) es) refl);
 }
 
@@ -51,7 +54,8 @@ leaves_same t u x left y = by_test (same x y) refl
     by_test false e = left.others y e
 
 -- what a branch can have written stays so
-pub kept_left : (t u : List (Xid × Workspace)) (x : Xid) (ws : List Write) → AreKept t → Leaves t u x ws → AreWrites ws → AreKept u
+pub kept_left : (t u : List (Xid × Workspace)) (x : Xid) (ws : List Write) → AreKept t
+    → Leaves t u x ws → AreWrites ws → AreKept u
 kept_left t u x ws kept left new y = by_test (same x y) refl
   where
     by_test : (b : Bool) → same x y ≡ b → AreWrites (writes_of u y)

@@ -25,7 +25,8 @@ bytes_same a b h = let one : same_key a b ≡ true = same_bytes_is_equality a b 
 
 -- Lists of what is known of branches.
 
-all_inserted : (P : Xid × Promise → Type 0) (es : List (Xid × Promise)) (x : Xid) (p : Promise) → AllByRecursion P es
+all_inserted : (P : Xid × Promise → Type 0) (es : List (Xid × Promise)) (x : Xid)
+    (p : Promise) → AllByRecursion P es
     → ((y : Xid) → same x y ≡ true → P (y, p)) → AllByRecursion P (insert_entry same es x p)
 all_inserted P [] x p all new = (new x (same_itself x), tt)
 all_inserted P (e ∷ es) x p all new = by_test (same x e.0) refl (all_inserted P es x p all.1 new)
@@ -35,7 +36,8 @@ all_inserted P (e ∷ es) x p all new = by_test (same x e.0) refl (all_inserted 
     by_test true h rest = (new e.0 h, all.1)
     by_test false h rest = (all.0, rest)
 
-all_removed : (P : Xid × Promise → Type 0) (test : Xid → Bool) (es : List (Xid × Promise)) → AllByRecursion P es
+all_removed : (P : Xid × Promise → Type 0) (test : Xid → Bool)
+    (es : List (Xid × Promise)) → AllByRecursion P es
     → AllByRecursion P (remove_entry test es)
 all_removed P test [] all = all
 all_removed P test (e ∷ es) all = by_test (test e.0) (all_removed P test es all.1)
@@ -51,7 +53,8 @@ pub kept_nothing : (held : List (Vec ℕ × Xid)) (live : List (Xid × Promise))
 kept_nothing held live none = subst (λ es. IsKept held es) (sym none) (record { listed = tt })
 
 -- a branch is not open any more
-pub kept_shut : (held : List (Vec ℕ × Xid)) (live : List (Xid × Promise)) (x : Xid) (p : Promise) → IsKept held live
+pub kept_shut : (held : List (Vec ℕ × Xid)) (live : List (Xid × Promise)) (x : Xid)
+    (p : Promise) → IsKept held live
     → opens p.mark ≡ false → IsKept held (insert_entry same live x p)
 kept_shut held live x p kept shut = record {
   listed = all_inserted (IsListed held) live x p kept.listed (λ y one k h. absurd (never k h));
@@ -60,7 +63,8 @@ kept_shut held live x p kept shut = record {
     never : (k : List ℕ) → holds p k ≡ true → ⊥
     never k h = let shuts : holds p k ≡ false = ap (λ b. b && names_key p.writes k) shut in cc
 
-pub kept_removed : (held : List (Vec ℕ × Xid)) (live : List (Xid × Promise)) (test : Xid → Bool) → IsKept held live
+pub kept_removed : (held : List (Vec ℕ × Xid)) (live : List (Xid × Promise))
+    (test : Xid → Bool) → IsKept held live
     → IsKept held (remove_entry test live)
 kept_removed held live test kept = record { listed = all_removed (IsListed held) test live kept.listed }
 
@@ -96,7 +100,8 @@ relisted old new (e ∷ es) ws free others all =
     here : (k : List ℕ) → holds e.1 k ≡ true → (b : Bool) → names_key ws k ≡ b → holder_of new k ≡ Some e.0
     here k h true named =
         absurd (let shut : key_open (e.1 ∷ map (λ e. e.1) es) k ≡ false = free k named in
-        let some : key_open (e.1 ∷ map (λ e. e.1) es) k ≡ true = ap (λ b. b || key_open (map (λ e. e.1) es) k) h in cc)
+        let some : key_open (e.1 ∷ map (λ e. e.1) es) k ≡ true =
+        ap (λ b. b || key_open (map (λ e. e.1) es) k) h in cc)
     here k h false other = others k other ∙ all.0 k h
 
     behind : (k : List ℕ) → names_key ws k ≡ true → key_open (map (λ e. e.1) es) k ≡ false
@@ -104,15 +109,18 @@ relisted old new (e ∷ es) ws free others all =
         let shut : key_open (e.1 ∷ map (λ e. e.1) es) k ≡ false = free k named in
         either (holds e.1 k) (key_open (map (λ e. e.1) es) k) shut
 
-pub kept_relisted : (old new : List (Vec ℕ × Xid)) (live : List (Xid × Promise)) (ws : List Write) → IsKept old live
+pub kept_relisted : (old new : List (Vec ℕ × Xid)) (live : List (Xid × Promise))
+    (ws : List Write) → IsKept old live
     → keys_free (map (λ e. e.1) live) ws ≡ true
     → ((k : List ℕ) → names_key ws k ≡ false → holder_of new k ≡ holder_of old k) → IsKept new live
 kept_relisted old new live ws kept free others = record {
-  listed = relisted old new live ws (λ k named. free_key (map (λ e. e.1) live) ws k free named) others kept.listed;
+  listed = relisted old new live ws (λ k named. free_key (map (λ e. e.1) live) ws k
+      free named) others kept.listed;
 }
 
 -- a branch promises writes whose keys are listed for it
-pub kept_promised : (held : List (Vec ℕ × Xid)) (live : List (Xid × Promise)) (x : Xid) (p : Promise) → IsKept held live
+pub kept_promised : (held : List (Vec ℕ × Xid)) (live : List (Xid × Promise)) (x : Xid)
+    (p : Promise) → IsKept held live
     → ((k : List ℕ) → names_key p.writes k ≡ true → holder_of held k ≡ Some x)
     → IsKept held (insert_entry same live x p)
 kept_promised held live x p kept own = record {
@@ -124,7 +132,8 @@ kept_promised held live x p kept own = record {
     both true c h = h
     both false c h = absurd (cc)
 
--- A key is of an open branch where the branch that it is listed for is open and has promised it, and only there.
+-- A key is of an open branch where the branch that it is listed for is open and has promised it, and only
+-- there.
 
 -- the branch that a key is listed for, where it is for any, is open and promised a write of the key
 abbrev pub open_by : List (Xid × Promise) → List ℕ → Option Xid → Bool
@@ -150,7 +159,8 @@ sound (e ∷ es) k x h = by_test (same x e.0) h (sound es k x)
 none_found : (es : List (Xid × Promise)) (x : Xid) → AllByRecursion (λ y. same x y ≡ false) (keys_of es)
     → lookup (same x) es ≡ None
 none_found [] x apart = refl
-none_found (e ∷ es) x apart = ap (λ b. cond b (Some e.1) (lookup (same x) es)) apart.0 ∙ none_found es x apart.1
+none_found (e ∷ es) x apart = ap (λ b. cond b (Some e.1) (lookup (same x) es))
+    apart.0 ∙ none_found es x apart.1
 
 complete : (held : List (Vec ℕ × Xid)) (es : List (Xid × Promise)) (k : List ℕ) → IsDistinct same (keys_of es)
     → AllByRecursion (IsListed held) es → key_open (map (λ e. e.1) es) k ≡ true
@@ -171,7 +181,8 @@ complete held (e ∷ es) k apart all some = by_test (holds e.1 k) refl some (com
         at : (b : Bool) → same x e.0 ≡ b → holds_at (cond b (Some e.1) (lookup (same x) es)) k ≡ true
         at false other = h
         at true one =
-            absurd (let none : lookup (same x) es ≡ None = ap (λ y. lookup (same y) es) (same_is x e.0 one) ∙ none_found es e.0 apart.0 in
+            absurd (let none : lookup (same x) es ≡ None = ap (λ y. lookup (same y) es) (same_is x e.0 one)
+            ∙ none_found es e.0 apart.0 in
             let never : holds_at (lookup (same x) es) k ≡ false = ap (λ r. holds_at r k) none in cc)
 
     by_test : (b : Bool) → holds e.1 k ≡ b → (b || key_open (map (λ e. e.1) es) k) ≡ true
@@ -184,9 +195,11 @@ complete held (e ∷ es) k apart all some = by_test (holds e.1 k) refl some (com
 pub open_is_listed : (held : List (Vec ℕ × Xid)) (live : List (Xid × Promise)) (k : List ℕ)
     → IsDistinct same (keys_of live) → IsKept held live
     → open_by live k (holder_of held k) ≡ key_open (map (λ e. e.1) live) k
-open_is_listed held live k apart kept = by_test (key_open (map (λ e. e.1) live) k) refl (holder_of held k) refl
+open_is_listed held live k apart kept = by_test (key_open (map (λ e. e.1) live) k)
+    refl (holder_of held k) refl
   where
-    shut : (b : Bool) (x : Xid) → holds_at (lookup (same x) live) k ≡ b → key_open (map (λ e. e.1) live) k ≡ false → b ≡ false
+    shut : (b : Bool) (x : Xid) → holds_at (lookup (same x) live) k ≡ b
+        → key_open (map (λ e. e.1) live) k ≡ false → b ≡ false
     shut true x h none = absurd (let some : key_open (map (λ e. e.1) live) k ≡ true = sound live k x h in cc)
     shut false x h none = refl
 
@@ -194,9 +207,11 @@ open_is_listed held live k apart kept = by_test (key_open (map (λ e. e.1) live)
         → open_by live k (holder_of held k) ≡ b
     by_test true some r at = complete held live k apart kept.listed some
     by_test false none None at = ap (open_by live k) at
-    by_test false none (Some x) at = ap (open_by live k) at ∙ shut (holds_at (lookup (same x) live) k) x refl none
+    by_test false none (Some x) at = ap (open_by live k) at
+        ∙ shut (holds_at (lookup (same x) live) k) x refl none
 
-pub none_open : (live : List (Xid × Promise)) (k : List ℕ) → length live ≡ 0 → false ≡ key_open (map (λ e. e.1) live) k
+pub none_open : (live : List (Xid × Promise)) (k : List ℕ) → length live ≡ 0
+    → false ≡ key_open (map (λ e. e.1) live) k
 unfolding key_open
 none_open [] k none = refl
 none_open (e ∷ es) k none = absurd (omega arith)
@@ -204,12 +219,14 @@ none_open (e ∷ es) k none = absurd (omega arith)
 pub none_listed : (held : List (Vec ℕ × Xid)) (live : List (Xid × Promise)) (k : List ℕ)
     → IsDistinct same (keys_of live) → IsKept held live → holder_of held k ≡ None
     → false ≡ key_open (map (λ e. e.1) live) k
-none_listed held live k apart kept none = sym (ap (open_by live k) none) ∙ open_is_listed held live k apart kept
+none_listed held live k apart kept none = sym (ap (open_by live k) none)
+    ∙ open_is_listed held live k apart kept
 
 pub one_listed : (held : List (Vec ℕ × Xid)) (live : List (Xid × Promise)) (k : List ℕ) (x : Xid)
     → IsDistinct same (keys_of live) → IsKept held live → holder_of held k ≡ Some x
     → holds_at (lookup (same x) live) k ≡ key_open (map (λ e. e.1) live) k
-one_listed held live k x apart kept one = sym (ap (open_by live k) one) ∙ open_is_listed held live k apart kept
+one_listed held live k x apart kept one = sym (ap (open_by live k) one)
+    ∙ open_is_listed held live k apart kept
 
 -- Listing.
 
@@ -234,7 +251,8 @@ head_apart : (w : Write) (ws : List Write) (k : List ℕ) → names_key (w ∷ w
 unfolding names_key
 head_apart w ws k h = neither (same_bytes w.key k) (names_key ws k) (same_bytes_is_equality w.key k) h
   where
-    neither : (b c : Bool) → same_key w.key k ≡ b → (b || c) ≡ false → (same_key w.key k ≡ false) × (c ≡ false)
+    neither : (b c : Bool) → same_key w.key k ≡ b → (b || c) ≡ false
+        → (same_key w.key k ≡ false) × (c ≡ false)
     neither true c e h = absurd (cc)
     neither false c e h = (e, h)
 
@@ -257,18 +275,21 @@ listing_goes_on old new next all ws w x so_far kept own = record {
   done = λ k h. done k (same_key w.key k) refl (so_far.done k h);
 }
   where
-    named : (b : Bool) (k : List ℕ) → same_bytes w.key k ≡ b → b ≡ false → (b || names_key ws k) ≡ true → names_key ws k ≡ true
+    named : (b : Bool) (k : List ℕ) → same_bytes w.key k ≡ b → b ≡ false
+        → (b || names_key ws k) ≡ true → names_key ws k ≡ true
     named true k e apart h = absurd (cc)
     named false k e apart h = h
 
-    done : (k : List ℕ) (b : Bool) → same_key w.key k ≡ b → (names_key (w ∷ ws) k ≡ true) ⊎ (holder_of new k ≡ Some x)
+    done : (k : List ℕ) (b : Bool) → same_key w.key k ≡ b
+        → (names_key (w ∷ ws) k ≡ true) ⊎ (holder_of new k ≡ Some x)
         → (names_key ws k ≡ true) ⊎ (holder_of next k ≡ Some x)
     done k true e before =
         let one : w.key ≡ k = search rules in
         inr (subst (λ j. holder_of next j ≡ Some x) one own)
     done k false e before =
         elim before [
-          | inl there ↦ inl (named (same_bytes w.key k) k refl (sym (same_bytes_is_equality w.key k) ∙ e) there)
+          | inl there ↦ inl (named (same_bytes w.key k) k refl
+              (sym (same_bytes_is_equality w.key k) ∙ e) there)
           | inr was ↦ inr (kept k e ∙ was)
         ]
 

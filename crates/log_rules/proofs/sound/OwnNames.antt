@@ -16,7 +16,8 @@ case_is_sound : (x : Txn) (b : Option (ProcessId × Ticket)) → FitsTxn x → F
 case_is_sound x None hx hb = record { whole = refl; fits = (hx, tt) }
 case_is_sound x (Some b) hx hb = record { whole = refl; fits = (hx, hb) }
 
-no_case_is_foreign : (x : Txn) (b : Option (ProcessId × Ticket)) (xid : XidParts) → ◌≡◌ {A = Name} (None, Foreign xid) (case_name x b) → ⊥
+no_case_is_foreign : (x : Txn) (b : Option (ProcessId × Ticket)) (xid : XidParts)
+    → ◌≡◌ {A = Name} (None, Foreign xid) (case_name x b) → ⊥
 no_case_is_foreign x None xid e =
     let other : Foreign xid ≡ CaseBranch (record { txn = x; ticket = None }) = ap (λ (n : Name). n.1) e in
     absurd (cc)
@@ -35,9 +36,15 @@ names_are_sound xid is = by_test (same_xid (branch_parts x b) xid) refl
     b = below_in xid.bqual
 
     by_test : (s : Bool) → same_xid (branch_parts x b) xid ≡ s
-        → IsSoundName (cond s (case_name x b) (None, Foreign xid)).0 (cond s (case_name x b) (None, Foreign xid)).1
-    by_test true e = case_is_sound x b (fits_txn_in (presumption_in xid.format) xid.gtrid is.fits.gtrid) (fits_below_in xid.bqual is.fits.bqual)
+        → IsSoundName (cond s (case_name x b) (None, Foreign xid)).0
+        (cond s (case_name x b) (None, Foreign xid)).1
+    by_test true e = case_is_sound x b (fits_txn_in (presumption_in xid.format) xid.gtrid is.fits.gtrid)
+        (fits_below_in xid.bqual is.fits.bqual)
     by_test false e = record {
-      whole = (refl, λ y d hy hd same. no_case_is_foreign y d xid (sym (ap (λ s. cond s (case_name x b) (None, Foreign xid)) e) ∙ case_of y d xid hy hd same));
+      whole = (
+        refl,
+        λ y d hy hd same. no_case_is_foreign y d xid
+            (sym (ap (λ s. cond s (case_name x b) (None, Foreign xid)) e) ∙ case_of y d xid hy hd same),
+      );
       fits = is;
     }

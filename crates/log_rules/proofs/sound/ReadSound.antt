@@ -59,7 +59,8 @@ behind zero xs k h = omega (arith, h)
 behind (suc n) [] k h = absurd (omega (arith, h))
 behind (suc n) (x ∷ xs) k h = behind n xs k (omega (arith, h))
 
-fault_is : (o : Option XidError) (b : Bool) → is_some (option_or o (cond b (Some Truncated) None)) ≡ false → o ≡ None
+fault_is : (o : Option XidError) (b : Bool) → is_some
+    (option_or o (cond b (Some Truncated) None)) ≡ false → o ≡ None
 fault_is None b h = refl
 fault_is (Some e) b h = absurd (cc)
 
@@ -68,18 +69,23 @@ front_is_xid (a ∷ b ∷ c ∷ d ∷ g ∷ q ∷ rest) h sound =
     let format = format_of (a ∷ b ∷ c ∷ d ∷ []) in
     let long : g + q ≤ length rest = enough (length rest) (g + q)
     (no_fault (xid_fault format g q) (nat_lt (length rest) (g + q)) sound) in
-    let none : xid_fault format g q ≡ None = fault_is (xid_fault format g q) (nat_lt (length rest) (g + q)) sound in
+    let none : xid_fault format g q ≡ None = fault_is (xid_fault format g q)
+    (nat_lt (length rest) (g + q)) sound in
     let bytes : AreBytes rest = tail_bytes q rest (tail_bytes g (q ∷ rest) (tail_bytes d (g ∷ q ∷ rest)
-    (tail_bytes c (d ∷ g ∷ q ∷ rest) (tail_bytes b (c ∷ d ∷ g ∷ q ∷ rest) (tail_bytes a (b ∷ c ∷ d ∷ g ∷ q ∷ rest) h))))) in
+    (tail_bytes c (d ∷ g ∷ q ∷ rest) (tail_bytes b (c ∷ d ∷ g ∷ q ∷ rest)
+    (tail_bytes a (b ∷ c ∷ d ∷ g ∷ q ∷ rest) h))))) in
     let first : length (take g rest) ≡ g = taken g rest (omega (arith, long)) in
     let second : length (take q (drop g rest)) ≡ q = taken q (drop g rest) (behind g rest q long) in
     record {
       fits = record {
-        format = sfits_to_z {w = w32} {n = from_be_bytes w32 (a ∷ b ∷ c ∷ d ∷ [])} (Fits-of_lt {w = w32} {n = from_be_bytes w32 (a ∷ b ∷ c ∷ d ∷ [])} (four_below a b c d (h 0) (h 1) (h 2) (h 3)));
+        format = sfits_to_z {w = w32} {n = from_be_bytes w32 (a ∷ b ∷ c ∷ d ∷ [])}
+            (Fits-of_lt {w = w32} {n = from_be_bytes w32 (a ∷ b ∷ c ∷ d ∷ [])}
+            (four_below a b c d (h 0) (h 1) (h 2) (h 3)));
         gtrid = bytes_all (take g rest) (first_bytes g rest bytes);
         bqual = bytes_all (take q (drop g rest)) (first_bytes q (drop g rest) (bytes_behind g rest bytes));
       };
-      sound = ap (λ n. xid_fault format n (length (take q (drop g rest)))) first ∙ ap (xid_fault format g) second ∙ none;
+      sound = ap (λ n. xid_fault format n (length (take q (drop g rest)))) first
+          ∙ ap (xid_fault format g) second ∙ none;
     }
 front_is_xid [] h sound = absurd (cc)
 front_is_xid (a ∷ []) h sound = absurd (cc)
@@ -93,7 +99,8 @@ unfolding xid_at
 xid_sound xs p h e = by_fault (is_some (front_fault xs)) refl e
   where
     by_fault : (b : Bool) → is_some (front_fault xs) ≡ b
-        → cond b None (Some (front_parts xs, drop (length (xid_bytes (front_parts xs))) xs)) ≡ Some p → IsXid p.0
+        → cond b None (Some (front_parts xs, drop (length (xid_bytes (front_parts xs))) xs)) ≡ Some p
+        → IsXid p.0
     by_fault true is f = absurd (none_some p f)
     by_fault false is f = subst (λ (q : XidParts × List ℕ). IsXid q.0) (some_is _ p f) (front_is_xid xs h is)
 
@@ -125,7 +132,8 @@ ticket_sound xs p h e =
 -- Lists.
 
 -- the first is sound, and what is read behind it
-rest_sound : {A : Type 0} (Good : A → Type 0) (p : A × List ℕ) (n : ℕ) (ys : List A) (o : Option (List A)) → Good p.0
+rest_sound : {A : Type 0} (Good : A → Type 0) (p : A × List ℕ) (n : ℕ) (ys : List A)
+    (o : Option (List A)) → Good p.0
     → ((zs : List A) → o ≡ Some zs → (length zs ≡ n) × AllByRecursion Good zs)
     → option_map (λ zs. p.0 ∷ zs) o ≡ Some ys → (length ys ≡ suc n) × AllByRecursion Good ys
 rest_sound Good p n ys None is more f = absurd (none_some ys f)
@@ -135,7 +143,8 @@ rest_sound {A} Good p n ys (Some zs) is more f =
 
 first_sound : {A : Type 0} (at : List ℕ → Front A) (Good : A → Type 0) (n : ℕ) (ys : List A) (o : Front A)
     → ((p : A × List ℕ) → o ≡ Some p → Good p.0)
-    → ((p : A × List ℕ) (zs : List A) → o ≡ Some p → all_of at n p.1 ≡ Some zs → (length zs ≡ n) × AllByRecursion Good zs)
+    → ((p : A × List ℕ) (zs : List A) → o ≡ Some p → all_of at n p.1 ≡ Some zs
+    → (length zs ≡ n) × AllByRecursion Good zs)
     → and_more o (all_of at n) ≡ Some ys → (length ys ≡ suc n) × AllByRecursion Good ys
 first_sound at Good n ys None good more f = absurd (none_some ys f)
 first_sound at Good n ys (Some p) good more f =
@@ -157,17 +166,20 @@ all_sound at Good good rest (suc n) xs ys h e = first_sound at Good n ys (at xs)
 tickets_sound : (xs : List ℕ) (ts : List Ticket) → AreBytes xs → tickets_of xs ≡ Some ts → AreSoundTickets ts
 tickets_sound [] ts h e = absurd (none_some ts e)
 tickets_sound (count ∷ rest) ts h e =
-    let all = all_sound ticket_at IsSoundTicket ticket_sound (λ xs p k is. (ticket_cut xs p k is).bytes) count rest ts
+    let all = all_sound ticket_at IsSoundTicket ticket_sound
+    (λ xs p k is. (ticket_cut xs p k is).bytes) count rest ts
     (tail_bytes count rest h) e in
     let small : count < 256 = h 0 in
     record { count = omega (arith, all.0, small); each = all.1 }
 
 -- Keys, values and writes.
 
-piece_sound : (least most size : ℕ) (rest : List ℕ) (p : List ℕ × List ℕ) → piece_at least most size rest ≡ Some p
+piece_sound : (least most size : ℕ) (rest : List ℕ) (p : List ℕ × List ℕ)
+    → piece_at least most size rest ≡ Some p
     → (least ≤ length p.0) × (length p.0 ≤ most)
 piece_sound least most size rest p e =
-    let got = passed (nat_le least size && nat_le size most && nat_le size (length rest)) (take size rest, drop size rest) p e in
+    let got = passed (nat_le least size && nat_le size most && nat_le size (length rest))
+    (take size rest, drop size rest) p e in
     let cut = piece_cut least most size rest p e in
     let outer = both (nat_le least size && nat_le size most) (nat_le size (length rest)) got.0 in
     let inner = both (nat_le least size) (nat_le size most) outer.0 in
@@ -191,14 +203,17 @@ put_sound key None p k v e = absurd (none_some p e)
 put_sound key (Some w) p k v e = subst (λ (q : Write × List ℕ). IsSoundWrite q.0) (some_is _ p e)
     (record { key = k; left = v w refl })
 
-left_sound : (key xs : List ℕ) (p : Write × List ℕ) → IsSoundKey key → left_at key xs ≡ Some p → IsSoundWrite p.0
+left_sound : (key xs : List ℕ) (p : Write × List ℕ) → IsSoundKey key
+    → left_at key xs ≡ Some p → IsSoundWrite p.0
 left_sound key [] p k e = absurd (none_some p e)
 left_sound key (how ∷ rest) p k e = by_how (how == 0) (how == 1) e
   where
     by_how : (a b : Bool)
-        → cond a (Some (record { key = key; value = None }, rest)) (cond b (put_of key (value_at rest)) None) ≡ Some p
+        → cond a (Some (record { key = key; value = None }, rest))
+        (cond b (put_of key (value_at rest)) None) ≡ Some p
         → IsSoundWrite p.0
-    by_how true b f = subst (λ (q : Write × List ℕ). IsSoundWrite q.0) (some_is _ p f) (record { key = k; left = tt })
+    by_how true b f = subst (λ (q : Write × List ℕ). IsSoundWrite q.0) (some_is _ p f)
+        (record { key = k; left = tt })
     by_how false true f = put_sound key (value_at rest) p k (λ v is. value_sound rest v is) f
     by_how false false f = absurd (none_some p f)
 
@@ -214,10 +229,12 @@ writes_sound : (xs : List ℕ) (ws : List Write) → AreBytes xs → writes_of x
 writes_sound [] ws h e = absurd (none_some ws e)
 writes_sound (count ∷ rest) ws h e = by_count (nat_le 1 count && nat_le count 64) refl e
   where
-    by_count : (b : Bool) → (nat_le 1 count && nat_le count 64) ≡ b → cond b (all_of write_at count rest) None ≡ Some ws
+    by_count : (b : Bool) → (nat_le 1 count && nat_le count 64) ≡ b
+        → cond b (all_of write_at count rest) None ≡ Some ws
         → AreSoundWrites ws
     by_count true is f =
-        let all = all_sound write_at IsSoundWrite write_sound (λ xs p k w. (write_cut xs p k w).bytes) count rest ws
+        let all = all_sound write_at IsSoundWrite write_sound
+        (λ xs p k w. (write_cut xs p k w).bytes) count rest ws
         (tail_bytes count rest h) f in
         let range = both (nat_le 1 count) (nat_le count 64) is in
         let low : 1 ≤ count = at_most 1 count range.0 in
@@ -270,7 +287,8 @@ case_sound kind p c rest l h n e = by_kind (kind == 6) (length rest == 0) (nat_l
         → IsSound Coordinator l
     by_kind true true d f = subst (IsSound Coordinator) (some_is _ l f) n
     by_kind true false d f = absurd (none_some l f)
-    by_kind false b true f = listed_sound kind p c l (tickets_of rest) n (λ ts is. tickets_sound rest ts h is) f
+    by_kind false b true f = listed_sound kind p c l (tickets_of rest) n
+        (λ ts is. tickets_sound rest ts h is) f
     by_kind false b false f = absurd (none_some l f)
 
 of_case_sound : (kind : ℕ) (p : Option ProcessId) (b : Branch) (rest : List ℕ) (l : LogRecord) → AreBytes rest
@@ -284,14 +302,16 @@ of_name_sound kind xs l None h is e = absurd (none_some l e)
 of_name_sound kind xs l (Some n) h is e =
     of_case_sound kind n.0.0 n.0.1 n.1 l (name_cut xs n h is).bytes (name_sound xs n h is) e
 
-coordinator_sound : (kind : ℕ) (xs : List ℕ) (l : LogRecord) → AreBytes xs → coordinator_record kind xs ≡ Some l
+coordinator_sound : (kind : ℕ) (xs : List ℕ) (l : LogRecord) → AreBytes xs
+    → coordinator_record kind xs ≡ Some l
     → IsSound Coordinator l
 unfolding coordinator_record
 coordinator_sound kind xs l h e = of_name_sound kind xs l (name_at xs) h refl e
 
 -- Records of managers.
 
-bare_sound : (p : Option ProcessId) (b : Branch) (kind : ℕ) (r : Record) → IsSoundName p b → bare kind b ≡ Some r
+bare_sound : (p : Option ProcessId) (b : Branch) (kind : ℕ) (r : Record)
+    → IsSoundName p b → bare kind b ≡ Some r
     → IsSoundEntry Manager p r
 bare_sound p b kind r n e = by_tests (kind == 18) (kind == 19) (kind == 21) (kind == 22) (kind == 24) e
   where
@@ -300,7 +320,8 @@ bare_sound p b kind r n e = by_tests (kind == 18) (kind == 19) (kind == 21) (kin
 
     by_tests : (a c d f g : Bool)
         → cond a (Some (Committed b)) (cond c (Some (RolledBack b))
-        (cond d (Some (HeurCommit b)) (cond f (Some (HeurRollback b)) (cond g (Some (Forgot b)) None)))) ≡ Some r
+        (cond d (Some (HeurCommit b)) (cond f (Some (HeurRollback b)) (cond g (Some (Forgot b)) None))))
+        ≡ Some r
         → IsSoundEntry Manager p r
     by_tests true c d f g q = alone (Committed b) n q
     by_tests false true d f g q = alone (RolledBack b) n q
@@ -309,7 +330,8 @@ bare_sound p b kind r n e = by_tests (kind == 18) (kind == 19) (kind == 21) (kin
     by_tests false false false false true q = alone (Forgot b) n q
     by_tests false false false false false q = absurd (none_some r q)
 
-told_sound : (p : Option ProcessId) (b : Branch) (rest : List ℕ) (r : Record) → IsSoundName p b → told b rest ≡ Some r
+told_sound : (p : Option ProcessId) (b : Branch) (rest : List ℕ) (r : Record)
+    → IsSoundName p b → told b rest ≡ Some r
     → IsSoundEntry Manager p r
 told_sound p b [] r n e = absurd (none_some r e)
 told_sound p b (o ∷ q ∷ rest) r n e = absurd (none_some r e)
@@ -322,11 +344,13 @@ told_sound p b (o ∷ []) r n e = by_tests (o == 1) (o == 0) e
     by_tests false true f = subst (IsSoundEntry Manager p) (some_is _ r f) n
     by_tests false false f = absurd (none_some r f)
 
-writing_sound : (p : Option ProcessId) (b : Branch) (kind : ℕ) (r : Record) (o : Option (List Write)) → IsSoundName p b
+writing_sound : (p : Option ProcessId) (b : Branch) (kind : ℕ) (r : Record)
+    (o : Option (List Write)) → IsSoundName p b
     → ((ws : List Write) → o ≡ Some ws → AreSoundWrites ws) → option_map (writing kind b) o ≡ Some r
     → IsSoundEntry Manager p r
 writing_sound p b kind r None n is e = absurd (none_some r e)
-writing_sound p b kind r (Some ws) n is e = subst (IsSoundEntry Manager p) (some_is _ r e) (by_kind (kind == 17))
+writing_sound p b kind r (Some ws) n is e = subst (IsSoundEntry Manager p)
+    (some_is _ r e) (by_kind (kind == 17))
   where
     by_kind : (a : Bool) → IsSoundEntry Manager p (cond a (Prepared b ws) (Direct b ws))
     by_kind true = (n, is ws refl)
@@ -345,7 +369,8 @@ branch_sound p b kind rest r h n e = by_tests ((kind == 17) || (kind == 20)) (ki
     by_tests false false false f = absurd (none_some r f)
 
 named_sound : (p : Option ProcessId) (l : LogRecord) (o : Option Record)
-    → ((r : Record) → o ≡ Some r → IsSoundEntry Manager p r) → option_map (named p) o ≡ Some l → IsSound Manager l
+    → ((r : Record) → o ≡ Some r → IsSoundEntry Manager p r)
+    → option_map (named p) o ≡ Some l → IsSound Manager l
 named_sound p l None is e = absurd (none_some l e)
 named_sound p l (Some r) is e = subst (IsSound Manager) (some_is _ l e) (is r refl)
 
@@ -377,7 +402,8 @@ manager_sound kind xs l h e = by_kind (kind == 25) (kind == 26) e
     by_kind : (a b : Bool)
         → cond a (option_map (λ n. unnamed (Base n)) (below xs))
         (cond b (pair_by (key_at xs)) (of_branch kind (name_at xs))) ≡ Some l → IsSound Manager l
-    by_kind true b f = unnamed_by Manager Base l (below xs) (λ n is. (refl, is)) (λ n is. number_sound xs n is) f
+    by_kind true b f = unnamed_by Manager Base l (below xs) (λ n is. (refl, is))
+        (λ n is. number_sound xs n is) f
     by_kind false true f = pair_sound l (key_at xs) (λ k is. key_sound xs k is) f
     by_kind false false f = of_branch_sound kind xs l (name_at xs) h refl f
 
@@ -387,13 +413,17 @@ pub read_is_sound : ReadIsSound
 unfolding read_record
 read_is_sound Coordinator kind xs l h e = by_kind (kind == 1) e
   where
-    by_kind : (a : Bool) → cond a (option_map (λ n. unnamed (Opened n)) (below xs)) (coordinator_record kind xs) ≡ Some l
+    by_kind : (a : Bool) → cond a (option_map (λ n. unnamed (Opened n)) (below xs))
+        (coordinator_record kind xs) ≡ Some l
         → IsSound Coordinator l
-    by_kind true f = unnamed_by Coordinator Opened l (below xs) (λ n is. (refl, is)) (λ n is. number_sound xs n is) f
+    by_kind true f = unnamed_by Coordinator Opened l (below xs) (λ n is. (refl, is))
+        (λ n is. number_sound xs n is) f
     by_kind false f = coordinator_sound kind xs l h f
 read_is_sound Manager kind xs l h e = by_kind (kind == 1) e
   where
-    by_kind : (a : Bool) → cond a (option_map (λ n. unnamed (Opened n)) (below xs)) (manager_record kind xs) ≡ Some l
+    by_kind : (a : Bool) → cond a (option_map (λ n. unnamed (Opened n)) (below xs))
+        (manager_record kind xs) ≡ Some l
         → IsSound Manager l
-    by_kind true f = unnamed_by Manager Opened l (below xs) (λ n is. (refl, is)) (λ n is. number_sound xs n is) f
+    by_kind true f = unnamed_by Manager Opened l (below xs) (λ n is. (refl, is))
+        (λ n is. number_sound xs n is) f
     by_kind false f = manager_sound kind xs l h f

@@ -17,12 +17,14 @@ spelled lines i o r is h =
     (subst (λ (p : Option Request). IfSome p (λ q. Spells (get_or lines i blank).now q)) is h)
 
 pub unspelled : (lines : List (Bor (List ℕ))) (i : ℕ) (o : Option Request) → o ≡ None
-    → IfNone o ((q : Request) → Spells (get_or lines i blank).now q → ⊥) → (q : Request) → Spells (get_or (texts lines) i []) q → ⊥
+    → IfNone o ((q : Request) → Spells (get_or lines i blank).now q → ⊥) → (q : Request)
+    → Spells (get_or (texts lines) i []) q → ⊥
 unspelled lines i o is h =
     subst (λ (l : List ℕ). (q : Request) → Spells l q → ⊥) (sym (text_at lines i))
     (subst (λ (p : Option Request). IfNone p ((q : Request) → Spells (get_or lines i blank).now q → ⊥)) is h)
 
-each_more : (ls : List (List ℕ)) (rs : List Request) (l : List ℕ) (r : Request) → SpellEach ls rs → Spells l r → SpellEach (ls ++ l ∷ []) (rs ++ r ∷ [])
+each_more : (ls : List (List ℕ)) (rs : List Request) (l : List ℕ) (r : Request) → SpellEach ls rs → Spells l r
+    → SpellEach (ls ++ l ∷ []) (rs ++ r ∷ [])
 each_more [] [] l r h s = (s, tt)
 each_more [] (q ∷ rs) l r h s = absurd h
 each_more (k ∷ ls) [] l r h s = absurd h
@@ -34,21 +36,30 @@ one_kept l e = rw e refl
 one_skipped : (l : List ℕ) → is_skipped l ≡ true → call_lines (l ∷ []) ≡ []
 one_skipped l e = rw e refl
 
-one_line : (ls : List (List ℕ)) (i : ℕ) → i < length ls → call_lines (take (i + 1) ls) ≡ call_lines (take i ls) ++ call_lines (get_or ls i [] ∷ [])
-one_line ls i lt = ap call_lines (take_more ls i [] lt) ∙ filter-append (λ line. not (is_skipped line)) (take i ls) (get_or ls i [] ∷ [])
+one_line : (ls : List (List ℕ)) (i : ℕ) → i < length ls
+    → call_lines (take (i + 1) ls) ≡ call_lines (take i ls) ++ call_lines (get_or ls i [] ∷ [])
+one_line ls i lt = ap call_lines (take_more ls i [] lt)
+    ∙ filter-append (λ line. not (is_skipped line)) (take i ls) (get_or ls i [] ∷ [])
 
 -- one more line is skipped
-pub skips : (ls : List (List ℕ)) (i : ℕ) (rs : List Request) → i < length ls → is_skipped (get_or ls i []) ≡ true → SpellEach (call_lines (take i ls)) rs → SpellEach (call_lines (take (i + 1) ls)) rs
+pub skips : (ls : List (List ℕ)) (i : ℕ) (rs : List Request) → i < length ls → is_skipped (get_or ls i [])
+    ≡ true → SpellEach (call_lines (take i ls)) rs → SpellEach (call_lines (take (i + 1) ls)) rs
 skips ls i rs lt skip h =
-    let e = one_line ls i lt ∙ ap (λ (q : List (List ℕ)). call_lines (take i ls) ++ q) (one_skipped (get_or ls i []) skip) ∙ append-nil (call_lines (take i ls)) in
+    let e = one_line ls i lt ∙ ap (λ (q : List (List ℕ)). call_lines (take i ls) ++ q)
+    (one_skipped (get_or ls i []) skip) ∙ append-nil (call_lines (take i ls)) in
     subst (λ (q : List (List ℕ)). SpellEach q rs) (sym e) h
 
 -- one more line spells a request
-pub goes_on : (ls : List (List ℕ)) (i : ℕ) (rs : List Request) (r : Request) → i < length ls → is_skipped (get_or ls i []) ≡ false → Spells (get_or ls i []) r → SpellEach (call_lines (take i ls)) rs → SpellEach (call_lines (take (i + 1) ls)) (rs ++ r ∷ [])
+pub goes_on : (ls : List (List ℕ)) (i : ℕ) (rs : List Request) (r : Request) → i < length ls
+    → is_skipped (get_or ls i []) ≡ false → Spells (get_or ls i []) r → SpellEach (call_lines (take i ls)) rs
+    → SpellEach (call_lines (take (i + 1) ls)) (rs ++ r ∷ [])
 goes_on ls i rs r lt kept s h =
-    let e = one_line ls i lt ∙ ap (λ (q : List (List ℕ)). call_lines (take i ls) ++ q) (one_kept (get_or ls i []) kept) in
-    subst (λ (q : List (List ℕ)). SpellEach q (rs ++ r ∷ [])) (sym e) (each_more (call_lines (take i ls)) rs (get_or ls i []) r h s)
+    let e = one_line ls i lt ∙ ap (λ (q : List (List ℕ)). call_lines (take i ls) ++ q)
+    (one_kept (get_or ls i []) kept) in
+    subst (λ (q : List (List ℕ)). SpellEach q (rs ++ r ∷ [])) (sym e)
+    (each_more (call_lines (take i ls)) rs (get_or ls i []) r h s)
 
 -- there is no line more
-pub ends : (ls : List (List ℕ)) (i : ℕ) (rs : List Request) → length ls ≤ i → SpellEach (call_lines (take i ls)) rs → SpellEach (call_lines ls) rs
+pub ends : (ls : List (List ℕ)) (i : ℕ) (rs : List Request) → length ls ≤ i
+    → SpellEach (call_lines (take i ls)) rs → SpellEach (call_lines ls) rs
 ends ls i rs past h = subst (λ (q : List (List ℕ)). SpellEach (call_lines q) rs) (take_all i ls past) h

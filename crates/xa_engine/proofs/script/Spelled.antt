@@ -19,27 +19,36 @@ if_none (Some x) P h = tt
 abbrev pub NamesNone : List ℕ → Type 0
 NamesNone text = (bits : ℕ) → IsFlagText text bits → ⊥
 
-pub no_flags_alone : (rest : List ℕ) → None ≡ cut_at 32 rest → NamesNone rest → (flags : ℕ) (migrates : Bool) → SpellsOpen rest flags migrates → ⊥
+pub no_flags_alone : (rest : List ℕ) → None ≡ cut_at 32 rest → NamesNone rest → (flags : ℕ) (migrates : Bool)
+    → SpellsOpen rest flags migrates → ⊥
 no_flags_alone rest is none flags migrates s =
-    let t : IsOpenOf rest None flags migrates = subst (λ (o : Option (List ℕ × List ℕ)). IsOpenOf rest o flags migrates) (sym is) s in none flags t.0
+    let t : IsOpenOf rest None flags migrates =
+    subst (λ (o : Option (List ℕ × List ℕ)). IsOpenOf rest o flags migrates) (sym is) s in none flags t.0
 
-pub no_flags_before : (rest : List ℕ) (p : List ℕ × List ℕ) → Some p ≡ cut_at 32 rest → NamesNone p.0 → (flags : ℕ) (migrates : Bool) → SpellsOpen rest flags migrates → ⊥
+pub no_flags_before : (rest : List ℕ) (p : List ℕ × List ℕ) → Some p ≡ cut_at 32 rest → NamesNone p.0
+    → (flags : ℕ) (migrates : Bool) → SpellsOpen rest flags migrates → ⊥
 no_flags_before rest p is none flags migrates s =
-    let t : IsOpenOf rest (Some p) flags migrates = subst (λ (o : Option (List ℕ × List ℕ)). IsOpenOf rest o flags migrates) (sym is) s in none flags t.0
+    let t : IsOpenOf rest (Some p) flags migrates =
+    subst (λ (o : Option (List ℕ × List ℕ)). IsOpenOf rest o flags migrates) (sym is) s in none flags t.0
 
-pub no_flags_recover : (rest : List ℕ) (p : List ℕ × List ℕ × List ℕ) → Some p ≡ three_at rest → NamesNone p.2 → (thread count flags : ℕ) → SpellsRecover rest thread count flags → ⊥
+pub no_flags_recover : (rest : List ℕ) (p : List ℕ × List ℕ × List ℕ) → Some p ≡ three_at rest → NamesNone p.2
+    → (thread count flags : ℕ) → SpellsRecover rest thread count flags → ⊥
 no_flags_recover rest p is none thread count flags s =
     let t : IsNumber p.0 thread × IsNumber p.1 count × IsFlagText p.2 flags =
-    subst (λ (o : Option (List ℕ × List ℕ × List ℕ)). IsSomeAnd o (λ q. IsNumber q.0 thread × IsNumber q.1 count × IsFlagText q.2 flags)) (sym is) s in
+    subst (λ (o : Option (List ℕ × List ℕ × List ℕ)). IsSomeAnd o
+    (λ q. IsNumber q.0 thread × IsNumber q.1 count × IsFlagText q.2 flags)) (sym is) s in
     none flags t.2
 
-pub no_flags_branch : (rest : List ℕ) (p : List ℕ × List ℕ × List ℕ) → Some p ≡ three_at rest → NamesNone p.2 → (thread : ℕ) (xid : Xid) (flags : ℕ) → SpellsBranch rest thread xid flags → ⊥
+pub no_flags_branch : (rest : List ℕ) (p : List ℕ × List ℕ × List ℕ) → Some p ≡ three_at rest → NamesNone p.2
+    → (thread : ℕ) (xid : Xid) (flags : ℕ) → SpellsBranch rest thread xid flags → ⊥
 no_flags_branch rest p is none thread xid flags s =
     let t : IsNumber p.0 thread × IsName p.1 xid × IsFlagText p.2 flags =
-    subst (λ (o : Option (List ℕ × List ℕ × List ℕ)). IsSomeAnd o (λ q. IsNumber q.0 thread × IsName q.1 xid × IsFlagText q.2 flags)) (sym is) s in
+    subst (λ (o : Option (List ℕ × List ℕ × List ℕ)). IsSomeAnd o
+    (λ q. IsNumber q.0 thread × IsName q.1 xid × IsFlagText q.2 flags)) (sym is) s in
     none flags t.2
 
-pub no_flags_close : (c : Call) (rest : List ℕ) → c ≡ call.Close → NamesNone rest → (r : Request) → SpellsCall c rest r → ⊥
+pub no_flags_close : (c : Call) (rest : List ℕ) → c ≡ call.Close → NamesNone rest
+    → (r : Request) → SpellsCall c rest r → ⊥
 no_flags_close c rest is none (Open flags migrates) s = absurd (let e = s.0 in cc)
 no_flags_close c rest is none (Close flags) s = none flags.0 s.1
 no_flags_close c rest is none (Branch f thread xid flags) s = absurd (let e = s.0 in cc)

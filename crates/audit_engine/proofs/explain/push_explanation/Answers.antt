@@ -8,8 +8,10 @@ pub returns : goal.returns
 returns c =
     on_ok c.push_do.result
     (λ last. λ logs are.
-    explanation_pushed c.args.tree.now logs c.args.line.now c.args.out.now.items c.push_told_part.new.out.items
-    c.push_steps.new.out.items c.push_do.new.out.items c.in_ok-steps.steps.items c.in_ok-push_told_part.ensures
+    explanation_pushed c.args.tree.now logs c.args.line.now c.args.out.now.items
+    c.push_told_part.new.out.items
+    c.push_steps.new.out.items c.push_do.new.out.items c.in_ok-steps.steps.items
+    c.in_ok-push_told_part.ensures
     (c.in_ok-push_steps.ensures
     ∙ ap (λ ss. c.push_told_part.new.out.items ++ steps_text c.args.line.now.case.txn.presumption ss)
     c.deref.ensures.value)

@@ -6,16 +6,24 @@ use Rattle.coord_case.proofs.lists.set_vote.Goals as goal
 
 pub returns-in-None : goal.returns-in-None
 returns-in-None c =
-    let past : length c.args.children.now.items ≤ place c.args.ticket.now c.args.children.now.items = grind (arith, common_steps) in
-    record { items = sym (changing-past c.args.ticket.now (voting c.args.vote) c.args.children.now.items past) }
+    let past : length c.args.children.now.items ≤ place c.args.ticket.now c.args.children.now.items =
+    grind (arith, common_steps) in
+    record {
+      items = sym (changing-past c.args.ticket.now (voting c.args.vote)
+          c.args.children.now.items past);
+    }
 
 pub returns-in-Some-get_mut : goal.returns-in-Some-get_mut
 returns-in-Some-get_mut c =
-    let here : c.in-Some.at ≡ place c.args.ticket.now c.args.children.now.items = grind (arith, common_steps) in
-    let is : c.in-Some-get_mut.child.now ≡ get_or c.args.children.now.items c.in-Some.at c.in-Some-get_mut.child.now = search rules in
+    let here : c.in-Some.at ≡ place c.args.ticket.now c.args.children.now.items =
+    grind (arith, common_steps) in
+    let is : c.in-Some-get_mut.child.now ≡ get_or c.args.children.now.items c.in-Some.at
+    c.in-Some-get_mut.child.now = search rules in
     record {
       items =
           ap (λ x. set c.args.children.now.items c.in-Some.at (record x { vote = c.args.vote })) is
-          ∙ ap (λ k. set c.args.children.now.items k (record (get_or c.args.children.now.items k c.in-Some-get_mut.child.now) { vote = c.args.vote })) here
-          ∙ changing-at c.args.ticket.now (voting c.args.vote) c.args.children.now.items c.in-Some-get_mut.child.now;
+          ∙ ap (λ k. set c.args.children.now.items k (record (get_or c.args.children.now.items k
+          c.in-Some-get_mut.child.now) { vote = c.args.vote })) here
+          ∙ changing-at c.args.ticket.now (voting c.args.vote) c.args.children.now.items
+          c.in-Some-get_mut.child.now;
     }

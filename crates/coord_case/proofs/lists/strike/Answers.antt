@@ -6,4 +6,5 @@ use Rattle.coord_case.proofs.lists.strike.Goals as goal
 
 pub returns : goal.returns
 unfolding other_tickets
-returns c = filter_same _ (λ u. not (same_ticket c.args.ticket u)) _ (λ x b f h. search rules) _ _ c.retain.ensures.filtered
+returns c = filter_same _ (λ u. not (same_ticket c.args.ticket u)) _ (λ x b f h. search rules)
+    _ _ c.retain.ensures.filtered

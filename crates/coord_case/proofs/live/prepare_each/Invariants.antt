@@ -6,4 +6,5 @@ use Rattle.coord_case.proofs.live.prepare_each.Given as goal
 
 abbrev pub invariant-loop-child : goal.invariant-loop-child
 invariant-loop-child l =
-    l.messages.items ≡ map (λ c. post l.me c.ticket.child (Prepare (child_case l.txn c.ticket) c.works)) (take l.child-index l.children)
+    l.messages.items ≡ map (λ c. post l.me c.ticket.child (Prepare (child_case l.txn c.ticket) c.works))
+    (take l.child-index l.children)

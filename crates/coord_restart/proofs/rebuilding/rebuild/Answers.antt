@@ -10,4 +10,5 @@ returns c =
     let framed = c.in_ok-frames.ensures {u = tt} in
     rebuilds c.args.me c.args.parent c.args.tree.now c.args.records.now _ _ planned.appended planned.reading
     _ c.in_ok-written.written c.in_ok-cases.messages c.boot.ensures framed.spells framed.sound
-    (c.in_ok-written.ensures {u = tt} ∙ ap (λ rs. map logged_of (forced_all rs)) c.deref.ensures.value) (c.in_ok-cases.ensures {u = tt}) refl
+    (c.in_ok-written.ensures {u = tt} ∙ ap (λ rs. map logged_of (forced_all rs)) c.deref.ensures.value)
+    (c.in_ok-cases.ensures {u = tt}) refl

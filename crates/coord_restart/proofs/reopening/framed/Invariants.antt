@@ -7,5 +7,6 @@ use Rattle.coord_restart.proofs.reopening.framed.Given as goal
 
 abbrev pub invariant-loop-record : goal.invariant-loop-record
 invariant-loop-record l =
-    (map frame_record l.frames.items ++ map (in_log l.fn.parent) l.record-iterator.rest.items ≡ map (in_log l.fn.parent) l.fn.records.items)
+    (map frame_record l.frames.items ++ map (in_log l.fn.parent) l.record-iterator.rest.items
+    ≡ map (in_log l.fn.parent) l.fn.records.items)
     × AreRecords Coordinator (map frame_record l.frames.items)

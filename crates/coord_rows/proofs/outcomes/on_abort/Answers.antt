@@ -8,9 +8,11 @@ use Rattle.coord_rows.proofs.outcomes.on_abort.Goals as goal
 pub returns-in-Aborting-clause-ok : goal.returns-in-Aborting-clause-ok
 returns-in-Aborting-clause-ok c =
     let stands : c.args.live.now.standing ≡ Aborting = search rules in
-    at_view c.args.seat (aborting_abort (seat c.args.seat)) _ c.args.live.now c.aborting_abort.result (ap (on_abort (seat c.args.seat) c.args.live.now) stands) c.aborting_abort.ensures
+    at_view c.args.seat (aborting_abort (seat c.args.seat)) _ c.args.live.now c.aborting_abort.result
+    (ap (on_abort (seat c.args.seat) c.args.live.now) stands) c.aborting_abort.ensures
 
 pub returns-in-Unknown-clause-ok : goal.returns-in-Unknown-clause-ok
 returns-in-Unknown-clause-ok c =
     let stands : c.args.live.now.standing ≡ Unknown = search rules in
-    at_view c.args.seat (unknown_abort (seat c.args.seat)) _ c.args.live.now c.unknown_abort.result (ap (on_abort (seat c.args.seat) c.args.live.now) stands) c.unknown_abort.ensures
+    at_view c.args.seat (unknown_abort (seat c.args.seat)) _ c.args.live.now c.unknown_abort.result
+    (ap (on_abort (seat c.args.seat) c.args.live.now) stands) c.unknown_abort.ensures

@@ -8,4 +8,5 @@ use Rattle.coord_rows.proofs.outcomes.on_commit.Goals as goal
 pub returns-in-Committing-clause-ok : goal.returns-in-Committing-clause-ok
 returns-in-Committing-clause-ok c =
     let stands : c.args.live.now.standing ≡ Committing = search rules in
-    at_view c.args.seat (committing_commit (seat c.args.seat)) _ c.args.live.now c.committing_commit.result (ap (on_commit (seat c.args.seat) c.args.live.now) stands) c.committing_commit.ensures
+    at_view c.args.seat (committing_commit (seat c.args.seat)) _ c.args.live.now c.committing_commit.result
+    (ap (on_commit (seat c.args.seat) c.args.live.now) stands) c.committing_commit.ensures

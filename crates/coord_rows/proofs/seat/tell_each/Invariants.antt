@@ -4,4 +4,5 @@ use Rattle.coord_rows.specs.Rows.{seat as seat_meant}
 use Rattle.coord_rows.proofs.seat.tell_each.Given as goal
 
 abbrev pub invariant-loop-ticket : goal.invariant-loop-ticket
-invariant-loop-ticket l = l.messages ≡ l.fn.messages ++ map (to_child (seat_meant l.seat) (tells_outcome l.outcome)) (take l.ticket-index l.tickets)
+invariant-loop-ticket l = l.messages ≡ l.fn.messages
+    ++ map (to_child (seat_meant l.seat) (tells_outcome l.outcome)) (take l.ticket-index l.tickets)

@@ -11,14 +11,17 @@ use Rattle.coord_turns.proofs.rows.answer.Goals as goal
 pub returns-in-Prepare : goal.returns-in-Prepare
 returns-in-Prepare c =
     let asks : c.args.asked ≡ Prepare = search rules in
-    at_view c.args.seat (unknown_prepare (seat c.args.seat)) _ unknown_view c.unknown_prepare.result (ap (λ (a : Asked). asked_row (seat c.args.seat) a unknown_view) asks) c.unknown_prepare.ensures
+    at_view c.args.seat (unknown_prepare (seat c.args.seat)) _ unknown_view c.unknown_prepare.result
+    (ap (λ (a : Asked). asked_row (seat c.args.seat) a unknown_view) asks) c.unknown_prepare.ensures
 
 pub returns-in-Commits : goal.returns-in-Commits
 returns-in-Commits c =
     let asks : c.args.asked ≡ Commits = search rules in
-    at_view c.args.seat (unknown_commit (seat c.args.seat)) _ unknown_view c.unknown_commit.result (ap (λ (a : Asked). asked_row (seat c.args.seat) a unknown_view) asks) c.unknown_commit.ensures
+    at_view c.args.seat (unknown_commit (seat c.args.seat)) _ unknown_view c.unknown_commit.result
+    (ap (λ (a : Asked). asked_row (seat c.args.seat) a unknown_view) asks) c.unknown_commit.ensures
 
 pub returns-in-Aborts : goal.returns-in-Aborts
 returns-in-Aborts c =
     let asks : c.args.asked ≡ Aborts = search rules in
-    at_view c.args.seat (unknown_abort (seat c.args.seat)) _ unknown_view c.unknown_abort.result (ap (λ (a : Asked). asked_row (seat c.args.seat) a unknown_view) asks) c.unknown_abort.ensures
+    at_view c.args.seat (unknown_abort (seat c.args.seat)) _ unknown_view c.unknown_abort.result
+    (ap (λ (a : Asked). asked_row (seat c.args.seat) a unknown_view) asks) c.unknown_abort.ensures

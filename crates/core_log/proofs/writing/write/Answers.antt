@@ -8,7 +8,13 @@ use Rattle.core_log.proofs.writing.write.Goals as goal
 
 pub returns-then-forced-clause-err : goal.returns-then-forced-clause-err
 returns-then-forced-clause-err g c =
-    let appended : Appended c.args.log.now c.append.new.self (frame_record c.args.frame.now) = c.in_ok-append.ensures.ok in
+    let appended : Appended c.args.log.now c.append.new.self (frame_record c.args.frame.now) =
+    c.in_ok-append.ensures.ok in
     if_err (λ (e : LogError). (e ≡ Device) × Breaks c.append.new.self c.force.new.self [])
-    (λ (e : LogError). (e ≡ Device) × Breaks c.args.log.now c.force.new.self (frame_record c.args.frame.now ∷ []))
-    (λ e is. (is.0, broken_force c.args.log.now c.append.new.self c.force.new.self (frame_record c.args.frame.now) appended is.1)) c.force.result c.force.ensures.err
+    (λ (e : LogError). (e ≡ Device) × Breaks c.args.log.now c.force.new.self
+    (frame_record c.args.frame.now ∷ []))
+    (λ e is. (
+      is.0,
+      broken_force c.args.log.now c.append.new.self c.force.new.self
+          (frame_record c.args.frame.now) appended is.1,
+    )) c.force.result c.force.ensures.err

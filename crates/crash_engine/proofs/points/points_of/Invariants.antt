@@ -6,4 +6,5 @@ use Rattle.crash_engine.proofs.points.points_of.Given as goal
 
 abbrev pub invariant-loop-entry : goal.invariant-loop-entry
 invariant-loop-entry l =
-    l.points.items ≡ flat_map (λ e. points_at e.id (sizes_at (state l.world) e.id)) (take l.entry-index l.entry-items)
+    l.points.items ≡ flat_map (λ e. points_at e.id (sizes_at (state l.world) e.id))
+    (take l.entry-index l.entry-items)

@@ -32,5 +32,7 @@ returns-clause-adds c =
     let made : is_some run.refusal ≡ false = ap (λ (r : Refusal). is_some r) (sym same) ∙ none in
     let points : c.deref.result.now ≡ points_in (state run.world) =
     c.deref.ensures.value ∙ c.in_ok-points.ensures ∙ ap (λ w. points_in (state w)) c.world.ensures in
-    all_tried tree events (state run.world) run.refusal c.deref.result.now c.args.trials.now.items c.try_points.new.trials.items made
-    (comes_to tree start events run c.requires c.in_ok-run.ensures.opened come) points c.in_ok-try_points.ensures.tried
+    all_tried tree events (state run.world) run.refusal c.deref.result.now c.args.trials.now.items
+    c.try_points.new.trials.items made
+    (comes_to tree start events run c.requires c.in_ok-run.ensures.opened come) points
+    c.in_ok-try_points.ensures.tried

@@ -13,7 +13,8 @@ audit_of-requires c =
     let first = c.in_ok-go_on.ensures.goes_on start [] c.in_ok-run.ensures.begins in
     let crashed = c.in_ok-go_on-2.ensures.goes_on start events first in
     subst (λ w. IsTree w.tree) (sym c.world.ensures)
-    (still_tree c.args.tree.now start (events ++ c.deref.result.now) c.go_on-2.new.self c.requires c.in_ok-run.ensures.opened crashed)
+    (still_tree c.args.tree.now start (events ++ c.deref.result.now) c.go_on-2.new.self c.requires
+    c.in_ok-run.ensures.opened crashed)
 
 pub found_of-requires : goal.found_of-requires
 found_of-requires c =
@@ -37,8 +38,10 @@ returns-clause-tries c =
     let crashed = c.in_ok-go_on-2.ensures.goes_on start events first in
     let asked = c.in_ok-go_on-3.ensures.goes_on start (events ++ crash) crashed in
     let ended = c.in_ok-go_on-4.ensures.goes_on start ((events ++ crash) ++ asks) asked in
-    let audits = subst (λ w. Audits (state w) c.in_ok-audited.audited) c.world.ensures c.in_ok-audited.ensures.audits in
-    IfOk-weaker c.found_of.result _ _ (λ f h. tried_so c.args.tree.now events c.args.point c.in_ok-audited.audited crash asks start
+    let audits = subst (λ w. Audits (state w) c.in_ok-audited.audited) c.world.ensures
+    c.in_ok-audited.ensures.audits in
+    IfOk-weaker c.found_of.result _ _ (λ f h. tried_so c.args.tree.now events c.args.point
+    c.in_ok-audited.audited crash asks start
     c.go_on-2.new.self c.go_on-4.new.self f c.requires c.in_ok-run.ensures.opened crashed
     (c.deref.ensures.value ∙ c.in_ok-crash_events.ensures) audits
     (c.deref-2.ensures.value ∙ c.in_ok-asks_of.ensures) ended h) c.found_of.ensures.ends

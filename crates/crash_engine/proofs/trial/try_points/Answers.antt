@@ -12,11 +12,14 @@ loop-point-preserved c =
     let i = c.loop-point.point-index in
     let within : i < length c.args.points.now = omega arith in
     tried_more c.args.tree.now c.args.events.now c.args.points.now i _
-    (trial_of (length c.args.events.now) _ c.in_ok-found.found) c.args.trials.now.items c.loop-point.trials.items
-    c.push_trial.new.trials.items within (get_or_default c.args.points.now i _ _ within) c.in_ok-push_trial.ensures refl refl
+    (trial_of (length c.args.events.now) _ c.in_ok-found.found)
+    c.args.trials.now.items c.loop-point.trials.items
+    c.push_trial.new.trials.items within (get_or_default c.args.points.now i _ _ within)
+    c.in_ok-push_trial.ensures refl refl
     c.in_ok-found.ensures.tries c.loop-point.invariant
 
 pub returns-clause-tried : goal.returns-clause-tried
 returns-clause-tried c =
-    all_points c.args.tree.now c.args.events.now c.args.points.now c.loop-point.point-index c.args.trials.now.items
+    all_points c.args.tree.now c.args.events.now c.args.points.now
+    c.loop-point.point-index c.args.trials.now.items
     c.loop-point.trials.items (omega arith) c.loop-point.invariant

@@ -3,4 +3,5 @@ use Rattle.crash_engine.specs.Trials.{AddsTrials}
 use Rattle.crash_engine.proofs.trial.try_points.Given as goal
 
 abbrev pub invariant-loop-point : goal.invariant-loop-point
-invariant-loop-point l = AddsTrials l.tree l.events (take l.point-index l.points) l.initial.trials.items l.trials.items
+invariant-loop-point l = AddsTrials l.tree l.events (take l.point-index l.points)
+    l.initial.trials.items l.trials.items

@@ -9,6 +9,8 @@ pub returns : goal.returns
 returns c =
     let mine = own_records (place_below c.args.me c.args.parent c.args.tree.now) c.args.records.now in
     let both =
-    planned mine c.in_ok-appended.appended.items c.in_ok-reading.reading c.note_all.new.self (c.in_ok-reading.ensures {u = tt})
-    (c.in_ok-appended.ensures {u = tt}) (c.in_ok-note_all.ensures {u = tt} ∙ ap (fold noted c.in_ok-reading.reading) c.deref.ensures.value) in
+    planned mine c.in_ok-appended.appended.items c.in_ok-reading.reading c.note_all.new.self
+    (c.in_ok-reading.ensures {u = tt})
+    (c.in_ok-appended.ensures {u = tt}) (c.in_ok-note_all.ensures {u = tt}
+    ∙ ap (fold noted c.in_ok-reading.reading) c.deref.ensures.value) in
     record { appended = both.0; reading = both.1 }

@@ -14,4 +14,5 @@ returns-in_ok-push-in-Some-clause-keeps c =
 pub returns-in_ok-push-in-Some-clause-listed : goal.returns-in_ok-push-in-Some-clause-listed
 returns-in_ok-push-in-Some-clause-listed c =
     let pushed : c.push.new.self.items ≡ c.in-Some.list.now.items ++ c.in_ok-key.key ∷ [] = search rules in
-    key_listed _ c.args.xid.now c.push.new.self c.in-Some.list.now.items c.in_ok-key.key c.args.key.now (search rules) pushed (search rules)
+    key_listed _ c.args.xid.now c.push.new.self c.in-Some.list.now.items c.in_ok-key.key c.args.key.now
+    (search rules) pushed (search rules)

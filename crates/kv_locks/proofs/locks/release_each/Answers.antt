@@ -6,11 +6,14 @@ use Rattle.kv_locks.proofs.locks.release_each.Goals as goal
 
 pub loop-rest-preserved : goal.loop-rest-preserved
 loop-rest-preserved c = releasing_goes_on _ _ _ c.key-item.result _ c.args.xid.now
-    (subst (λ ks. IsReleasing (table_of c.args.holders.now.entries) (table_of c.loop-rest.holders.entries) ks c.args.xid.now)
-    (first_and_rest c.loop-rest.rest.now c.key-item.result (search rules) (search rules)) c.loop-rest.invariant)
+    (subst (λ ks. IsReleasing (table_of c.args.holders.now.entries)
+    (table_of c.loop-rest.holders.entries) ks c.args.xid.now)
+    (first_and_rest c.loop-rest.rest.now c.key-item.result (search rules)
+    (search rules)) c.loop-rest.invariant)
     (search rules)
 
 pub returns : goal.returns
 returns c = releasing_ends _ _ c.args.xid.now
-    (subst (λ ks. IsReleasing (table_of c.args.holders.now.entries) (table_of c.loop-rest.holders.entries) ks c.args.xid.now)
+    (subst (λ ks. IsReleasing (table_of c.args.holders.now.entries)
+    (table_of c.loop-rest.holders.entries) ks c.args.xid.now)
     (none_left c.loop-rest.rest.now c.in_default.len_below) c.loop-rest.invariant)

@@ -10,6 +10,10 @@ use Rattle.kv_manager.proofs.restart.opened.Goals as goal
 
 pub returns-clause-sound : goal.returns-clause-sound
 returns-clause-sound c =
-    map_ok (λ frame. frame_record frame ≡ opened c.args.boot) (λ frame. IsRecord Manager (frame_record frame)) c.new.result c.new.ensures
+    map_ok (λ frame. frame_record frame ≡ opened c.args.boot)
+    (λ frame. IsRecord Manager (frame_record frame)) c.new.result c.new.ensures
     (λ frame is. subst (IsRecord Manager) (sym is)
-    (record { fits = records_fit_frames Manager (opened c.args.boot) (refl, c.requires); again = records_read_back Manager (opened c.args.boot) (refl, c.requires) }))
+    (record {
+      fits = records_fit_frames Manager (opened c.args.boot) (refl, c.requires);
+      again = records_read_back Manager (opened c.args.boot) (refl, c.requires);
+    }))

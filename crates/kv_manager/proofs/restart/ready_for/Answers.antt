@@ -2,7 +2,8 @@ use Rattle.kv_manager.proofs.Restoring.{boot_fits}
 use Rattle.kv_manager.proofs.restart.ready_for.Goals as goal
 
 pub announced-requires : goal.announced-requires
-announced-requires c = boot_fits c.in_ok-store.ensures.ok.seen.boot c.in_ok-store.boot c.in_ok-store.ensures.ok.next
+announced-requires c = boot_fits c.in_ok-store.ensures.ok.seen.boot c.in_ok-store.boot
+    c.in_ok-store.ensures.ok.next
 
 pub returns-in-Ok-clause-ok : goal.returns-in-Ok-clause-ok
 returns-in-Ok-clause-ok c = record {

@@ -10,7 +10,8 @@ loop-record-init c = noting_starts c.args.records.now c.new-heuristics.result c.
 pub loop-record-preserved : goal.loop-record-preserved
 loop-record-preserved c =
     let within : c.loop-record.record-index < length c.args.records.now = omega arith in
-    let here = item_and_rest c.args.records.now c.loop-record.record-index c.record-item.result within c.record-item.is in
+    let here = item_and_rest c.args.records.now c.loop-record.record-index
+    c.record-item.result within c.record-item.is in
     let noting : IsNoting c.args.records.now (c.record-item.result ∷ drop
     (c.loop-record.record-index + 1) c.args.records.now) c.loop-record.heuristics =
     subst (λ ls. IsNoting c.args.records.now ls c.loop-record.heuristics) here c.loop-record.invariant in
@@ -18,6 +19,7 @@ loop-record-preserved c =
 
 pub returns : goal.returns
 returns c =
-    let over = drop_all c.loop-record.record-index c.args.records.now (omega (arith, c.loop-record-test.false)) in
+    let over = drop_all c.loop-record.record-index c.args.records.now
+    (omega (arith, c.loop-record-test.false)) in
     noting_ends c.args.records.now c.loop-record.heuristics
     (subst (λ ls. IsNoting c.args.records.now ls c.loop-record.heuristics) over c.loop-record.invariant)

@@ -18,33 +18,40 @@ loop-xid-init c =
 pub give_back-requires-clause-free : goal.give_back-requires-clause-free
 give_back-requires-clause-free c =
     let within : c.loop-xid.xid-index < length c.args.left.now = omega arith in
-    let here = item_and_rest c.args.left.now c.loop-xid.xid-index c.loop-xid-item.result within c.loop-xid-item.is in
+    let here = item_and_rest c.args.left.now c.loop-xid.xid-index c.loop-xid-item.result
+    within c.loop-xid-item.is in
     let restoring : IsRestoring c.args.seen.now (c.loop-xid-item.result ∷ drop
     (c.loop-xid.xid-index + 1) c.args.left.now) c.loop-xid.writes c.loop-xid.locks =
-    subst (λ es. IsRestoring c.args.seen.now es c.loop-xid.writes c.loop-xid.locks) here c.loop-xid.invariant in
+    subst (λ es. IsRestoring c.args.seen.now es c.loop-xid.writes c.loop-xid.locks)
+    here c.loop-xid.invariant in
     subst (AreFree c.loop-xid.locks c.loop-xid-item.result.0) (sym c.promised.ensures)
     (restoring_is_free c.args.seen.now c.requires.orderly c.loop-xid-item.result _ _ _ restoring)
 
 pub loop-xid-preserved : goal.loop-xid-preserved
 loop-xid-preserved c =
     let within : c.loop-xid.xid-index < length c.args.left.now = omega arith in
-    let here = item_and_rest c.args.left.now c.loop-xid.xid-index c.loop-xid-item.result within c.loop-xid-item.is in
+    let here = item_and_rest c.args.left.now c.loop-xid.xid-index c.loop-xid-item.result
+    within c.loop-xid-item.is in
     let restoring : IsRestoring c.args.seen.now (c.loop-xid-item.result ∷ drop
     (c.loop-xid.xid-index + 1) c.args.left.now) c.loop-xid.writes c.loop-xid.locks =
-    subst (λ es. IsRestoring c.args.seen.now es c.loop-xid.writes c.loop-xid.locks) here c.loop-xid.invariant in
+    subst (λ es. IsRestoring c.args.seen.now es c.loop-xid.writes c.loop-xid.locks)
+    here c.loop-xid.invariant in
     elim c.if-is_open.branch [
       | then-is_open+in_ok-give_back w ↦
           let writes : Leaves c.loop-xid.writes w.give_back.new.writes c.loop-xid-item.result.0
           (promised c.args.seen.now c.loop-xid-item.result.0) =
-          subst (Leaves c.loop-xid.writes w.give_back.new.writes c.loop-xid-item.result.0) w.promised.ensures (w.in_ok-give_back.ensures {u = tt}).writes in
+          subst (Leaves c.loop-xid.writes w.give_back.new.writes c.loop-xid-item.result.0) w.promised.ensures
+          (w.in_ok-give_back.ensures {u = tt}).writes in
           let locks : LocksKeys c.loop-xid.locks w.give_back.new.locks c.loop-xid-item.result.0
           (promised c.args.seen.now c.loop-xid-item.result.0) =
-          subst (LocksKeys c.loop-xid.locks w.give_back.new.locks c.loop-xid-item.result.0) w.promised.ensures (w.in_ok-give_back.ensures {u = tt}).locks in
+          subst (LocksKeys c.loop-xid.locks w.give_back.new.locks c.loop-xid-item.result.0) w.promised.ensures
+          (w.in_ok-give_back.ensures {u = tt}).locks in
           subst (λ t. IsRestoring c.args.seen.now (drop
           (c.loop-xid.xid-index + 1) c.args.left.now) t c.if-is_open.locks) (sym w.writes-is)
           (subst (IsRestoring c.args.seen.now (drop
           (c.loop-xid.xid-index + 1) c.args.left.now) w.give_back.new.writes) (sym w.locks-is)
-          (restoring_goes_on c.args.seen.now c.requires.orderly c.loop-xid-item.result _ _ _ restoring w.give_back.new.writes w.give_back.new.locks writes locks))
+          (restoring_goes_on c.args.seen.now c.requires.orderly c.loop-xid-item.result _ _ _ restoring
+          w.give_back.new.writes w.give_back.new.locks writes locks))
       | else-is_open w ↦
           subst (λ t. IsRestoring c.args.seen.now (drop
           (c.loop-xid.xid-index + 1) c.args.left.now) t c.if-is_open.locks) (sym w.writes-is)
@@ -58,4 +65,5 @@ pub returns-clause-ok : goal.returns-clause-ok
 returns-clause-ok c =
     let over = drop_all c.loop-xid.xid-index c.args.left.now (omega (arith, c.loop-xid-test.false)) in
     restoring_ends c.args.seen.now c.loop-xid.writes c.loop-xid.locks
-    (subst (λ es. IsRestoring c.args.seen.now es c.loop-xid.writes c.loop-xid.locks) over c.loop-xid.invariant)
+    (subst (λ es. IsRestoring c.args.seen.now es c.loop-xid.writes
+    c.loop-xid.locks) over c.loop-xid.invariant)

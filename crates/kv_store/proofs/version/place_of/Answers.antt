@@ -7,6 +7,7 @@ use Rattle.kv_store.proofs.version.place_of.Goals as goal
 pub returns : goal.returns
 returns c = (
   c.partition_point.ensures.bound,
-  IsPartitionPoint-from_clause (is_up_to c.args.count) c.args.versions.now c.partition_point.result c.partition_point.ensures.partitioned
+  IsPartitionPoint-from_clause (is_up_to c.args.count) c.args.versions.now c.partition_point.result
+      c.partition_point.ensures.partitioned
       (rising_is_partitioned c.args.count 0 c.args.versions.now c.requires) (λ a r f' called. search rules),
 )

@@ -7,7 +7,8 @@ pub returns-in-Some : goal.returns-in-Some
 returns-in-Some c =
     let had : found c.args.keys.now.entries c.args.key.now ≡ Some c.in-Some.list.now = search rules in
     becomes _ _ c.args.key.now (Some c.keep_up_to.new.versions) _ (search rules) (search rules)
-    (c.keep_up_to.ensures ∙ ap (up_to c.args.count) (sym (list_at_key c.args.keys.now.entries c.args.key.now ∙ ap items_in had)))
+    (c.keep_up_to.ensures ∙ ap (up_to c.args.count)
+    (sym (list_at_key c.args.keys.now.entries c.args.key.now ∙ ap items_in had)))
 
 pub returns-in-None : goal.returns-in-None
 returns-in-None c = becomes_idle _ _ c.args.key.now (up_to c.args.count) (search rules) (search rules) refl

@@ -6,6 +6,8 @@ use Rattle.kv_store.proofs.versions.take_back.Goals as goal
 
 pub loop-rest-preserved : goal.loop-rest-preserved
 loop-rest-preserved c = taking_goes_on _ _ _ c.args.count c.args.writes.now c.write-item.result _
-    (subst (λ ws. IsTakingBack (table_of c.args.keys.now.entries) (table_of c.loop-rest.keys.entries) c.args.count c.args.writes.now ws)
-    (first_and_rest c.loop-rest.rest.now c.write-item.result (search rules) (search rules)) c.loop-rest.invariant)
+    (subst (λ ws. IsTakingBack (table_of c.args.keys.now.entries) (table_of c.loop-rest.keys.entries)
+    c.args.count c.args.writes.now ws)
+    (first_and_rest c.loop-rest.rest.now c.write-item.result (search rules)
+    (search rules)) c.loop-rest.invariant)
     (search rules)

@@ -6,4 +6,5 @@ use Rattle.kv_turns.proofs.entries.name_of.Goals as goal
 
 pub returns-clause-sound : goal.returns-clause-sound
 returns-clause-sound c =
-    subst (λ (n : Name). IsSoundName n.0 n.1) (sym c.name_in.ensures) (names_are_sound c.args.xid.now c.parts-parts.ensures.sound)
+    subst (λ (n : Name). IsSoundName n.0 n.1) (sym c.name_in.ensures)
+    (names_are_sound c.args.xid.now c.parts-parts.ensures.sound)

@@ -7,7 +7,8 @@ use Rattle.live_table.proofs.lists.take_key.Goals as goal
 
 pub returns-in-Some : goal.returns-in-Some
 returns-in-Some c =
-    let had : lookup (txns.ghosts.eq c.args.txn.now) c.args.keys.now.entries ≡ Some c.in-Some.list.now = search rules in
+    let had : lookup (txns.ghosts.eq c.args.txn.now) c.args.keys.now.entries
+    ≡ Some c.in-Some.list.now = search rules in
     listed-dropped c.args.txn.now _ _ c.without.new.list c.args.key (search rules) (λ k.
     c.without.ensures k ∙ sym (ap (λ found. listed found k && not (c.args.key == k)) had))
 
@@ -15,4 +16,5 @@ pub returns-in-None : goal.returns-in-None
 returns-in-None c =
     let none : lookup (txns.ghosts.eq c.args.txn.now) c.args.keys.now.entries ≡ None = search rules in
     let same : c.get_mut.follows.lender-at-none.entries ≡ c.args.keys.now.entries = search rules in
-    λ x k. ap (λ es. listed_for x es k) same ∙ listed-absent c.args.txn.now c.args.keys.now.entries c.args.key none x k
+    λ x k. ap (λ es. listed_for x es k) same ∙ listed-absent c.args.txn.now
+    c.args.keys.now.entries c.args.key none x k

@@ -5,5 +5,6 @@ use Rattle.live_table.proofs.lists.without.Goals as goal
 
 pub returns : goal.returns
 returns c = λ k.
-    ap (λ ks. is_key ks k) (filter-from_retain _ (λ j. not (j == c.args.key)) _ (λ x b f y h. search rules) _ _ c.retain.ensures.filtered)
+    ap (λ ks. is_key ks k) (filter-from_retain _ (λ j. not (j == c.args.key)) _ (λ x b f y h. search rules) _
+    _ c.retain.ensures.filtered)
     ∙ is_key-without c.args.list.now.items c.args.key k

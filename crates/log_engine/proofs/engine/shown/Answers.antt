@@ -8,7 +8,8 @@ use Rattle.log_engine.proofs.engine.shown.Goals as goal
 
 pub returns : goal.returns
 returns c =
-    let end = drop_all c.loop-entry.entry-index c.args.entries.now (omega (arith, c.loop-entry-test.false)) in (
+    let end = drop_all c.loop-entry.entry-index c.args.entries.now
+    (omega (arith, c.loop-entry-test.false)) in (
       sym c.loop-entry.invariant.1 ∙ ap (λ es. first_damage es c.args.logs.now) end
           ∙ none_damaged c.args.logs.now,
       sym (append-nil c.loop-entry.out.items)

@@ -13,7 +13,8 @@ returns-in-Err-Malformed-clause-err c =
 
 pub loop-frame_kind-preserved : goal.loop-frame_kind-preserved
 loop-frame_kind-preserved c =
-    reads_next c.args.kind c.args.bytes.now c.loop-frame_kind.rest.now c.loop-frame_kind.seen c.take_frame.new.seen _
+    reads_next c.args.kind c.args.bytes.now c.loop-frame_kind.rest.now
+    c.loop-frame_kind.seen c.take_frame.new.seen _
     c.loop-frame_kind.invariant (sym c.in-Some.ensures) c.in-Ok.ensures.ok
 
 pub returns-clause-ok : goal.returns-clause-ok

@@ -9,15 +9,19 @@ pub returns-in-RmFail-clause-err : goal.returns-in-RmFail-clause-err
 returns-in-RmFail-clause-err g c =
     let old : ManagerSight = g.M.ResourceManager.sight c.args.manager.now in
     let new : ManagerSight = g.M.ResourceManager.sight c.forget.new.self in
-    breaks old new verb.Forget c.args.xid.now call.Forget _ c.requires.up c.requires.idle c.requires.named refl
-    (forget_row old c.args.xid.now c.requires.state) c.in_ok-forget.field-0 c.in-RmFail.is c.in_ok-forget.ensures.answer
+    breaks old new verb.Forget c.args.xid.now call.Forget _ c.requires.up
+    c.requires.idle c.requires.named refl
+    (forget_row old c.args.xid.now c.requires.state) c.in_ok-forget.field-0 c.in-RmFail.is
+    c.in_ok-forget.ensures.answer
 
 pub returns-in_default : goal.returns-in_default
 returns-in_default g c =
     let old : ManagerSight = g.M.ResourceManager.sight c.args.manager.now in
     let new : ManagerSight = g.M.ResourceManager.sight c.forget.new.self in
     record {
-      ok = (finishes old new verb.Forget c.args.xid.now call.Forget _ c.requires.up c.requires.idle c.requires.named refl
-          (forget_row old c.args.xid.now c.requires.state) c.in_ok-forget.field-0 c.in_default.not-RmFail c.in_default.not-RmErr c.in_ok-forget.ensures.answer).1;
+      ok = (finishes old new verb.Forget c.args.xid.now call.Forget _ c.requires.up
+          c.requires.idle c.requires.named refl
+          (forget_row old c.args.xid.now c.requires.state) c.in_ok-forget.field-0 c.in_default.not-RmFail
+          c.in_default.not-RmErr c.in_ok-forget.ensures.answer).1;
       err = tt;
     }

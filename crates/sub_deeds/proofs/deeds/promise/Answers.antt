@@ -9,15 +9,19 @@ pub returns-in-RmFail-clause-err : goal.returns-in-RmFail-clause-err
 returns-in-RmFail-clause-err g c =
     let old : ManagerSight = g.M.ResourceManager.sight c.args.manager.now in
     let new : ManagerSight = g.M.ResourceManager.sight c.prepare.new.self in
-    breaks old new verb.Prepare c.args.xid.now call.Prepare _ c.requires.up c.requires.idle c.requires.named refl
-    (prepare_row old c.args.xid.now c.requires.state) c.in_ok-prepare.field-0 c.in-RmFail.is c.in_ok-prepare.ensures.answer
+    breaks old new verb.Prepare c.args.xid.now call.Prepare _ c.requires.up
+    c.requires.idle c.requires.named refl
+    (prepare_row old c.args.xid.now c.requires.state) c.in_ok-prepare.field-0 c.in-RmFail.is
+    c.in_ok-prepare.ensures.answer
 
 pub returns-in_default : goal.returns-in_default
 returns-in_default g c =
     let old : ManagerSight = g.M.ResourceManager.sight c.args.manager.now in
     let new : ManagerSight = g.M.ResourceManager.sight c.prepare.new.self in
-    let made = finishes old new verb.Prepare c.args.xid.now call.Prepare _ c.requires.up c.requires.idle c.requires.named refl
-    (prepare_row old c.args.xid.now c.requires.state) c.in_ok-prepare.field-0 c.in_default.not-RmFail c.in_default.not-RmErr c.in_ok-prepare.ensures.answer in
+    let made = finishes old new verb.Prepare c.args.xid.now call.Prepare _ c.requires.up
+    c.requires.idle c.requires.named refl
+    (prepare_row old c.args.xid.now c.requires.state) c.in_ok-prepare.field-0 c.in_default.not-RmFail
+    c.in_default.not-RmErr c.in_ok-prepare.ensures.answer in
     record {
       vote = vote_by (old.writes c.args.xid.now) c.in_ok-prepare.field-0 made.0 c.in_default.not-RdOnly;
       ok = made.1;

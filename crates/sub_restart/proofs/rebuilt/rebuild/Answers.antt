@@ -9,5 +9,7 @@ returns c =
     let s = c.in_ok-branches.field-0 in
     let low = c.if-boot-gt-LAST_BOOT.false in
     let within = c.if-newest-boot.false in
-    rebuilds (leaf c.args.me c.args.parent c.args.tree.now) c.args.parent c.args.records.now s c.in_ok-branches.ensures c.in_ok-messages.messages
-    (c.in_ok-messages.ensures ∙ ap (flat_map (asks c.args.me c.args.parent s.branches)) c.as_slice.ensures.keys) (omega arith) (omega arith)
+    rebuilds (leaf c.args.me c.args.parent c.args.tree.now) c.args.parent c.args.records.now s
+    c.in_ok-branches.ensures c.in_ok-messages.messages
+    (c.in_ok-messages.ensures ∙ ap (flat_map (asks c.args.me c.args.parent s.branches))
+    c.as_slice.ensures.keys) (omega arith) (omega arith)

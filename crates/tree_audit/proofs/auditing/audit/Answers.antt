@@ -7,7 +7,8 @@ use Rattle.tree_audit.proofs.auditing.audit.Goals as goal
 pub returns-clause-ok : goal.returns-clause-ok
 returns-clause-ok c = record {
   sound = c.in_ok-notes.ensures.sound;
-  lines = c.in_ok-audit_notes.ensures.lines (kept_lists c.args.tree.now c.args.logs.now) c.in_ok-notes.ensures.ok;
+  lines = c.in_ok-audit_notes.ensures.lines (kept_lists c.args.tree.now
+      c.args.logs.now) c.in_ok-notes.ensures.ok;
   mismatches = c.in_ok-audit_notes.ensures.mismatches;
 }
 

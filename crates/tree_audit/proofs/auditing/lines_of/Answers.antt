@@ -10,7 +10,8 @@ loop-entry-preserved c =
     let e = c.entry-item.result in
     let rest = at_drop_more (λ xs. xs) es c.loop-entry.entry-index e c.loop-entry-test.true
     ∙ ap (λ x. x ∷ drop (c.loop-entry.entry-index + 1) es) (sym c.entry-item.is) in
-    lines_go_on c.args.notes.now.entries c.args.said.now.entries c.loop-entry.lines.items c.push_lines.new.lines.items _ e
+    lines_go_on c.args.notes.now.entries c.args.said.now.entries c.loop-entry.lines.items
+    c.push_lines.new.lines.items _ e
     (drop (c.loop-entry.entry-index + 1) es) _ c.in_ok-push_lines.ensures rest c.loop-entry.invariant
 
 pub returns : goal.returns

@@ -28,16 +28,20 @@ loop-entry-preserved c =
     let noted : NotesLog c.args.tree.now e (bytes_in c.args.logs.now e.id) c.in-Ok.new =
     subst (λ bytes. NotesLog c.args.tree.now e bytes c.in-Ok.new) c.bytes_of.ensures c.in-Ok.ensures.ok in (
       sym (ap (λ xs. first_damage xs c.args.logs.now) rest
-          ∙ sound_more e (drop (c.loop-entry.entry-index + 1) es) c.args.logs.now noted.records noted.torn noted.read)
+          ∙ sound_more e (drop (c.loop-entry.entry-index + 1) es) c.args.logs.now
+          noted.records noted.torn noted.read)
           ∙ c.loop-entry.invariant.0,
-      noted_next c.args.tree.now c.args.logs.now c.requires es c.loop-entry.entry-index c.loop-entry.notes.entries
-          c.put.new.notes.entries e c.in-Ok.new c.entries-entries.ensures c.loop-entry-test.true c.entry-item.is noted
+      noted_next c.args.tree.now c.args.logs.now c.requires es
+          c.loop-entry.entry-index c.loop-entry.notes.entries
+          c.put.new.notes.entries e c.in-Ok.new c.entries-entries.ensures
+          c.loop-entry-test.true c.entry-item.is noted
           c.in_ok-put-in-Ok.ensures c.loop-entry.invariant.1,
     )
 
 pub returns-clause-sound : goal.returns-clause-sound
 returns-clause-sound c =
-    let end = drop_all c.loop-entry.entry-index c.entries-entries.result.now (omega (arith, c.loop-entry-test.false)) in
+    let end = drop_all c.loop-entry.entry-index c.entries-entries.result.now
+    (omega (arith, c.loop-entry-test.false)) in
     ap (λ es. first_damage es c.args.logs.now) (sym c.entries-entries.ensures)
     ∙ sym c.loop-entry.invariant.0
     ∙ ap (λ es. first_damage es c.args.logs.now) end
@@ -45,5 +49,6 @@ returns-clause-sound c =
 
 pub returns-clause-ok : goal.returns-clause-ok
 returns-clause-ok c =
-    noted_all_of c.args.tree.now c.args.logs.now c.requires c.entries-entries.result.now c.loop-entry.entry-index _
+    noted_all_of c.args.tree.now c.args.logs.now c.requires
+    c.entries-entries.result.now c.loop-entry.entry-index _
     c.entries-entries.ensures (omega (arith, c.loop-entry-test.false)) c.loop-entry.invariant.1

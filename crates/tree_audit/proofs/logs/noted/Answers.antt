@@ -28,7 +28,8 @@ loop-kind-preserved c =
     omega (arith, size, within) in (
       ap (λ at. fold noted_by_record c.take.new.self (own_records (place_at c.args.tree.now c.args.entry.now)
           (map (λ x. x.read) (placed_in c.args.entry.now.kind at 0 c.in-Some.behind.now)))) next
-          ∙ noted_goes_on c.args.tree.now c.args.entry.now c.loop-kind.notes c.take.new.self _ _ c.in-Ok.record _ _
+          ∙ noted_goes_on c.args.tree.now c.args.entry.now c.loop-kind.notes
+          c.take.new.self _ _ c.in-Ok.record _ _
           c.in_ok-take-in-Ok.ensures
           (goes_on c.args.entry.now.kind _ c.loop-kind.rest.now _ c.in-Ok.record
           (sym c.in-Some.ensures) c.in-Ok.ensures.ok)

@@ -6,11 +6,14 @@ use Rattle.tree_audit.proofs.logs.notes_of.Goals as goal
 pub returns-in-Ok-Empty-clause-ok : goal.returns-in-Ok-Empty-clause-ok
 returns-in-Ok-Empty-clause-ok c =
     subst (λ t. NotesLog c.args.tree.now c.args.entry.now c.args.bytes.now t) (sym c.new.ensures)
-    (empty_notes c.args.tree.now c.args.entry.now c.args.bytes.now c.in-Ok-Empty.field-0 c.in-Ok-Empty.ensures.ok
+    (empty_notes c.args.tree.now c.args.entry.now c.args.bytes.now
+    c.in-Ok-Empty.field-0 c.in-Ok-Empty.ensures.ok
     c.in-Ok-Empty.field-0-is)
 
 pub returns-in_ok-noted-in-Ok-Sound-clause-ok : goal.returns-in_ok-noted-in-Ok-Sound-clause-ok
 returns-in_ok-noted-in-Ok-Sound-clause-ok c =
-    sound_notes c.args.tree.now c.args.entry.now c.args.bytes.now c.in-Ok-Sound.field-0 c.in-Ok-Sound.field-0-0
+    sound_notes c.args.tree.now c.args.entry.now c.args.bytes.now
+    c.in-Ok-Sound.field-0 c.in-Ok-Sound.field-0-0
     c.in_ok-noted-in-Ok-Sound.field-0 c.in-Ok-Sound.ensures.ok c.in-Ok-Sound.field-0-is
-    (c.in_ok-noted-in-Ok-Sound.ensures ∙ ap (frames_table c.args.tree.now c.args.entry.now) c.split_at.ensures.back)
+    (c.in_ok-noted-in-Ok-Sound.ensures ∙ ap (frames_table c.args.tree.now
+    c.args.entry.now) c.split_at.ensures.back)

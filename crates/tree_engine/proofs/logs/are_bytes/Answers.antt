@@ -5,4 +5,5 @@ use Rattle.std.proofs.lemmas.List.Elements.{All-from_get_or}
 use Rattle.tree_engine.proofs.logs.are_bytes.Goals as goal
 
 pub returns : goal.returns
-returns c = All-from_get_or (λ b. b < 256) c.args.bytes.now 0 (λ i lt. Fits-lt-pow {w = w8} (c.type_inv.bytes i))
+returns c = All-from_get_or (λ b. b < 256) c.args.bytes.now 0
+    (λ i lt. Fits-lt-pow {w = w8} (c.type_inv.bytes i))

@@ -7,14 +7,17 @@ use Rattle.tree_engine.proofs.logs.logs_left.Goals as goal
 
 pub loop-entry-preserved : goal.loop-entry-preserved
 loop-entry-preserved c = (
-  tell_more (state c.args.world.now) c.entries-entry-items.result.now c.loop-entry.logs.items c.push.new.self.items
+  tell_more (state c.args.world.now) c.entries-entry-items.result.now
+      c.loop-entry.logs.items c.push.new.self.items
       c.loop-entry.entry-index c.entry-item.result
-      (record { process = c.entry-item.result.id; bytes = c.from_vec.result }) c.loop-entry-test.true c.entry-item.is
+      (record { process = c.entry-item.result.id; bytes = c.from_vec.result })
+      c.loop-entry-test.true c.entry-item.is
       c.in_ok-push.ensures.items refl
       (subst (SpellsLogBy ((state c.args.world.now).node_at c.entry-item.result.id)) (sym c.from_vec.ensures)
       c.in_ok-text.ensures) c.loop-entry.invariant.0,
   bytes_more c.loop-entry.logs.items c.push.new.self.items
       (record { process = c.entry-item.result.id; bytes = c.from_vec.result }) c.in_ok-push.ensures.items
-      (subst (λ bs. All (λ b. b < 256) bs) (c.deref.ensures.value ∙ sym c.from_vec.ensures) c.are_bytes.ensures)
+      (subst (λ bs. All (λ b. b < 256) bs) (c.deref.ensures.value
+      ∙ sym c.from_vec.ensures) c.are_bytes.ensures)
       c.loop-entry.invariant.1,
 )

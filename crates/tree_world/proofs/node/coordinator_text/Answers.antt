@@ -8,5 +8,6 @@ use Rattle.tree_world.proofs.node.coordinator_text.Goals as goal
 pub returns : goal.returns
 returns g c =
     let s = state c.args.coordinator.now in
-    IfOk-weaker c.log_text.result _ _ (λ v h. subst (λ k. ReadsAs k v.items (records_of s.log.kept) s.log.failed)
+    IfOk-weaker c.log_text.result _ _ (λ v h. subst
+    (λ k. ReadsAs k v.items (records_of s.log.kept) s.log.failed)
     (sym (role_kind c.args.coordinator.now.parent)) h) c.log_text.ensures

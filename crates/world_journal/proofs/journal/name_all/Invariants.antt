@@ -5,5 +5,6 @@ use Rattle.world_journal.proofs.journal.name_all.Given as goal
 
 abbrev pub invariant-loop-nth : goal.invariant-loop-nth
 invariant-loop-nth l =
-    (l.posted.items ≡ l.initial.posted.items ++ names l.entry l.nth) × (vec_capacity l.posted ≡ vec_capacity l.initial.posted)
+    (l.posted.items ≡ l.initial.posted.items ++ names l.entry l.nth)
+    × (vec_capacity l.posted ≡ vec_capacity l.initial.posted)
     × (vec_len l.posted ≡ vec_len l.initial.posted + l.nth)

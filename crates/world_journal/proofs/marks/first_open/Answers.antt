@@ -6,7 +6,8 @@ pub returns-then-not-marks-place-clause-found : goal.returns-then-not-marks-plac
 returns-then-not-marks-place-clause-found c = (
   c.loop-place-test.true,
   c.loop-place.invariant,
-  opens 1 c.args.marks.now c.loop-place.place c.loop-place-test.true c.loop-place.invariant c.if-not-marks-place.true,
+  opens 1 c.args.marks.now c.loop-place.place c.loop-place-test.true
+      c.loop-place.invariant c.if-not-marks-place.true,
 )
 
 pub returns-clause-none : goal.returns-clause-none

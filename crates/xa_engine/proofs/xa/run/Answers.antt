@@ -16,11 +16,15 @@ loop-request-preserved c =
     let r = c.request-item.result in
     let made = c.in_ok-step.ensures in
     let within : i < length rs = omega arith in
-    let front : take (i + 1) rs ≡ take i rs ++ r ∷ [] = take_more rs i r within ∙ ap (λ q. take i rs ++ q ∷ []) (sym c.request-item.is) in
-    let leads = leads_more c.args.manager.now c.loop-request.manager c.step.new.manager (take i rs) r given made.answer c.loop-request.invariant.1 made.makes in (
+    let front : take (i + 1) rs ≡ take i rs ++ r ∷ [] = take_more rs i r within
+    ∙ ap (λ q. take i rs ++ q ∷ []) (sym c.request-item.is) in
+    let leads = leads_more c.args.manager.now c.loop-request.manager c.step.new.manager (take i rs) r given
+    made.answer c.loop-request.invariant.1 made.makes in (
       given ++ made.answer ∷ [],
-      subst (λ (l : List Request). Leads c.args.manager.now l (given ++ made.answer ∷ []) c.step.new.manager) (sym front) leads,
-      made.line ∙ ap (λ t. t ++ answer_text made.answer) c.loop-request.invariant.2 ∙ sym (text_more given made.answer),
+      subst (λ (l : List Request). Leads c.args.manager.now l (given ++ made.answer ∷ [])
+          c.step.new.manager) (sym front) leads,
+      made.line ∙ ap (λ t. t ++ answer_text made.answer) c.loop-request.invariant.2
+          ∙ sym (text_more given made.answer),
     )
 
 pub returns : goal.returns
@@ -30,6 +34,7 @@ returns c =
     let i = c.loop-request.request-index in
     let past : length rs ≤ i = omega arith in record {
       answers = given;
-      leads = subst (λ (l : List Request). Leads c.args.manager.now l given c.loop-request.manager) (take_all i rs past) c.loop-request.invariant.1;
+      leads = subst (λ (l : List Request). Leads c.args.manager.now l given c.loop-request.manager)
+          (take_all i rs past) c.loop-request.invariant.1;
       lines = c.in_ok-push.ensures ∙ ap (λ t. t ++ (codes "end" ++ 10 ∷ [])) c.loop-request.invariant.2 ∙ sym (append_assoc (flat_map answer_text given) (codes "end") (10 ∷ []));
     }

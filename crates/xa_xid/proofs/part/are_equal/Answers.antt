@@ -5,14 +5,18 @@ use Rattle.xa_xid.proofs.part.are_equal.Goals as goal
 
 pub loop-i-preserved : goal.loop-i-preserved
 loop-i-preserved c =
-    let x : c.from_le_bytes.result ≡ from_le_bytes w64 (get_or c.as_chunks.result.0.now c.loop-i.i []) = c.from_le_bytes.ensures in
-    let y : c.from_le_bytes-in-loop-i.result ≡ from_le_bytes w64 (get_or c.as_chunks-2.result.0.now c.loop-i.i []) =
+    let x : c.from_le_bytes.result ≡ from_le_bytes w64
+    (get_or c.as_chunks.result.0.now c.loop-i.i []) = c.from_le_bytes.ensures in
+    let y : c.from_le_bytes-in-loop-i.result ≡ from_le_bytes w64
+    (get_or c.as_chunks-2.result.0.now c.loop-i.i []) =
     c.from_le_bytes-in-loop-i.ensures in
-    more c.args.a.now c.args.b.now c.as_chunks.result.0.now c.as_chunks-2.result.0.now c.loop-i.i c.from_le_bytes.result
+    more c.args.a.now c.args.b.now c.as_chunks.result.0.now c.as_chunks-2.result.0.now
+    c.loop-i.i c.from_le_bytes.result
     c.from_le_bytes-in-loop-i.result c.told-a c.told-b c.fits-a c.fits-b c.as_chunks.ensures.front
     c.as_chunks-2.ensures.front c.loop-i-test.true c.loop-i.invariant x y c.if-from_le_bytes.false
 
 pub returns : goal.returns
 returns c =
-    whole c.args.a.now c.args.b.now c.as_chunks.result.0.now c.as_chunks-2.result.0.now c.loop-i.i c.told-a c.told-b
+    whole c.args.a.now c.args.b.now c.as_chunks.result.0.now c.as_chunks-2.result.0.now
+    c.loop-i.i c.told-a c.told-b
     c.as_chunks.ensures.front c.as_chunks-2.ensures.front c.loop-i-test.false c.loop-i.invariant

@@ -8,11 +8,14 @@ use Rattle.coord_case.proofs.live.Live.add_work.Goals as goal
 
 pub invariant_of-self : goal.invariant_of-self
 invariant_of-self c =
-    ap are_distinct c.set_works.ensures.items ∙ distinct-changing c.args.ticket.now (sending (c.args.sent + 1)) (λ d. refl) c.self.inside.children.items ∙ c.self.invariant
+    ap are_distinct c.set_works.ensures.items ∙ distinct-changing c.args.ticket.now
+    (sending (c.args.sent + 1)) (λ d. refl) c.self.inside.children.items ∙ c.self.invariant
 
 pub returns : goal.returns
 returns c =
-    let there : in_list (accepted_in c.self.inside.children.items) c.args.ticket.now ≡ true = ap (λ v. in_list v.accepted c.args.ticket.now) c.self.view_is ∙ c.requires.accepted in
+    let there : in_list (accepted_in c.self.inside.children.items) c.args.ticket.now ≡ true =
+    ap (λ v. in_list v.accepted c.args.ticket.now) c.self.view_is ∙ c.requires.accepted in
     let is : c.args.sent + 1 ≡ works_of (works_in c.self.inside.children.items) c.args.ticket.now + 1 =
     ap (λ n. n + 1) (c.requires.sent ∙ sym (ap (λ v. works_of v.works c.args.ticket.now) c.self.view_is)) in
-    rw (c.set_works.ensures.items, ← c.self.view_is) (sends-work c.self.inside.standing c.self.inside.children.items _ _ _ c.args.ticket.now (c.args.sent + 1) c.self.invariant there is)
+    rw (c.set_works.ensures.items, ← c.self.view_is) (sends-work c.self.inside.standing
+    c.self.inside.children.items _ _ _ c.args.ticket.now (c.args.sent + 1) c.self.invariant there is)

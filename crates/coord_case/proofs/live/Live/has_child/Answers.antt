@@ -6,5 +6,6 @@ use Rattle.coord_case.proofs.live.Live.has_child.Goals as goal
 
 pub returns : goal.returns
 returns c =
-    rw (← c.self.view_is) (c.has_child.ensures ∙ ap (λ cs. list_any (λ d. same_process d.ticket.child c.args.child) cs) c.as_slice.ensures
+    rw (← c.self.view_is) (c.has_child.ensures
+    ∙ ap (λ cs. list_any (λ d. same_process d.ticket.child c.args.child) cs) c.as_slice.ensures
     ∙ sym (has_child_any c.self.inside.children.items c.args.child))

@@ -4,4 +4,5 @@ use Rattle.coord_case.specs.Lives.{accepted_in}
 use Rattle.coord_case.proofs.live.Live.is_alone.Goals as goal
 
 pub returns : goal.returns
-returns c = rw (← c.self.view_is) (c.is_alone.ensures ∙ ap (λ cs. none_of (accepted_in cs)) c.as_slice.ensures)
+returns c = rw (← c.self.view_is) (c.is_alone.ensures
+    ∙ ap (λ cs. none_of (accepted_in cs)) c.as_slice.ensures)

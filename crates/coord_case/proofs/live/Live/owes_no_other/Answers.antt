@@ -6,4 +6,5 @@ use Rattle.coord_case.proofs.live.Live.owes_no_other.Goals as goal
 
 pub returns : goal.returns
 returns c =
-    rw (← c.self.view_is) (c.all_are.ensures ∙ ap (λ ts. list_all (λ other. same_ticket c.args.ticket.now other) ts) (search rules) ∙ sym (none_of_others c.args.ticket.now c.self.inside.owed.items))
+    rw (← c.self.view_is) (c.all_are.ensures ∙ ap (λ ts. list_all (λ other. same_ticket c.args.ticket.now
+    other) ts) (search rules) ∙ sym (none_of_others c.args.ticket.now c.self.inside.owed.items))

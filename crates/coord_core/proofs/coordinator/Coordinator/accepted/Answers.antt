@@ -9,4 +9,6 @@ pub returns : goal.returns
 returns g c =
     let live : live_at c.args.self.now.slots c.args.key ≡ Some c.in-Some.live.now = search rules in
     c.child_ticket.ensures
-    ∙ ap (λ (v : CoordinatorView). ticket_of_child v.accepted c.args.child) (sym (view_here c.args.self.now.slots c.args.key c.args.case.now c.in-Some.live.now c.requires.apart c.requires.at live))
+    ∙ ap (λ (v : CoordinatorView). ticket_of_child v.accepted c.args.child)
+    (sym (view_here c.args.self.now.slots c.args.key c.args.case.now c.in-Some.live.now
+    c.requires.apart c.requires.at live))

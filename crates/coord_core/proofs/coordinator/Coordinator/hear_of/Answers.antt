@@ -10,5 +10,7 @@ returns-in-None g c =
 
 pub returns-in-Some : goal.returns-in-Some
 returns-in-Some g c =
-    let finds : FindsAt c.args.self.now.slots c.args.txn c.args.ticket (Some (c.in-Some.key, c.in-Some.case)) = search rules in
-    hears_some c.args.self.now c.args.txn c.args.ticket c.args.asked c.args.otherwise c.in-Some.key c.in-Some.case finds c.requires.child c.requires.up
+    let finds : FindsAt c.args.self.now.slots c.args.txn c.args.ticket
+    (Some (c.in-Some.key, c.in-Some.case)) = search rules in
+    hears_some c.args.self.now c.args.txn c.args.ticket c.args.asked c.args.otherwise c.in-Some.key
+    c.in-Some.case finds c.requires.child c.requires.up

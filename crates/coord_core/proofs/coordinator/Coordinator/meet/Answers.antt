@@ -22,10 +22,12 @@ returns-in-Act g c =
     let is : c.args.input.now ≡ Act c.in-Act.act = search rules in
     let listed : act_is_listed c.args.self.now.tree (Act c.in-Act.act) ≡ true = search rules in
     let up : c.args.self.now.log.sight.failed ≡ false = search rules in
-    subst (λ (i : Input). Meets c.args.self.now i c.meet_act.result) (sym is) (meets_act c.args.self.now c.in-Act.act c.meet_act.result listed up c.meet_act.ensures)
+    subst (λ (i : Input). Meets c.args.self.now i c.meet_act.result) (sym is)
+    (meets_act c.args.self.now c.in-Act.act c.meet_act.result listed up c.meet_act.ensures)
 
 pub returns-in-Message : goal.returns-in-Message
 returns-in-Message g c =
     let is : c.args.input.now ≡ Message c.in-Message.number c.in-Message.message = search rules in
     let up : c.args.self.now.log.sight.failed ≡ false = search rules in
-    subst (λ (i : Input). Meets c.args.self.now i c.hear.result) (sym is) (meets_message c.args.self.now c.in-Message.number c.in-Message.message c.hear.result up c.hear.ensures)
+    subst (λ (i : Input). Meets c.args.self.now i c.hear.result) (sym is) (meets_message c.args.self.now
+    c.in-Message.number c.in-Message.message c.hear.result up c.hear.ensures)

@@ -3,4 +3,5 @@ use Rattle.coord_core.proofs.coordinator.Coordinator.open.Goals as goal
 
 pub returns-in-Ok-clause-ok : goal.returns-in-Ok-clause-ok
 returns-in-Ok-clause-ok g c =
-    opened c.args.me c.args.parent c.args.tree c.args.log c.write_opened.new.log c.new.result c.requires.empty c.requires.works c.in-Ok.ensures.ok c.new.ensures
+    opened c.args.me c.args.parent c.args.tree c.args.log c.write_opened.new.log c.new.result c.requires.empty
+    c.requires.works c.in-Ok.ensures.ok c.new.ensures

@@ -8,5 +8,8 @@ use Rattle.coord_core.proofs.coordinator.Coordinator.presumes.Goals as goal
 
 pub returns-clause-ok : goal.returns-clause-ok
 returns-clause-ok g c =
-    let shown : c.in_ok-presumes.field-0 ≡ reaction_of (sends_only (post c.args.self.now.me c.args.ticket.child (tells_outcome (presumed c.args.txn.presumption) (child_case c.args.txn c.args.ticket)) ∷ [])) = search rules in
-    said_turn c.args.self.now (post c.args.self.now.me c.args.ticket.child (tells_outcome (presumed c.args.txn.presumption) (child_case c.args.txn c.args.ticket)) ∷ []) c.in_ok-presumes.field-0 shown
+    let shown : c.in_ok-presumes.field-0 ≡ reaction_of
+    (sends_only (post c.args.self.now.me c.args.ticket.child (tells_outcome
+    (presumed c.args.txn.presumption) (child_case c.args.txn c.args.ticket)) ∷ [])) = search rules in
+    said_turn c.args.self.now (post c.args.self.now.me c.args.ticket.child (tells_outcome (presumed
+    c.args.txn.presumption) (child_case c.args.txn c.args.ticket)) ∷ []) c.in_ok-presumes.field-0 shown

@@ -8,5 +8,7 @@ use Rattle.coord_core.proofs.coordinator.Coordinator.repeats.Goals as goal
 
 pub returns-clause-ok : goal.returns-clause-ok
 returns-clause-ok g c =
-    let shown : c.in_ok-joined.field-0 ≡ reaction_of (sends_only (post c.args.self.now.me c.args.parent (Joined c.args.case c.args.ticket) ∷ [])) = search rules in
-    said_turn c.args.self.now (post c.args.self.now.me c.args.parent (Joined c.args.case c.args.ticket) ∷ []) c.in_ok-joined.field-0 shown
+    let shown : c.in_ok-joined.field-0 ≡ reaction_of (sends_only
+    (post c.args.self.now.me c.args.parent (Joined c.args.case c.args.ticket) ∷ [])) = search rules in
+    said_turn c.args.self.now (post c.args.self.now.me c.args.parent (Joined c.args.case c.args.ticket) ∷ [])
+    c.in_ok-joined.field-0 shown

@@ -8,13 +8,37 @@ use Rattle.coord_core.proofs.coordinator.Coordinator.restart.Goals as goal
 
 pub invariant_of-self-2 : goal.invariant_of-self-2
 invariant_of-self-2 g c =
-    let v : CoordinatorValue = record { me = c.self.inside.me; parent = c.self.inside.parent; tree = c.self.inside.tree; log = c.self.inside.log; boot = c.self.inside.boot; begun = c.self.inside.begun; given = c.self.inside.given; slots = c.self.inside.cases } in
-    is_coordinator v c.deref.result.now c.in_ok-rebuilt.rebuilt c.restart.new.self (c.in_ok-rebuilt.ensures {u = tt}) (c.restart.ensures.kind ∙ c.self.invariant.kind)
+    let v : CoordinatorValue = record {
+      me = c.self.inside.me;
+      parent = c.self.inside.parent;
+      tree = c.self.inside.tree;
+      log = c.self.inside.log;
+      boot = c.self.inside.boot;
+      begun = c.self.inside.begun;
+      given = c.self.inside.given;
+      slots = c.self.inside.cases;
+    } in
+    is_coordinator v c.deref.result.now c.in_ok-rebuilt.rebuilt c.restart.new.self
+    (c.in_ok-rebuilt.ensures {u = tt}) (c.restart.ensures.kind ∙ c.self.invariant.kind)
 
 pub returns-clause-ok : goal.returns-clause-ok
 returns-clause-ok g c =
-    let v : CoordinatorValue = record { me = c.self.inside.me; parent = c.self.inside.parent; tree = c.self.inside.tree; log = c.self.inside.log; boot = c.self.inside.boot; begun = c.self.inside.begun; given = c.self.inside.given; slots = c.self.inside.cases } in
-    let restarted : LogRestarts c.self.inside.log c.restart.new.self c.args.keep (map frame_record c.in_ok-rebuilt.rebuilt.frames.items) =
-    subst (λ frames. LogRestarts c.self.inside.log c.restart.new.self c.args.keep (map frame_record frames)) c.deref-2.ensures.value c.in_default.ensures.ok in
-    subst (λ (w : CoordinatorValue). Restarts (state w) c.args.keep (state (rebuilt_as v c.restart.new.self c.in_ok-rebuilt.rebuilt)) c.in_ok-rebuilt.rebuilt.reaction) c.self.view_is
-    (restarts v c.args.keep c.deref.result.now c.in_ok-rebuilt.rebuilt c.restart.new.self (c.deref.ensures.value ∙ c.in_ok-records.ensures {u = tt}) (c.in_ok-rebuilt.ensures {u = tt}) restarted)
+    let v : CoordinatorValue = record {
+      me = c.self.inside.me;
+      parent = c.self.inside.parent;
+      tree = c.self.inside.tree;
+      log = c.self.inside.log;
+      boot = c.self.inside.boot;
+      begun = c.self.inside.begun;
+      given = c.self.inside.given;
+      slots = c.self.inside.cases;
+    } in
+    let restarted : LogRestarts c.self.inside.log c.restart.new.self c.args.keep
+    (map frame_record c.in_ok-rebuilt.rebuilt.frames.items) =
+    subst (λ frames. LogRestarts c.self.inside.log c.restart.new.self c.args.keep (map frame_record frames))
+    c.deref-2.ensures.value c.in_default.ensures.ok in
+    subst (λ (w : CoordinatorValue). Restarts (state w) c.args.keep (state (rebuilt_as v c.restart.new.self
+    c.in_ok-rebuilt.rebuilt)) c.in_ok-rebuilt.rebuilt.reaction) c.self.view_is
+    (restarts v c.args.keep c.deref.result.now
+    c.in_ok-rebuilt.rebuilt c.restart.new.self (c.deref.ensures.value ∙ c.in_ok-records.ensures {u = tt})
+    (c.in_ok-rebuilt.ensures {u = tt}) restarted)

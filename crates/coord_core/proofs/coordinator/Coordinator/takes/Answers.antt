@@ -12,19 +12,50 @@ use Rattle.coord_core.proofs.coordinator.Coordinator.takes.Goals as goal
 
 pub returns-in-Err-clause-err : goal.returns-in-Err-clause-err
 returns-in-Err-clause-err g c =
-    let v : CoordinatorValue = record { me = c.self.inside.me; parent = c.self.inside.parent; tree = c.self.inside.tree; log = c.self.inside.log; boot = c.self.inside.boot; begun = c.self.inside.begun; given = c.self.inside.given; slots = c.self.inside.cases } in
-    let takes : TakesRowOf v.slots c.take.new.cases (seat_for v c.args.case) c.args.asked c.in_ok-written.field-0 =
-    subst (λ s. TakesRowOf v.slots c.take.new.cases s c.args.asked c.in_ok-written.field-0) c.seat-seat.ensures c.in_ok-written.ensures.ok in
-    let breaks : Breaks c.make_room.new.log c.write_down.new.log (framed_of c.in_ok-written.field-0.written) = search rules in
-    subst (λ (w : CoordinatorValue). BreaksIn (state w) (state (record v { log = c.write_down.new.log; slots = c.take.new.cases })) (Takes c.args.case (met w c.args.case c.args.asked))) c.self.view_is
-    (row_breaks v c.write_down.new.log c.take.new.cases c.args.case c.args.asked c.in_ok-written.field-0.written c.in_ok-written.field-0.reaction c.make_room.new.log c.make_room.ensures.stays takes breaks)
+    let v : CoordinatorValue = record {
+      me = c.self.inside.me;
+      parent = c.self.inside.parent;
+      tree = c.self.inside.tree;
+      log = c.self.inside.log;
+      boot = c.self.inside.boot;
+      begun = c.self.inside.begun;
+      given = c.self.inside.given;
+      slots = c.self.inside.cases;
+    } in
+    let takes : TakesRowOf v.slots c.take.new.cases (seat_for v c.args.case)
+    c.args.asked c.in_ok-written.field-0 =
+    subst (λ s. TakesRowOf v.slots c.take.new.cases s c.args.asked c.in_ok-written.field-0)
+    c.seat-seat.ensures c.in_ok-written.ensures.ok in
+    let breaks : Breaks c.make_room.new.log c.write_down.new.log
+    (framed_of c.in_ok-written.field-0.written) = search rules in
+    subst (λ (w : CoordinatorValue). BreaksIn (state w) (state (record v {
+      log = c.write_down.new.log;
+      slots = c.take.new.cases;
+    })) (Takes c.args.case (met w c.args.case c.args.asked))) c.self.view_is
+    (row_breaks v c.write_down.new.log c.take.new.cases c.args.case
+    c.args.asked c.in_ok-written.field-0.written c.in_ok-written.field-0.reaction c.make_room.new.log
+    c.make_room.ensures.stays takes breaks)
 
 pub returns-clause-ok : goal.returns-clause-ok
 returns-clause-ok g c =
-    let v : CoordinatorValue = record { me = c.self.inside.me; parent = c.self.inside.parent; tree = c.self.inside.tree; log = c.self.inside.log; boot = c.self.inside.boot; begun = c.self.inside.begun; given = c.self.inside.given; slots = c.self.inside.cases } in
-    let takes : TakesRowOf v.slots c.take.new.cases (seat_for v c.args.case) c.args.asked c.in_ok-written.field-0 =
-    subst (λ s. TakesRowOf v.slots c.take.new.cases s c.args.asked c.in_ok-written.field-0) c.seat-seat.ensures c.in_ok-written.ensures.ok in
-    let writes : WritesDown c.make_room.new.log c.write_down.new.log c.in_ok-written.field-0.written = search rules in
+    let v : CoordinatorValue = record {
+      me = c.self.inside.me;
+      parent = c.self.inside.parent;
+      tree = c.self.inside.tree;
+      log = c.self.inside.log;
+      boot = c.self.inside.boot;
+      begun = c.self.inside.begun;
+      given = c.self.inside.given;
+      slots = c.self.inside.cases;
+    } in
+    let takes : TakesRowOf v.slots c.take.new.cases (seat_for v c.args.case)
+    c.args.asked c.in_ok-written.field-0 =
+    subst (λ s. TakesRowOf v.slots c.take.new.cases s c.args.asked c.in_ok-written.field-0)
+    c.seat-seat.ensures c.in_ok-written.ensures.ok in
+    let writes : WritesDown c.make_room.new.log c.write_down.new.log
+    c.in_ok-written.field-0.written = search rules in
     subst (λ (w : CoordinatorValue). (i : Input) → RetiresAs i c.args.asked c.args.case
-    → Turned (state w) (state (record v { log = c.write_down.new.log; slots = c.take.new.cases })) i (Takes c.args.case (met w c.args.case c.args.asked)) c.in_ok-written.field-0.reaction) c.self.view_is
-    (row_turn v c.write_down.new.log c.take.new.cases c.args.case c.args.asked c.in_ok-written.field-0.written c.in_ok-written.field-0.reaction c.make_room.new.log c.make_room.ensures.stays takes writes)
+    → Turned (state w) (state (record v { log = c.write_down.new.log; slots = c.take.new.cases })) i
+    (Takes c.args.case (met w c.args.case c.args.asked)) c.in_ok-written.field-0.reaction) c.self.view_is
+    (row_turn v c.write_down.new.log c.take.new.cases c.args.case c.args.asked c.in_ok-written.field-0.written
+    c.in_ok-written.field-0.reaction c.make_room.new.log c.make_room.ensures.stays takes writes)

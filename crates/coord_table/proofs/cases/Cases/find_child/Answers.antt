@@ -6,4 +6,5 @@ use Rattle.coord_table.proofs.cases.Cases.find_child.Goals as goal
 pub returns-clause-finds : goal.returns-clause-finds
 returns-clause-finds c =
     subst (λ slots. FindsChild slots c.args.txn.now c.args.ticket.now c.find_by.result) c.self.view_is
-    (FindsChild-found _ _ c.self.inside.table c.args.txn.now c.args.ticket.now c.find_by.result c.find_by.ensures.finds (λ shown b says. says))
+    (FindsChild-found _ _ c.self.inside.table c.args.txn.now c.args.ticket.now c.find_by.result
+    c.find_by.ensures.finds (λ shown b says. says))

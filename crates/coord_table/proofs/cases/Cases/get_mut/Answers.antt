@@ -11,6 +11,7 @@ pub invariant_of-self-lent : goal.invariant_of-self-lent
 invariant_of-self-lent c = λ w.
     let held = c.in-Some.held.now in
     let found = entry_of c.self.inside.table c.args.key held (sym c.in-Some.ensures.value) in
-    subst (λ e. FitsGiven (slice_set c.self.inside.table c.args.key (rewritten e (record held { live = w })))) (sym found.1)
+    subst (λ e. FitsGiven (slice_set c.self.inside.table c.args.key (rewritten e (record held { live = w }))))
+    (sym found.1)
     (subst (λ e. FitsGiven (slice_set c.self.inside.table c.args.key (relived e w))) found.1
     (fits_lent c.self.inside.table c.args.key found.0 held w c.self.invariant found.1))

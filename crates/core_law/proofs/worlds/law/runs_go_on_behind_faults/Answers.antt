@@ -18,7 +18,8 @@ returns-clause-applied c = λ s t event es w is_tree f made.
 
 pub returns-clause-stopped : goal.returns-clause-stopped
 returns-clause-stopped c = λ s t event e es w is_tree f made.
-    (stopped_on entered_of entered_shows as_the_model s.tree is_tree s t event e es w (λ failed. entered_hides) refl f made).goes_on_so
+    (stopped_on entered_of entered_shows as_the_model s.tree is_tree s t event e es w
+    (λ failed. entered_hides) refl f made).goes_on_so
 
 pub returns-clause-led : goal.returns-clause-led
 returns-clause-led c = λ s t events es w is_tree f made.
@@ -26,7 +27,8 @@ returns-clause-led c = λ s t events es w is_tree f made.
 
 pub returns-clause-led_until : goal.returns-clause-led_until
 returns-clause-led_until c = λ s t events n e es w is_tree f made.
-    (leads_until_on entered_of entered_shows as_the_model s.tree is_tree s t events n e es w (λ failed. entered_hides) refl f made).goes_on_so
+    (leads_until_on entered_of entered_shows as_the_model s.tree is_tree s t events n e es w
+    (λ failed. entered_hides) refl f made).goes_on_so
 
 pub returns-clause-headline : goal.returns-clause-headline
 returns-clause-headline c = modelled_behind_faults

@@ -3,4 +3,5 @@ use Rattle.core_law.proofs.worlds.runs.refusals_move_nothing.Goals as goal
 
 pub returns : goal.returns
 returns c =
-    λ tree es w run q old new a i e at stands refused. refusals_move tree es w run q old new a i at stands e refused
+    λ tree es w run q old new a i e at stands refused. refusals_move tree es w run q
+    old new a i at stands e refused

@@ -7,4 +7,5 @@ use Rattle.inquire_core.proofs.reading.Reading.of.Goals as goal
 pub returns : goal.returns
 returns c =
     subst (λ (s : ReadLog). IfOk c.noting.result (λ r. r ≡ s))
-    (read_all (own_records (place_below c.args.me c.args.parent c.args.tree.now) c.args.records.now)) c.noting.ensures
+    (read_all (own_records (place_below c.args.me c.args.parent c.args.tree.now) c.args.records.now))
+    c.noting.ensures

@@ -11,21 +11,43 @@ use Rattle.kv_core.proofs.store.KeyStore.finish.Goals as goal
 
 pub note-requires : goal.note-requires
 note-requires c =
-    let s : KeySight = record { tables = c.self.inside.states; writes = c.self.inside.writes; locks = c.self.inside.locks; versions = c.self.inside.versions; decisions = c.self.inside.heuristics } in
-    let turned : IsTurn s c.args.xid.now c.args.call c.args.turn = subst (λ v. IsTurn v c.args.xid.now c.args.call c.args.turn) (sym c.self.view_is) c.requires.turn in
+    let s : KeySight = record {
+      tables = c.self.inside.states;
+      writes = c.self.inside.writes;
+      locks = c.self.inside.locks;
+      versions = c.self.inside.versions;
+      decisions = c.self.inside.heuristics;
+    } in
+    let turned : IsTurn s c.args.xid.now c.args.call c.args.turn =
+    subst (λ v. IsTurn v c.args.xid.now c.args.call c.args.turn) (sym c.self.view_is) c.requires.turn in
     (notes s c.args.xid.now c.args.call c.args.turn c.self.invariant turned).0
 
 pub invariant_of-self : goal.invariant_of-self
 invariant_of-self c =
-    let s : KeySight = record { tables = c.self.inside.states; writes = c.self.inside.writes; locks = c.self.inside.locks; versions = c.self.inside.versions; decisions = c.self.inside.heuristics } in
-    let after : KeySight = record { tables = c.finish-answer.new.self; writes = c.remove.new.self; locks = c.release.new.self; versions = c.self.inside.versions; decisions = c.note.new.heuristics } in
+    let s : KeySight = record {
+      tables = c.self.inside.states;
+      writes = c.self.inside.writes;
+      locks = c.self.inside.locks;
+      versions = c.self.inside.versions;
+      decisions = c.self.inside.heuristics;
+    } in
+    let after : KeySight = record {
+      tables = c.finish-answer.new.self;
+      writes = c.remove.new.self;
+      locks = c.release.new.self;
+      versions = c.self.inside.versions;
+      decisions = c.note.new.heuristics;
+    } in
     let known : is_known c.self.inside.states.branches.branches c.args.xid.now ≡ true = search rules in
-    let listed : IsListed s c.args.xid.now c.args.call c.args.turn = subst (λ v. IsListed v c.args.xid.now c.args.call c.args.turn) (sym c.self.view_is) c.requires.listed in
-    let turned : IsTurn s c.args.xid.now c.args.call c.args.turn = subst (λ v. IsTurn v c.args.xid.now c.args.call c.args.turn) (sym c.self.view_is) c.requires.turn in
+    let listed : IsListed s c.args.xid.now c.args.call c.args.turn = subst
+    (λ v. IsListed v c.args.xid.now c.args.call c.args.turn) (sym c.self.view_is) c.requires.listed in
+    let turned : IsTurn s c.args.xid.now c.args.call c.args.turn =
+    subst (λ v. IsTurn v c.args.xid.now c.args.call c.args.turn) (sym c.self.view_is) c.requires.turn in
     let gone : is_let_go c.args.turn.to ≡ true = sym c.is_let_go.ensures ∙ c.if-is_let_go.true in
     let takes : TakesTurn s after c.args.xid.now c.args.turn = record {
       tables = (c.finish-answer.ensures.row known listed).1;
-      keeps = subst (λ b. MatchBool b (Leaves s.writes after.writes c.args.xid.now [] × Releases s.locks after.locks c.args.xid.now) ((after.writes ≡ s.writes) × (after.locks ≡ s.locks)))
+      keeps = subst (λ b. MatchBool b (Leaves s.writes after.writes c.args.xid.now [] × Releases s.locks
+          after.locks c.args.xid.now) ((after.writes ≡ s.writes) × (after.locks ≡ s.locks)))
           (sym gone) (c.remove.ensures, c.release.ensures);
       versions = refl;
       decisions = c.note.ensures;
@@ -35,15 +57,30 @@ invariant_of-self c =
 
 pub invariant_of-self-else-is_let_go : goal.invariant_of-self-else-is_let_go
 invariant_of-self-else-is_let_go c =
-    let s : KeySight = record { tables = c.self.inside.states; writes = c.self.inside.writes; locks = c.self.inside.locks; versions = c.self.inside.versions; decisions = c.self.inside.heuristics } in
-    let after : KeySight = record { tables = c.finish-answer.new.self; writes = c.self.inside.writes; locks = c.self.inside.locks; versions = c.self.inside.versions; decisions = c.note.new.heuristics } in
+    let s : KeySight = record {
+      tables = c.self.inside.states;
+      writes = c.self.inside.writes;
+      locks = c.self.inside.locks;
+      versions = c.self.inside.versions;
+      decisions = c.self.inside.heuristics;
+    } in
+    let after : KeySight = record {
+      tables = c.finish-answer.new.self;
+      writes = c.self.inside.writes;
+      locks = c.self.inside.locks;
+      versions = c.self.inside.versions;
+      decisions = c.note.new.heuristics;
+    } in
     let known : is_known c.self.inside.states.branches.branches c.args.xid.now ≡ true = search rules in
-    let listed : IsListed s c.args.xid.now c.args.call c.args.turn = subst (λ v. IsListed v c.args.xid.now c.args.call c.args.turn) (sym c.self.view_is) c.requires.listed in
-    let turned : IsTurn s c.args.xid.now c.args.call c.args.turn = subst (λ v. IsTurn v c.args.xid.now c.args.call c.args.turn) (sym c.self.view_is) c.requires.turn in
+    let listed : IsListed s c.args.xid.now c.args.call c.args.turn = subst
+    (λ v. IsListed v c.args.xid.now c.args.call c.args.turn) (sym c.self.view_is) c.requires.listed in
+    let turned : IsTurn s c.args.xid.now c.args.call c.args.turn =
+    subst (λ v. IsTurn v c.args.xid.now c.args.call c.args.turn) (sym c.self.view_is) c.requires.turn in
     let goes_on : is_let_go c.args.turn.to ≡ false = sym c.is_let_go.ensures ∙ c.if-is_let_go.false in
     let takes : TakesTurn s after c.args.xid.now c.args.turn = record {
       tables = (c.finish-answer.ensures.row known listed).1;
-      keeps = subst (λ b. MatchBool b (Leaves s.writes after.writes c.args.xid.now [] × Releases s.locks after.locks c.args.xid.now) ((after.writes ≡ s.writes) × (after.locks ≡ s.locks)))
+      keeps = subst (λ b. MatchBool b (Leaves s.writes after.writes c.args.xid.now [] × Releases s.locks
+          after.locks c.args.xid.now) ((after.writes ≡ s.writes) × (after.locks ≡ s.locks)))
           (sym goes_on) (refl, refl);
       versions = refl;
       decisions = c.note.ensures;
@@ -53,14 +90,28 @@ invariant_of-self-else-is_let_go c =
 
 pub returns-then-is_let_go : goal.returns-then-is_let_go
 returns-then-is_let_go c =
-    let s : KeySight = record { tables = c.self.inside.states; writes = c.self.inside.writes; locks = c.self.inside.locks; versions = c.self.inside.versions; decisions = c.self.inside.heuristics } in
-    let after : KeySight = record { tables = c.finish-answer.new.self; writes = c.remove.new.self; locks = c.release.new.self; versions = c.self.inside.versions; decisions = c.note.new.heuristics } in
+    let s : KeySight = record {
+      tables = c.self.inside.states;
+      writes = c.self.inside.writes;
+      locks = c.self.inside.locks;
+      versions = c.self.inside.versions;
+      decisions = c.self.inside.heuristics;
+    } in
+    let after : KeySight = record {
+      tables = c.finish-answer.new.self;
+      writes = c.remove.new.self;
+      locks = c.release.new.self;
+      versions = c.self.inside.versions;
+      decisions = c.note.new.heuristics;
+    } in
     let known : is_known c.self.inside.states.branches.branches c.args.xid.now ≡ true = search rules in
-    let listed : IsListed s c.args.xid.now c.args.call c.args.turn = subst (λ v. IsListed v c.args.xid.now c.args.call c.args.turn) (sym c.self.view_is) c.requires.listed in
+    let listed : IsListed s c.args.xid.now c.args.call c.args.turn = subst
+    (λ v. IsListed v c.args.xid.now c.args.call c.args.turn) (sym c.self.view_is) c.requires.listed in
     let gone : is_let_go c.args.turn.to ≡ true = sym c.is_let_go.ensures ∙ c.if-is_let_go.true in
     subst (λ v. TakesTurn v after c.args.xid.now c.args.turn) c.self.view_is (record {
       tables = (c.finish-answer.ensures.row known listed).1;
-      keeps = subst (λ b. MatchBool b (Leaves s.writes after.writes c.args.xid.now [] × Releases s.locks after.locks c.args.xid.now) ((after.writes ≡ s.writes) × (after.locks ≡ s.locks)))
+      keeps = subst (λ b. MatchBool b (Leaves s.writes after.writes c.args.xid.now [] × Releases s.locks
+          after.locks c.args.xid.now) ((after.writes ≡ s.writes) × (after.locks ≡ s.locks)))
           (sym gone) (c.remove.ensures, c.release.ensures);
       versions = refl;
       decisions = c.note.ensures;
@@ -68,14 +119,28 @@ returns-then-is_let_go c =
 
 pub returns-else-is_let_go : goal.returns-else-is_let_go
 returns-else-is_let_go c =
-    let s : KeySight = record { tables = c.self.inside.states; writes = c.self.inside.writes; locks = c.self.inside.locks; versions = c.self.inside.versions; decisions = c.self.inside.heuristics } in
-    let after : KeySight = record { tables = c.finish-answer.new.self; writes = c.self.inside.writes; locks = c.self.inside.locks; versions = c.self.inside.versions; decisions = c.note.new.heuristics } in
+    let s : KeySight = record {
+      tables = c.self.inside.states;
+      writes = c.self.inside.writes;
+      locks = c.self.inside.locks;
+      versions = c.self.inside.versions;
+      decisions = c.self.inside.heuristics;
+    } in
+    let after : KeySight = record {
+      tables = c.finish-answer.new.self;
+      writes = c.self.inside.writes;
+      locks = c.self.inside.locks;
+      versions = c.self.inside.versions;
+      decisions = c.note.new.heuristics;
+    } in
     let known : is_known c.self.inside.states.branches.branches c.args.xid.now ≡ true = search rules in
-    let listed : IsListed s c.args.xid.now c.args.call c.args.turn = subst (λ v. IsListed v c.args.xid.now c.args.call c.args.turn) (sym c.self.view_is) c.requires.listed in
+    let listed : IsListed s c.args.xid.now c.args.call c.args.turn = subst
+    (λ v. IsListed v c.args.xid.now c.args.call c.args.turn) (sym c.self.view_is) c.requires.listed in
     let goes_on : is_let_go c.args.turn.to ≡ false = sym c.is_let_go.ensures ∙ c.if-is_let_go.false in
     subst (λ v. TakesTurn v after c.args.xid.now c.args.turn) c.self.view_is (record {
       tables = (c.finish-answer.ensures.row known listed).1;
-      keeps = subst (λ b. MatchBool b (Leaves s.writes after.writes c.args.xid.now [] × Releases s.locks after.locks c.args.xid.now) ((after.writes ≡ s.writes) × (after.locks ≡ s.locks)))
+      keeps = subst (λ b. MatchBool b (Leaves s.writes after.writes c.args.xid.now [] × Releases s.locks
+          after.locks c.args.xid.now) ((after.writes ≡ s.writes) × (after.locks ≡ s.locks)))
           (sym goes_on) (refl, refl);
       versions = refl;
       decisions = c.note.ensures;

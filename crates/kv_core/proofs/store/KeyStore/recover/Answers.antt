@@ -8,9 +8,20 @@ use Rattle.kv_core.proofs.store.KeyStore.recover.Goals as goal
 
 pub invariant_of-self : goal.invariant_of-self
 invariant_of-self c =
-    tidy_called (record { tables = c.self.inside.states; writes = c.self.inside.writes; locks = c.self.inside.locks; versions = c.self.inside.versions; decisions = c.self.inside.heuristics })
+    tidy_called
+    (record {
+      tables = c.self.inside.states;
+      writes = c.self.inside.writes;
+      locks = c.self.inside.locks;
+      versions = c.self.inside.versions;
+      decisions = c.self.inside.heuristics;
+    })
     _ c.self.invariant refl refl refl (keeps is_let_go) (keeps is_decided)
   where
     keeps : (q : BranchState → Bool) → Keeps q c.self.inside.states c.recover.new.self
-    keeps q = either_way (λ answer. Recovers c.self.inside.states c.recover.new.self c.args.thread c.args.count c.args.flags.0 (map_ok answer)) (Same c.self.inside.states c.recover.new.self) (Keeps q c.self.inside.states c.recover.new.self) c.recover.result c.recover.ensures.answer c.recover.ensures.err
-        (λ answer made. recovers_keep q _ _ c.args.thread c.args.count c.args.flags.0 (map_ok answer) made) (same_keeps q _ _)
+    keeps q = either_way (λ answer. Recovers c.self.inside.states c.recover.new.self c.args.thread
+        c.args.count c.args.flags.0 (map_ok answer)) (Same c.self.inside.states c.recover.new.self)
+        (Keeps q c.self.inside.states c.recover.new.self) c.recover.result
+        c.recover.ensures.answer c.recover.ensures.err
+        (λ answer made. recovers_keep q _ _ c.args.thread c.args.count c.args.flags.0
+        (map_ok answer) made) (same_keeps q _ _)

@@ -14,8 +14,16 @@ use Rattle.kv_manager.proofs.manager.KvManager.decide.Goals as goal
 
 pub take-requires : goal.take-requires
 take-requires g c =
-    let s : KvSight = record { store = c.self.inside.store; log = c.self.inside.log; boot = c.self.inside.boot } in
-    let mid : KvSight = record { store = c.reserve_decision.new.self; log = c.self.inside.log; boot = c.self.inside.boot } in
+    let s : KvSight = record {
+      store = c.self.inside.store;
+      log = c.self.inside.log;
+      boot = c.self.inside.boot;
+    } in
+    let mid : KvSight = record {
+      store = c.reserve_decision.new.self;
+      log = c.self.inside.log;
+      boot = c.self.inside.boot;
+    } in
     let works : c.args.self.now.log.sight.failed ≡ false = search rules in
     let here : state_of c.args.self.now.store c.args.xid.now ≡ S3 = search rules in
     let stays : Reserves s.store mid.store = search rules in
@@ -30,16 +38,28 @@ take-requires g c =
 
 pub returns-clause-err : goal.returns-clause-err
 returns-clause-err g c =
-    let s : KvSight = record { store = c.self.inside.store; log = c.self.inside.log; boot = c.self.inside.boot } in
-    let mid : KvSight = record { store = c.reserve_decision.new.self; log = c.self.inside.log; boot = c.self.inside.boot } in
+    let s : KvSight = record {
+      store = c.self.inside.store;
+      log = c.self.inside.log;
+      boot = c.self.inside.boot;
+    } in
+    let mid : KvSight = record {
+      store = c.reserve_decision.new.self;
+      log = c.self.inside.log;
+      boot = c.self.inside.boot;
+    } in
     let works : c.args.self.now.log.sight.failed ≡ false = search rules in
     let here : state_of c.args.self.now.store c.args.xid.now ≡ S3 = search rules in
     let stays : Reserves s.store mid.store = search rules in
-    let taken : Takes mid c.take.new.self c.args.xid.now c.decide.result c.in_ok-answer.answer = search rules in
-    subst (λ (v : KvSight). IfErr c.decided.result (NotDecided (sight_of v) (sight_of c.take.new.self) c.args.xid.now c.args.outcome)) c.self.view_is
-    (map_err (IsRefusal c.in_ok-answer.answer) (NotDecided (sight_of s) (sight_of c.take.new.self) c.args.xid.now c.args.outcome) c.decided.result
+    let taken : Takes mid c.take.new.self c.args.xid.now c.decide.result
+    c.in_ok-answer.answer = search rules in
+    subst (λ (v : KvSight). IfErr c.decided.result
+    (NotDecided (sight_of v) (sight_of c.take.new.self) c.args.xid.now c.args.outcome)) c.self.view_is
+    (map_err (IsRefusal c.in_ok-answer.answer)
+    (NotDecided (sight_of s) (sight_of c.take.new.self) c.args.xid.now c.args.outcome) c.decided.result
     (was_not s mid c.take.new.self c.args.xid.now c.args.outcome
     (ap (λ (v : KvSight). v.log.sight.failed) c.self.view_is ∙ works)
-    (ap (λ (v : KvSight). state_of v.store c.args.xid.now) c.self.view_is ∙ here) stays refl refl c.in_ok-answer.answer
+    (ap (λ (v : KvSight). state_of v.store c.args.xid.now) c.self.view_is ∙ here) stays
+    refl refl c.in_ok-answer.answer
     (subst (λ t. Takes mid c.take.new.self c.args.xid.now t c.in_ok-answer.answer) c.decide.ensures taken))
     c.decided.ensures.err)

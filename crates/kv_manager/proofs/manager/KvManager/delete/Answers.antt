@@ -7,10 +7,19 @@ use Rattle.kv_manager.proofs.manager.KvManager.delete.Goals as goal
 
 pub invariant_of-self : goal.invariant_of-self
 invariant_of-self g c =
-    let s : KvSight = record { store = c.self.inside.store; log = c.self.inside.log; boot = c.self.inside.boot } in
+    let s : KvSight = record {
+      store = c.self.inside.store;
+      log = c.self.inside.log;
+      boot = c.self.inside.boot;
+    } in
     kept_by s c.delete.new.self c.self.invariant
     (either_way (λ done. Writes c.self.inside.store c.delete.new.self c.args.thread c.args.key.now None)
-    (λ e. IsRefused c.self.inside.store c.delete.new.self (work_refusal c.self.inside.store c.args.thread c.args.key.now None Exclusive) e)
-    (KeepsPromises c.self.inside.store c.delete.new.self) c.delete.result c.delete.ensures.ok c.delete.ensures.err
-    (λ done wrote. wrote_promises c.self.inside.store c.delete.new.self c.args.thread c.args.key.now None wrote)
-    (λ e refused. same_promises c.self.inside.store c.delete.new.self (refused_same c.self.inside.store c.delete.new.self (work_refusal c.self.inside.store c.args.thread c.args.key.now None Exclusive) e refused)))
+    (λ e. IsRefused c.self.inside.store c.delete.new.self
+    (work_refusal c.self.inside.store c.args.thread c.args.key.now None Exclusive) e)
+    (KeepsPromises c.self.inside.store c.delete.new.self) c.delete.result
+    c.delete.ensures.ok c.delete.ensures.err
+    (λ done wrote. wrote_promises c.self.inside.store c.delete.new.self
+    c.args.thread c.args.key.now None wrote)
+    (λ e refused. same_promises c.self.inside.store c.delete.new.self
+    (refused_same c.self.inside.store c.delete.new.self
+    (work_refusal c.self.inside.store c.args.thread c.args.key.now None Exclusive) e refused)))

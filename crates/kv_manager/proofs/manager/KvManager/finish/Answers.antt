@@ -9,11 +9,15 @@ use Rattle.kv_manager.proofs.manager.KvManager.finish.Goals as goal
 pub returns-in-Ok-clause-answer : goal.returns-in-Ok-clause-answer
 returns-in-Ok-clause-answer g c =
     let works : c.args.self.now.log.sight.failed ≡ false = search rules in
-    map_ok (λ answer. Takes c.args.self.now c.take.new.self c.args.xid.now c.in-Ok.turn answer) (λ answer. Finishes c.args.self.now c.take.new.self c.args.verb c.args.xid.now c.args.flags.0 answer) c.take.result c.take.ensures.answer
+    map_ok (λ answer. Takes c.args.self.now c.take.new.self c.args.xid.now c.in-Ok.turn answer)
+    (λ answer. Finishes c.args.self.now c.take.new.self c.args.verb c.args.xid.now c.args.flags.0 answer)
+    c.take.result c.take.ensures.answer
     (λ answer taken. Taken works (c.in-Ok.call, c.in-Ok.turn) (search rules) taken)
 
 pub returns-in-Err-clause-answer : goal.returns-in-Err-clause-answer
 returns-in-Err-clause-answer g c =
     let works : c.args.self.now.log.sight.failed ≡ false = search rules in
-    let off : IsOff c.self.inside.store c.args.verb c.args.xid.now c.args.flags.0 c.in-Err.refusal = c.in-Err.ensures.err in
-    Refused works (subst (λ (v : KvSight). IsOff v.store c.args.verb c.args.xid.now c.args.flags.0 c.in-Err.refusal) c.self.view_is off) (same_self c.args.self.now)
+    let off : IsOff c.self.inside.store c.args.verb c.args.xid.now c.args.flags.0
+    c.in-Err.refusal = c.in-Err.ensures.err in
+    Refused works (subst (λ (v : KvSight). IsOff v.store c.args.verb c.args.xid.now c.args.flags.0
+    c.in-Err.refusal) c.self.view_is off) (same_self c.args.self.now)

@@ -17,5 +17,6 @@ frame-requires g c =
 pub returns-clause-sound : goal.returns-clause-sound
 returns-clause-sound g c =
     let sound : IsSound Manager (frame_record c.in_ok-frame.frame) = search rules in
-    let is : IsRecord Manager (frame_record c.in_ok-frame.frame) = record { fits = records_fit_frames Manager _ sound; again = records_read_back Manager _ sound } in
+    let is : IsRecord Manager (frame_record c.in_ok-frame.frame) =
+    record { fits = records_fit_frames Manager _ sound; again = records_read_back Manager _ sound } in
     search rules

@@ -7,10 +7,19 @@ use Rattle.kv_manager.proofs.manager.KvManager.put.Goals as goal
 
 pub invariant_of-self : goal.invariant_of-self
 invariant_of-self g c =
-    let s : KvSight = record { store = c.self.inside.store; log = c.self.inside.log; boot = c.self.inside.boot } in
+    let s : KvSight = record {
+      store = c.self.inside.store;
+      log = c.self.inside.log;
+      boot = c.self.inside.boot;
+    } in
     kept_by s c.put.new.self c.self.invariant
-    (either_way (λ done. Writes c.self.inside.store c.put.new.self c.args.thread c.args.key.now (Some c.args.value.now))
-    (λ e. IsRefused c.self.inside.store c.put.new.self (work_refusal c.self.inside.store c.args.thread c.args.key.now (Some c.args.value.now) Exclusive) e)
+    (either_way (λ done. Writes c.self.inside.store c.put.new.self c.args.thread
+    c.args.key.now (Some c.args.value.now))
+    (λ e. IsRefused c.self.inside.store c.put.new.self
+    (work_refusal c.self.inside.store c.args.thread c.args.key.now (Some c.args.value.now) Exclusive) e)
     (KeepsPromises c.self.inside.store c.put.new.self) c.put.result c.put.ensures.ok c.put.ensures.err
-    (λ done wrote. wrote_promises c.self.inside.store c.put.new.self c.args.thread c.args.key.now (Some c.args.value.now) wrote)
-    (λ e refused. same_promises c.self.inside.store c.put.new.self (refused_same c.self.inside.store c.put.new.self (work_refusal c.self.inside.store c.args.thread c.args.key.now (Some c.args.value.now) Exclusive) e refused)))
+    (λ done wrote. wrote_promises c.self.inside.store c.put.new.self c.args.thread c.args.key.now
+    (Some c.args.value.now) wrote)
+    (λ e refused. same_promises c.self.inside.store c.put.new.self
+    (refused_same c.self.inside.store c.put.new.self (work_refusal c.self.inside.store c.args.thread
+    c.args.key.now (Some c.args.value.now) Exclusive) e refused)))

@@ -7,11 +7,19 @@ use Rattle.kv_manager.proofs.manager.KvManager.recover.Goals as goal
 
 pub invariant_of-self : goal.invariant_of-self
 invariant_of-self g c =
-    let s : KvSight = record { store = c.self.inside.store; log = c.self.inside.log; boot = c.self.inside.boot } in
+    let s : KvSight = record {
+      store = c.self.inside.store;
+      log = c.self.inside.log;
+      boot = c.self.inside.boot;
+    } in
     kept_by s c.recover.new.self c.self.invariant
-    (either_way (λ answer. MovesTables c.self.inside.store c.recover.new.self (λ old new. Recovers old new c.args.thread c.args.count c.args.flags.0 (map_ok answer)))
+    (either_way (λ answer. MovesTables c.self.inside.store c.recover.new.self
+    (λ old new. Recovers old new c.args.thread c.args.count c.args.flags.0 (map_ok answer)))
     (λ e. SameStore c.self.inside.store c.recover.new.self)
-    (KeepsPromises c.self.inside.store c.recover.new.self) c.recover.result c.recover.ensures.answer c.recover.ensures.err
-    (λ answer made. moved_promises c.self.inside.store c.recover.new.self (recovers_keep is_prepared _ _ c.args.thread c.args.count c.args.flags.0 (map_ok answer) made.tables)
-    (recovers_keep is_decided _ _ c.args.thread c.args.count c.args.flags.0 (map_ok answer) made.tables) made.writes made.versions made.decisions)
+    (KeepsPromises c.self.inside.store c.recover.new.self) c.recover.result
+    c.recover.ensures.answer c.recover.ensures.err
+    (λ answer made. moved_promises c.self.inside.store c.recover.new.self
+    (recovers_keep is_prepared _ _ c.args.thread c.args.count c.args.flags.0 (map_ok answer) made.tables)
+    (recovers_keep is_decided _ _ c.args.thread c.args.count c.args.flags.0 (map_ok answer) made.tables)
+    made.writes made.versions made.decisions)
     (λ e stays. same_promises c.self.inside.store c.recover.new.self stays))

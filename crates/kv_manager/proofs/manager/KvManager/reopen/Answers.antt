@@ -9,15 +9,31 @@ use Rattle.kv_manager.proofs.manager.KvManager.reopen.Goals as goal
 
 pub invariant_of-self : goal.invariant_of-self
 invariant_of-self g c =
-    let s : KvSight = record { store = c.self.inside.store; log = c.self.inside.log; boot = c.self.inside.boot } in
-    let why : FailsToRestart s.log c.restart_log.new.log c.args.keep (frame_record c.args.ready.now.opened) c.in_err-restart_log.field-0.0 = search rules in
-    kept_unstarted s c.restart_log.new.log c.args.keep (frame_record c.args.ready.now.opened) _ c.self.invariant c.restart_log.ensures.kind why
+    let s : KvSight = record {
+      store = c.self.inside.store;
+      log = c.self.inside.log;
+      boot = c.self.inside.boot;
+    } in
+    let why : FailsToRestart s.log c.restart_log.new.log c.args.keep (frame_record c.args.ready.now.opened)
+    c.in_err-restart_log.field-0.0 = search rules in
+    kept_unstarted s c.restart_log.new.log c.args.keep (frame_record c.args.ready.now.opened) _
+    c.self.invariant c.restart_log.ensures.kind why
 
 pub invariant_of-self-2 : goal.invariant_of-self-2
 invariant_of-self-2 g c =
-    let s : KvSight = record { store = c.self.inside.store; log = c.self.inside.log; boot = c.self.inside.boot } in
+    let s : KvSight = record {
+      store = c.self.inside.store;
+      log = c.self.inside.log;
+      boot = c.self.inside.boot;
+    } in
     let ready : IsReady (left_by s.log.sight c.args.keep) c.args.ready.now =
-    subst (λ (v : KvSight). IsReady (left_by v.log.sight c.args.keep) c.args.ready.now) (sym c.self.view_is) c.requires in
-    let made : Restarts s.log c.restart_log.new.log c.args.keep (frame_record c.args.ready.now.opened ∷ []) = search rules in
-    subst (λ (v : KeySight). IsKept (record { store = v; log = c.restart_log.new.log; boot = c.args.ready.now.boot })) (sym c.swap.ensures.x_after)
+    subst (λ (v : KvSight). IsReady (left_by v.log.sight c.args.keep) c.args.ready.now)
+    (sym c.self.view_is) c.requires in
+    let made : Restarts s.log c.restart_log.new.log c.args.keep
+    (frame_record c.args.ready.now.opened ∷ []) = search rules in
+    subst (λ (v : KeySight). IsKept (record {
+      store = v;
+      log = c.restart_log.new.log;
+      boot = c.args.ready.now.boot;
+    })) (sym c.swap.ensures.x_after)
     (kept_restarted s.log c.restart_log.new.log c.args.keep c.args.ready.now c.self.invariant.kind ready made)

@@ -9,6 +9,8 @@ returns-in-Err-over-clause-err g c =
       opens = search rules;
       left_as = c.in-Err-over.log;
       holds = ap (λ (l : LogState). l.sight) (sym c.into_store.ensures)
-          ∙ ap (λ k. (log_state k (g.L.LogStore.bytes c.into_store.result) (g.L.LogStore.forced c.into_store.result) (g.L.LogStore.failures c.into_store.result) 0 c.in-Err-over.log.sight.failed).sight) c.in-Err-over.ensures.err.1;
+          ∙ ap (λ k. (log_state k (g.L.LogStore.bytes c.into_store.result)
+          (g.L.LogStore.forced c.into_store.result) (g.L.LogStore.failures c.into_store.result) 0
+          c.in-Err-over.log.sight.failed).sight) c.in-Err-over.ensures.err.1;
       why = c.in-Err-over.ensures.err.0;
     }

@@ -11,51 +11,85 @@ use Rattle.kv_manager.proofs.Turns.{commits_by, due_has, due_same, fails_by, kep
 use Rattle.kv_manager.proofs.manager.KvManager.take_committed.Goals as goal
 
 pub frame-requires : goal.frame-requires
-frame-requires g c = due_has c.args.self.now c.args.xid.now c.args.call c.args.turn c.args.entry c.requires.due c.requires.entry
+frame-requires g c = due_has c.args.self.now c.args.xid.now c.args.call c.args.turn c.args.entry
+    c.requires.due c.requires.entry
 
 pub finish-requires-clause-turn : goal.finish-requires-clause-turn
 finish-requires-clause-turn g c =
-    let s : KvSight = record { store = c.self.inside.store; log = c.self.inside.log; boot = c.self.inside.boot } in
-    let room : OnlyRoom c.args.self.now s = subst (OnlyRoom c.args.self.now) (sym c.self.view_is) c.frame.ensures.stays in
+    let s : KvSight = record {
+      store = c.self.inside.store;
+      log = c.self.inside.log;
+      boot = c.self.inside.boot;
+    } in
+    let room : OnlyRoom c.args.self.now s = subst (OnlyRoom c.args.self.now)
+    (sym c.self.view_is) c.frame.ensures.stays in
     let staged : StagesWrites s.store c.stage.new.self c.args.xid.now = search rules in
     let published : PublishesWrites c.stage.new.self c.publish.new.self = search rules in
-    turn_same s.store c.publish.new.self c.args.xid.now c.args.call c.args.turn (published.tables ∙ staged.tables) (published.writes ∙ staged.writes)
+    turn_same s.store c.publish.new.self c.args.xid.now c.args.call c.args.turn
+    (published.tables ∙ staged.tables) (published.writes ∙ staged.writes)
     (published.decisions ∙ staged.decisions)
     (due_same c.args.self.now s c.args.xid.now c.args.call c.args.turn room c.requires.due).due
 
 pub invariant_of-self : goal.invariant_of-self
 invariant_of-self g c =
-    let s : KvSight = record { store = c.self.inside.store; log = c.self.inside.log; boot = c.self.inside.boot } in
+    let s : KvSight = record {
+      store = c.self.inside.store;
+      log = c.self.inside.log;
+      boot = c.self.inside.boot;
+    } in
     let stays : SameButData c.self.inside.store c.stage.new.self = search rules in
     kept_by s c.stage.new.self c.self.invariant (data_only c.self.inside.store c.stage.new.self stays)
 
 pub invariant_of-self-in-Ok : goal.invariant_of-self-in-Ok
 invariant_of-self-in-Ok g c =
-    let s : KvSight = record { store = c.self.inside.store; log = c.self.inside.log; boot = c.self.inside.boot } in
-    let room : OnlyRoom c.args.self.now s = subst (OnlyRoom c.args.self.now) (sym c.self.view_is) c.frame.ensures.stays in
+    let s : KvSight = record {
+      store = c.self.inside.store;
+      log = c.self.inside.log;
+      boot = c.self.inside.boot;
+    } in
+    let room : OnlyRoom c.args.self.now s = subst (OnlyRoom c.args.self.now)
+    (sym c.self.view_is) c.frame.ensures.stays in
     let staged : StagesWrites s.store c.stage.new.self c.args.xid.now = search rules in
     let published : PublishesWrites c.stage.new.self c.publish.new.self = search rules in
     let takes : TakesTurn c.publish.new.self c.finish.new.self c.args.xid.now c.args.turn = search rules in
-    let made : Writes s.log c.write.new.log (entry_record c.args.entry c.args.xid.now (writes_of s.store.writes c.args.xid.now)) c.args.turn.is_forced = search rules in
+    let made : Writes s.log c.write.new.log (entry_record c.args.entry c.args.xid.now
+    (writes_of s.store.writes c.args.xid.now)) c.args.turn.is_forced = search rules in
     kept_committed s _ c.args.xid.now c.args.call c.args.turn c.args.entry c.self.invariant
-    (due_same c.args.self.now s c.args.xid.now c.args.call c.args.turn room c.requires.due) c.requires.entry c.requires.data
-    (commits_by s.store c.stage.new.self c.publish.new.self c.finish.new.self c.args.xid.now c.args.turn staged published takes) made
+    (due_same c.args.self.now s c.args.xid.now c.args.call c.args.turn room c.requires.due)
+    c.requires.entry c.requires.data
+    (commits_by s.store c.stage.new.self c.publish.new.self c.finish.new.self c.args.xid.now c.args.turn
+    staged published takes) made
 
 pub returns-in-Ok-clause-answer : goal.returns-in-Ok-clause-answer
 returns-in-Ok-clause-answer g c =
-    let s : KvSight = record { store = c.self.inside.store; log = c.self.inside.log; boot = c.self.inside.boot } in
-    let room : OnlyRoom c.args.self.now s = subst (OnlyRoom c.args.self.now) (sym c.self.view_is) c.frame.ensures.stays in
+    let s : KvSight = record {
+      store = c.self.inside.store;
+      log = c.self.inside.log;
+      boot = c.self.inside.boot;
+    } in
+    let room : OnlyRoom c.args.self.now s = subst (OnlyRoom c.args.self.now)
+    (sym c.self.view_is) c.frame.ensures.stays in
     let staged : StagesWrites s.store c.stage.new.self c.args.xid.now = search rules in
     let published : PublishesWrites c.stage.new.self c.publish.new.self = search rules in
     let takes : TakesTurn c.publish.new.self c.finish.new.self c.args.xid.now c.args.turn = search rules in
-    let made : Writes s.log c.write.new.log (entry_record c.args.entry c.args.xid.now (writes_of s.store.writes c.args.xid.now)) c.args.turn.is_forced = search rules in
-    Made refl (made_committed c.args.self.now s _ c.args.xid.now c.args.turn c.args.entry room c.requires.entry c.requires.data
-    (commits_by s.store c.stage.new.self c.publish.new.self c.finish.new.self c.args.xid.now c.args.turn staged published takes) made refl)
+    let made : Writes s.log c.write.new.log (entry_record c.args.entry c.args.xid.now
+    (writes_of s.store.writes c.args.xid.now)) c.args.turn.is_forced = search rules in
+    Made refl (made_committed c.args.self.now s _ c.args.xid.now c.args.turn c.args.entry room
+    c.requires.entry c.requires.data
+    (commits_by s.store c.stage.new.self c.publish.new.self c.finish.new.self c.args.xid.now c.args.turn
+    staged published takes) made refl)
 
 pub returns-clause-answer : goal.returns-clause-answer
 returns-clause-answer g c =
-    let s : KvSight = record { store = c.self.inside.store; log = c.self.inside.log; boot = c.self.inside.boot } in
-    let room : OnlyRoom c.args.self.now s = subst (OnlyRoom c.args.self.now) (sym c.self.view_is) c.frame.ensures.stays in
+    let s : KvSight = record {
+      store = c.self.inside.store;
+      log = c.self.inside.log;
+      boot = c.self.inside.boot;
+    } in
+    let room : OnlyRoom c.args.self.now s = subst (OnlyRoom c.args.self.now)
+    (sym c.self.view_is) c.frame.ensures.stays in
     let staged : StagesWrites s.store c.stage.new.self c.args.xid.now = search rules in
-    let broke : Breaks s.log c.write.new.log (entry_record c.args.entry c.args.xid.now (writes_of s.store.writes c.args.xid.now) ∷ []) = search rules in
-    Broke refl (fails_by c.args.self.now s _ c.args.xid.now c.args.turn c.args.entry room c.requires.entry broke staged.tables staged.writes staged.locks staged.decisions refl)
+    let broke : Breaks s.log c.write.new.log (entry_record c.args.entry c.args.xid.now
+    (writes_of s.store.writes c.args.xid.now) ∷ []) = search rules in
+    Broke refl (fails_by c.args.self.now s _ c.args.xid.now c.args.turn c.args.entry room c.requires.entry
+    broke staged.tables staged.writes staged.locks staged.decisions refl)

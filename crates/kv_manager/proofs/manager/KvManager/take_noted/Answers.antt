@@ -10,26 +10,46 @@ use Rattle.kv_manager.proofs.Turns.{due_has, due_same, fails_by, kept_noted}
 use Rattle.kv_manager.proofs.manager.KvManager.take_noted.Goals as goal
 
 pub frame-requires : goal.frame-requires
-frame-requires g c = due_has c.args.self.now c.args.xid.now c.args.call c.args.turn c.args.entry c.requires.due c.requires.entry
+frame-requires g c = due_has c.args.self.now c.args.xid.now c.args.call c.args.turn c.args.entry
+    c.requires.due c.requires.entry
 
 pub finish-requires-clause-turn : goal.finish-requires-clause-turn
 finish-requires-clause-turn g c =
-    let s : KvSight = record { store = c.self.inside.store; log = c.self.inside.log; boot = c.self.inside.boot } in
-    let room : OnlyRoom c.args.self.now s = subst (OnlyRoom c.args.self.now) (sym c.self.view_is) c.frame.ensures.stays in
+    let s : KvSight = record {
+      store = c.self.inside.store;
+      log = c.self.inside.log;
+      boot = c.self.inside.boot;
+    } in
+    let room : OnlyRoom c.args.self.now s = subst (OnlyRoom c.args.self.now)
+    (sym c.self.view_is) c.frame.ensures.stays in
     (due_same c.args.self.now s c.args.xid.now c.args.call c.args.turn room c.requires.due).due
 
 pub invariant_of-self : goal.invariant_of-self
 invariant_of-self g c =
-    let s : KvSight = record { store = c.self.inside.store; log = c.self.inside.log; boot = c.self.inside.boot } in
-    let room : OnlyRoom c.args.self.now s = subst (OnlyRoom c.args.self.now) (sym c.self.view_is) c.frame.ensures.stays in
+    let s : KvSight = record {
+      store = c.self.inside.store;
+      log = c.self.inside.log;
+      boot = c.self.inside.boot;
+    } in
+    let room : OnlyRoom c.args.self.now s = subst (OnlyRoom c.args.self.now)
+    (sym c.self.view_is) c.frame.ensures.stays in
     let takes : TakesTurn s.store c.finish.new.self c.args.xid.now c.args.turn = search rules in
-    let made : Writes s.log c.write.new.log (entry_record c.args.entry c.args.xid.now (writes_of s.store.writes c.args.xid.now)) c.args.turn.is_forced = search rules in
+    let made : Writes s.log c.write.new.log (entry_record c.args.entry c.args.xid.now
+    (writes_of s.store.writes c.args.xid.now)) c.args.turn.is_forced = search rules in
     kept_noted s _ c.args.xid.now c.args.call c.args.turn c.args.entry c.self.invariant
-    (due_same c.args.self.now s c.args.xid.now c.args.call c.args.turn room c.requires.due) c.requires.entry c.requires.data takes made
+    (due_same c.args.self.now s c.args.xid.now c.args.call c.args.turn room c.requires.due)
+    c.requires.entry c.requires.data takes made
 
 pub returns-clause-answer : goal.returns-clause-answer
 returns-clause-answer g c =
-    let s : KvSight = record { store = c.self.inside.store; log = c.self.inside.log; boot = c.self.inside.boot } in
-    let room : OnlyRoom c.args.self.now s = subst (OnlyRoom c.args.self.now) (sym c.self.view_is) c.frame.ensures.stays in
-    let broke : Breaks s.log c.write.new.log (entry_record c.args.entry c.args.xid.now (writes_of s.store.writes c.args.xid.now) ∷ []) = search rules in
-    Broke refl (fails_by c.args.self.now s _ c.args.xid.now c.args.turn c.args.entry room c.requires.entry broke refl refl refl refl refl)
+    let s : KvSight = record {
+      store = c.self.inside.store;
+      log = c.self.inside.log;
+      boot = c.self.inside.boot;
+    } in
+    let room : OnlyRoom c.args.self.now s = subst (OnlyRoom c.args.self.now)
+    (sym c.self.view_is) c.frame.ensures.stays in
+    let broke : Breaks s.log c.write.new.log (entry_record c.args.entry c.args.xid.now
+    (writes_of s.store.writes c.args.xid.now) ∷ []) = search rules in
+    Broke refl (fails_by c.args.self.now s _ c.args.xid.now c.args.turn c.args.entry room c.requires.entry
+    broke refl refl refl refl refl)

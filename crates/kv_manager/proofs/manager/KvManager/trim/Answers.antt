@@ -13,12 +13,19 @@ use Rattle.kv_manager.proofs.manager.KvManager.trim.Goals as goal
 
 pub invariant_of-self : goal.invariant_of-self
 invariant_of-self g c =
-    let s : KvSight = record { store = c.self.inside.store; log = c.self.inside.log; boot = c.self.inside.boot } in
+    let s : KvSight = record {
+      store = c.self.inside.store;
+      log = c.self.inside.log;
+      boot = c.self.inside.boot;
+    } in
     let works : s.log.sight.failed ≡ false = search rules in
-    let made : Trimmed s.log c.trim.new.self (map frame_record c.deref.result.now) c.in-Ok.count = search rules in
+    let made : Trimmed s.log c.trim.new.self (map frame_record c.deref.result.now)
+    c.in-Ok.count = search rules in
     let sound : AllByRecursion (IsSound Manager) (records_of s.log.sight.kept) =
-    subst (λ (v : KvSight). AllByRecursion (IsSound Manager) (records_of v.log.sight.kept)) (sym c.self.view_is) c.records_are_sound.ensures in
+    subst (λ (v : KvSight). AllByRecursion (IsSound Manager) (records_of v.log.sight.kept))
+    (sym c.self.view_is) c.records_are_sound.ensures in
     let spell : AreOfData s (map frame_record c.deref.result.now) =
     ap (map frame_record) c.deref.ensures.value ∙ c.in_ok-frames.ensures.frames
     ∙ ap (λ (v : KvSight). map unnamed (base_records (logged v))) (sym c.self.view_is) in
-    kept_trimmed s c.trim.new.self (map frame_record c.deref.result.now) c.in-Ok.count c.self.invariant works sound spell made
+    kept_trimmed s c.trim.new.self (map frame_record c.deref.result.now) c.in-Ok.count
+    c.self.invariant works sound spell made

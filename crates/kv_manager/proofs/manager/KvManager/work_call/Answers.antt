@@ -13,26 +13,50 @@ use Rattle.kv_manager.proofs.manager.KvManager.work_call.Goals as goal
 
 pub invariant_of-self : goal.invariant_of-self
 invariant_of-self g c =
-    let s : KvSight = record { store = c.self.inside.store; log = c.self.inside.log; boot = c.self.inside.boot } in
+    let s : KvSight = record {
+      store = c.self.inside.store;
+      log = c.self.inside.log;
+      boot = c.self.inside.boot;
+    } in
     kept_by s c.work_call.new.self c.self.invariant
-    (either_way (λ answer. (wanted : Wanted) → MovesTables c.self.inside.store c.work_call.new.self (λ old new. Answers wanted old new c.args.verb c.args.thread c.args.xid.now c.args.flags.0 answer))
-    (λ e. (leaves (legal c.args.verb c.args.flags.0) ≡ false) × SameStore c.self.inside.store c.work_call.new.self)
-    (KeepsPromises c.self.inside.store c.work_call.new.self) c.work_call.result c.work_call.ensures.answer c.work_call.ensures.err
+    (either_way (λ answer. (wanted : Wanted) → MovesTables c.self.inside.store c.work_call.new.self
+    (λ old new. Answers wanted old new c.args.verb c.args.thread c.args.xid.now c.args.flags.0 answer))
+    (λ e. (leaves (legal c.args.verb c.args.flags.0) ≡ false)
+    × SameStore c.self.inside.store c.work_call.new.self)
+    (KeepsPromises c.self.inside.store c.work_call.new.self) c.work_call.result
+    c.work_call.ensures.answer c.work_call.ensures.err
     (λ answer made. moved_promises c.self.inside.store c.work_call.new.self
-    (works_keep is_prepared (λ k. (code.Proto, S0)) _ _ c.args.verb c.args.thread c.args.xid.now c.args.flags.0 answer (record { one = refl; two = refl; four = refl }) c.requires (made (λ k. (code.Proto, S0))).tables)
-    (works_keep is_decided (λ k. (code.Proto, S0)) _ _ c.args.verb c.args.thread c.args.xid.now c.args.flags.0 answer (record { one = refl; two = refl; four = refl }) c.requires (made (λ k. (code.Proto, S0))).tables)
-    (made (λ k. (code.Proto, S0))).writes (made (λ k. (code.Proto, S0))).versions (made (λ k. (code.Proto, S0))).decisions)
+    (works_keep is_prepared (λ k. (code.Proto, S0)) _ _ c.args.verb c.args.thread
+    c.args.xid.now c.args.flags.0 answer (record { one = refl; two = refl; four = refl }) c.requires
+    (made (λ k. (code.Proto, S0))).tables)
+    (works_keep is_decided (λ k. (code.Proto, S0)) _ _ c.args.verb c.args.thread
+    c.args.xid.now c.args.flags.0 answer (record { one = refl; two = refl; four = refl }) c.requires
+    (made (λ k. (code.Proto, S0))).tables)
+    (made (λ k. (code.Proto, S0))).writes (made (λ k. (code.Proto, S0))).versions
+    (made (λ k. (code.Proto, S0))).decisions)
     (λ e stays. same_promises c.self.inside.store c.work_call.new.self stays.1))
 
 pub returns-clause-answer : goal.returns-clause-answer
 returns-clause-answer g c =
-    let s : KvSight = record { store = c.self.inside.store; log = c.self.inside.log; boot = c.self.inside.boot } in
-    let after : KvSight = record { store = c.work_call.new.self; log = c.self.inside.log; boot = c.self.inside.boot } in
+    let s : KvSight = record {
+      store = c.self.inside.store;
+      log = c.self.inside.log;
+      boot = c.self.inside.boot;
+    } in
+    let after : KvSight = record {
+      store = c.work_call.new.self;
+      log = c.self.inside.log;
+      boot = c.self.inside.boot;
+    } in
     let works : s.log.sight.failed ≡ false = search rules in
     subst (λ v. IfOk c.work_call.result (λ answer. (wanted : Wanted) → Calls v after (answer ≡ code.RmFail)
-    (λ before behind. MovesTables before behind (λ old new. Answers wanted old new c.args.verb c.args.thread c.args.xid.now c.args.flags.0 answer)))) c.self.view_is
-    (map_ok (λ answer. (wanted : Wanted) → MovesTables s.store after.store (λ old new. Answers wanted old new c.args.verb c.args.thread c.args.xid.now c.args.flags.0 answer))
-    (λ answer. (wanted : Wanted) → Calls s after (answer ≡ code.RmFail) (λ before behind. MovesTables before behind (λ old new. Answers wanted old new c.args.verb c.args.thread c.args.xid.now c.args.flags.0 answer)))
+    (λ before behind. MovesTables before behind (λ old new. Answers wanted old new c.args.verb c.args.thread
+    c.args.xid.now c.args.flags.0 answer)))) c.self.view_is
+    (map_ok (λ answer. (wanted : Wanted) → MovesTables s.store after.store
+    (λ old new. Answers wanted old new c.args.verb c.args.thread c.args.xid.now c.args.flags.0 answer))
+    (λ answer. (wanted : Wanted) → Calls s after
+    (answer ≡ code.RmFail) (λ before behind. MovesTables before behind
+    (λ old new. Answers wanted old new c.args.verb c.args.thread c.args.xid.now c.args.flags.0 answer)))
     c.work_call.result c.work_call.ensures.answer
     (λ answer made wanted. record {
       failed = λ no_more. absurd (let never : true ≡ false = sym no_more ∙ works in cc);

@@ -6,4 +6,5 @@ use Rattle.kv_manager.proofs.resource.KvManagerResourceManager.close.Goals as go
 
 pub returns : goal.returns
 returns g c =
-    called c.args.self.now c.close.new.self (c.close.result ≡ code.RmFail) (λ old new. Closes old new c.args.flags.0 c.close.result) c.close.ensures
+    called c.args.self.now c.close.new.self (c.close.result ≡ code.RmFail)
+    (λ old new. Closes old new c.args.flags.0 c.close.result) c.close.ensures

@@ -13,8 +13,10 @@ use Rattle.kv_manager.proofs.resource.KvManagerResourceManager.end.Goals as goal
 pub returns-clause-answer : goal.returns-clause-answer
 returns-clause-answer g c =
     map_ok (λ answer. (wanted : Wanted) → Calls c.args.self.now c.end.new.self (answer ≡ code.RmFail)
-    (λ before behind. MovesTables before behind (λ old new. Answers wanted old new End c.args.thread c.args.xid.now c.args.flags.0 answer)))
-    (λ answer. (wanted : Wanted) → Moved (sight_of c.args.self.now) (sight_of c.end.new.self) (answer ≡ code.RmFail)
+    (λ before behind. MovesTables before behind
+    (λ old new. Answers wanted old new End c.args.thread c.args.xid.now c.args.flags.0 answer)))
+    (λ answer. (wanted : Wanted) → Moved (sight_of c.args.self.now)
+    (sight_of c.end.new.self) (answer ≡ code.RmFail)
     (λ old new. Answers wanted old new End c.args.thread c.args.xid.now c.args.flags.0 answer))
     c.end.result c.end.ensures.answer
     (λ answer made wanted. called c.args.self.now c.end.new.self (answer ≡ code.RmFail)

@@ -6,4 +6,5 @@ use Rattle.kv_manager.proofs.resource.KvManagerResourceManager.open.Goals as goa
 
 pub returns : goal.returns
 returns g c =
-    called c.args.self.now c.open.new.self (c.open.result ≡ code.RmFail) (λ old new. Opens old new c.args.flags.0 c.args.migrates c.open.result) c.open.ensures
+    called c.args.self.now c.open.new.self (c.open.result ≡ code.RmFail)
+    (λ old new. Opens old new c.args.flags.0 c.args.migrates c.open.result) c.open.ensures

@@ -10,5 +10,7 @@ use Rattle.kv_manager.proofs.resource.KvManagerResourceManager.rollback.Goals as
 pub returns-clause-answer : goal.returns-clause-answer
 returns-clause-answer g c =
     map_ok (KvFinishes c.args.self.now c.rollback.new.self Rollback c.args.xid.now c.args.flags.0)
-    (Finishes (sight_of c.args.self.now) (sight_of c.rollback.new.self) Rollback c.args.xid.now c.args.flags.0) c.rollback.result c.rollback.ensures.answer
-    (λ answer made. finished c.args.self.now c.rollback.new.self Rollback c.args.xid.now c.args.flags.0 answer refl made)
+    (Finishes (sight_of c.args.self.now) (sight_of c.rollback.new.self) Rollback c.args.xid.now
+    c.args.flags.0) c.rollback.result c.rollback.ensures.answer
+    (λ answer made. finished c.args.self.now c.rollback.new.self Rollback c.args.xid.now
+    c.args.flags.0 answer refl made)

@@ -13,9 +13,12 @@ use Rattle.kv_manager.proofs.resource.KvManagerResourceManager.start.Goals as go
 pub returns-clause-answer : goal.returns-clause-answer
 returns-clause-answer g c =
     map_ok (λ answer. (wanted : Wanted) → Calls c.args.self.now c.start.new.self (answer ≡ code.RmFail)
-    (λ before behind. MovesTables before behind (λ old new. Answers wanted old new Start c.args.thread c.args.xid.now c.args.flags.0 answer)))
-    (λ answer. (wanted : Wanted) → Moved (sight_of c.args.self.now) (sight_of c.start.new.self) (answer ≡ code.RmFail)
+    (λ before behind. MovesTables before behind
+    (λ old new. Answers wanted old new Start c.args.thread c.args.xid.now c.args.flags.0 answer)))
+    (λ answer. (wanted : Wanted) → Moved (sight_of c.args.self.now)
+    (sight_of c.start.new.self) (answer ≡ code.RmFail)
     (λ old new. Answers wanted old new Start c.args.thread c.args.xid.now c.args.flags.0 answer))
     c.start.result c.start.ensures.answer
     (λ answer made wanted. called c.args.self.now c.start.new.self (answer ≡ code.RmFail)
-    (λ old new. Answers wanted old new Start c.args.thread c.args.xid.now c.args.flags.0 answer) (made wanted))
+    (λ old new. Answers wanted old new Start c.args.thread c.args.xid.now
+    c.args.flags.0 answer) (made wanted))

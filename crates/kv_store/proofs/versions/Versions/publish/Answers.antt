@@ -8,4 +8,5 @@ pub invariant_of-self : goal.invariant_of-self
 invariant_of-self c =
     let staged : c.self.inside.is_staged ≡ true = search rules in
     kept_published c.self.inside.base c.self.inside.count (table_of c.self.inside.keys.entries)
-    (subst (λ b. IsKept c.self.inside.base c.self.inside.count b (table_of c.self.inside.keys.entries)) staged c.self.invariant)
+    (subst (λ b. IsKept c.self.inside.base c.self.inside.count b
+    (table_of c.self.inside.keys.entries)) staged c.self.invariant)

@@ -12,8 +12,10 @@ pub new-requires : goal.new-requires
 new-requires c =
     let name : IsSoundName (name_in c.args.xid.now).0 (name_in c.args.xid.now).1 =
     subst (λ (n : Name). IsSoundName n.0 n.1) c.name_of-parent.ensures.name c.name_of-parent.ensures.sound in
-    let is : entry_record c.args.self c.args.xid.now c.args.writes.now ≡ record { entry = c.in_ok-entry.entry; parent = c.name_of-parent.result.0 } = search rules in
-    subst FitsFrame is (records_fit_frames Manager (entry_record c.args.self c.args.xid.now c.args.writes.now) (sound_entry c.args.self c.args.xid.now c.args.writes.now name c.requires))
+    let is : entry_record c.args.self c.args.xid.now c.args.writes.now
+    ≡ record { entry = c.in_ok-entry.entry; parent = c.name_of-parent.result.0 } = search rules in
+    subst FitsFrame is (records_fit_frames Manager (entry_record c.args.self c.args.xid.now c.args.writes.now)
+    (sound_entry c.args.self c.args.xid.now c.args.writes.now name c.requires))
 
 pub returns-clause-sound : goal.returns-clause-sound
 returns-clause-sound c =

@@ -14,6 +14,8 @@ returns-in_default-clause-ok g c =
       table = c.self.inside.branches;
       manager = g.M.ResourceManager.sight c.self.inside.manager;
     } in
-    subst (λ v. Hears (seen g.M.ResourceManager.sight v) (seen g.M.ResourceManager.sight v) (Abort c.args.case) c.in_ok-acknowledges.field-0) c.self.view_is
+    subst (λ v. Hears (seen g.M.ResourceManager.sight v) (seen g.M.ResourceManager.sight v)
+    (Abort c.args.case) c.in_ok-acknowledges.field-0) c.self.view_is
     (subst (λ r. Hears s s (Abort c.args.case) r) (sym c.in_ok-acknowledges.ensures)
-    (heard s c.args.case (Abort c.args.case) _ (abort_unknown s c.args.case c.in_default.ensures.kept c.in_default.ensures.finds)))
+    (heard s c.args.case (Abort c.args.case) _
+    (abort_unknown s c.args.case c.in_default.ensures.kept c.in_default.ensures.finds)))

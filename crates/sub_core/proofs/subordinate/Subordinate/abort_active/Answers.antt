@@ -12,7 +12,8 @@ use Rattle.sub_core.proofs.subordinate.Subordinate.abort_active.Goals as goal
 pub roll_back-requires-clause-named : goal.roll_back-requires-clause-named
 roll_back-requires-clause-named g c =
     let b : Branch = active c.args.xid c.requires.at.0 c.requires.at.1 c.requires.at.2 in
-    let at : IsAt c.self.inside.branches c.args.key c.args.case b = subst (λ v. IsAt v.table c.args.key c.args.case b) (sym c.self.view_is) c.requires.at.3 in
+    let at : IsAt c.self.inside.branches c.args.key c.args.case b =
+    subst (λ v. IsAt v.table c.args.key c.args.case b) (sym c.self.view_is) c.requires.at.3 in
     (c.self.invariant.named c.args.case b at.live).real
 
 pub roll_back-requires-clause-state : goal.roll_back-requires-clause-state
@@ -26,8 +27,10 @@ roll_back-requires-clause-state g c =
       manager = g.M.ResourceManager.sight c.self.inside.manager;
     } in
     let b : Branch = active c.args.xid c.requires.at.0 c.requires.at.1 c.requires.at.2 in
-    let at : IsAt c.self.inside.branches c.args.key c.args.case b = subst (λ v. IsAt v.table c.args.key c.args.case b) (sym c.self.view_is) c.requires.at.3 in
-    ap can_roll_back (c.self.invariant.stands c.args.case b at.live) ∙ rollable c.requires.at.0 c.requires.at.1 c.requires.at.2
+    let at : IsAt c.self.inside.branches c.args.key c.args.case b =
+    subst (λ v. IsAt v.table c.args.key c.args.case b) (sym c.self.view_is) c.requires.at.3 in
+    ap can_roll_back (c.self.invariant.stands c.args.case b at.live)
+    ∙ rollable c.requires.at.0 c.requires.at.1 c.requires.at.2
 
 pub invariant_of-self : goal.invariant_of-self
 invariant_of-self g c =
@@ -40,9 +43,11 @@ invariant_of-self g c =
       manager = g.M.ResourceManager.sight c.self.inside.manager;
     } in
     let b : Branch = active c.args.xid c.requires.at.0 c.requires.at.1 c.requires.at.2 in
-    let at : IsAt c.self.inside.branches c.args.key c.args.case b = subst (λ v. IsAt v.table c.args.key c.args.case b) (sym c.self.view_is) c.requires.at.3 in
+    let at : IsAt c.self.inside.branches c.args.key c.args.case b =
+    subst (λ v. IsAt v.table c.args.key c.args.case b) (sym c.self.view_is) c.requires.at.3 in
     let m : ManagerSight = g.M.ResourceManager.sight c.roll_back.new.manager in
-    ended_tied s c.args.key c.args.case b call.Rollback c.remove.new.self m c.self.invariant at c.remove.ensures c.in-Ok.ensures.ok
+    ended_tied s c.args.key c.args.case b call.Rollback c.remove.new.self m c.self.invariant at
+    c.remove.ensures c.in-Ok.ensures.ok
 
 pub returns-in-Ok-clause-ok : goal.returns-in-Ok-clause-ok
 returns-in-Ok-clause-ok g c =
@@ -55,12 +60,16 @@ returns-in-Ok-clause-ok g c =
       manager = g.M.ResourceManager.sight c.self.inside.manager;
     } in
     let b : Branch = active c.args.xid c.requires.at.0 c.requires.at.1 c.requires.at.2 in
-    let at : IsAt c.self.inside.branches c.args.key c.args.case b = subst (λ v. IsAt v.table c.args.key c.args.case b) (sym c.self.view_is) c.requires.at.3 in
+    let at : IsAt c.self.inside.branches c.args.key c.args.case b =
+    subst (λ v. IsAt v.table c.args.key c.args.case b) (sym c.self.view_is) c.requires.at.3 in
     let m : ManagerSight = g.M.ResourceManager.sight c.roll_back.new.manager in
-    let ends = abort_row s c.args.key c.args.case c.requires.at.0 c.requires.at.1 c.requires.at.2 c.args.xid at in
-    subst (λ v. Hears (seen g.M.ResourceManager.sight v) (behind s c.remove.new.self m) (Abort c.args.case) c.in_ok-reaction.reaction) c.self.view_is
+    let ends = abort_row s c.args.key c.args.case c.requires.at.0 c.requires.at.1
+    c.requires.at.2 c.args.xid at in
+    subst (λ v. Hears (seen g.M.ResourceManager.sight v) (behind s c.remove.new.self m) (Abort c.args.case)
+    c.in_ok-reaction.reaction) c.self.view_is
     (subst (λ r. Hears s (behind s c.remove.new.self m) (Abort c.args.case) r) (sym c.in_ok-reaction.ensures)
-    (ended s c.args.key c.args.case b (Abort c.args.case) call.Rollback _ c.self.invariant at ends c.remove.new.self m c.remove.ensures c.in-Ok.ensures.ok))
+    (ended s c.args.key c.args.case b (Abort c.args.case) call.Rollback _ c.self.invariant at ends
+    c.remove.new.self m c.remove.ensures c.in-Ok.ensures.ok))
 
 pub returns-in-Err-clause-err : goal.returns-in-Err-clause-err
 returns-in-Err-clause-err g c =
@@ -73,8 +82,12 @@ returns-in-Err-clause-err g c =
       manager = g.M.ResourceManager.sight c.self.inside.manager;
     } in
     let b : Branch = active c.args.xid c.requires.at.0 c.requires.at.1 c.requires.at.2 in
-    let at : IsAt c.self.inside.branches c.args.key c.args.case b = subst (λ v. IsAt v.table c.args.key c.args.case b) (sym c.self.view_is) c.requires.at.3 in
+    let at : IsAt c.self.inside.branches c.args.key c.args.case b =
+    subst (λ v. IsAt v.table c.args.key c.args.case b) (sym c.self.view_is) c.requires.at.3 in
     let m : ManagerSight = g.M.ResourceManager.sight c.roll_back.new.manager in
-    let ends = abort_row s c.args.key c.args.case c.requires.at.0 c.requires.at.1 c.requires.at.2 c.args.xid at in
-    subst (λ v. NotHeard (seen g.M.ResourceManager.sight v) (behind s s.table m) (Abort c.args.case) c.in-Err.error) c.self.view_is
-    (not_ended s c.args.key c.args.case b (Abort c.args.case) call.Rollback _ c.self.invariant at ends m c.in-Err.error c.in-Err.ensures.err)
+    let ends = abort_row s c.args.key c.args.case c.requires.at.0 c.requires.at.1
+    c.requires.at.2 c.args.xid at in
+    subst (λ v. NotHeard (seen g.M.ResourceManager.sight v) (behind s s.table m) (Abort c.args.case)
+    c.in-Err.error) c.self.view_is
+    (not_ended s c.args.key c.args.case b (Abort c.args.case) call.Rollback _ c.self.invariant at ends m
+    c.in-Err.error c.in-Err.ensures.err)

@@ -16,7 +16,10 @@ returns-clause-ok g c =
       table = c.self.inside.branches;
       manager = g.M.ResourceManager.sight c.self.inside.manager;
     } in
-    let at : Some c.in_Some-branch.branch ≡ branch_in s.table c.args.case = c.in_Some-branch.ensures ∙ sym (ap (λ v. branch_in v.table c.args.case) c.self.view_is) in
+    let at : Some c.in_Some-branch.branch ≡ branch_in s.table c.args.case = c.in_Some-branch.ensures
+    ∙ sym (ap (λ v. branch_in v.table c.args.case) c.self.view_is) in
     let asks : awaits c.in_Some-branch.branch.stage ≡ true = search rules in
-    subst (λ v. Acts (seen g.M.ResourceManager.sight v) (seen g.M.ResourceManager.sight v) (Ask c.args.case) c.in_ok-reply.field-0) c.self.view_is
-    (subst (λ r. Acts s s (Ask c.args.case) r) (sym c.in_ok-reply.ensures) (asked s c.args.case c.in_Some-branch.branch at asks))
+    subst (λ v. Acts (seen g.M.ResourceManager.sight v) (seen g.M.ResourceManager.sight v) (Ask c.args.case)
+    c.in_ok-reply.field-0) c.self.view_is
+    (subst (λ r. Acts s s (Ask c.args.case) r) (sym c.in_ok-reply.ensures)
+    (asked s c.args.case c.in_Some-branch.branch at asks))

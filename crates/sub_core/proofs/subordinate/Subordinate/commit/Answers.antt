@@ -15,9 +15,11 @@ returns-in_default-clause-ok g c =
       table = c.self.inside.branches;
       manager = g.M.ResourceManager.sight c.self.inside.manager;
     } in
-    subst (λ v. Hears (seen g.M.ResourceManager.sight v) (seen g.M.ResourceManager.sight v) (Commit c.args.case) c.in_ok-acknowledges.field-0) c.self.view_is
+    subst (λ v. Hears (seen g.M.ResourceManager.sight v) (seen g.M.ResourceManager.sight v)
+    (Commit c.args.case) c.in_ok-acknowledges.field-0) c.self.view_is
     (subst (λ r. Hears s s (Commit c.args.case) r) (sym c.in_ok-acknowledges.ensures)
-    (heard s c.args.case (Commit c.args.case) _ (commit_unknown s c.args.case c.in_default.ensures.kept c.in_default.ensures.finds)))
+    (heard s c.args.case (Commit c.args.case) _
+    (commit_unknown s c.args.case c.in_default.ensures.kept c.in_default.ensures.finds)))
 
 pub returns-in-Active-clause-ok : goal.returns-in-Active-clause-ok
 returns-in-Active-clause-ok g c =
@@ -29,7 +31,10 @@ returns-in-Active-clause-ok g c =
       table = c.self.inside.branches;
       manager = g.M.ResourceManager.sight c.self.inside.manager;
     } in
-    let at = subst (λ (st : Stage). IsAt s.table c.in-Some.key c.args.case (record { xid = c.in-Some.branch.xid; stage = st })) c.in-Active.is c.in-Some.ensures.finds in
-    subst (λ v. Hears (seen g.M.ResourceManager.sight v) (seen g.M.ResourceManager.sight v) (Commit c.args.case) c.silence.result) c.self.view_is
+    let at = subst (λ (st : Stage). IsAt s.table c.in-Some.key c.args.case
+    (record { xid = c.in-Some.branch.xid; stage = st })) c.in-Active.is c.in-Some.ensures.finds in
+    subst (λ v. Hears (seen g.M.ResourceManager.sight v) (seen g.M.ResourceManager.sight v)
+    (Commit c.args.case) c.silence.result) c.self.view_is
     (subst (λ r. Hears s s (Commit c.args.case) r) (sym c.silence.ensures)
-    (heard s c.args.case (Commit c.args.case) _ (commit_active s c.args.case c.in-Some.ensures.kept c.in-Some.key c.in-Some.branch.xid c.in-Active.given_for c.in-Active.done c.in-Active.spoiled at)))
+    (heard s c.args.case (Commit c.args.case) _ (commit_active s c.args.case c.in-Some.ensures.kept
+    c.in-Some.key c.in-Some.branch.xid c.in-Active.given_for c.in-Active.done c.in-Active.spoiled at)))

@@ -13,7 +13,8 @@ use Rattle.sub_core.proofs.subordinate.Subordinate.commit_prepared.Goals as goal
 pub commit-requires-clause-named : goal.commit-requires-clause-named
 commit-requires-clause-named g c =
     let b : Branch = prepared c.args.xid in
-    let at : IsAt c.self.inside.branches c.args.key c.args.case b = subst (λ v. IsAt v.table c.args.key c.args.case b) (sym c.self.view_is) c.requires.at in
+    let at : IsAt c.self.inside.branches c.args.key c.args.case b =
+    subst (λ v. IsAt v.table c.args.key c.args.case b) (sym c.self.view_is) c.requires.at in
     (c.self.invariant.named c.args.case b at.live).real
 
 pub commit-requires-clause-state : goal.commit-requires-clause-state
@@ -27,7 +28,8 @@ commit-requires-clause-state g c =
       manager = g.M.ResourceManager.sight c.self.inside.manager;
     } in
     let b : Branch = prepared c.args.xid in
-    let at : IsAt c.self.inside.branches c.args.key c.args.case b = subst (λ v. IsAt v.table c.args.key c.args.case b) (sym c.self.view_is) c.requires.at in
+    let at : IsAt c.self.inside.branches c.args.key c.args.case b =
+    subst (λ v. IsAt v.table c.args.key c.args.case b) (sym c.self.view_is) c.requires.at in
     ap can_commit (c.self.invariant.stands c.args.case b at.live)
 
 pub invariant_of-self : goal.invariant_of-self
@@ -41,9 +43,11 @@ invariant_of-self g c =
       manager = g.M.ResourceManager.sight c.self.inside.manager;
     } in
     let b : Branch = prepared c.args.xid in
-    let at : IsAt c.self.inside.branches c.args.key c.args.case b = subst (λ v. IsAt v.table c.args.key c.args.case b) (sym c.self.view_is) c.requires.at in
+    let at : IsAt c.self.inside.branches c.args.key c.args.case b =
+    subst (λ v. IsAt v.table c.args.key c.args.case b) (sym c.self.view_is) c.requires.at in
     let m : ManagerSight = g.M.ResourceManager.sight c.commit.new.manager in
-    ended_tied s c.args.key c.args.case b call.Commit c.remove.new.self m c.self.invariant at c.remove.ensures c.in-Ok.ensures.ok
+    ended_tied s c.args.key c.args.case b call.Commit c.remove.new.self m c.self.invariant at
+    c.remove.ensures c.in-Ok.ensures.ok
 
 pub returns-in-Ok-clause-ok : goal.returns-in-Ok-clause-ok
 returns-in-Ok-clause-ok g c =
@@ -56,12 +60,16 @@ returns-in-Ok-clause-ok g c =
       manager = g.M.ResourceManager.sight c.self.inside.manager;
     } in
     let b : Branch = prepared c.args.xid in
-    let at : IsAt c.self.inside.branches c.args.key c.args.case b = subst (λ v. IsAt v.table c.args.key c.args.case b) (sym c.self.view_is) c.requires.at in
+    let at : IsAt c.self.inside.branches c.args.key c.args.case b =
+    subst (λ v. IsAt v.table c.args.key c.args.case b) (sym c.self.view_is) c.requires.at in
     let m : ManagerSight = g.M.ResourceManager.sight c.commit.new.manager in
-    let ends = commit_row s c.args.key c.args.case c.args.xid (subst (λ v. IsKept v.table) (sym c.self.view_is) c.requires.kept) at in
-    subst (λ v. Hears (seen g.M.ResourceManager.sight v) (behind s c.remove.new.self m) (Commit c.args.case) c.in_ok-reaction.reaction) c.self.view_is
+    let ends = commit_row s c.args.key c.args.case c.args.xid
+    (subst (λ v. IsKept v.table) (sym c.self.view_is) c.requires.kept) at in
+    subst (λ v. Hears (seen g.M.ResourceManager.sight v) (behind s c.remove.new.self m) (Commit c.args.case)
+    c.in_ok-reaction.reaction) c.self.view_is
     (subst (λ r. Hears s (behind s c.remove.new.self m) (Commit c.args.case) r) (sym c.in_ok-reaction.ensures)
-    (ended s c.args.key c.args.case b (Commit c.args.case) call.Commit _ c.self.invariant at ends c.remove.new.self m c.remove.ensures c.in-Ok.ensures.ok))
+    (ended s c.args.key c.args.case b (Commit c.args.case) call.Commit _ c.self.invariant at ends
+    c.remove.new.self m c.remove.ensures c.in-Ok.ensures.ok))
 
 pub returns-in-Err-clause-err : goal.returns-in-Err-clause-err
 returns-in-Err-clause-err g c =
@@ -74,8 +82,12 @@ returns-in-Err-clause-err g c =
       manager = g.M.ResourceManager.sight c.self.inside.manager;
     } in
     let b : Branch = prepared c.args.xid in
-    let at : IsAt c.self.inside.branches c.args.key c.args.case b = subst (λ v. IsAt v.table c.args.key c.args.case b) (sym c.self.view_is) c.requires.at in
+    let at : IsAt c.self.inside.branches c.args.key c.args.case b =
+    subst (λ v. IsAt v.table c.args.key c.args.case b) (sym c.self.view_is) c.requires.at in
     let m : ManagerSight = g.M.ResourceManager.sight c.commit.new.manager in
-    let ends = commit_row s c.args.key c.args.case c.args.xid (subst (λ v. IsKept v.table) (sym c.self.view_is) c.requires.kept) at in
-    subst (λ v. NotHeard (seen g.M.ResourceManager.sight v) (behind s s.table m) (Commit c.args.case) c.in-Err.error) c.self.view_is
-    (not_ended s c.args.key c.args.case b (Commit c.args.case) call.Commit _ c.self.invariant at ends m c.in-Err.error c.in-Err.ensures.err)
+    let ends = commit_row s c.args.key c.args.case c.args.xid
+    (subst (λ v. IsKept v.table) (sym c.self.view_is) c.requires.kept) at in
+    subst (λ v. NotHeard (seen g.M.ResourceManager.sight v) (behind s s.table m) (Commit c.args.case)
+    c.in-Err.error) c.self.view_is
+    (not_ended s c.args.key c.args.case b (Commit c.args.case) call.Commit _ c.self.invariant at ends m
+    c.in-Err.error c.in-Err.ensures.err)

@@ -8,6 +8,7 @@ returns-in_default g c =
     let s : SubState = seen g.M.ResourceManager.sight c.args.self.now in
     record {
       ok = subst (λ r. Hears s s c.args.message.now r) (sym c.silence.ensures)
-          (unheard_of s c.args.message.now c.in_default.not-Join c.in_default.not-Work c.in_default.not-Prepare c.in_default.not-Commit c.in_default.not-Abort);
+          (unheard_of s c.args.message.now c.in_default.not-Join c.in_default.not-Work
+          c.in_default.not-Prepare c.in_default.not-Commit c.in_default.not-Abort);
       err = tt;
     }

@@ -14,17 +14,22 @@ pub returns-clause-ok : goal.returns-clause-ok
 returns-clause-ok g c =
     let old : SubState = seen g.M.ResourceManager.sight c.args.self.now in
     let new : SubState = seen g.M.ResourceManager.sight c.start.new.self in
-    let said : c.in_ok-joined.joined ≡ shown [] (post old.me old.parent (Joined c.args.case (next_ticket (core_of old))) ∷ []) =
+    let said : c.in_ok-joined.joined ≡ shown []
+    (post old.me old.parent (Joined c.args.case (next_ticket (core_of old))) ∷ []) =
     c.in_ok-joined.ensures
-    ∙ ap (λ (t : Ticket). shown [] (post c.self.inside.me c.self.inside.parent (Joined c.args.case t) ∷ [])) c.next_ticket-ticket.ensures
-    ∙ ap (λ v. shown [] (post v.me v.parent (Joined c.args.case (next_ticket (core_of old))) ∷ [])) c.self.view_is in
+    ∙ ap (λ (t : Ticket). shown [] (post c.self.inside.me c.self.inside.parent (Joined c.args.case t) ∷ []))
+    c.next_ticket-ticket.ensures
+    ∙ ap (λ v. shown [] (post v.me v.parent (Joined c.args.case (next_ticket (core_of old))) ∷ []))
+    c.self.view_is in
     elim c.if-branch.branch [
       | then-branch w ↦
           subst (λ r. IfOk r (Hears old new (Join c.args.case))) (sym w.result-is)
           (subst (λ (r : Reaction). Hears old new (Join c.args.case) r) (sym said)
-          (issued old new c.args.case c.requires.ungiven (subst (λ b. Joins old new c.args.case b) w.if-branch.true c.in_ok-start.ensures.ok)))
+          (issued old new c.args.case c.requires.ungiven
+          (subst (λ b. Joins old new c.args.case b) w.if-branch.true c.in_ok-start.ensures.ok)))
       | else-branch w ↦
           subst (λ r. IfOk r (Hears old new (Join c.args.case))) (sym w.result-is)
           (subst (λ (r : Reaction). Hears old new (Join c.args.case) r) (sym w.silence.ensures)
-          (refused old new c.args.case c.requires.ungiven (subst (λ b. Joins old new c.args.case b) w.if-branch.false c.in_ok-start.ensures.ok)))
+          (refused old new c.args.case c.requires.ungiven
+          (subst (λ b. Joins old new c.args.case b) w.if-branch.false c.in_ok-start.ensures.ok)))
     ]

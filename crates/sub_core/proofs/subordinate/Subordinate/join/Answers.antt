@@ -16,5 +16,7 @@ returns-in_ok-reply-in-Some-clause-ok g c =
       manager = g.M.ResourceManager.sight c.self.inside.manager;
     } in
     let at : Some c.in-Some.ticket ≡ ticket_in s.table c.args.case = c.in-Some.ensures.is in
-    subst (λ v. Hears (seen g.M.ResourceManager.sight v) (seen g.M.ResourceManager.sight v) (Join c.args.case) c.in_ok-reply-in-Some.field-0) c.self.view_is
-    (subst (λ r. Hears s s (Join c.args.case) r) (sym c.in_ok-reply-in-Some.ensures) (repeated s c.args.case c.in-Some.ticket at))
+    subst (λ v. Hears (seen g.M.ResourceManager.sight v) (seen g.M.ResourceManager.sight v) (Join c.args.case)
+    c.in_ok-reply-in-Some.field-0) c.self.view_is
+    (subst (λ r. Hears s s (Join c.args.case) r) (sym c.in_ok-reply-in-Some.ensures)
+    (repeated s c.args.case c.in-Some.ticket at))

@@ -8,12 +8,14 @@ pub invariant_of-result : goal.invariant_of-result
 invariant_of-result g c =
     let old : ManagerSight = g.M.ResourceManager.sight c.args.manager in
     let new : ManagerSight = g.M.ResourceManager.sight c.open.new.self in
-    opened_tied old new c.requires (λ answer. answer ≡ code.RmFail) c.open.result c.open.ensures c.args.me c.args.parent c.args.tree c.new.result
+    opened_tied old new c.requires (λ answer. answer ≡ code.RmFail) c.open.result c.open.ensures c.args.me
+    c.args.parent c.args.tree c.new.result
     c.new.ensures.tickets c.new.ensures.branches
 
 pub returns : goal.returns
 returns g c =
     let old : ManagerSight = g.M.ResourceManager.sight c.args.manager in
     let new : ManagerSight = g.M.ResourceManager.sight c.open.new.self in
-    opened old new c.requires (λ answer. answer ≡ code.RmFail) c.open.result c.open.ensures c.args.me c.args.parent c.args.tree c.new.result
+    opened old new c.requires (λ answer. answer ≡ code.RmFail) c.open.result c.open.ensures c.args.me
+    c.args.parent c.args.tree c.new.result
     c.new.ensures.tickets c.new.ensures.branches

@@ -15,9 +15,11 @@ returns-in_default-clause-ok g c =
       table = c.self.inside.branches;
       manager = g.M.ResourceManager.sight c.self.inside.manager;
     } in
-    subst (λ v. Hears (seen g.M.ResourceManager.sight v) (seen g.M.ResourceManager.sight v) (Prepare c.args.case c.args.works) c.in_ok-reply.field-0) c.self.view_is
+    subst (λ v. Hears (seen g.M.ResourceManager.sight v) (seen g.M.ResourceManager.sight v)
+    (Prepare c.args.case c.args.works) c.in_ok-reply.field-0) c.self.view_is
     (subst (λ r. Hears s s (Prepare c.args.case c.args.works) r) (sym c.in_ok-reply.ensures)
-    (heard s c.args.case (Prepare c.args.case c.args.works) _ (prepare_unknown s c.args.case c.in_default.ensures.kept c.args.works c.in_default.ensures.finds)))
+    (heard s c.args.case (Prepare c.args.case c.args.works) _
+    (prepare_unknown s c.args.case c.in_default.ensures.kept c.args.works c.in_default.ensures.finds)))
 
 pub returns-in_ok-reply-in-Prepared-clause-ok : goal.returns-in_ok-reply-in-Prepared-clause-ok
 returns-in_ok-reply-in-Prepared-clause-ok g c =
@@ -29,10 +31,13 @@ returns-in_ok-reply-in-Prepared-clause-ok g c =
       table = c.self.inside.branches;
       manager = g.M.ResourceManager.sight c.self.inside.manager;
     } in
-    let at = subst (λ (st : Stage). IsAt s.table c.in-Some.key c.args.case (record { xid = c.in-Some.branch.xid; stage = st })) c.in-Prepared.is c.in-Some.ensures.finds in
-    subst (λ v. Hears (seen g.M.ResourceManager.sight v) (seen g.M.ResourceManager.sight v) (Prepare c.args.case c.args.works) c.in_ok-reply-in-Prepared.field-0) c.self.view_is
+    let at = subst (λ (st : Stage). IsAt s.table c.in-Some.key c.args.case
+    (record { xid = c.in-Some.branch.xid; stage = st })) c.in-Prepared.is c.in-Some.ensures.finds in
+    subst (λ v. Hears (seen g.M.ResourceManager.sight v) (seen g.M.ResourceManager.sight v)
+    (Prepare c.args.case c.args.works) c.in_ok-reply-in-Prepared.field-0) c.self.view_is
     (subst (λ r. Hears s s (Prepare c.args.case c.args.works) r) (sym c.in_ok-reply-in-Prepared.ensures)
-    (heard s c.args.case (Prepare c.args.case c.args.works) _ (prepare_again s c.args.case c.in-Some.ensures.kept c.args.works c.in-Some.key c.in-Some.branch.xid at)))
+    (heard s c.args.case (Prepare c.args.case c.args.works) _ (prepare_again s c.args.case
+    c.in-Some.ensures.kept c.args.works c.in-Some.key c.in-Some.branch.xid at)))
 
 pub returns-in_ok-reply-in-Heuristic-clause-ok : goal.returns-in_ok-reply-in-Heuristic-clause-ok
 returns-in_ok-reply-in-Heuristic-clause-ok g c =
@@ -44,7 +49,10 @@ returns-in_ok-reply-in-Heuristic-clause-ok g c =
       table = c.self.inside.branches;
       manager = g.M.ResourceManager.sight c.self.inside.manager;
     } in
-    let at = subst (λ (st : Stage). IsAt s.table c.in-Some.key c.args.case (record { xid = c.in-Some.branch.xid; stage = st })) c.in-Heuristic.is c.in-Some.ensures.finds in
-    subst (λ v. Hears (seen g.M.ResourceManager.sight v) (seen g.M.ResourceManager.sight v) (Prepare c.args.case c.args.works) c.in_ok-reply-in-Heuristic.field-0) c.self.view_is
+    let at = subst (λ (st : Stage). IsAt s.table c.in-Some.key c.args.case
+    (record { xid = c.in-Some.branch.xid; stage = st })) c.in-Heuristic.is c.in-Some.ensures.finds in
+    subst (λ v. Hears (seen g.M.ResourceManager.sight v) (seen g.M.ResourceManager.sight v)
+    (Prepare c.args.case c.args.works) c.in_ok-reply-in-Heuristic.field-0) c.self.view_is
     (subst (λ r. Hears s s (Prepare c.args.case c.args.works) r) (sym c.in_ok-reply-in-Heuristic.ensures)
-    (heard s c.args.case (Prepare c.args.case c.args.works) _ (prepare_decided s c.args.case c.in-Some.ensures.kept c.args.works c.in-Some.key c.in-Some.branch.xid c.in-Heuristic.told at)))
+    (heard s c.args.case (Prepare c.args.case c.args.works) _ (prepare_decided s c.args.case
+    c.in-Some.ensures.kept c.args.works c.in-Some.key c.in-Some.branch.xid c.in-Heuristic.told at)))

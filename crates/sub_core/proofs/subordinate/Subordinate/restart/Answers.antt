@@ -25,11 +25,14 @@ invariant_of-self g c =
       manager = g.M.ResourceManager.sight c.self.inside.manager;
     } in
     let r : Rebuilt = c.in_ok-rebuilt.rebuilt in
-    let re : Reopens s.manager (g.M.ResourceManager.sight c.reopen.new.manager) c.args.keep = c.in-Ok.ensures.ok in
+    let re : Reopens s.manager (g.M.ResourceManager.sight c.reopen.new.manager)
+    c.args.keep = c.in-Ok.ensures.ok in
     let m : ManagerSight = g.M.ResourceManager.sight c.reopen.new.manager in
     let made : Rebuilds (leaf s.me s.parent s.tree) s.parent (left_by s.manager.log c.args.keep) r =
-    subst (λ v. Rebuilds (leaf v.me v.parent v.tree) v.parent (left_by (g.M.ResourceManager.sight v.manager).log c.args.keep) r) (sym c.self.view_is) c.in_ok-rebuilt.ensures.ok in
-    reopened_tied s c.args.keep r re.mid m (λ answer. answer ≡ code.RmFail) re.answer made re.restarts re.calls
+    subst (λ v. Rebuilds (leaf v.me v.parent v.tree) v.parent (left_by (g.M.ResourceManager.sight
+    v.manager).log c.args.keep) r) (sym c.self.view_is) c.in_ok-rebuilt.ensures.ok in
+    reopened_tied s c.args.keep r re.mid m (λ answer. answer ≡ code.RmFail)
+    re.answer made re.restarts re.calls
 
 pub returns-in-Ok-clause-ok : goal.returns-in-Ok-clause-ok
 returns-in-Ok-clause-ok g c =
@@ -42,14 +45,30 @@ returns-in-Ok-clause-ok g c =
       manager = g.M.ResourceManager.sight c.self.inside.manager;
     } in
     let r : Rebuilt = c.in_ok-rebuilt.rebuilt in
-    let re : Reopens s.manager (g.M.ResourceManager.sight c.reopen.new.manager) c.args.keep = c.in-Ok.ensures.ok in
+    let re : Reopens s.manager (g.M.ResourceManager.sight c.reopen.new.manager)
+    c.args.keep = c.in-Ok.ensures.ok in
     let m : ManagerSight = g.M.ResourceManager.sight c.reopen.new.manager in
-    let n : SubState = record { me = s.me; parent = s.parent; tree = s.tree; given = 0; table = r.branches; manager = m } in
+    let n : SubState = record {
+      me = s.me;
+      parent = s.parent;
+      tree = s.tree;
+      given = 0;
+      table = r.branches;
+      manager = m;
+    } in
     let made : Rebuilds (leaf s.me s.parent s.tree) s.parent (left_by s.manager.log c.args.keep) r =
-    subst (λ v. Rebuilds (leaf v.me v.parent v.tree) v.parent (left_by (g.M.ResourceManager.sight v.manager).log c.args.keep) r) (sym c.self.view_is) c.in_ok-rebuilt.ensures.ok in
+    subst (λ v. Rebuilds (leaf v.me v.parent v.tree) v.parent (left_by (g.M.ResourceManager.sight
+    v.manager).log c.args.keep) r) (sym c.self.view_is) c.in_ok-rebuilt.ensures.ok in
     subst (λ v. Restarts (state g.M.ResourceManager.sight v) c.args.keep (core_of n)
-    (record { begun = None; written = c.in_ok-rebuilt.written; told = None; messages = r.messages; kept = None })) c.self.view_is
-    (subst (λ w. Restarts (core_of s) c.args.keep (core_of n) (record { begun = None; written = w; told = None; messages = r.messages; kept = None }))
+    (record {
+      begun = None;
+      written = c.in_ok-rebuilt.written;
+      told = None;
+      messages = r.messages;
+      kept = None;
+    })) c.self.view_is
+    (subst (λ w. Restarts (core_of s) c.args.keep (core_of n)
+    (record { begun = None; written = w; told = None; messages = r.messages; kept = None }))
     (sym c.in_ok-rebuilt.ensures.written)
     (restarted s c.args.keep r re.mid m (λ answer. answer ≡ code.RmFail) re.answer made re.restarts re.calls))
 
@@ -64,7 +83,8 @@ invariant_of-self-in-Err-Memory g c =
       manager = g.M.ResourceManager.sight c.self.inside.manager;
     } in
     same_tied s (g.M.ResourceManager.sight c.reopen.new.manager) c.self.invariant
-    (subst (λ e. NotRestartedBy s.manager (g.M.ResourceManager.sight c.reopen.new.manager) c.args.keep e) c.in-Err-Memory.field-0-is c.in-Err-Memory.ensures.err)
+    (subst (λ e. NotRestartedBy s.manager (g.M.ResourceManager.sight c.reopen.new.manager) c.args.keep e)
+    c.in-Err-Memory.field-0-is c.in-Err-Memory.ensures.err)
 
 pub invariant_of-self-in-Err-Device : goal.invariant_of-self-in-Err-Device
 invariant_of-self-in-Err-Device g c =
@@ -77,7 +97,8 @@ invariant_of-self-in-Err-Device g c =
       manager = g.M.ResourceManager.sight c.self.inside.manager;
     } in
     broken_tied s (g.M.ResourceManager.sight c.reopen.new.manager) c.args.keep c.self.invariant
-    (subst (λ e. NotRestartedBy s.manager (g.M.ResourceManager.sight c.reopen.new.manager) c.args.keep e) c.in-Err-Device.field-0-is c.in-Err-Device.ensures.err)
+    (subst (λ e. NotRestartedBy s.manager (g.M.ResourceManager.sight c.reopen.new.manager) c.args.keep e)
+    c.in-Err-Device.field-0-is c.in-Err-Device.ensures.err)
 
 pub returns-clause-err : goal.returns-clause-err
 returns-clause-err g c =
@@ -90,13 +111,16 @@ returns-clause-err g c =
       manager = g.M.ResourceManager.sight c.self.inside.manager;
     } in
     let m : ManagerSight = g.M.ResourceManager.sight c.reopen.new.manager in
-    subst (λ v. NotRestarted (state g.M.ResourceManager.sight v) c.args.keep (core_of (behind s s.table m)) Device) c.self.view_is
+    subst (λ v. NotRestarted (state g.M.ResourceManager.sight v) c.args.keep
+    (core_of (behind s s.table m)) Device) c.self.view_is
     (broken s m c.args.keep
-    (subst (λ e. NotRestartedBy s.manager m c.args.keep e) c.in-Err-Device.field-0-is c.in-Err-Device.ensures.err))
+    (subst (λ e. NotRestartedBy s.manager m c.args.keep e) c.in-Err-Device.field-0-is
+    c.in-Err-Device.ensures.err))
 
 pub returns-in-Ok-clause-writes : goal.returns-in-Ok-clause-writes
 returns-in-Ok-clause-writes g c =
     let m : ManagerSight = g.M.ResourceManager.sight c.reopen.new.manager in
     let re : Reopens (g.M.ResourceManager.sight c.self.inside.manager) m c.args.keep = c.in-Ok.ensures.ok in
-    subst (λ v. (x : Xid) → m.writes x ≡ writes_left (left_by (g.M.ResourceManager.sight v.manager).log c.args.keep) x) c.self.view_is
+    subst (λ v. (x : Xid) → m.writes x ≡ writes_left
+    (left_by (g.M.ResourceManager.sight v.manager).log c.args.keep) x) c.self.view_is
     (λ x. re.calls.rest.writes x ∙ re.restarts.writes x)

@@ -35,12 +35,16 @@ invariant_of-self-in-Ok-true g c =
       manager = g.M.ResourceManager.sight c.self.inside.manager;
     } in
     let m : ManagerSight = g.M.ResourceManager.sight c.begin.new.manager in
-    let fresh : c.args.ticket ≡ next_ticket (core_of s) = c.requires.fresh ∙ sym (ap (λ v. next_ticket (core_of (seen g.M.ResourceManager.sight v))) c.self.view_is) in
+    let fresh : c.args.ticket ≡ next_ticket (core_of s) = c.requires.fresh
+    ∙ sym (ap (λ v. next_ticket (core_of (seen g.M.ResourceManager.sight v))) c.self.view_is) in
     let named : IsNamed s.parent (next_case s c.args.case) c.child_xid-xid.result =
-    subst (λ (t : Ticket). IsNamed s.parent (child_case c.args.case.txn t) c.child_xid-xid.result) fresh c.child_xid-xid.ensures in
+    subst (λ (t : Ticket). IsNamed s.parent (child_case c.args.case.txn t) c.child_xid-xid.result)
+    fresh c.child_xid-xid.ensures in
     let opens : Opens s.table c.open.new.self c.args.case (next_ticket (core_of s)) c.child_xid-xid.result =
-    subst (λ (t : Ticket). Opens s.table c.open.new.self c.args.case t c.child_xid-xid.result) fresh c.in_ok-key.ensures.ok in
-    let h : HasBegun s.manager m c.child_xid-xid.result true = subst (λ r. HasBegun s.manager m c.child_xid-xid.result r) c.in-Ok-true.field-0-test c.in-Ok-true.ensures.ok in
+    subst (λ (t : Ticket). Opens s.table c.open.new.self c.args.case t c.child_xid-xid.result)
+    fresh c.in_ok-key.ensures.ok in
+    let h : HasBegun s.manager m c.child_xid-xid.result true = subst (λ r. HasBegun s.manager m
+    c.child_xid-xid.result r) c.in-Ok-true.field-0-test c.in-Ok-true.ensures.ok in
     subst (λ (t : Ticket). IsTied (numbered s c.open.new.self m t.number)) (sym fresh)
     (begun_tied s c.args.case c.open.new.self m c.child_xid-xid.result c.self.invariant named opens h.1)
 
@@ -55,15 +59,20 @@ invariant_of-self-in-Ok-false g c =
       manager = g.M.ResourceManager.sight c.self.inside.manager;
     } in
     let m : ManagerSight = g.M.ResourceManager.sight c.begin.new.manager in
-    let fresh : c.args.ticket ≡ next_ticket (core_of s) = c.requires.fresh ∙ sym (ap (λ v. next_ticket (core_of (seen g.M.ResourceManager.sight v))) c.self.view_is) in
+    let fresh : c.args.ticket ≡ next_ticket (core_of s) = c.requires.fresh
+    ∙ sym (ap (λ v. next_ticket (core_of (seen g.M.ResourceManager.sight v))) c.self.view_is) in
     let kept : IsKept s.table = subst (λ v. IsKept v.table) (sym c.self.view_is) c.requires.kept in
-    let ungiven : ticket_in s.table c.args.case ≡ None = ap (λ v. ticket_in v.table c.args.case) c.self.view_is ∙ c.requires.ungiven in
+    let ungiven : ticket_in s.table c.args.case ≡ None =
+    ap (λ v. ticket_in v.table c.args.case) c.self.view_is ∙ c.requires.ungiven in
     let vacant : branch_in s.table (child_case c.args.case.txn c.args.ticket) ≡ None =
-    ap (λ (t : Ticket). branch_in s.table (child_case c.args.case.txn t)) fresh ∙ is_fresh s c.args.case c.self.invariant in
+    ap (λ (t : Ticket). branch_in s.table (child_case c.args.case.txn t)) fresh
+    ∙ is_fresh s c.args.case c.self.invariant in
     let same : SameTable s.table c.remove.new.self =
-    undone s.table c.open.new.self c.remove.new.self c.in_ok-key.key c.args.case c.args.ticket c.child_xid-xid.result kept vacant ungiven c.in_ok-key.ensures.ok
+    undone s.table c.open.new.self c.remove.new.self c.in_ok-key.key c.args.case c.args.ticket
+    c.child_xid-xid.result kept vacant ungiven c.in_ok-key.ensures.ok
     c.in_ok-key.ensures.at c.remove.ensures in
-    let h : HasBegun s.manager m c.child_xid-xid.result false = subst (λ r. HasBegun s.manager m c.child_xid-xid.result r) c.in-Ok-false.field-0-test c.in-Ok-false.ensures.ok in
+    let h : HasBegun s.manager m c.child_xid-xid.result false = subst (λ r. HasBegun s.manager m
+    c.child_xid-xid.result r) c.in-Ok-false.field-0-test c.in-Ok-false.ensures.ok in
     undone_tied s c.remove.new.self m c.self.invariant same h.1
 
 pub invariant_of-self-in-Err : goal.invariant_of-self-in-Err
@@ -77,13 +86,17 @@ invariant_of-self-in-Err g c =
       manager = g.M.ResourceManager.sight c.self.inside.manager;
     } in
     let m : ManagerSight = g.M.ResourceManager.sight c.begin.new.manager in
-    let fresh : c.args.ticket ≡ next_ticket (core_of s) = c.requires.fresh ∙ sym (ap (λ v. next_ticket (core_of (seen g.M.ResourceManager.sight v))) c.self.view_is) in
+    let fresh : c.args.ticket ≡ next_ticket (core_of s) = c.requires.fresh
+    ∙ sym (ap (λ v. next_ticket (core_of (seen g.M.ResourceManager.sight v))) c.self.view_is) in
     let kept : IsKept s.table = subst (λ v. IsKept v.table) (sym c.self.view_is) c.requires.kept in
-    let ungiven : ticket_in s.table c.args.case ≡ None = ap (λ v. ticket_in v.table c.args.case) c.self.view_is ∙ c.requires.ungiven in
+    let ungiven : ticket_in s.table c.args.case ≡ None =
+    ap (λ v. ticket_in v.table c.args.case) c.self.view_is ∙ c.requires.ungiven in
     let vacant : branch_in s.table (child_case c.args.case.txn c.args.ticket) ≡ None =
-    ap (λ (t : Ticket). branch_in s.table (child_case c.args.case.txn t)) fresh ∙ is_fresh s c.args.case c.self.invariant in
+    ap (λ (t : Ticket). branch_in s.table (child_case c.args.case.txn t)) fresh
+    ∙ is_fresh s c.args.case c.self.invariant in
     let same : SameTable s.table c.remove-in-Err.new.self =
-    undone s.table c.open.new.self c.remove-in-Err.new.self c.in_ok-key.key c.args.case c.args.ticket c.child_xid-xid.result kept vacant ungiven c.in_ok-key.ensures.ok
+    undone s.table c.open.new.self c.remove-in-Err.new.self c.in_ok-key.key c.args.case c.args.ticket
+    c.child_xid-xid.result kept vacant ungiven c.in_ok-key.ensures.ok
     c.in_ok-key.ensures.at c.remove-in-Err.ensures in
     undone_tied s c.remove-in-Err.new.self m c.self.invariant same c.in-Err.ensures.err
 
@@ -98,13 +111,18 @@ returns-in-Ok-true-clause-ok g c =
       manager = g.M.ResourceManager.sight c.self.inside.manager;
     } in
     let m : ManagerSight = g.M.ResourceManager.sight c.begin.new.manager in
-    let fresh : c.args.ticket ≡ next_ticket (core_of s) = c.requires.fresh ∙ sym (ap (λ v. next_ticket (core_of (seen g.M.ResourceManager.sight v))) c.self.view_is) in
+    let fresh : c.args.ticket ≡ next_ticket (core_of s) = c.requires.fresh
+    ∙ sym (ap (λ v. next_ticket (core_of (seen g.M.ResourceManager.sight v))) c.self.view_is) in
     let named : IsNamed s.parent (next_case s c.args.case) c.child_xid-xid.result =
-    subst (λ (t : Ticket). IsNamed s.parent (child_case c.args.case.txn t) c.child_xid-xid.result) fresh c.child_xid-xid.ensures in
+    subst (λ (t : Ticket). IsNamed s.parent (child_case c.args.case.txn t) c.child_xid-xid.result)
+    fresh c.child_xid-xid.ensures in
     let opens : Opens s.table c.open.new.self c.args.case (next_ticket (core_of s)) c.child_xid-xid.result =
-    subst (λ (t : Ticket). Opens s.table c.open.new.self c.args.case t c.child_xid-xid.result) fresh c.in_ok-key.ensures.ok in
-    let h : HasBegun s.manager m c.child_xid-xid.result true = subst (λ r. HasBegun s.manager m c.child_xid-xid.result r) c.in-Ok-true.field-0-test c.in-Ok-true.ensures.ok in
-    subst (λ v. Joins (seen g.M.ResourceManager.sight v) (numbered s c.open.new.self m c.args.ticket.number) c.args.case true) c.self.view_is
+    subst (λ (t : Ticket). Opens s.table c.open.new.self c.args.case t c.child_xid-xid.result)
+    fresh c.in_ok-key.ensures.ok in
+    let h : HasBegun s.manager m c.child_xid-xid.result true = subst (λ r. HasBegun s.manager m
+    c.child_xid-xid.result r) c.in-Ok-true.field-0-test c.in-Ok-true.ensures.ok in
+    subst (λ v. Joins (seen g.M.ResourceManager.sight v) (numbered s c.open.new.self m c.args.ticket.number)
+    c.args.case true) c.self.view_is
     (subst (λ (t : Ticket). Joins s (numbered s c.open.new.self m t.number) c.args.case true) (sym fresh)
     (begun s c.args.case c.open.new.self m c.child_xid-xid.result c.self.invariant named opens h))
 
@@ -119,18 +137,25 @@ returns-in-Ok-false-clause-ok g c =
       manager = g.M.ResourceManager.sight c.self.inside.manager;
     } in
     let m : ManagerSight = g.M.ResourceManager.sight c.begin.new.manager in
-    let fresh : c.args.ticket ≡ next_ticket (core_of s) = c.requires.fresh ∙ sym (ap (λ v. next_ticket (core_of (seen g.M.ResourceManager.sight v))) c.self.view_is) in
+    let fresh : c.args.ticket ≡ next_ticket (core_of s) = c.requires.fresh
+    ∙ sym (ap (λ v. next_ticket (core_of (seen g.M.ResourceManager.sight v))) c.self.view_is) in
     let named : IsNamed s.parent (next_case s c.args.case) c.child_xid-xid.result =
-    subst (λ (t : Ticket). IsNamed s.parent (child_case c.args.case.txn t) c.child_xid-xid.result) fresh c.child_xid-xid.ensures in
+    subst (λ (t : Ticket). IsNamed s.parent (child_case c.args.case.txn t) c.child_xid-xid.result)
+    fresh c.child_xid-xid.ensures in
     let kept : IsKept s.table = subst (λ v. IsKept v.table) (sym c.self.view_is) c.requires.kept in
-    let ungiven : ticket_in s.table c.args.case ≡ None = ap (λ v. ticket_in v.table c.args.case) c.self.view_is ∙ c.requires.ungiven in
+    let ungiven : ticket_in s.table c.args.case ≡ None =
+    ap (λ v. ticket_in v.table c.args.case) c.self.view_is ∙ c.requires.ungiven in
     let vacant : branch_in s.table (child_case c.args.case.txn c.args.ticket) ≡ None =
-    ap (λ (t : Ticket). branch_in s.table (child_case c.args.case.txn t)) fresh ∙ is_fresh s c.args.case c.self.invariant in
+    ap (λ (t : Ticket). branch_in s.table (child_case c.args.case.txn t)) fresh
+    ∙ is_fresh s c.args.case c.self.invariant in
     let same : SameTable s.table c.remove.new.self =
-    undone s.table c.open.new.self c.remove.new.self c.in_ok-key.key c.args.case c.args.ticket c.child_xid-xid.result kept vacant ungiven c.in_ok-key.ensures.ok
+    undone s.table c.open.new.self c.remove.new.self c.in_ok-key.key c.args.case c.args.ticket
+    c.child_xid-xid.result kept vacant ungiven c.in_ok-key.ensures.ok
     c.in_ok-key.ensures.at c.remove.ensures in
-    let h : HasBegun s.manager m c.child_xid-xid.result false = subst (λ r. HasBegun s.manager m c.child_xid-xid.result r) c.in-Ok-false.field-0-test c.in-Ok-false.ensures.ok in
-    subst (λ v. Joins (seen g.M.ResourceManager.sight v) (behind s c.remove.new.self m) c.args.case false) c.self.view_is
+    let h : HasBegun s.manager m c.child_xid-xid.result false = subst (λ r. HasBegun s.manager m
+    c.child_xid-xid.result r) c.in-Ok-false.field-0-test c.in-Ok-false.ensures.ok in
+    subst (λ v. Joins (seen g.M.ResourceManager.sight v) (behind s c.remove.new.self m)
+    c.args.case false) c.self.view_is
     (not_begun s c.args.case c.remove.new.self m c.child_xid-xid.result named same h)
 
 pub returns-in-Err-clause-err : goal.returns-in-Err-clause-err
@@ -144,13 +169,18 @@ returns-in-Err-clause-err g c =
       manager = g.M.ResourceManager.sight c.self.inside.manager;
     } in
     let m : ManagerSight = g.M.ResourceManager.sight c.begin.new.manager in
-    let fresh : c.args.ticket ≡ next_ticket (core_of s) = c.requires.fresh ∙ sym (ap (λ v. next_ticket (core_of (seen g.M.ResourceManager.sight v))) c.self.view_is) in
+    let fresh : c.args.ticket ≡ next_ticket (core_of s) = c.requires.fresh
+    ∙ sym (ap (λ v. next_ticket (core_of (seen g.M.ResourceManager.sight v))) c.self.view_is) in
     let kept : IsKept s.table = subst (λ v. IsKept v.table) (sym c.self.view_is) c.requires.kept in
-    let ungiven : ticket_in s.table c.args.case ≡ None = ap (λ v. ticket_in v.table c.args.case) c.self.view_is ∙ c.requires.ungiven in
+    let ungiven : ticket_in s.table c.args.case ≡ None =
+    ap (λ v. ticket_in v.table c.args.case) c.self.view_is ∙ c.requires.ungiven in
     let vacant : branch_in s.table (child_case c.args.case.txn c.args.ticket) ≡ None =
-    ap (λ (t : Ticket). branch_in s.table (child_case c.args.case.txn t)) fresh ∙ is_fresh s c.args.case c.self.invariant in
+    ap (λ (t : Ticket). branch_in s.table (child_case c.args.case.txn t)) fresh
+    ∙ is_fresh s c.args.case c.self.invariant in
     let same : SameTable s.table c.remove-in-Err.new.self =
-    undone s.table c.open.new.self c.remove-in-Err.new.self c.in_ok-key.key c.args.case c.args.ticket c.child_xid-xid.result kept vacant ungiven c.in_ok-key.ensures.ok
+    undone s.table c.open.new.self c.remove-in-Err.new.self c.in_ok-key.key c.args.case c.args.ticket
+    c.child_xid-xid.result kept vacant ungiven c.in_ok-key.ensures.ok
     c.in_ok-key.ensures.at c.remove-in-Err.ensures in
-    subst (λ v. SameCore (core_of (seen g.M.ResourceManager.sight v)) (core_of (behind s c.remove-in-Err.new.self m))) c.self.view_is
+    subst (λ v. SameCore (core_of (seen g.M.ResourceManager.sight v))
+    (core_of (behind s c.remove-in-Err.new.self m))) c.self.view_is
     (undone_core s c.remove-in-Err.new.self m same c.in-Err.ensures.err)

@@ -17,7 +17,8 @@ returns-then-not-is_listed-clause-err g c =
     let s : SubState = seen g.M.ResourceManager.sight c.args.self.now in
     let i : Input = c.args.input.now in
     let unknown : act_is_listed s.tree i ≡ false = search rules in
-    not_made s s (data_answer s i) i (Refuses NoSuch) NoSuch (unlisted s (data_answer s i) i unknown) (stays_core s, refl)
+    not_made s s (data_answer s i) i (Refuses NoSuch) NoSuch
+    (unlisted s (data_answer s i) i unknown) (stays_core s, refl)
 
 pub returns-then-has_failed-clause-err : goal.returns-then-has_failed-clause-err
 returns-then-has_failed-clause-err g c =
@@ -25,7 +26,8 @@ returns-then-has_failed-clause-err g c =
     let i : Input = c.args.input.now in
     let listed : act_is_listed s.tree i ≡ true = search rules in
     let failed : s.manager.log.failed ≡ true = search rules in
-    not_made s s (data_answer s i) i (Refuses Failed) Failed (has_failed s (data_answer s i) i listed failed) (stays_core s, refl)
+    not_made s s (data_answer s i) i (Refuses Failed) Failed
+    (has_failed s (data_answer s i) i listed failed) (stays_core s, refl)
 
 pub returns-in-Act-clause-ok : goal.returns-in-Act-clause-ok
 returns-in-Act-clause-ok g c =
@@ -33,7 +35,8 @@ returns-in-Act-clause-ok g c =
     let t : SubState = seen g.M.ResourceManager.sight c.act.new.self in
     let listed : act_is_listed s.tree (ActInput c.in-Act.act) ≡ true = search rules in
     let works : s.manager.log.failed ≡ false = search rules in
-    subst (λ (i : Input). IfOk c.act.result (Makes (core_of s) (core_of t) (data_answer s i) i)) (sym c.in-Act.is)
+    subst (λ (i : Input). IfOk c.act.result (Makes (core_of s) (core_of t) (data_answer s i) i))
+    (sym c.in-Act.is)
     (act_ok s t c.in-Act.act c.act.result listed works c.act.ensures.ok)
 
 pub returns-in-Act-clause-writes : goal.returns-in-Act-clause-writes
@@ -49,7 +52,8 @@ returns-in-Act-clause-err g c =
     let t : SubState = seen g.M.ResourceManager.sight c.act.new.self in
     let listed : act_is_listed s.tree (ActInput c.in-Act.act) ≡ true = search rules in
     let works : s.manager.log.failed ≡ false = search rules in
-    subst (λ (i : Input). IfErr c.act.result (NotMade (core_of s) (core_of t) (data_answer s i) i)) (sym c.in-Act.is)
+    subst (λ (i : Input). IfErr c.act.result (NotMade (core_of s) (core_of t) (data_answer s i) i))
+    (sym c.in-Act.is)
     (act_err s t c.in-Act.act c.act.result listed works c.act.ensures.err)
 
 pub returns-in-Message-clause-ok : goal.returns-in-Message-clause-ok
@@ -57,7 +61,8 @@ returns-in-Message-clause-ok g c =
     let s : SubState = seen g.M.ResourceManager.sight c.args.self.now in
     let t : SubState = seen g.M.ResourceManager.sight c.hear.new.self in
     let works : s.manager.log.failed ≡ false = search rules in
-    subst (λ (i : Input). IfOk c.hear.result (Makes (core_of s) (core_of t) (data_answer s i) i)) (sym c.in-Message.is)
+    subst (λ (i : Input). IfOk c.hear.result (Makes (core_of s) (core_of t) (data_answer s i) i))
+    (sym c.in-Message.is)
     (hear_ok s t c.in-Message.field-0 c.in-Message.message c.hear.result works c.hear.ensures.ok)
 
 pub returns-in-Message-clause-err : goal.returns-in-Message-clause-err
@@ -65,5 +70,6 @@ returns-in-Message-clause-err g c =
     let s : SubState = seen g.M.ResourceManager.sight c.args.self.now in
     let t : SubState = seen g.M.ResourceManager.sight c.hear.new.self in
     let works : s.manager.log.failed ≡ false = search rules in
-    subst (λ (i : Input). IfErr c.hear.result (NotMade (core_of s) (core_of t) (data_answer s i) i)) (sym c.in-Message.is)
+    subst (λ (i : Input). IfErr c.hear.result
+    (NotMade (core_of s) (core_of t) (data_answer s i) i)) (sym c.in-Message.is)
     (hear_err s t c.in-Message.field-0 c.in-Message.message c.hear.result works c.hear.ensures.err)

@@ -20,12 +20,15 @@ returns-in_ok-acknowledges-clause-ok g c =
     let key = c.requires.at.0 in
     let x = c.requires.at.1 in
     let at : IsAt s.table key c.args.case (decided x (Some c.args.told)) =
-    subst (λ v. IsAt v.table key c.args.case (decided x (Some c.args.told))) (sym c.self.view_is) c.requires.at.2 in
+    subst (λ v. IsAt v.table key c.args.case (decided x (Some c.args.told)))
+    (sym c.self.view_is) c.requires.at.2 in
     let kept : IsKept s.table = subst (λ v. IsKept v.table) (sym c.self.view_is) c.requires.kept in
     let same : same_outcome c.args.told c.args.outcome ≡ true = search rules in
-    subst (λ v. Hears (seen g.M.ResourceManager.sight v) (seen g.M.ResourceManager.sight v) (tells_outcome c.args.outcome c.args.case) c.in_ok-acknowledges.field-0) c.self.view_is
+    subst (λ v. Hears (seen g.M.ResourceManager.sight v) (seen g.M.ResourceManager.sight v)
+    (tells_outcome c.args.outcome c.args.case) c.in_ok-acknowledges.field-0) c.self.view_is
     (subst (λ r. Hears s s (tells_outcome c.args.outcome c.args.case) r) (sym c.in_ok-acknowledges.ensures)
-    (heard s c.args.case (tells_outcome c.args.outcome c.args.case) _ (told_same s key c.args.case x c.args.told c.args.outcome kept at same)))
+    (heard s c.args.case (tells_outcome c.args.outcome c.args.case) _
+    (told_same s key c.args.case x c.args.told c.args.outcome kept at same)))
 
 pub returns-else-is_same-clause-ok : goal.returns-else-is_same-clause-ok
 returns-else-is_same-clause-ok g c =
@@ -40,9 +43,12 @@ returns-else-is_same-clause-ok g c =
     let key = c.requires.at.0 in
     let x = c.requires.at.1 in
     let at : IsAt s.table key c.args.case (decided x (Some c.args.told)) =
-    subst (λ v. IsAt v.table key c.args.case (decided x (Some c.args.told))) (sym c.self.view_is) c.requires.at.2 in
+    subst (λ v. IsAt v.table key c.args.case (decided x (Some c.args.told)))
+    (sym c.self.view_is) c.requires.at.2 in
     let kept : IsKept s.table = subst (λ v. IsKept v.table) (sym c.self.view_is) c.requires.kept in
     let other : same_outcome c.args.told c.args.outcome ≡ false = search rules in
-    subst (λ v. Hears (seen g.M.ResourceManager.sight v) (seen g.M.ResourceManager.sight v) (tells_outcome c.args.outcome c.args.case) c.silence.result) c.self.view_is
+    subst (λ v. Hears (seen g.M.ResourceManager.sight v) (seen g.M.ResourceManager.sight v)
+    (tells_outcome c.args.outcome c.args.case) c.silence.result) c.self.view_is
     (subst (λ r. Hears s s (tells_outcome c.args.outcome c.args.case) r) (sym c.silence.ensures)
-    (heard s c.args.case (tells_outcome c.args.outcome c.args.case) _ (told_other s key c.args.case x c.args.told c.args.outcome kept at other)))
+    (heard s c.args.case (tells_outcome c.args.outcome c.args.case) _
+    (told_other s key c.args.case x c.args.told c.args.outcome kept at other)))

@@ -24,10 +24,12 @@ returns-clause-ok g c =
       manager = g.M.ResourceManager.sight c.self.inside.manager;
     } in
     let m : ManagerSight = g.M.ResourceManager.sight c.trim.new.self in
-    let P : Result ℕ StepError → Type 0 = λ r. IfOk r (Trims (state g.M.ResourceManager.sight c.args.self.now) (core_of (behind s s.table m))) in
+    let P : Result ℕ StepError → Type 0 = λ r. IfOk r
+    (Trims (state g.M.ResourceManager.sight c.args.self.now) (core_of (behind s s.table m))) in
     elim c.match-trim.branch [
       | in-Ok w ↦ subst P (sym w.result-is)
-          (subst (λ v. Trims (state g.M.ResourceManager.sight v) (core_of (behind s s.table m)) w.in-Ok.count) c.self.view_is
+          (subst (λ v. Trims (state g.M.ResourceManager.sight v) (core_of (behind s s.table m))
+          w.in-Ok.count) c.self.view_is
           (trims s m c.records_are_sound.ensures w.in-Ok.count w.in-Ok.ensures.ok))
       | in-Err-Memory w ↦ subst P (sym w.result-is) tt
       | in-Err-Device w ↦ subst P (sym w.result-is) tt
@@ -45,19 +47,23 @@ returns-clause-err g c =
       manager = g.M.ResourceManager.sight c.self.inside.manager;
     } in
     let m : ManagerSight = g.M.ResourceManager.sight c.trim.new.self in
-    let P : Result ℕ StepError → Type 0 = λ r. IfErr r (NotTrimmed (state g.M.ResourceManager.sight c.args.self.now) (core_of (behind s s.table m))) in
+    let P : Result ℕ StepError → Type 0 = λ r. IfErr r
+    (NotTrimmed (state g.M.ResourceManager.sight c.args.self.now) (core_of (behind s s.table m))) in
     elim c.match-trim.branch [
       | in-Ok w ↦ subst P (sym w.result-is) tt
       | in-Err-Memory w ↦ subst P (sym w.result-is)
-          (subst (λ v. NotTrimmed (state g.M.ResourceManager.sight v) (core_of (behind s s.table m)) error.Memory) c.self.view_is
+          (subst (λ v. NotTrimmed (state g.M.ResourceManager.sight v) (core_of (behind s s.table m))
+          error.Memory) c.self.view_is
           (not_trimmed s m c.records_are_sound.ensures trim_error.Memory
           (subst (λ e. NotTrimmedBy s.manager m e) w.in-Err-Memory.field-0-is w.in-Err-Memory.ensures.err)))
       | in-Err-Device w ↦ subst P (sym w.result-is)
-          (subst (λ v. NotTrimmed (state g.M.ResourceManager.sight v) (core_of (behind s s.table m)) error.Device) c.self.view_is
+          (subst (λ v. NotTrimmed (state g.M.ResourceManager.sight v) (core_of (behind s s.table m))
+          error.Device) c.self.view_is
           (not_trimmed s m c.records_are_sound.ensures trim_error.Device
           (subst (λ e. NotTrimmedBy s.manager m e) w.in-Err-Device.field-0-is w.in-Err-Device.ensures.err)))
       | in-Err-Failed w ↦ subst P (sym w.result-is)
-          (subst (λ v. NotTrimmed (state g.M.ResourceManager.sight v) (core_of (behind s s.table m)) error.Failed) c.self.view_is
+          (subst (λ v. NotTrimmed (state g.M.ResourceManager.sight v) (core_of (behind s s.table m))
+          error.Failed) c.self.view_is
           (not_trimmed s m c.records_are_sound.ensures trim_error.Failed
           (subst (λ e. NotTrimmedBy s.manager m e) w.in-Err-Failed.field-0-is w.in-Err-Failed.ensures.err)))
     ]

@@ -10,12 +10,14 @@ use Rattle.sub_core.proofs.subordinate.Subordinate.vote_with.Goals as goal
 
 pub promise-requires-clause-named : goal.promise-requires-clause-named
 promise-requires-clause-named g c =
-    let at = subst (λ v. IsAt v.table c.args.key c.args.case (active c.args.xid c.requires.at.0 c.args.works false)) (sym c.self.view_is) c.requires.at.1 in
+    let at = subst (λ v. IsAt v.table c.args.key c.args.case
+    (active c.args.xid c.requires.at.0 c.args.works false)) (sym c.self.view_is) c.requires.at.1 in
     (c.self.invariant.named c.args.case (active c.args.xid c.requires.at.0 c.args.works false) at.live).real
 
 pub promise-requires-clause-state : goal.promise-requires-clause-state
 promise-requires-clause-state g c =
-    let at = subst (λ v. IsAt v.table c.args.key c.args.case (active c.args.xid c.requires.at.0 c.args.works false)) (sym c.self.view_is) c.requires.at.1 in
+    let at = subst (λ v. IsAt v.table c.args.key c.args.case
+    (active c.args.xid c.requires.at.0 c.args.works false)) (sym c.self.view_is) c.requires.at.1 in
     c.self.invariant.stands c.args.case (active c.args.xid c.requires.at.0 c.args.works false) at.live
 
 pub invariant_of-self : goal.invariant_of-self
@@ -28,7 +30,8 @@ invariant_of-self g c =
       table = c.self.inside.branches;
       manager = g.M.ResourceManager.sight c.self.inside.manager;
     } in
-    not_tied s (g.M.ResourceManager.sight c.promise.new.manager) c.args.xid call.Prepare c.in-Err.error c.self.invariant c.in-Err.ensures.err
+    not_tied s (g.M.ResourceManager.sight c.promise.new.manager) c.args.xid call.Prepare c.in-Err.error
+    c.self.invariant c.in-Err.ensures.err
 
 pub returns-in-Err-clause-err : goal.returns-in-Err-clause-err
 returns-in-Err-clause-err g c =
@@ -40,10 +43,13 @@ returns-in-Err-clause-err g c =
       table = c.self.inside.branches;
       manager = g.M.ResourceManager.sight c.self.inside.manager;
     } in
-    let at = subst (λ v. IsAt v.table c.args.key c.args.case (active c.args.xid c.requires.at.0 c.args.works false)) (sym c.self.view_is) c.requires.at.1 in
+    let at = subst (λ v. IsAt v.table c.args.key c.args.case
+    (active c.args.xid c.requires.at.0 c.args.works false)) (sym c.self.view_is) c.requires.at.1 in
     let m : ManagerSight = g.M.ResourceManager.sight c.promise.new.manager in
-    subst (λ v. NotHeard (seen g.M.ResourceManager.sight v) (behind s s.table m) (Prepare c.args.case c.args.works) c.in-Err.error) c.self.view_is
-    (not_voted s c.args.key c.args.case c.requires.at.0 c.args.works c.args.xid c.self.invariant at m c.in-Err.error c.in-Err.ensures.err)
+    subst (λ v. NotHeard (seen g.M.ResourceManager.sight v) (behind s s.table m)
+    (Prepare c.args.case c.args.works) c.in-Err.error) c.self.view_is
+    (not_voted s c.args.key c.args.case c.requires.at.0 c.args.works c.args.xid c.self.invariant at m
+    c.in-Err.error c.in-Err.ensures.err)
 
 pub invariant_of-self-in-Read-1 : goal.invariant_of-self-in-Read-1
 invariant_of-self-in-Read-1 g c =
@@ -55,7 +61,8 @@ invariant_of-self-in-Read-1 g c =
       table = c.self.inside.branches;
       manager = g.M.ResourceManager.sight c.self.inside.manager;
     } in
-    let at = subst (λ v. IsAt v.table c.args.key c.args.case (active c.args.xid c.requires.at.0 c.args.works false)) (sym c.self.view_is) c.requires.at.1 in
+    let at = subst (λ v. IsAt v.table c.args.key c.args.case
+    (active c.args.xid c.requires.at.0 c.args.works false)) (sym c.self.view_is) c.requires.at.1 in
     read_tied s c.args.key c.args.case c.requires.at.0 c.args.works c.args.xid c.self.invariant at
     c.remove.new.self (g.M.ResourceManager.sight c.promise.new.manager) c.remove.ensures c.in-Ok.ensures.ok
 
@@ -69,10 +76,13 @@ invariant_of-self-in-Yes-1 g c =
       table = c.self.inside.branches;
       manager = g.M.ResourceManager.sight c.self.inside.manager;
     } in
-    let at = subst (λ v. IsAt v.table c.args.key c.args.case (active c.args.xid c.requires.at.0 c.args.works false)) (sym c.self.view_is) c.requires.at.1 in
+    let at = subst (λ v. IsAt v.table c.args.key c.args.case
+    (active c.args.xid c.requires.at.0 c.args.works false)) (sym c.self.view_is) c.requires.at.1 in
     yes_tied s c.args.key c.args.case c.requires.at.0 c.args.works c.args.xid c.self.invariant at
-    c.promise-in_default.new.self (g.M.ResourceManager.sight c.promise.new.manager) c.promise-in_default.ensures
-    (yes_of (s.manager.writes c.args.xid) c.in-Ok.vote c.in-Ok.ensures.vote c.in_default.not-Read) c.in-Ok.ensures.ok
+    c.promise-in_default.new.self (g.M.ResourceManager.sight c.promise.new.manager)
+    c.promise-in_default.ensures
+    (yes_of (s.manager.writes c.args.xid) c.in-Ok.vote c.in-Ok.ensures.vote
+    c.in_default.not-Read) c.in-Ok.ensures.ok
 
 pub returns-in-Read-clause-ok : goal.returns-in-Read-clause-ok
 returns-in-Read-clause-ok g c =
@@ -84,11 +94,15 @@ returns-in-Read-clause-ok g c =
       table = c.self.inside.branches;
       manager = g.M.ResourceManager.sight c.self.inside.manager;
     } in
-    let at = subst (λ v. IsAt v.table c.args.key c.args.case (active c.args.xid c.requires.at.0 c.args.works false)) (sym c.self.view_is) c.requires.at.1 in
+    let at = subst (λ v. IsAt v.table c.args.key c.args.case
+    (active c.args.xid c.requires.at.0 c.args.works false)) (sym c.self.view_is) c.requires.at.1 in
     let m : ManagerSight = g.M.ResourceManager.sight c.promise.new.manager in
-    subst (λ v. Hears (seen g.M.ResourceManager.sight v) (behind s c.remove.new.self m) (Prepare c.args.case c.args.works) c.in_ok-read.read) c.self.view_is
-    (subst (λ r. Hears s (behind s c.remove.new.self m) (Prepare c.args.case c.args.works) r) (sym c.in_ok-read.ensures)
-    (read s c.args.key c.args.case c.requires.at.0 c.args.works c.args.xid c.self.invariant at c.remove.new.self m c.remove.ensures
+    subst (λ v. Hears (seen g.M.ResourceManager.sight v) (behind s c.remove.new.self m)
+    (Prepare c.args.case c.args.works) c.in_ok-read.read) c.self.view_is
+    (subst (λ r. Hears s (behind s c.remove.new.self m) (Prepare c.args.case c.args.works)
+    r) (sym c.in_ok-read.ensures)
+    (read s c.args.key c.args.case c.requires.at.0 c.args.works c.args.xid c.self.invariant at
+    c.remove.new.self m c.remove.ensures
     (sym c.in-Read.is ∙ c.in-Ok.ensures.vote) c.in-Ok.ensures.ok))
 
 pub returns-in_default : goal.returns-in_default
@@ -101,12 +115,17 @@ returns-in_default g c =
       table = c.self.inside.branches;
       manager = g.M.ResourceManager.sight c.self.inside.manager;
     } in
-    let at = subst (λ v. IsAt v.table c.args.key c.args.case (active c.args.xid c.requires.at.0 c.args.works false)) (sym c.self.view_is) c.requires.at.1 in
+    let at = subst (λ v. IsAt v.table c.args.key c.args.case
+    (active c.args.xid c.requires.at.0 c.args.works false)) (sym c.self.view_is) c.requires.at.1 in
     let m : ManagerSight = g.M.ResourceManager.sight c.promise.new.manager in
     record {
-      ok = subst (λ v. Hears (seen g.M.ResourceManager.sight v) (behind s c.promise-in_default.new.self m) (Prepare c.args.case c.args.works) c.in_ok-yes.yes) c.self.view_is
-          (subst (λ r. Hears s (behind s c.promise-in_default.new.self m) (Prepare c.args.case c.args.works) r) (sym c.in_ok-yes.ensures)
-          (yes s c.args.key c.args.case c.requires.at.0 c.args.works c.args.xid c.self.invariant at c.promise-in_default.new.self m c.promise-in_default.ensures
-          (yes_of (s.manager.writes c.args.xid) c.in-Ok.vote c.in-Ok.ensures.vote c.in_default.not-Read) c.in-Ok.ensures.ok));
+      ok = subst (λ v. Hears (seen g.M.ResourceManager.sight v) (behind s c.promise-in_default.new.self m)
+          (Prepare c.args.case c.args.works) c.in_ok-yes.yes) c.self.view_is
+          (subst (λ r. Hears s (behind s c.promise-in_default.new.self m) (Prepare c.args.case c.args.works)
+          r) (sym c.in_ok-yes.ensures)
+          (yes s c.args.key c.args.case c.requires.at.0 c.args.works c.args.xid c.self.invariant at
+          c.promise-in_default.new.self m c.promise-in_default.ensures
+          (yes_of (s.manager.writes c.args.xid) c.in-Ok.vote c.in-Ok.ensures.vote
+          c.in_default.not-Read) c.in-Ok.ensures.ok));
       err = tt;
     }

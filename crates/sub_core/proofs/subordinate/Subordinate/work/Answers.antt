@@ -16,15 +16,20 @@ returns-in_default-clause-ok g c =
       table = c.self.inside.branches;
       manager = g.M.ResourceManager.sight c.self.inside.manager;
     } in
-    subst (λ v. Hears (seen g.M.ResourceManager.sight v) (seen g.M.ResourceManager.sight v) (Work c.args.case c.args.number c.args.op.now) c.silence.result) c.self.view_is
+    subst (λ v. Hears (seen g.M.ResourceManager.sight v) (seen g.M.ResourceManager.sight v)
+    (Work c.args.case c.args.number c.args.op.now) c.silence.result) c.self.view_is
     (subst (λ r. Hears s s (Work c.args.case c.args.number c.args.op.now) r) (sym c.silence.ensures)
-    (heard s c.args.case (Work c.args.case c.args.number c.args.op.now) _ (work_unknown s c.args.case c.in_default.ensures.kept c.args.number c.args.op.now c.in_default.ensures.finds)))
+    (heard s c.args.case (Work c.args.case c.args.number c.args.op.now) _ (work_unknown s c.args.case
+    c.in_default.ensures.kept c.args.number c.args.op.now c.in_default.ensures.finds)))
 
 pub work_on-requires-clause-at : goal.work_on-requires-clause-at
 work_on-requires-clause-at g c =
-    let at = subst (λ v. IsAt v.table c.in-Some.key c.args.case c.in-Some.branch) c.self.view_is c.in-Some.ensures.finds in
-    let taken = subst (λ r. TakesBy c.in-Some.branch.stage c.args.number r) c.in-Some-takes.is c.takes.ensures in
-    subst (λ (st : Stage). IsAt c.args.self.now.table c.in-Some.key c.args.case (record { xid = c.in-Some.branch.xid; stage = st })) taken.0 at
+    let at = subst (λ v. IsAt v.table c.in-Some.key c.args.case c.in-Some.branch)
+    c.self.view_is c.in-Some.ensures.finds in
+    let taken = subst (λ r. TakesBy c.in-Some.branch.stage c.args.number r)
+    c.in-Some-takes.is c.takes.ensures in
+    subst (λ (st : Stage). IsAt c.args.self.now.table c.in-Some.key c.args.case
+    (record { xid = c.in-Some.branch.xid; stage = st })) taken.0 at
 
 pub returns-in-None-clause-ok : goal.returns-in-None-clause-ok
 returns-in-None-clause-ok g c =
@@ -36,6 +41,9 @@ returns-in-None-clause-ok g c =
       table = c.self.inside.branches;
       manager = g.M.ResourceManager.sight c.self.inside.manager;
     } in
-    subst (λ v. Hears (seen g.M.ResourceManager.sight v) (seen g.M.ResourceManager.sight v) (Work c.args.case c.args.number c.args.op.now) c.silence-in-None.result) c.self.view_is
+    subst (λ v. Hears (seen g.M.ResourceManager.sight v) (seen g.M.ResourceManager.sight v)
+    (Work c.args.case c.args.number c.args.op.now) c.silence-in-None.result) c.self.view_is
     (subst (λ r. Hears s s (Work c.args.case c.args.number c.args.op.now) r) (sym c.silence-in-None.ensures)
-    (heard s c.args.case (Work c.args.case c.args.number c.args.op.now) _ (work_untaken s c.args.case c.in-Some.ensures.kept c.args.number c.args.op.now c.in-Some.key c.in-Some.branch.xid c.in-Some.branch.stage c.in-Some.ensures.finds c.in-None.ensures)))
+    (heard s c.args.case (Work c.args.case c.args.number c.args.op.now) _
+    (work_untaken s c.args.case c.in-Some.ensures.kept c.args.number c.args.op.now c.in-Some.key
+    c.in-Some.branch.xid c.in-Some.branch.stage c.in-Some.ensures.finds c.in-None.ensures)))

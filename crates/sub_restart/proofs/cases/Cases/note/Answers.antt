@@ -5,5 +5,6 @@ use Rattle.sub_restart.proofs.cases.Cases.note.Goals as goal
 pub returns : goal.returns
 returns c = (
   refl,
-  c.in_ok-insert.ensures.keys ∙ ap (λ t. if t then c.args.self.now.order.keys else (c.args.self.now.order.keys ++ c.args.case ∷ [])) (has_as c.args.self.now.order.keys c.args.case),
+  c.in_ok-insert.ensures.keys ∙ ap (λ t. if t then c.args.self.now.order.keys
+      else (c.args.self.now.order.keys ++ c.args.case ∷ [])) (has_as c.args.self.now.order.keys c.args.case),
 )

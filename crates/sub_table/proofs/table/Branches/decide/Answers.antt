@@ -10,19 +10,25 @@ use Rattle.sub_table.proofs.table.Branches.decide.Goals as goal
 
 pub invariant_of-self : goal.invariant_of-self
 invariant_of-self c =
-    let found = entry_of c.self.inside.branches c.args.key c.in-Some.branch.now (sym c.in-Some.ensures.value) in
+    let found = entry_of c.self.inside.branches c.args.key c.in-Some.branch.now
+    (sym c.in-Some.ensures.value) in
     let entry = some_same c.requires.0 c.in-Some.branch.now
-    (sym c.requires.1 ∙ ap (λ (t : BranchTable). value_at t.branches c.args.key) (sym c.self.view_is) ∙ sym c.in-Some.ensures.value) in
-    (decides c.self.inside.tickets c.self.inside.tickets c.self.inside.branches c.args.key found.0 c.in-Some.branch.now c.self.invariant found.1
+    (sym c.requires.1 ∙ ap (λ (t : BranchTable). value_at t.branches c.args.key) (sym c.self.view_is)
+    ∙ sym c.in-Some.ensures.value) in
+    (decides c.self.inside.tickets c.self.inside.tickets c.self.inside.branches c.args.key found.0
+    c.in-Some.branch.now c.self.invariant found.1
     c.args.told (subst (λ (b : Branch). has_promised b.stage ≡ true) entry c.requires.2)).0
 
 pub returns : goal.returns
 returns c =
-    let found = entry_of c.self.inside.branches c.args.key c.in-Some.branch.now (sym c.in-Some.ensures.value) in
+    let found = entry_of c.self.inside.branches c.args.key c.in-Some.branch.now
+    (sym c.in-Some.ensures.value) in
     let entry = some_same c.requires.0 c.in-Some.branch.now
-    (sym c.requires.1 ∙ ap (λ (t : BranchTable). value_at t.branches c.args.key) (sym c.self.view_is) ∙ sym c.in-Some.ensures.value) in
+    (sym c.requires.1 ∙ ap (λ (t : BranchTable). value_at t.branches c.args.key) (sym c.self.view_is)
+    ∙ sym c.in-Some.ensures.value) in
     subst (λ t. Notes t (table c.self.inside.tickets (with_value c.self.inside.branches c.args.key
     (record { xid = c.in-Some.branch.now.xid; stage = Heuristic c.args.told }))) c.args.key
     (Heuristic c.args.told)) c.self.view_is
-    (decides c.self.inside.tickets c.self.inside.tickets c.self.inside.branches c.args.key found.0 c.in-Some.branch.now c.self.invariant found.1
+    (decides c.self.inside.tickets c.self.inside.tickets c.self.inside.branches c.args.key found.0
+    c.in-Some.branch.now c.self.invariant found.1
     c.args.told (subst (λ (b : Branch). has_promised b.stage ≡ true) entry c.requires.2)).1

@@ -10,19 +10,28 @@ use Rattle.sub_table.proofs.table.Branches.note.Goals as goal
 
 pub invariant_of-self : goal.invariant_of-self
 invariant_of-self c =
-    let found = entry_of c.self.inside.branches c.args.key c.in-Some.branch.now (sym c.in-Some.ensures.value) in
+    let found = entry_of c.self.inside.branches c.args.key c.in-Some.branch.now
+    (sym c.in-Some.ensures.value) in
     let entry = some_same c.requires.0 c.in-Some.branch.now
-    (sym c.requires.1 ∙ ap (λ (t : BranchTable). value_at t.branches c.args.key) (sym c.self.view_is) ∙ sym c.in-Some.ensures.value) in
-    (notes c.self.inside.tickets c.self.inside.tickets c.self.inside.branches c.args.key found.0 c.in-Some.branch.now c.self.invariant found.1
-    c.args.given_for c.args.done c.args.spoiled (subst (λ (b : Branch). IsGivenFor c.args.given_for b.stage) entry c.requires.2)).0
+    (sym c.requires.1 ∙ ap (λ (t : BranchTable). value_at t.branches c.args.key) (sym c.self.view_is)
+    ∙ sym c.in-Some.ensures.value) in
+    (notes c.self.inside.tickets c.self.inside.tickets c.self.inside.branches c.args.key found.0
+    c.in-Some.branch.now c.self.invariant found.1
+    c.args.given_for c.args.done c.args.spoiled
+    (subst (λ (b : Branch). IsGivenFor c.args.given_for b.stage) entry c.requires.2)).0
 
 pub returns : goal.returns
 returns c =
-    let found = entry_of c.self.inside.branches c.args.key c.in-Some.branch.now (sym c.in-Some.ensures.value) in
+    let found = entry_of c.self.inside.branches c.args.key c.in-Some.branch.now
+    (sym c.in-Some.ensures.value) in
     let entry = some_same c.requires.0 c.in-Some.branch.now
-    (sym c.requires.1 ∙ ap (λ (t : BranchTable). value_at t.branches c.args.key) (sym c.self.view_is) ∙ sym c.in-Some.ensures.value) in
+    (sym c.requires.1 ∙ ap (λ (t : BranchTable). value_at t.branches c.args.key) (sym c.self.view_is)
+    ∙ sym c.in-Some.ensures.value) in
     subst (λ t. Notes t (table c.self.inside.tickets (with_value c.self.inside.branches c.args.key
-    (record { xid = c.in-Some.branch.now.xid; stage = Active c.args.given_for c.args.done c.args.spoiled }))) c.args.key
+    (record { xid = c.in-Some.branch.now.xid; stage = Active c.args.given_for c.args.done c.args.spoiled })))
+    c.args.key
     (Active c.args.given_for c.args.done c.args.spoiled)) c.self.view_is
-    (notes c.self.inside.tickets c.self.inside.tickets c.self.inside.branches c.args.key found.0 c.in-Some.branch.now c.self.invariant found.1
-    c.args.given_for c.args.done c.args.spoiled (subst (λ (b : Branch). IsGivenFor c.args.given_for b.stage) entry c.requires.2)).1
+    (notes c.self.inside.tickets c.self.inside.tickets c.self.inside.branches c.args.key found.0
+    c.in-Some.branch.now c.self.invariant found.1
+    c.args.given_for c.args.done c.args.spoiled
+    (subst (λ (b : Branch). IsGivenFor c.args.given_for b.stage) entry c.requires.2)).1

@@ -6,6 +6,7 @@ use Rattle.tests_base.proofs.manager.FakeManagerResourceManager.forget.Goals as 
 pub returns-clause-answer : goal.returns-clause-answer
 returns-clause-answer c =
     on_answer c.forget.result
-    (λ answer made. finished c.args.self.now.refuses (store_sight c.args.self.now.manager) (store_sight c.forget.new.self)
+    (λ answer made. finished c.args.self.now.refuses (store_sight c.args.self.now.manager)
+    (store_sight c.forget.new.self)
     Forget c.args.xid.now c.args.flags.0 answer made)
     c.forget.ensures.answer

@@ -11,5 +11,6 @@ returns-clause-answer c =
     on_answer c.start.result
     (λ answer made wanted. called c.args.self.now.refuses (store_sight c.args.self.now.manager)
     (store_sight c.start.new.self) (answer ≡ code.RmFail)
-    (λ old new. Answers wanted old new Start c.args.thread c.args.xid.now c.args.flags.0 answer) (made wanted))
+    (λ old new. Answers wanted old new Start c.args.thread c.args.xid.now
+    c.args.flags.0 answer) (made wanted))
     c.start.ensures.answer

@@ -3,6 +3,8 @@ use Rattle.tree_engine.proofs.rows.RunCounts.add.Goals as goal
 
 pub returns : goal.returns
 returns c =
-    counted c.add_entry.result c.args.self.now c.self.inside.rows.items c.as_mut_slice.result.now c.add_entry.new.rows
-    c.self.inside.rows.len c.args.entry.now c.self.view_is c.as_mut_slice.ensures.value c.as_mut_slice.ensures.len
+    counted c.add_entry.result c.args.self.now c.self.inside.rows.items
+    c.as_mut_slice.result.now c.add_entry.new.rows
+    c.self.inside.rows.len c.args.entry.now c.self.view_is
+    c.as_mut_slice.ensures.value c.as_mut_slice.ensures.len
     c.add_entry.ensures

@@ -4,4 +4,5 @@ use Rattle.tree_world.proofs.Steps.{same_core}
 use Rattle.tree_world.proofs.node.Node.handle.Goals as goal
 
 pub returns-then-not-has_numbers-clause-err : goal.returns-then-not-has_numbers-clause-err
-returns-then-not-has_numbers-clause-err g c = (record { starts = false; does = false; holding = ReadsOnly }, same_core _)
+returns-then-not-has_numbers-clause-err g c =
+    (record { starts = false; does = false; holding = ReadsOnly }, same_core _)

@@ -7,4 +7,5 @@ use Rattle.tree_world.proofs.node.Node.unforced.Goals as goal
 pub returns : goal.returns
 returns g c =
     let log = (core_of c.args.self.now).log in
-    IfOk-weaker c.left_behind.result _ _ (λ n h. h ∙ all_within log c.log_size.result c.log_size.ensures) c.left_behind.ensures
+    IfOk-weaker c.left_behind.result _ _ (λ n h. h
+    ∙ all_within log c.log_size.result c.log_size.ensures) c.left_behind.ensures

@@ -10,5 +10,6 @@ sizes_of-requires g c =
     let n = c.in_ok-forced.field-0 in
     let long : c.len.result ≡ length all = search rules in
     fit log _ _ c.records_are_sound.ensures
-    (c.split_at.ensures.back ∙ ap (λ k. drop (k - n) c.deref.result.now) long ∙ ap (drop (length all - n)) c.deref.ensures.value
+    (c.split_at.ensures.back ∙ ap (λ k. drop (k - n) c.deref.result.now) long
+    ∙ ap (drop (length all - n)) c.deref.ensures.value
     ∙ behind_forced log all n c.in_ok-records.ensures c.in_ok-forced.ensures)

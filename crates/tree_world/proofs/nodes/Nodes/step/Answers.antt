@@ -5,10 +5,12 @@ use Rattle.tree_world.proofs.nodes.Nodes.step.Goals as goal
 
 pub returns-in-Some-clause-ok : goal.returns-in-Some-clause-ok
 returns-in-Some-clause-ok g c =
-    stepped _ _ c.args.process c.args.input.now c.in-Some.node.now c.handle.new.self c.handle.result (search rules) (search rules)
+    stepped _ _ c.args.process c.args.input.now c.in-Some.node.now c.handle.new.self c.handle.result
+    (search rules) (search rules)
     (search (rules, process_equality)) c.handle.ensures.ok
 
 pub returns-in-Some-clause-err : goal.returns-in-Some-clause-err
 returns-in-Some-clause-err g c =
-    stopped _ _ c.args.process c.args.input.now c.in-Some.node.now c.handle.new.self c.handle.result (search rules) (search rules)
+    stopped _ _ c.args.process c.args.input.now c.in-Some.node.now c.handle.new.self c.handle.result
+    (search rules) (search rules)
     (search (rules, process_equality)) c.handle.ensures.err

@@ -5,10 +5,12 @@ use Rattle.tree_world.proofs.nodes.Nodes.trim.Goals as goal
 
 pub returns-in-Some-clause-ok : goal.returns-in-Some-clause-ok
 returns-in-Some-clause-ok g c =
-    trimmed _ _ c.args.process c.in-Some.node.now c.trim_sound.new.self c.trim_sound.result (search rules) (search rules)
+    trimmed _ _ c.args.process c.in-Some.node.now c.trim_sound.new.self c.trim_sound.result
+    (search rules) (search rules)
     (search (rules, process_equality)) c.trim_sound.ensures.ok
 
 pub returns-in-Some-clause-err : goal.returns-in-Some-clause-err
 returns-in-Some-clause-err g c =
-    not_trimmed _ _ c.args.process c.in-Some.node.now c.trim_sound.new.self c.trim_sound.result (search rules) (search rules)
+    not_trimmed _ _ c.args.process c.in-Some.node.now c.trim_sound.new.self c.trim_sound.result
+    (search rules) (search rules)
     (search (rules, process_equality)) c.trim_sound.ensures.err

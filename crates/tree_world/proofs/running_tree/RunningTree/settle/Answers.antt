@@ -12,8 +12,10 @@ pub loop-preserved : goal.loop-preserved
 loop-preserved g c =
     let first : Some c.in-Some.number ≡ least_open 1 (running_state c.loop.self).delivered = search rules in
     settles_one_more c.loop.counter (running_state c.args.self.now)
-    (world c.loop.self.tree (nodes_at c.loop.self.nodes.nodes.entries) c.least_open.new.self) (running_state c.loop.self)
-    (running_state c.deliver.new.self) c.in-Some.number (stays _ _ _ _ c.least_open.ensures.keeps) c.loop.invariant first
+    (world c.loop.self.tree (nodes_at c.loop.self.nodes.nodes.entries)
+    c.least_open.new.self) (running_state c.loop.self)
+    (running_state c.deliver.new.self) c.in-Some.number
+    (stays _ _ _ _ c.least_open.ensures.keeps) c.loop.invariant first
     c.in_ok-deliver.ensures.ok
 
 pub returns-in_default-clause-ok : goal.returns-in_default-clause-ok
@@ -26,17 +28,21 @@ returns-in_default-clause-ok g c =
 pub returns-in_err-number-clause-err : goal.returns-in_err-number-clause-err
 returns-in_err-number-clause-err g c =
     let new = world c.loop.self.tree (nodes_at c.loop.self.nodes.nodes.entries) c.least_open.new.self in
-    passed_on c.from_residual.result Memory (λ e. Stops (running_state c.args.self.now) Settle e new) c.from_residual.ensures.1
-    (short 10000 c.loop.counter (running_state c.args.self.now) (running_state c.loop.self) new c.loop-test.true c.loop.invariant
+    passed_on c.from_residual.result Memory (λ e. Stops (running_state c.args.self.now) Settle e
+    new) c.from_residual.ensures.1
+    (short 10000 c.loop.counter (running_state c.args.self.now) (running_state c.loop.self) new
+    c.loop-test.true c.loop.invariant
     (stays _ _ _ _ c.least_open.ensures.keeps))
 
 pub returns-clause-ok : goal.returns-clause-ok
 returns-clause-ok g c =
-    settled_all 10000 c.loop.counter (running_state c.args.self.now) (running_state c.loop.self) (omega (arith, c.loop-test.false, c.loop.auto.counter-end))
+    settled_all 10000 c.loop.counter (running_state c.args.self.now) (running_state c.loop.self)
+    (omega (arith, c.loop-test.false, c.loop.auto.counter-end))
     c.loop.invariant
 
 pub returns-in_err-number-clause-ok : goal.returns-in_err-number-clause-ok
 returns-in_err-number-clause-ok g c = no_success c.from_residual.result _ _ c.from_residual.ensures.1
 
 pub returns-in_err-deliver-clause-ok : goal.returns-in_err-deliver-clause-ok
-returns-in_err-deliver-clause-ok g c = no_success c.from_residual-in_err-deliver.result _ _ c.from_residual-in_err-deliver.ensures.1
+returns-in_err-deliver-clause-ok g c = no_success c.from_residual-in_err-deliver.result _ _
+    c.from_residual-in_err-deliver.ensures.1

@@ -6,12 +6,14 @@ use Rattle.tree_world.proofs.world.World.apply.Goals as goal
 pub invariant_of-self : goal.invariant_of-self
 invariant_of-self g c =
     stays_modelled (running_state c.self.inside.running) (running_state c.make.new.self) c.self.invariant
-    (applied_from (running_state c.self.inside.running) (running_state c.make.new.self) c.args.event.now c.make.result c.self.invariant c.make.ensures.ok c.make.ensures.err)
+    (applied_from (running_state c.self.inside.running) (running_state c.make.new.self) c.args.event.now
+    c.make.result c.self.invariant c.make.ensures.ok c.make.ensures.err)
 
 pub returns-clause-goes_on : goal.returns-clause-goes_on
 returns-clause-goes_on g c =
     rw (← c.self.view_is) (λ es w f.
-    (applied_from (running_state c.self.inside.running) (running_state c.make.new.self) c.args.event.now c.make.result c.self.invariant c.make.ensures.ok c.make.ensures.err es w f).goes_on_so)
+    (applied_from (running_state c.self.inside.running) (running_state c.make.new.self) c.args.event.now
+    c.make.result c.self.invariant c.make.ensures.ok c.make.ensures.err es w f).goes_on_so)
 
 pub returns-clause-agreement : goal.returns-clause-agreement
 returns-clause-agreement g c =
@@ -23,12 +25,15 @@ returns-clause-commit_rule g c =
 
 pub returns-clause-true_answers : goal.returns-clause-true_answers
 returns-clause-true_answers g c =
-    says AnswersTruly (running_state c.make.new.self) (λ tree moves w h. h.true_answers) (invariant_of-self g c)
+    says AnswersTruly (running_state c.make.new.self)
+    (λ tree moves w h. h.true_answers) (invariant_of-self g c)
 
 pub returns-clause-standing_mismatches : goal.returns-clause-standing_mismatches
 returns-clause-standing_mismatches g c =
-    says KeepsMismatches (running_state c.make.new.self) (λ tree moves w h. h.standing_mismatches) (invariant_of-self g c)
+    says KeepsMismatches (running_state c.make.new.self)
+    (λ tree moves w h. h.standing_mismatches) (invariant_of-self g c)
 
 pub returns-clause-by_operators_alone : goal.returns-clause-by_operators_alone
 returns-clause-by_operators_alone g c =
-    says IsByOperatorsAlone (running_state c.make.new.self) (λ tree moves w h. h.by_operator_alone) (invariant_of-self g c)
+    says IsByOperatorsAlone (running_state c.make.new.self)
+    (λ tree moves w h. h.by_operator_alone) (invariant_of-self g c)

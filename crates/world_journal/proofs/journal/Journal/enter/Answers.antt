@@ -27,7 +27,8 @@ invariant_of-self c =
       posted = c.self.inside.posted.items;
     } in (
       search (rules, named_behind),
-      (entered stock behind step c.args.happening (aside_of c.args.reaction) (search rules) (search rules) (search rules)
+      (entered stock behind step c.args.happening (aside_of c.args.reaction) (search rules)
+          (search rules) (search rules)
           (search rules) (search rules) (search rules)).1,
     )
 
@@ -58,6 +59,8 @@ returns-clause-entries c =
       steps = c.push_reserved.new.self.items;
       posted = c.self.inside.posted.items;
     } in
-    (entered stock behind step c.args.happening (aside_of c.args.reaction) (search rules) (search rules) (search rules)
+    (entered stock behind step c.args.happening (aside_of c.args.reaction) (search rules)
+    (search rules) (search rules)
     (search rules) (search rules) (search rules)).0
-    ∙ ap (λ (j : JournalState). j.entries ++ step_entry c.args.process c.args.happening c.args.reaction ∷ []) c.self.view_is
+    ∙ ap (λ (j : JournalState). j.entries ++ step_entry c.args.process c.args.happening
+    c.args.reaction ∷ []) c.self.view_is

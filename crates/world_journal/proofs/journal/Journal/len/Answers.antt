@@ -12,4 +12,5 @@ returns c =
       posted = c.self.inside.posted.items;
     } in
     let steps : c.len.result ≡ length c.self.inside.steps.items = search rules in
-    steps ∙ sym (as_many stock c.self.invariant.1) ∙ ap (λ (j : JournalState). length j.entries) c.self.view_is
+    steps ∙ sym (as_many stock c.self.invariant.1)
+    ∙ ap (λ (j : JournalState). length j.entries) c.self.view_is

@@ -11,10 +11,13 @@ invariant_of-self-2 c =
       steps = c.self.inside.steps.items;
       posted = c.self.inside.posted.items;
     } in (
-      posts_as c.self.inside.steps.items c.self.inside.posted.items c.name_all.new.posted.items c.saturating_sub.result
-          (length c.last_messages-count.result.now) (search rules) (search rules) (search rules) (search rules),
+      posts_as c.self.inside.steps.items c.self.inside.posted.items
+          c.name_all.new.posted.items c.saturating_sub.result
+          (length c.last_messages-count.result.now) (search rules) (search rules)
+          (search rules) (search rules),
       (entries_posted old (record old { posted = c.name_all.new.posted.items })
-          (names c.saturating_sub.result (length c.last_messages-count.result.now)) (search rules) (search rules)).1,
+          (names c.saturating_sub.result (length c.last_messages-count.result.now))
+          (search rules) (search rules)).1,
     )
 
 pub returns-clause-keeps : goal.returns-clause-keeps
@@ -29,6 +32,7 @@ returns-clause-keeps c =
       net = search rules;
       delivered = search (rules, unmarked);
       entries = (entries_posted old (record old { posted = c.name_all.new.posted.items })
-          (names c.saturating_sub.result (length c.last_messages-count.result.now)) (search rules) (search rules)).0
+          (names c.saturating_sub.result (length c.last_messages-count.result.now))
+          (search rules) (search rules)).0
           ∙ ap (λ (j : JournalState). j.entries) c.self.view_is;
     }

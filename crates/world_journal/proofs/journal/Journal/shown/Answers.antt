@@ -28,6 +28,7 @@ returns-in-Some c =
       posted = c.self.inside.posted.items;
     } in
     c.shown_of.ensures
-    ∙ ap (λ xs. option_map (step_part c.in-Some.step.now) (aside_in xs c.in-Some.step.now.aside)) c.deref-in-Some.ensures.value
+    ∙ ap (λ xs. option_map (step_part c.in-Some.step.now) (aside_in xs c.in-Some.step.now.aside))
+    c.deref-in-Some.ensures.value
     ∙ part_found stock c.args.place c.in-Some.step.now c.self.invariant.1 (search (rules, slice_get_read))
     ∙ ap (λ (j : JournalState). option_map entry_part (slice_get j.entries c.args.place)) c.self.view_is

@@ -5,10 +5,24 @@ use Rattle.xa_assoc.proofs.associations.Associations.clear_active.Goals as goal
 
 pub returns-clause-turns : goal.returns-clause-turns
 returns-clause-turns c =
-    let was = is_active-T1 (the_view c.self.inside) c.args.thread c.args.xid.now (rw (← c.self.view_is) at c.requires.from) in
+    let was = is_active-T1 (the_view c.self.inside) c.args.thread c.args.xid.now
+    (rw (← c.self.view_is) at c.requires.from) in
     record {
-      own = own_state-none (the_view (record { active = c.insert.new.self; suspended = c.self.inside.suspended; migrated = c.self.inside.migrated; migrates = c.self.inside.migrates })) c.args.thread c.args.xid.now false (search rules) (c.self.invariant.apart c.args.thread c.args.xid.now was);
-      others = rw (← c.self.view_is) (others_active (the_view c.self.inside) (the_view (record { active = c.insert.new.self; suspended = c.self.inside.suspended; migrated = c.self.inside.migrated; migrates = c.self.inside.migrates }))
+      own =
+          own_state-none (the_view (record {
+            active = c.insert.new.self;
+            suspended = c.self.inside.suspended;
+            migrated = c.self.inside.migrated;
+            migrates = c.self.inside.migrates;
+          })) c.args.thread
+          c.args.xid.now false (search rules) (c.self.invariant.apart c.args.thread c.args.xid.now was);
+      others = rw (← c.self.view_is) (others_active (the_view c.self.inside)
+          (the_view (record {
+            active = c.insert.new.self;
+            suspended = c.self.inside.suspended;
+            migrated = c.self.inside.migrated;
+            migrates = c.self.inside.migrates;
+          }))
           c.args.thread c.args.xid.now was (search rules) (search rules) (λ u y apart. refl));
       moved = search rules;
       moved_others = search rules;

@@ -6,5 +6,12 @@ use Rattle.xa_assoc.proofs.associations.Associations.settle.Goals as goal
 pub invariant_of-self : goal.invariant_of-self
 invariant_of-self c = record {
   apart = search rules;
-  kept = kept_removed (the_view c.self.inside) (the_view (record { active = c.swap_remove.new.self; suspended = c.self.inside.suspended; migrated = c.self.inside.migrated; migrates = c.self.inside.migrates })) c.args.thread c.self.invariant (search rules) (search rules) (search rules);
+  kept = kept_removed (the_view c.self.inside)
+      (the_view (record {
+        active = c.swap_remove.new.self;
+        suspended = c.self.inside.suspended;
+        migrated = c.self.inside.migrated;
+        migrates = c.self.inside.migrates;
+      })) c.args.thread c.self.invariant
+      (search rules) (search rules) (search rules);
 }

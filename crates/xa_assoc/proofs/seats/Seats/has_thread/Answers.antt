@@ -3,4 +3,5 @@ use Rattle.xa_assoc.proofs.Counts.{any_counted}
 use Rattle.xa_assoc.proofs.seats.Seats.has_thread.Goals as goal
 
 pub returns : goal.returns
-returns c = ap (nat_lt 0) (c.count.ensures ∙ c.self.invariant.threads c.args.thread) ∙ rw (← c.self.view_is) (any_counted (λ s. nat_eq s.thread c.args.thread) c.self.inside.taken.keys)
+returns c = ap (nat_lt 0) (c.count.ensures ∙ c.self.invariant.threads c.args.thread)
+    ∙ rw (← c.self.view_is) (any_counted (λ s. nat_eq s.thread c.args.thread) c.self.inside.taken.keys)

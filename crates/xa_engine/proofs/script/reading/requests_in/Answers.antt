@@ -14,7 +14,8 @@ loop-i-preserved c =
     rw c.in_ok-push-in-Some.ensures.items
     (goes_on (texts c.args.lines.now) c.loop-i.i _ c.in-Some.request (omega (arith, long c.args.lines.now))
     (ap is_skipped (text_at c.args.lines.now c.loop-i.i) ∙ sym c.if-says_nothing.ensures)
-    (spelled c.args.lines.now c.loop-i.i _ c.in-Some.request c.in-Some.is c.in_ok-request.ensures.found) c.loop-i.invariant)
+    (spelled c.args.lines.now c.loop-i.i _ c.in-Some.request c.in-Some.is
+    c.in_ok-request.ensures.found) c.loop-i.invariant)
 
 pub returns-in-None : goal.returns-in-None
 returns-in-None c = record {
@@ -29,4 +30,5 @@ returns-in-None c = record {
 
 pub returns : goal.returns
 returns c =
-    ends (texts c.args.lines.now) c.loop-i.i _ (omega (arith, long c.args.lines.now, c.loop-i-test.false)) c.loop-i.invariant
+    ends (texts c.args.lines.now) c.loop-i.i _
+    (omega (arith, long c.args.lines.now, c.loop-i-test.false)) c.loop-i.invariant

@@ -14,7 +14,8 @@ returns-in_default c =
             does = λ opened named. fails wanted c.args.self.now c.end-in_default.new.self c.in-Ok.call
                 c.args.thread c.args.xid.now c.end-in_default.result
                 (works_as c.args.verb c.args.flags.0 c.in-Ok.call legal_is ∙ c.requires)
-                d.not-Start d.not-StartJoin d.not-StartResume d.not-EndSuspend d.not-EndMigrate d.not-EndSuccess
+                d.not-Start d.not-StartJoin d.not-StartResume d.not-EndSuspend
+                d.not-EndMigrate d.not-EndSuccess
                 c.end-in_default.ensures;
           });
       err = tt;

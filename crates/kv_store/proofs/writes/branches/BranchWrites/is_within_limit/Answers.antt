@@ -8,9 +8,11 @@ use Rattle.kv_store.proofs.writes.branches.BranchWrites.is_within_limit.Goals as
 
 pub returns-else-of-lt-KEYS : goal.returns-else-of-lt-KEYS
 returns-else-of-lt-KEYS c =
-    let found : is_some c.find.result ≡ is_some (find (is_of c.args.key.now) (writes_of c.args.self.now c.args.xid.now)) = search rules in
+    let found : is_some c.find.result ≡ is_some
+    (find (is_of c.args.key.now) (writes_of c.args.self.now c.args.xid.now)) = search rules in
     let named : c.is_some.result ≡ names_key (writes_of c.args.self.now c.args.xid.now) c.args.key.now =
     c.is_some.ensures ∙ found ∙ found_is_named (writes_of c.args.self.now c.args.xid.now) c.args.key.now in
     let many : 64 ≤ length (writes_of c.args.self.now c.args.xid.now) = search rules in
-    let full : nat_lt (length (writes_of c.args.self.now c.args.xid.now)) 64 ≡ false = grind (arith, common_steps, nat_tests) in
+    let full : nat_lt (length (writes_of c.args.self.now c.args.xid.now)) 64 ≡ false =
+    grind (arith, common_steps, nat_tests) in
     grind (arith, common_steps)

@@ -6,7 +6,8 @@ use Rattle.kv_store.proofs.writes.branches.BranchWrites.remove.Goals as goal
 
 pub invariant_of-self : goal.invariant_of-self
 invariant_of-self c =
-    let left : Leaves (table_of c.self.inside.lists.entries) (table_of c.swap_remove.new.self.entries) c.args.xid.now [] =
+    let left : Leaves (table_of c.self.inside.lists.entries)
+    (table_of c.swap_remove.new.self.entries) c.args.xid.now [] =
     leaves _ _ c.args.xid.now None [] (search rules) (search rules) refl in
     kept_left _ _ c.args.xid.now [] c.self.invariant left none_kept
 

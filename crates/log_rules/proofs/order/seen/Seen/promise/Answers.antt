@@ -21,6 +21,8 @@ invariant_of-self-in_err-insert c =
 pub invariant_of-self-2 : goal.invariant_of-self-2
 invariant_of-self-2 c =
     let free : keys_free (map (λ e. e.1) c.self.inside.live.entries) c.args.writes ≡ true = search rules in
-    let made : c.insert.new.self.entries ≡ insert_entry same c.self.inside.live.entries c.args.xid (record { mark = Open; writes = c.args.writes }) = search rules in
+    let made : c.insert.new.self.entries ≡ insert_entry same c.self.inside.live.entries c.args.xid
+    (record { mark = Open; writes = c.args.writes }) = search rules in
     subst (λ es. IsKept c.list_keys.new.holders.entries es) (sym made)
-    (kept_promised _ _ c.args.xid _ (kept_relisted _ _ _ c.args.writes c.self.invariant free (search rules)) (search rules))
+    (kept_promised _ _ c.args.xid _ (kept_relisted _ _ _ c.args.writes c.self.invariant free
+    (search rules)) (search rules))

@@ -7,6 +7,7 @@ use Rattle.log_rules.proofs.order.seen.Seen.set_mark.Goals as goal
 
 pub invariant_of-self-2 : goal.invariant_of-self-2
 invariant_of-self-2 c =
-    let made : c.insert.new.self.entries ≡ insert_entry same c.self.inside.live.entries c.args.xid (record { mark = c.args.mark; writes = [] }) = search rules in
+    let made : c.insert.new.self.entries ≡ insert_entry same c.self.inside.live.entries c.args.xid
+    (record { mark = c.args.mark; writes = [] }) = search rules in
     subst (λ es. IsKept c.self.inside.holders.entries es) (sym made)
     (kept_shut _ _ c.args.xid _ c.self.invariant c.requires)

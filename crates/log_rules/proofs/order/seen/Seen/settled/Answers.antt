@@ -7,5 +7,6 @@ use Rattle.log_rules.proofs.order.seen.Seen.settled.Goals as goal
 
 pub invariant_of-self : goal.invariant_of-self
 invariant_of-self c =
-    let made : c.shift_remove.new.self.entries ≡ remove_entry (same c.args.xid) c.self.inside.live.entries = search rules in
+    let made : c.shift_remove.new.self.entries
+    ≡ remove_entry (same c.args.xid) c.self.inside.live.entries = search rules in
     subst (λ es. IsKept c.self.inside.holders.entries es) (sym made) (kept_removed _ _ _ c.self.invariant)
