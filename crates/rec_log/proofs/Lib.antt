@@ -8,5 +8,6 @@ pub mod Sizes
 pub mod Within
 pub mod Rewriting
 pub mod Restarting
+pub mod Known
 pub mod Trims
 pub mod SoundRecords

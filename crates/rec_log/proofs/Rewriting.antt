@@ -163,3 +163,15 @@ rewrite_breaks p text bytes asked forced forced' failures failures' room room' r
       failed = refl;
       cause = g;
     })
+
+-- a log stands there, whichever of the two came
+pub text_either : (p : Kind) (text bytes asked : List ℕ) (forced forced' : ℕ) (rs : List LogRecord)
+    (failed : Bool) → IsLogText p text forced failed → Spells p asked rs
+    → Came text forced bytes forced' asked → IsLogText p bytes forced' true
+text_either p text bytes asked forced forced' rs failed is s (inl e) = record {
+  begins = ap (take 5) e.0 ∙ is.begins;
+  header_forced = omega (arith, e.1, is.header_forced);
+  whole = λ h. absurd (cc);
+}
+text_either p text bytes asked forced forced' rs failed is s (inr e) =
+    text_alone p asked bytes rs forced' true s e.0 e.1

@@ -71,6 +71,12 @@ pub record IsLogText (p : Kind) (text : List ℕ) (forced : ℕ) (failed : Bool)
   pub header_forced : 5 ≤ forced
   pub whole : failed ≡ false → is_whole p 0 (body text) ≡ true
 
+-- so many bytes at the front are forced, and behind the header among them are whole records
+pub record IsKnown (p : Kind) (text : List ℕ) (forced known : ℕ) : Type 0 where
+  pub header : 5 ≤ known
+  pub within : known ≤ forced
+  pub whole : is_whole p 0 (take (known - 5) (body text)) ≡ true
+
 -- the text begins as a log does, and reads as these records; it is whole, where the log has not failed
 pub record ReadsAs (p : Kind) (text : List ℕ) (ls : List LogRecord) (failed : Bool) : Type 0 where
   pub begins : take 5 text ≡ header
@@ -155,6 +161,12 @@ pub record Sounds (p : Kind) (bytes : List ℕ) (size : ℕ) : Type 0 where
   pub sound_size : length sound ≡ size
   pub whole : is_whole p 0 sound ≡ true
   pub all : records_in p 0 bytes ≡ records_in p 0 sound
+
+-- the whole frames of records at the front of the text end there
+pub record EndsSound (p : Kind) (text : List ℕ) (end : ℕ) : Type 0 where
+  pub header : 5 ≤ end
+  pub there : end ≤ length text
+  pub sounds : Sounds p (body text) (end - 5)
 
 -- what a restart writes: what is left without a torn tail, and new records
 pub record LeavesText (p : Kind) (left : List ℕ) (rs : List LogRecord) (text : List ℕ) : Type 0 where

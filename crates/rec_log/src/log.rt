@@ -1,13 +1,13 @@
 //! A log as its records.
 
-ghost use Rattle.std.specs.Prelude.{◌≡◌, ◌≤◌, ◌<◌, ◌+◌, ◌++◌, ◌∷◌, [], true, false, IfOk, IfErr, OnOk, OnErr, is_some, length, map, take};
+ghost use Rattle.std.specs.Prelude.{◌≡◌, ◌≤◌, ◌<◌, ◌+◌, ◌++◌, ◌∷◌, [], true, false, IfOk, IfErr, OnOk, OnErr, drop, is_some, length, map, take};
 ghost use Rattle.std.specs.List.{AllByRecursion};
 ghost use Rattle.log_rules.specs.sound.Sound.{IsSound};
 ghost use Rattle.log_text.specs.Reading.{read_record};
 ghost use Rattle.log_text.specs.Frames.{header};
 ghost use Rattle.log_text.specs.Made.{frame_record};
 ghost use Rattle.log_text.specs.Payloads.{record_text, records_text};
-ghost use Rattle.rec_log.specs.Sights.{Appended, AreRecords, Breaks, Forced, IsRecord, LeavesText, NotRestarted, NotRewritten, ReadsAs, Restarts, Rewritten, Sounds, body, left_by, log_state, records_of, whole_within};
+ghost use Rattle.rec_log.specs.Sights.{Appended, AreRecords, Breaks, EndsSound, Forced, IsKnown, IsRecord, LeavesText, NotRestarted, NotRewritten, ReadsAs, Restarts, Rewritten, Sounds, body, left_by, log_state, records_of, whole_within};
 ghost use Rattle.log_store.specs.Stores.{Replaces};
 ghost use Rattle.rec_log.specs.Openings.{IsRefused, NotOpened, Opens, Settles};
 ghost use Rattle.rec_log.specs.Texts.{records_in};
@@ -35,18 +35,22 @@ pub enum LogError {
 pub struct RecLog<L: LogStore> {
     kind: Kind,
     store: L,
+    /// How many bytes at the front are known to be the header and whole records, all of them forced. No
+    /// restart looks for the end of a record there.
+    known: usize,
     failed: bool,
 }
 
 impl<L: LogStore> Model for RecLog<L> {
-    ghost use Rattle.rec_log.specs.Sights.{LogState, IsLogText, log_state};
+    ghost use Rattle.rec_log.specs.Sights.{LogState, IsKnown, IsLogText, log_state};
 
     ghost Value = { LogState };
 
     ghost view = { λ l. log_state l.kind (L.bytes l.store) (L.forced l.store) (L.failures l.store)
         (L.room l.store) l.failed };
 
-    ghost invariant = { λ l. IsLogText l.kind (L.bytes l.store) (L.forced l.store) l.failed };
+    ghost invariant = { λ l. IsLogText l.kind (L.bytes l.store) (L.forced l.store) l.failed
+        × IsKnown l.kind (L.bytes l.store) (L.forced l.store) l.known };
 }
 
 /// The bytes behind the header.
@@ -90,6 +94,20 @@ pub(crate) fn records_in(
         rest = behind;
     }
     Ok(records)
+}
+
+/// The records at the front of what stands behind the known bytes.
+fn records_behind(
+    kind: Kind,
+    left: &[u8],
+    known: usize,
+    alloc: Global,
+) -> Result<Vec<LogRecord>, AllocError>
+    requires { known ≤ length left.now }
+    ensures { IfOk result (λ records. records.items ≡ records_in kind 0 (drop known left.now)) }
+{
+    let (_, behind) = left.split_at(known);
+    records_in(kind, behind, alloc)
 }
 
 /// The records that are read off these bytes can stand in a log.
@@ -142,13 +160,28 @@ pub(crate) fn push_frames(text: &mut Vec<u8>, frames: &[Frame]) -> Result<(), Al
     Ok(())
 }
 
+/// Where the whole frames of records at the front end, behind the known bytes.
+fn sound_end(kind: Kind, left: &[u8], known: usize, alloc: Global) -> Result<usize, AllocError>
+    requires { IsKnown kind left.now (length left.now) known }
+    ensures { IfOk result (λ end. EndsSound kind left.now end) }
+{
+    let (_, behind) = left.split_at(known);
+    Ok(known + sound_size(kind, behind, alloc)?)
+}
+
 /// The text that a restart writes.
-fn text_left(kind: Kind, left: &[u8], new: &[Frame], alloc: Global) -> Result<Vec<u8>, AllocError>
-    requires { 5 ≤ length left.now }
+fn text_left(
+    kind: Kind,
+    left: &[u8],
+    known: usize,
+    new: &[Frame],
+    alloc: Global,
+) -> Result<Vec<u8>, AllocError>
+    requires { IsKnown kind left.now (length left.now) known }
     ensures { IfOk result (λ text. LeavesText kind left.now (map frame_record new.now) text.items) }
 {
-    let size = sound_size(kind, body(left), alloc)?;
-    let mut text = front_of(left, HEADER.len() + size, alloc)?;
+    let end = sound_end(kind, left, known, alloc)?;
+    let mut text = front_of(left, end, alloc)?;
     push_frames(&mut text, new)?;
     Ok(text)
 }
@@ -208,6 +241,7 @@ impl<L: LogStore + Drop> RecLog<L> {
         Ok(RecLog {
             kind,
             store,
+            known: HEADER.len(),
             failed: false,
         })
     }
@@ -265,6 +299,7 @@ impl<L: LogStore> RecLog<L> {
             self.failed = true;
             return Err(LogError::Device);
         }
+        self.known = self.store.bytes().len();
         Ok(())
     }
 
@@ -307,17 +342,10 @@ impl<L: LogStore> RecLog<L> {
         ensures { IfOk result (λ count. count
             ≡ length (whole_within (self.now.sight.behind + keep) self.now.sight.kept.unforced)) }
     {
-        let left = self.kept(keep, alloc)?;
-        let forced = self.forced_records(alloc)?;
-        Ok(left.len() - forced.len())
-    }
-
-    /// The records that are forced, as a list made anew.
-    fn forced_records(&self, alloc: Global) -> Result<Vec<LogRecord>, AllocError>
-        ensures { IfOk result (λ records. records.items ≡ self.now.sight.kept.forced) }
-    {
-        let front = left_by(self.store.bytes(), self.store.forced(), 0);
-        records_in(self.kind, body(front), alloc)
+        let (bytes, forced) = (self.store.bytes(), self.store.forced());
+        let left = records_behind(self.kind, left_by(bytes, forced, keep), self.known, alloc)?;
+        let front = records_behind(self.kind, left_by(bytes, forced, 0), self.known, alloc)?;
+        Ok(left.len() - front.len())
     }
 
     /// Each record that stands was read off bytes: so it can stand in a log of this sort of process.
@@ -339,7 +367,7 @@ impl<L: LogStore> RecLog<L> {
     {
         let forced = self.store.forced();
         let left = left_by(self.store.bytes(), forced, keep);
-        let text = match text_left(self.kind, left, new, alloc) {
+        let text = match text_left(self.kind, left, self.known, new, alloc) {
             Ok(text) => text,
             Err(_) => return Err(LogError::Memory),
         };
@@ -349,10 +377,12 @@ impl<L: LogStore> RecLog<L> {
         self.store.crash(keep);
         match self.store.replace(&text) {
             Ok(()) => {
+                self.known = text.len();
                 self.failed = false;
                 Ok(())
             }
             Err(_) => {
+                self.known = HEADER.len();
                 self.failed = true;
                 Err(LogError::Device)
             }
@@ -387,9 +417,11 @@ impl<L: LogStore> RecLog<L> {
             return Err(LogError::Memory);
         }
         if let Err(_) = self.store.replace(text) {
+            self.known = HEADER.len();
             self.failed = true;
             return Err(LogError::Device);
         }
+        self.known = text.len();
         Ok(())
     }
 

@@ -1,6 +1,7 @@
 use Rattle.std.proofs.Common.{◌≡◌, ◌∙◌, ◌++◌, take, false, length, refl, sym, ap, subst, arith}
 use Rattle.log_text.specs.Made.{frame_record}
 use Rattle.rec_log.specs.Sights.{IsRecord}
+use Rattle.rec_log.proofs.Known.{known_more}
 use Rattle.rec_log.proofs.Turns.{append_breaks, appended, appended_of, breaks_of, by_device, record_long, text_goes_on}
 use Rattle.rec_log.proofs.log.RecLog.append.Goals as goal
 
@@ -23,7 +24,7 @@ returns-in-Err-clause-err g c =
           (append_breaks _ _ _ _ _ _ _ (g.L.LogStore.room c.self.inside.store)
           (g.L.LogStore.room c.append.new.self) b.came _ _ works
           (subst (λ k. IsRecord k (frame_record c.args.frame.now))
-          (sym (ap (λ s. s.kind) c.self.view_is)) c.requires.sound) c.self.invariant
+          (sym (ap (λ s. s.kind) c.self.view_is)) c.requires.sound) c.self.invariant.0
           (g.met.L.LogStore.front c.self.inside.store)
           (b.text ∙ ap (λ t. g.L.LogStore.bytes c.self.inside.store ++ take b.came t) c.bytes.ensures)
           b.forced_stays b.cause),
@@ -33,11 +34,13 @@ pub invariant_of-self-in_default : goal.invariant_of-self-in_default
 invariant_of-self-in_default g c =
     let works : c.self.inside.failed ≡ false = ap (λ s. s.sight.failed) c.self.view_is ∙ c.requires.works in
     let a = c.in_default.ensures.ok in
-    text_goes_on _ _ _ _ _ _ _ works (subst (λ k. IsRecord k (frame_record c.args.frame.now))
-    (sym (ap (λ s. s.kind) c.self.view_is)) c.requires.sound) c.self.invariant
-    (g.met.L.LogStore.front c.self.inside.store)
-    (a.text ∙ ap (λ t. g.L.LogStore.bytes c.self.inside.store ++ t) c.bytes.ensures)
-    a.forced_stays
+    let text = a.text ∙ ap (λ t. g.L.LogStore.bytes c.self.inside.store ++ t) c.bytes.ensures in
+    let within = g.met.L.LogStore.front c.self.inside.store in (
+      text_goes_on _ _ _ _ _ _ _ works (subst (λ k. IsRecord k (frame_record c.args.frame.now))
+          (sym (ap (λ s. s.kind) c.self.view_is)) c.requires.sound) c.self.invariant.0 within text
+          a.forced_stays,
+      known_more _ _ _ _ _ _ _ c.self.invariant.1 within text (omega (arith, a.forced_stays)),
+    )
 
 pub returns-clause-ok : goal.returns-clause-ok
 returns-clause-ok g c =
@@ -47,7 +50,7 @@ returns-clause-ok g c =
     (appended _ _ _ _ _ _ _ (g.L.LogStore.room c.self.inside.store)
     (g.L.LogStore.room c.append.new.self) _ _ works
     (subst (λ k. IsRecord k (frame_record c.args.frame.now))
-    (sym (ap (λ s. s.kind) c.self.view_is)) c.requires.sound) c.self.invariant
+    (sym (ap (λ s. s.kind) c.self.view_is)) c.requires.sound) c.self.invariant.0
     (g.met.L.LogStore.front c.self.inside.store)
     (a.text ∙ ap (λ t. g.L.LogStore.bytes c.self.inside.store ++ t) c.bytes.ensures) a.forced_stays
     a.failures_stay c.in_default.ensures.room)

@@ -9,7 +9,7 @@ returns-in-Err-clause-err g c =
       breaks_of _ _ _ _ c.self.view_is
           (force_breaks _ _ _ _ _ _ _ (g.L.LogStore.room c.self.inside.store)
           (g.L.LogStore.room c.force.new.self) _
-          c.self.invariant.header_forced (g.met.L.LogStore.front c.self.inside.store)
+          c.self.invariant.0.header_forced (g.met.L.LogStore.front c.self.inside.store)
           (g.met.L.LogStore.front c.force.new.self) b.text b.no_less b.cause),
     )
 
@@ -20,4 +20,4 @@ returns-clause-ok g c =
     forced_of _ _ _ c.self.view_is
     (forced_all _ _ _ _ _ _ _ (g.L.LogStore.room c.self.inside.store)
     (g.L.LogStore.room c.force.new.self) _ works
-    (c.self.invariant.whole works) f.text f.all f.failures_stay c.in_default.ensures.room)
+    (c.self.invariant.0.whole works) f.text f.all f.failures_stay c.in_default.ensures.room)

@@ -1,6 +1,7 @@
 use Rattle.std.proofs.Common.{◌∙◌, ap, arith}
 use Rattle.rec_log.proofs.Turns.{by_device}
-use Rattle.rec_log.proofs.Rewriting.{came_of, rewrite_breaks, rewritten, spells_inside, text_alone}
+use Rattle.rec_log.proofs.Known.{known_header}
+use Rattle.rec_log.proofs.Rewriting.{came_of, rewrite_breaks, rewritten, spells_inside, text_either}
 use Rattle.rec_log.proofs.log.RecLog.put.Goals as goal
 
 pub returns-in-Err-replace-clause-err : goal.returns-in-Err-replace-clause-err
@@ -15,11 +16,16 @@ returns-in-Err-replace-clause-err g c =
     (g.L.LogStore.room c.replace.new.self) _ _ _ c.self.view_is spells came
     (omega (arith, b.cause, stays.failures_stay))
 
-pub invariant_of-self-in_default-replace : goal.invariant_of-self-in_default-replace
-invariant_of-self-in_default-replace g c =
+pub invariant_of-self-in-Err-replace : goal.invariant_of-self-in-Err-replace
+invariant_of-self-in-Err-replace g c =
     let spells = spells_inside _ _ c.args.text.now _ _ _ _ _ c.self.view_is c.requires.sound in
-    let ok = c.in_default-replace.ensures.ok in
-    text_alone _ c.args.text.now _ _ _ _ spells ok.text_stands ok.all
+    let stays = c.in_default.ensures.stays in
+    let b = by_device c.in-Err-replace.field-0 _ _ c.in-Err-replace.ensures.memory
+    (λ m. omega (arith, m.small, c.in_default.ensures.room)) c.in-Err-replace.ensures.device in
+    let came = came_of (g.L.LogStore.bytes c.self.inside.store) _ _ c.args.text.now
+    (g.L.LogStore.forced c.self.inside.store) _ _ b.either stays.bytes_stay stays.forced_stays in
+    let text = text_either _ _ _ c.args.text.now _ _ _ _ c.self.invariant.0 spells came in
+    (text, known_header _ _ _ text.header_forced)
 
 pub returns-clause-ok : goal.returns-clause-ok
 returns-clause-ok g c =

@@ -1,6 +1,7 @@
-use Rattle.std.proofs.Common.{◌≡◌, ◌∙◌, ◌+◌, subst, sym, ap, take, map, length, arith}
+use Rattle.std.proofs.Common.{◌≡◌, ◌∙◌, ◌+◌, refl, subst, sym, ap, take, map, length, arith}
 use Rattle.log_text.specs.Made.{frame_record}
 use Rattle.rec_log.specs.Sights.{AreRecords, LeavesText}
+use Rattle.rec_log.proofs.Known.{known_all, known_header, known_left}
 use Rattle.rec_log.proofs.Turns.{by_device}
 use Rattle.rec_log.proofs.Restarting.{came_either, front_begins, restart_breaks, restarted, text_broken, text_settled}
 use Rattle.rec_log.proofs.log.RecLog.restart.Goals as goal
@@ -24,9 +25,13 @@ invariant_of-self-in-Ok-replace g c =
     (g.L.LogStore.bytes c.replace.new.self) =
     subst (λ t. LeavesText c.self.inside.kind (take (forced + c.args.keep) text) rs t)
     (sym ok.text_stands) leaves in
-    text_settled _ _ _ rs _ are (front_begins (forced + c.args.keep) text
-    (omega (arith, c.self.invariant.header_forced)) c.self.invariant.begins) written
-    (ok.all ∙ ap length (sym ok.text_stands))
+    let all = ok.all ∙ ap length (sym ok.text_stands) in
+    let settled = text_settled _ _ _ rs _ are (front_begins (forced + c.args.keep) text
+    (omega (arith, c.self.invariant.0.header_forced)) c.self.invariant.0.begins) written all in (
+      settled,
+      known_all _ _ _ _ (settled.whole refl) settled.header_forced all
+          (omega (arith, c.len-self-inside.ensures, c.deref.ensures.len, ap length ok.text_stands)),
+    )
 
 pub returns-in-Ok-replace-clause-ok : goal.returns-in-Ok-replace-clause-ok
 returns-in-Ok-replace-clause-ok g c =
@@ -49,7 +54,7 @@ returns-in-Ok-replace-clause-ok g c =
     (sym ok.text_stands) leaves in
     let stays = c.in_default.ensures.stays in
     restarted _ text _ forced _ c.args.keep _ _ _
-    (g.L.LogStore.room c.replace.new.self) rs _ _ c.self.view_is are c.self.invariant
+    (g.L.LogStore.room c.replace.new.self) rs _ _ c.self.view_is are c.self.invariant.0
     (g.met.L.LogStore.front c.self.inside.store) written (ok.all ∙ ap length (sym ok.text_stands))
     (ok.failures_stay ∙ c.crash.ensures.left.failures_stay ∙ stays.failures_stay)
 
@@ -83,7 +88,9 @@ invariant_of-self-in-Err-replace g c =
     (crash.text ∙ ap (λ n. take (n + c.args.keep) (g.L.LogStore.bytes c.reserve.new.self)) stays.forced_stays
     ∙ ap (take (forced + c.args.keep)) stays.bytes_stay)
     (crash.front ∙ stays.forced_stays) in
-    text_broken _ text c.deref.result.now _ forced _ c.args.keep rs _ are c.self.invariant leaves came
+    let broken = text_broken _ text c.deref.result.now _ forced _ c.args.keep rs _ are c.self.invariant.0
+    leaves came in
+    (broken, known_header _ _ _ broken.header_forced)
 
 pub returns-clause-err : goal.returns-clause-err
 returns-clause-err g c =
@@ -116,6 +123,6 @@ returns-clause-err g c =
     ∙ ap (take (forced + c.args.keep)) stays.bytes_stay)
     (crash.front ∙ stays.forced_stays) in
     restart_breaks _ text c.deref.result.now _ forced _ c.args.keep _ _ _
-    (g.L.LogStore.room c.replace.new.self) rs _ _ c.self.view_is are c.self.invariant
+    (g.L.LogStore.room c.replace.new.self) rs _ _ c.self.view_is are c.self.invariant.0
     (g.met.L.LogStore.front c.self.inside.store) leaves came
     (omega (arith, b.cause, crash.failures_stay, stays.failures_stay))

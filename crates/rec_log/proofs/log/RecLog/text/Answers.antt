@@ -5,5 +5,5 @@ use Rattle.rec_log.proofs.log.RecLog.text.Goals as goal
 
 pub returns : goal.returns
 returns g c =
-    IfOk-weaker c.from_slice.result _ _ (λ v e. copied _ _ _ _ _ _ _ _ c.self.view_is c.self.invariant
+    IfOk-weaker c.from_slice.result _ _ (λ v e. copied _ _ _ _ _ _ _ _ c.self.view_is c.self.invariant.0
     (e ∙ c.bytes.ensures)) c.from_slice.ensures.items
