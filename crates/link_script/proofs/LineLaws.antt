@@ -23,8 +23,9 @@ use Rattle.tree_model.specs.declared.events.Event.TheVariants.{Act as ActOf, Del
 use Rattle.tree_model.specs.Texts.{txn_text, case_text, op_text}
 use Rattle.link_script.specs.Names.{process_at, txn_at, case_at}
 use Rattle.script_words.specs.Steps.{same}
+use Rattle.script_words.specs.Outcomes.{outcome_at}
 use Rattle.script_words.specs.Operations.{is_visible, is_visible_word, key_at, value_at, put_at, get_at, delete_at, op_by, op_at}
-use Rattle.link_script.specs.Events.{begin_at, join_at, work_at, restart_at, restart_parts, decision_at, heur_at, commit_at, abort_at, ask_at, forget_at, deliver_at, trim_at, plain_at, event_parts, event_at}
+use Rattle.link_script.specs.Events.{begin_at, join_at, work_at, restart_at, restart_parts, heur_at, commit_at, abort_at, ask_at, forget_at, deliver_at, trim_at, plain_at, event_parts, event_at}
 use Rattle.link_script.specs.Spellings.{process_text, presumption_word, decision_word, event_text, FitsProcess, FitsCase, FitsOp, IsWord, FitsEvent, ReadIsSpelled, SpelledIsRead}
 use Rattle.link_script.proofs.Misses.{bind_some, misses, misses_without, not_at, cut_none, same_tells, blank}
 use Rattle.link_script.proofs.NameLaws.{process_takes, process_again, process_misses, txn_takes, txn_again, case_takes, case_again, case_no_blank}
@@ -282,7 +283,7 @@ restart_takes : (root : ProcessId) (rest : List ℕ) (e : Event) → restart_at 
 unfolding restart_at
 restart_takes root rest e h = restart_read root rest (cut_at 32 rest) refl e h
 
-decision_takes : (w : List ℕ) (o : Outcome) → decision_at w ≡ Some o → w ≡ decision_word o
+decision_takes : (w : List ℕ) (o : Outcome) → outcome_at w ≡ Some o → w ≡ decision_word o
 decision_takes w o h =
     chosen (w ≡ decision_word o) (same w (codes "commit")) _ _ o h
     (λ is here. subst (λ (x : Outcome). w ≡ decision_word x) (some_is Committed o here)
@@ -298,7 +299,7 @@ unfolding heur_at
 heur_takes root rest e h =
     let a = bind_some (cut_at 32 rest) _ e h in
     let b = bind_some (case_at root a.0.0) _ e a.2 in
-    let c = bind_some (decision_at a.0.1) _ e b.2 in
+    let c = bind_some (outcome_at a.0.1) _ e b.2 in
     let case = case_takes root a.0.0 b.0 b.1 in
     subst (λ (x : Event). Line root (codes "heur " ++ rest) x) (some_is (ActOf (Decide b.0 c.0)) e c.2) (
       two_words (codes "heur ") rest a.0.0 a.0.1 (case_text b.0) (decision_word c.0)

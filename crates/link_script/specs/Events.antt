@@ -3,8 +3,6 @@ use Rattle.std.specs.Prelude.{ℕ, List, codes, Option, Some, None, if◌then◌
 use Rattle.xa_xid.specs.Numerals.{number_at}
 use Rattle.xa_xid.specs.Words.{cut_at}
 use Rattle.tree_model.specs.declared.names.ProcessId.{ProcessId}
-use Rattle.tree_model.specs.declared.names.Outcome.{Outcome}
-use Rattle.tree_model.specs.declared.names.Outcome.TheVariants.{Committed, Aborted}
 use Rattle.tree_model.specs.declared.names.Presumption.TheVariants.{PresumeAbort, PresumeCommit}
 use Rattle.tree_model.specs.declared.events.Act.TheVariants.{Begin, Join, Work, Commit, Abort, Ask, Decide, Forget}
 use Rattle.tree_model.specs.declared.events.Event.{Event}
@@ -13,6 +11,7 @@ use Rattle.tree_model.specs.declared.names.Case.{Case}
 use Rattle.script_words.specs.declared.operation.Task.{Task}
 use Rattle.script_words.specs.Steps.{◌>>=◌, same}
 use Rattle.script_words.specs.Operations.{op_at, op_view}
+use Rattle.script_words.specs.Outcomes.{outcome_at}
 use Rattle.link_script.specs.Names.{process_at, txn_at, case_at}
 
 -- `begin` and a presumption
@@ -49,19 +48,12 @@ restart_parts rest (Some q) = process_at q.0 >>= λ p. number_at q.1 >>= λ keep
 unfoldable pub restart_at : List ℕ → Option Event
 restart_at rest = restart_parts rest (cut_at 32 rest)
 
--- what an operator decided
-abbrev pub decision_at : List ℕ → Option Outcome
-decision_at word =
-    if same word (codes "commit") then Some Committed
-    else if same word (codes "rollback") then Some Aborted
-    else None
-
 -- `heur`, a case and a decision
 unfoldable pub heur_at : ProcessId → List ℕ → Option Event
 heur_at root rest = do
   p ← cut_at 32 rest
   case ← case_at root p.0
-  outcome ← decision_at p.1
+  outcome ← outcome_at p.1
   Some (ActOf (Decide case outcome))
 
 -- `commit`: the application wants this transaction committed

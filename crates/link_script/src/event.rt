@@ -6,7 +6,6 @@ ghost use Rattle.link_script.specs.Events.{
   join_at,
   restart_at,
   heur_at,
-  decision_at,
   plain_at,
   work_at,
   event_at,
@@ -14,9 +13,9 @@ ghost use Rattle.link_script.specs.Events.{
 };
 
 use crate::names::{case_of, process_of, txn_of};
-use script_words::{Task, task_of};
+use script_words::{Task, outcome_of, task_of};
 use std::alloc::{AllocError, Global};
-use tree_model::{Act, Case, Event, Outcome, Presumption, ProcessId};
+use tree_model::{Act, Case, Event, Presumption, ProcessId};
 use xa_xid::numeral::number_of;
 use xa_xid::word::cut;
 
@@ -107,18 +106,8 @@ fn decide_of(root: ProcessId, rest: &str) -> Option<Event>
 {
     let (case, decision) = cut(rest, ' ')?;
     let case = case_of(root, case)?;
-    let outcome = decision_of(decision)?;
+    let outcome = outcome_of(decision)?;
     Some(Event::Act(Act::Decide(case, outcome)))
-}
-
-fn decision_of(word: &str) -> Option<Outcome>
-    ensures { result ≡ decision_at word.now }
-{
-    match word {
-        "commit" => Some(Outcome::Committed),
-        "rollback" => Some(Outcome::Aborted),
-        _ => None,
-    }
 }
 
 fn work_of(alloc: Global, root: ProcessId, rest: &str) -> Result<Option<Event>, AllocError>

@@ -10,9 +10,9 @@ use Rattle.xa_xid.specs.Xids.{IsXid}
 use Rattle.xa_xid.specs.declared.xid.Xid.{Xid}
 use Rattle.tree_model.specs.declared.messages.Op.{Op}
 use Rattle.tree_model.specs.declared.names.Outcome.{Outcome}
-use Rattle.tree_model.specs.declared.names.Outcome.TheVariants.{Aborted, Committed}
 use Rattle.script_words.specs.Steps.{same}
 use Rattle.script_words.specs.Operations.{op_by}
+use Rattle.script_words.specs.Outcomes.{outcome_at}
 use Rattle.xa_engine.specs.declared.script.request.BranchCall.TheVariants.{Start, End, Prepare, Commit, Rollback, Forget}
 use Rattle.xa_engine.specs.declared.script.request.Call.{Call}
 use Rattle.xa_engine.specs.declared.script.request.Call.TheVariants as call
@@ -91,13 +91,6 @@ SpellsRecover rest thread count flags =
 -- what stands behind `restart`: how many bytes are kept
 abbrev pub SpellsKeep : List ℕ → Option ℕ → Type 0
 SpellsKeep rest keep = IsSomeAnd keep (λ n. number_at rest ≡ Some n)
-
--- the outcome that a word names
-abbrev pub outcome_at : List ℕ → Option Outcome
-outcome_at w =
-    if same w (codes "commit") then Some Committed
-    else if same w (codes "rollback") then Some Aborted
-    else None
 
 -- what stands behind `heur`: the name of a branch, and what an operator decides
 abbrev pub SpellsDecision : List ℕ → Xid → Outcome → Type 0

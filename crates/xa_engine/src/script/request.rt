@@ -9,9 +9,9 @@ ghost use Rattle.tree_model.specs.declared.messages.Op.{Op as AnyOp};
 ghost use Rattle.tree_model.specs.declared.names.Outcome.{Outcome as AnyOutcome};
 ghost use Rattle.script_words.specs.Operations.{op_view};
 ghost use Rattle.xa_engine.specs.declared.script.request.Request.{Request as AnyRequest};
-ghost use Rattle.xa_engine.specs.script.Requests.{IsAlone, IsInfo, IsNumber, Spells, SpellsBranch, SpellsCall, SpellsDecision, SpellsOpen, SpellsRecover, SpellsTask, SpellsWork, outcome_at, three_at, word_at};
+ghost use Rattle.xa_engine.specs.script.Requests.{IsAlone, IsInfo, IsNumber, Spells, SpellsBranch, SpellsCall, SpellsDecision, SpellsOpen, SpellsRecover, SpellsTask, SpellsWork, three_at, word_at};
 
-use script_words::{Task, task_by};
+use script_words::{Task, outcome_of, task_by};
 use std::alloc::{AllocError, Global};
 use tree_model::{Op, Outcome};
 use xa_codes::Flags;
@@ -264,17 +264,6 @@ fn branch_of(rest: &str) -> Option<(u32, Xid, Flags)>
     };
     let flags = Flags::parse(flags)?;
     Some((thread, xid, flags))
-}
-
-/// The outcome that a word names.
-fn outcome_of(word: &str) -> Option<Outcome>
-    ensures { result ≡ outcome_at word.now }
-{
-    match word {
-        "commit" => Some(Outcome::Committed),
-        "rollback" => Some(Outcome::Aborted),
-        _ => None,
-    }
 }
 
 /// The branch of an operator's decision, and the outcome.
