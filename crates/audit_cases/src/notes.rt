@@ -1,8 +1,7 @@
 //! One pass over the records of a log.
 
 ghost use Rattle.std.specs.Prelude.{◌≡◌, ◌++◌, [], OnOk, fold};
-ghost use Rattle.tree_model.specs.LogNames.{is_own as is_own_of, own_by, same_parent};
-ghost use Rattle.tree_model.specs.Names.{process_of};
+ghost use Rattle.tree_model.specs.LogNames.{is_own as is_own_of, own_by};
 ghost use Rattle.tree_model.specs.Records.{record_case};
 ghost use Rattle.audit_cases.specs.Notes.{IsRecordAt, no_note, note_after, noted, noted_of, place_at, tickets_in};
 
@@ -90,37 +89,15 @@ impl Noted {
     }
 }
 
-/// The process where the case stands: its ticket's child, or the root.
-fn process_of(case: &Case) -> ProcessId
-    ensures { result ≡ process_of case.now }
-{
-    match case.ticket {
-        None => case.txn.root,
-        Some(ticket) => ticket.child,
-    }
-}
-
-/// Whether two parents are one, or neither is there.
-#[tactic(auto, unfolding(tree_model::specs::Names::same_process))]
-fn same_parent(one: Option<ProcessId>, other: Option<ProcessId>) -> bool
-    ensures { result ≡ same_parent one other }
-{
-    match (one, other) {
-        (None, None) => true,
-        (Some(one), Some(other)) => one == other,
-        _ => false,
-    }
-}
-
 /// Whether a case that the log names with this parent is the process's own.
 #[tactic(auto, unfolding(tree_model::specs::Names::same_process))]
 fn is_own(tree: &Tree, entry: &TreeEntry, of: Option<ProcessId>, case: &Case) -> bool
     ensures { result ≡ is_own_of (place_at tree.now entry.now) of case.now }
 {
     case.txn.root == tree.root()
-        && process_of(case) == entry.id
+        && case.process() == entry.id
         && case.ticket.is_some() == entry.parent.is_some()
-        && same_parent(of, entry.parent)
+        && of == entry.parent
 }
 
 /// One record more of a case.

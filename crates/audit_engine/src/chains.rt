@@ -2,7 +2,6 @@
 
 ghost use Rattle.std.specs.Prelude.{◌≡◌, ◌++◌, ◌∷◌, [], IfOk, OnOk, length, take};
 ghost use Rattle.tree_headline.specs.auditor.Audits.{Logs};
-ghost use Rattle.tree_model.specs.Names.{process_of as process_in};
 ghost use Rattle.tree_model.specs.Trees.{IsTree};
 ghost use Rattle.std.specs.Map.{lookup};
 ghost use Rattle.tree_audit.specs.Tables.{AreNotes, same_id};
@@ -12,7 +11,7 @@ use crate::namings::{Namings, TreeNamings};
 use crate::steps::{Deed, Found, Stands, Step};
 use indexmap::IndexMap;
 use std::alloc::{AllocError, Global};
-use tree_audit::{TreeNotes, parent_of};
+use tree_audit::TreeNotes;
 use tree_model::{Case, ProcessId, Tree};
 
 /// What each process of the tree names.
@@ -46,16 +45,6 @@ fn add(
             let _ = namings.insert(process, new)?;
             Ok(())
         }
-    }
-}
-
-/// The process where the case stands: its ticket's child, or the root.
-fn process_of(case: &Case) -> ProcessId
-    ensures { result ≡ process_in case.now }
-{
-    match case.ticket {
-        None => case.txn.root,
-        Some(ticket) => ticket.child,
     }
 }
 
@@ -97,7 +86,7 @@ fn push_steps(
     let Some(ticket) = case.ticket else {
         return Ok(());
     };
-    let Some(process) = parent_of(tree, process_of(&case)) else {
+    let Some(process) = tree.parent(case.process()) else {
         return Ok(());
     };
     let found = find(namings, process, &case);
@@ -134,7 +123,7 @@ fn asking(case: &Case) -> Deed
     ensures { result ≡ deed_asking case.now case.now.ticket }
 {
     match case.ticket {
-        None => Deed::Restart(process_of(case)),
+        None => Deed::Restart(case.process()),
         Some(_) => Deed::Ask(*case),
     }
 }

@@ -2,7 +2,6 @@
 
 ghost use Rattle.std.specs.Prelude.{◌≡◌, ◌++◌, IfOk, OnOk};
 ghost use Rattle.tree_headline.specs.auditor.Audits.{Logs};
-ghost use Rattle.tree_model.specs.Names.{process_of as process_in};
 ghost use Rattle.tree_model.specs.Trees.{IsTree};
 ghost use Rattle.audit_engine.specs.Chains.{AreNamings};
 ghost use Rattle.audit_engine.specs.Explanations.{asker_text, deed_text, do_text, explained_line, explanation_text, found_text, is_explained as is_explained_line, kept_text, mend_text, place_text, stands_word as word_of_stands, step_text, steps_of as steps_by_decision, steps_text, told_part, told_text};
@@ -16,16 +15,6 @@ use std::alloc::{AllocError, Global};
 use trace_lines::{outcome_word, push, push_case, push_number, push_ticket};
 use tree_audit::{Line, Own};
 use tree_model::{Case, Outcome, Presumption, ProcessId, Tree};
-
-/// The process where the case stands: its ticket's child, or the root.
-fn process_of(case: &Case) -> ProcessId
-    ensures { result ≡ process_in case.now }
-{
-    match case.ticket {
-        None => case.txn.root,
-        Some(ticket) => ticket.child,
-    }
-}
 
 /// The word of what stands of a case.
 fn stands_word(stands: Stands) -> &'static str
@@ -140,7 +129,7 @@ fn push_mend(out: &mut Vec<u8>, case: &Case) -> Result<(), AllocError>
     ensures { OnOk result (out.new.items ≡ out.old.items ++ mend_text case.now) }
 {
     push(out, "  do: put the data of ")?;
-    push_number(out, u64::from(process_of(case).0))?;
+    push_number(out, u64::from(case.process().0))?;
     push(out, " right, then forget ")?;
     push_case(out, case)?;
     push(out, "\n")

@@ -3,7 +3,6 @@
 ghost use Rattle.std.specs.Prelude.{◌≡◌, false, true, IfErr, IfOk};
 ghost use Rattle.live_table.specs.Tables.{AreApart};
 ghost use Rattle.tree_model.specs.declared.events.Input.{Input as AnyInput};
-ghost use Rattle.tree_model.specs.Reactions.{act_is_listed};
 ghost use Rattle.core_model.specs.Turns.{live_turn};
 ghost use Rattle.coord_table.specs.Cases.{view_in};
 ghost use Rattle.coord_turns.specs.Takes.{IsAt};
@@ -13,6 +12,7 @@ use crate::coordinator::Coordinator;
 use crate::places::{is_child, is_manager};
 use crate::turn::Turn;
 use coord_turns::Asked;
+use core_model::is_listed;
 use log_store::LogStore;
 use tree_model::{Act, Case, Input, Op, Presumption, ProcessId, Standing, StepError, Txn};
 
@@ -21,7 +21,7 @@ impl<L: LogStore> Coordinator<L> {
     pub(crate) fn meet<'a>(&self, input: &'a Input) -> Turn<'a>
         ensures { Meets self.now input.now result }
     {
-        if !self.is_listed(input) {
+        if !is_listed(&self.tree, input) {
             return Turn::Refuses(StepError::NoSuch);
         }
         if self.log.failed() {
@@ -30,18 +30,6 @@ impl<L: LogStore> Coordinator<L> {
         match input {
             Input::Act(act) => self.meet_act(act),
             Input::Message(number, message) => self.hear(*number, message),
-        }
-    }
-
-    /// Whether the child that an act names is listed; a message names none.
-    fn is_listed(&self, input: &Input) -> bool
-        ensures { result ≡ act_is_listed self.now.tree input.now }
-    {
-        match input {
-            Input::Act(Act::Join(_, child)) | Input::Act(Act::Work(_, child, _)) => {
-                self.tree.is_listed(*child)
-            }
-            _ => true,
         }
     }
 

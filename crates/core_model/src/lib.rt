@@ -2,4 +2,7 @@
 //! one another.
 #![tactic(auto)]
 
+mod acts;
 pub mod law;
+
+pub use acts::is_listed;

@@ -1,8 +1,7 @@
 //! One pass over the records of a log.
 
 ghost use Rattle.std.specs.Prelude.{◌≡◌, ◌++◌, IfOk, OnOk, fold};
-ghost use Rattle.tree_model.specs.LogNames.{is_own as is_own_of, own_by, own_records, same_parent};
-ghost use Rattle.tree_model.specs.Names.{process_of};
+ghost use Rattle.tree_model.specs.LogNames.{is_own as is_own_of, own_by, own_records};
 ghost use Rattle.tree_model.specs.Records.{record_case};
 ghost use Rattle.inquire_core.specs.Readings.{nothing_read, noted, noted_of, place_below, reading_of, standing_in};
 
@@ -29,28 +28,6 @@ impl Model for Reading {
     ghost view = { λ r. record { boot = r.boot; table = r.cases.entries } };
 }
 
-/// The process where the case stands: its ticket's child, or the root.
-fn process_of(case: &Case) -> ProcessId
-    ensures { result ≡ process_of case.now }
-{
-    match case.ticket {
-        None => case.txn.root,
-        Some(ticket) => ticket.child,
-    }
-}
-
-/// Whether two parents are one, or neither is there.
-#[tactic(auto, unfolding(tree_model::specs::Names::same_process))]
-fn same_parent(one: Option<ProcessId>, other: Option<ProcessId>) -> bool
-    ensures { result ≡ same_parent one other }
-{
-    match (one, other) {
-        (None, None) => true,
-        (Some(one), Some(other)) => one == other,
-        _ => false,
-    }
-}
-
 /// Whether a case that the log names with this parent is the process's own.
 #[tactic(auto, unfolding(tree_model::specs::Names::same_process))]
 fn is_own(
@@ -63,9 +40,9 @@ fn is_own(
     ensures { result ≡ is_own_of (place_below me parent tree.now) of case.now }
 {
     case.txn.root == tree.root()
-        && process_of(case) == me
+        && case.process() == me
         && case.ticket.is_some() == parent.is_some()
-        && same_parent(of, parent)
+        && of == parent
 }
 
 /// One record more of a case.

@@ -1,11 +1,10 @@
 //! What a call that finishes a branch makes of it.
 
 ghost use Rattle.std.specs.Prelude.{◌≡◌};
-ghost use Rattle.tree_model.specs.ManagerRows.{is_acknowledged};
 ghost use Rattle.kv_turns.specs.Turns.{commit_turn, decide_turn, direct_turn, is_told_forced, prepare_turn, rollback_turn, silent, tell_turn, turn_of, writes};
 
 use crate::entries::{Entry, presumption_of};
-use tree_model::{Branch, Outcome, Presumption};
+use tree_model::{Branch, Outcome};
 use xa_codes::Code;
 use xa_heur::Decision;
 use xa_tables::{BranchState, Call};
@@ -19,24 +18,13 @@ pub struct Turn {
     pub is_forced: bool,
 }
 
-/// Whether an outcome is acknowledged, and so forced: where the presumption does not cover it.
-fn is_acknowledged(presumption: Presumption, outcome: Outcome) -> bool
-    ensures { result ≡ is_acknowledged presumption outcome }
-{
-    matches!(
-        (presumption, outcome),
-        (Presumption::PresumeAbort, Outcome::Committed)
-            | (Presumption::PresumeCommit, Outcome::Aborted)
-    )
-}
-
 /// Whether the record of what a decided branch is told is forced: as its outcome would be; of a branch that
 /// is no case's always.
 fn is_told_forced(branch: Branch, outcome: Outcome) -> bool
     ensures { result ≡ is_told_forced branch outcome }
 {
     match branch {
-        Branch::Case(case) => is_acknowledged(case.txn.presumption, outcome),
+        Branch::Case(case) => outcome.is_acknowledged(case.txn.presumption),
         Branch::Foreign(_) => true,
     }
 }
@@ -95,7 +83,7 @@ impl Turn {
         if from == BranchState::S5 {
             return Turn::tell(branch, Outcome::Committed, decision);
         }
-        let is_forced = is_acknowledged(presumption_of(branch), Outcome::Committed);
+        let is_forced = Outcome::Committed.is_acknowledged(presumption_of(branch));
         Turn::writes(Entry::Committed, is_forced, BranchState::S0)
     }
 
@@ -114,7 +102,7 @@ impl Turn {
     {
         match from {
             BranchState::S3 => {
-                let is_forced = is_acknowledged(presumption_of(branch), Outcome::Aborted);
+                let is_forced = Outcome::Aborted.is_acknowledged(presumption_of(branch));
                 Turn::writes(Entry::RolledBack, is_forced, BranchState::S0)
             }
             BranchState::S5 => Turn::tell(branch, Outcome::Aborted, decision),

@@ -4,7 +4,6 @@ ghost use Rattle.std.specs.Prelude.{◌≡◌, ◌==◌, ◌&&◌, [], not, Bool
 ghost use Rattle.tree_model.specs.declared.names.Case.{Case as AnyCase};
 ghost use Rattle.tree_model.specs.declared.messages.Message.TheVariants as message;
 ghost use Rattle.tree_model.specs.declared.records.RecordKind.TheVariants as kind;
-ghost use Rattle.tree_model.specs.ManagerRows.{is_acknowledged};
 ghost use Rattle.sub_table.specs.Tables.{IsKept};
 ghost use Rattle.sub_core.specs.Subordinates.{Hears, IsAt, NotHeard, acknowledged, active, outcome_reply, prepared, seen};
 ghost use Rattle.sub_deeds.specs.Replies.{shown};
@@ -14,21 +13,9 @@ use manager_model::ResourceManager;
 use std::alloc::{AllocError, Global};
 use sub_deeds::{commit, letter, logged, reply, roll_back, silence};
 use tree_model::{
-    Case, Envelopes, Message, Outcome, Presumption, ProcessId, Reaction, RecordKind, Sequence,
-    StepError,
+    Case, Envelopes, Message, Outcome, ProcessId, Reaction, RecordKind, Sequence, StepError,
 };
 use xa_xid::Xid;
-
-/// Whether an outcome is acknowledged, and so forced: where the presumption does not cover it.
-fn is_acknowledged(presumption: Presumption, outcome: Outcome) -> bool
-    ensures { result ≡ is_acknowledged presumption outcome }
-{
-    matches!(
-        (presumption, outcome),
-        (Presumption::PresumeAbort, Outcome::Committed)
-            | (Presumption::PresumeCommit, Outcome::Aborted)
-    )
-}
 
 /// The acknowledgement of an outcome, where it has one.
 fn acknowledgement(
@@ -40,7 +27,7 @@ fn acknowledgement(
 ) -> Result<Envelopes, AllocError>
     ensures { IfOk result (λ messages. messages ≡ acknowledged me parent case outcome) }
 {
-    if is_acknowledged(case.txn.presumption, outcome) {
+    if outcome.is_acknowledged(case.txn.presumption) {
         letter(me, parent, Message::Ack(case, outcome), alloc)
     } else {
         Ok(Sequence::new(alloc))
@@ -58,7 +45,7 @@ pub(crate) fn ends_by(
 ) -> Result<Reaction, AllocError>
     ensures { IfOk result (λ reaction. reaction ≡ outcome_reply kind case outcome me parent) }
 {
-    let forced = is_acknowledged(case.txn.presumption, outcome);
+    let forced = outcome.is_acknowledged(case.txn.presumption);
     let written = logged(kind, case, forced, alloc)?;
     let messages = acknowledgement(me, parent, case, outcome, alloc)?;
     Ok(Reaction {

@@ -1,28 +1,16 @@
 //! What an input makes of a subordinate.
 
 ghost use Rattle.std.specs.Prelude.{◌≡◌, ◌↔◌, false, true, IfErr, IfOk, IsTrue, OnOk};
-ghost use Rattle.tree_model.specs.Reactions.{act_is_listed};
 ghost use Rattle.core_model.specs.States.{HasNumbers};
 ghost use Rattle.core_model.specs.Makes.{Makes, NotMade};
 ghost use Rattle.sub_core.specs.Subordinates.{Hears, NotHeard, seen};
 ghost use Rattle.sub_core.specs.Steps.{Leaves, data_answer, state};
 
 use crate::subordinate::Subordinate;
+use core_model::is_listed;
 use manager_model::ResourceManager;
 use sub_deeds::silence;
-use tree_model::{Act, Input, Message, Reaction, StepError, Tree};
-
-/// Whether the child that an act names is listed; a message names none.
-fn is_listed(tree: &Tree, input: &Input) -> bool
-    ensures { result ≡ act_is_listed tree.now input.now }
-{
-    match input {
-        Input::Act(Act::Join(_, child)) | Input::Act(Act::Work(_, child, _)) => {
-            tree.is_listed(*child)
-        }
-        _ => true,
-    }
-}
+use tree_model::{Input, Message, Reaction, StepError};
 
 impl<M: ResourceManager> Subordinate<M> {
     /// A message. One that is not for a manager does nothing. The errors are those of `step`.

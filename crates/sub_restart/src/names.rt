@@ -1,7 +1,7 @@
 //! What a record says of which branch, and whether the branch is a case of the process's own.
 
 ghost use Rattle.std.specs.Prelude.{◌≡◌, Some, IfOk, IsTrue};
-ghost use Rattle.tree_model.specs.LogNames.{is_own, same_parent};
+ghost use Rattle.tree_model.specs.LogNames.{is_own};
 ghost use Rattle.sub_restart.specs.Rebuilt.{NameReads, leaf, own_case, saying_of};
 
 use log_text::{name_in, name_xid};
@@ -66,17 +66,6 @@ pub(crate) fn saying_of(entry: &Record) -> Saying
     }
 }
 
-/// Whether a name's parent is this process.
-#[tactic(auto, unfolding(tree_model::specs::Names::same_process))]
-fn is_parent(named: Option<ProcessId>, parent: ProcessId) -> bool
-    ensures { result ≡ same_parent named (Some parent) }
-{
-    match named {
-        Some(process) => process.0 == parent.0,
-        None => false,
-    }
-}
-
 /// Whether a case under this parent is the process's own.
 #[tactic(auto, unfolding(tree_model::specs::Names::same_process))]
 fn is_own(
@@ -88,25 +77,10 @@ fn is_own(
 ) -> bool
     ensures { result ≡ is_own (leaf me parent tree.now) named case.now }
 {
-    let Some(ticket) = case.ticket else {
-        return false;
-    };
-    let root = tree.root();
-    let rooted = case.txn.root.0 == root.0;
-    let here = ticket.child.0 == me.0;
-    rooted && here && is_parent(named, parent)
-}
-
-/// Whether two parents are one.
-#[tactic(auto, using(tree_model::specs::NameLaws::same_process_tells))]
-fn is_same_parent(one: Option<ProcessId>, other: Option<ProcessId>) -> bool
-    ensures { IsTrue result → one ≡ other }
-{
-    match (one, other) {
-        (None, None) => true,
-        (Some(one), Some(other)) => one.0 == other.0,
-        _ => false,
-    }
+    case.txn.root == tree.root()
+        && case.ticket.is_some()
+        && case.process() == me
+        && named == Some(parent)
 }
 
 fn is_same_xid(one: &Xid, other: &Xid) -> bool
@@ -140,7 +114,7 @@ fn reads_back(parent: Option<ProcessId>, branch: Branch) -> bool
     let xid = name_xid(parent, branch);
     let _parts = xid.parts();
     let (named, read) = name_in(&xid);
-    is_same_parent(named, parent) && is_same_branch(&read, &branch)
+    named == parent && is_same_branch(&read, &branch)
 }
 
 /// The case that a branch is, where it is the process's own. Unfit: the XID of its name reads as another

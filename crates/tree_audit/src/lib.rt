@@ -18,5 +18,4 @@ mod report;
 pub use audit_cases::Own;
 pub use auditing::{audit, audit_notes};
 pub use logs::{TreeNotes, all_notes};
-pub use parents::parent_of;
 pub use report::{AuditError, Line, Report};

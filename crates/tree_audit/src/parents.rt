@@ -4,7 +4,7 @@
 ghost use Rattle.std.specs.Prelude.{◌≡◌, IfOk, OnOk};
 ghost use Rattle.std.specs.Map.{lookup};
 ghost use Rattle.std.specs.Option.{option_copied};
-ghost use Rattle.tree_model.specs.Trees.{IsTree, parent_of as parent_in};
+ghost use Rattle.tree_model.specs.Trees.{IsTree};
 ghost use Rattle.tree_audit.specs.Tables.{Adds, SaidFor, Says, SaysAbove, above_of, same_id};
 
 use crate::logs::TreeNotes;
@@ -15,17 +15,6 @@ use tree_model::{ProcessId, Tree};
 
 /// What the parents say.
 pub(crate) type TreeSayings = IndexMap<ProcessId, Sayings>;
-
-/// The parent of a process, if it is listed and has one.
-#[tactic(auto, unfolding(tree_model::specs::Trees::parent_of))]
-pub fn parent_of(tree: &Tree, process: ProcessId) -> Option<ProcessId>
-    ensures { result ≡ parent_in tree.now process }
-{
-    match tree.entry(process) {
-        None => None,
-        Some(entry) => entry.parent,
-    }
-}
 
 /// What the parent says, if there is one.
 pub(crate) fn above(said: &TreeSayings, parent: Option<ProcessId>) -> Option<&Sayings>
@@ -74,7 +63,7 @@ fn say(
     if steps == 0 || said.get(&process).is_some() {
         return Ok(());
     }
-    match parent_of(tree, process) {
+    match tree.parent(process) {
         None => add(alloc, notes, said, process, None),
         Some(parent) => {
             say(alloc, tree, notes, said, parent, steps - 1)?;

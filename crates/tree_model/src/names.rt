@@ -5,7 +5,8 @@ ghost use Rattle.std.specs.Cmp.Rules.{hashing};
 ghost use Rattle.std.specs.Hash as fed;
 ghost use Rattle.std.proofs.Common.{rules};
 ghost use Rattle.tree_model.specs.Digests.{ticket_digest, txn_digest};
-ghost use Rattle.tree_model.specs.Names.{same_case, same_ticket, same_txn};
+ghost use Rattle.tree_model.specs.ManagerRows.{is_acknowledged};
+ghost use Rattle.tree_model.specs.Names.{process_of, same_case, same_ticket, same_txn};
 ghost use Rattle.tree_model.specs.declared.names.Case.{Case as AnyCase};
 ghost use Rattle.tree_model.specs.declared.names.Ticket.{Ticket as AnyTicket};
 ghost use Rattle.tree_model.specs.declared.names.Txn.{Txn as AnyTxn};
@@ -37,6 +38,18 @@ pub enum Presumption {
 pub enum Outcome {
     Committed,
     Aborted,
+}
+
+impl Outcome {
+    /// Whether it is acknowledged, and so forced: where the presumption does not cover it (R*).
+    pub fn is_acknowledged(self, presumption: Presumption) -> bool
+        ensures { result ≡ is_acknowledged presumption self }
+    {
+        match presumption {
+            Presumption::PresumeAbort => matches!(self, Outcome::Committed),
+            Presumption::PresumeCommit => matches!(self, Outcome::Aborted),
+        }
+    }
 }
 
 /// A transaction's name: the root that began it, the root's boot, its number in that boot (both from 1), and
@@ -138,6 +151,16 @@ impl Case {
         ensures { result ≡ same_case self.now other.now }
     {
         self == other
+    }
+
+    /// The process where the case stands: its ticket's child, or the root.
+    pub fn process(&self) -> ProcessId
+        ensures { result ≡ process_of self.now }
+    {
+        match self.ticket {
+            None => self.txn.root,
+            Some(ticket) => ticket.child,
+        }
     }
 }
 

@@ -132,6 +132,13 @@ impl Tree {
         entry_of(&self.entries, id)
     }
 
+    /// The parent of a process, if it is listed and has one.
+    pub fn parent(&self, id: ProcessId) -> Option<ProcessId>
+        ensures { result ≡ parent_in self.now id }
+    {
+        parent_of(&self.entries, id)
+    }
+
     /// Whether a process is listed.
     pub fn is_listed(&self, id: ProcessId) -> bool
         ensures { result ≡ is_listed_in self.now id }

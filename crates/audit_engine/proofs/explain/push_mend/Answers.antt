@@ -11,6 +11,6 @@ returns c =
     (mend_pushed c.args.case.now c.args.out.now.items c.push.new.out.items c.push_number.new.out.items
     c.push-2.new.out.items c.push_case.new.out.items c.push-3.new.out.items c.in_ok-push.ensures
     (c.in_ok-push_number.ensures ∙ ap (λ n. c.push.new.out.items ++ decimal n) c.from.ensures
-    ∙ ap (λ (p : ProcessId). c.push.new.out.items ++ decimal p.0) c.process_of.ensures)
+    ∙ ap (λ (p : ProcessId). c.push.new.out.items ++ decimal p.0) c.process.ensures)
     c.in_ok-push-2.ensures c.in_ok-push_case.ensures)
     c.push-3.ensures

@@ -7,7 +7,7 @@ returns-in-None t c =
     on_ok c.add.result
     (says_top c.args.tree.now c.requires c.args.notes.now.entries c.args.process
     c.args.steps c.args.said.now.entries
-    c.add.new.said.entries (sym c.parent_of.ensures ∙ c.in-None.is))
+    c.add.new.said.entries (sym c.parent.ensures ∙ c.in-None.is))
     c.add.ensures
 
 pub returns-in_ok-say-in-Some : goal.returns-in_ok-say-in-Some
@@ -16,5 +16,5 @@ returns-in_ok-say-in-Some t c =
     (says_below c.args.tree.now c.requires c.args.notes.now.entries c.args.process
     c.in-Some.parent c.args.steps
     c.args.said.now.entries c.say.new.said.entries c.add-in-Some.new.said.entries
-    (sym c.parent_of.ensures ∙ c.in-Some.is) c.in_ok-say-in-Some.ensures)
+    (sym c.parent.ensures ∙ c.in-Some.is) c.in_ok-say-in-Some.ensures)
     c.add-in-Some.ensures
