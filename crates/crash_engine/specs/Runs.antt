@@ -1,6 +1,9 @@
 -- A run that goes on until an event is refused.
-use Rattle.std.specs.Prelude.{◌≡◌, ℕ, None, List, length}
+use Rattle.std.specs.Prelude.{◌≡◌, ℕ, None, List, [], length}
 use Rattle.tree_model.specs.declared.events.Event.{Event}
+use Rattle.tree_model.specs.declared.trees.TreeEntry.{TreeEntry}
+use Rattle.tree_model.specs.Trees.{IsTree}
+use Rattle.core_law.specs.worlds.Runs.{IsOpened}
 use Rattle.core_law.specs.worlds.Refusals.{IsForItself, LeadsTo, Refusal}
 use Rattle.core_law.specs.worlds.Worlds.{WorldState}
 use Rattle.tree_world.specs.Worlds.{state}
@@ -16,3 +19,9 @@ pub record ComesTo (start : WorldState) (given : List Event) (refusal : Refusal)
 -- the events that a run was given led from this state to where it stands
 abbrev pub HasCome : WorldState → List Event → Run → Type 0
 HasCome start given run = ComesTo start given run.refusal run.given (state run.world)
+
+-- a run of a tree that has just opened
+pub record Begins (tree : List TreeEntry) (run : Run) : Type 0 where
+  pub is_tree : IsTree tree
+  pub opened : IsOpened (state run.world) tree
+  pub begins : HasCome (state run.world) [] run

@@ -17,7 +17,6 @@ use tree_world::{World, copied_tree};
 
 /// A tree that runs, how many events it was given, and which of them was refused, if one was: then none
 /// behind it is made.
-#[derive(Drop)]
 pub struct Run {
     pub(crate) world: World<MemoryStore>,
     pub(crate) given: usize,
@@ -52,6 +51,16 @@ impl Run {
                 refusal: None,
             }),
         }
+    }
+
+    /// Lets the run go, and its tree by a call.
+    pub fn close(self) {
+        let Run {
+            world,
+            given: _,
+            refusal: _,
+        } = self;
+        world.close();
     }
 
     /// The tree as it stands.

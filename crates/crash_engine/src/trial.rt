@@ -1,8 +1,10 @@
 //! A crash, tried.
 
-ghost use Rattle.std.specs.Prelude.{◌≡◌, ◌++◌, ◌∷◌, [], IfErr, IfOk, OnOk};
+ghost use Rattle.std.specs.Prelude.{◌≡◌, ◌++◌, ◌∷◌, [], IfErr, IfOk, List, OnOk};
+ghost use Rattle.tree_model.specs.declared.trees.TreeEntry.{TreeEntry};
 ghost use Rattle.tree_model.specs.Trees.{IsTree};
 ghost use Rattle.tree_world.specs.Worlds.{state};
+ghost use Rattle.crash_engine.specs.Runs.{Begins};
 ghost use Rattle.crash_engine.specs.Trials.{Adds, AddsTrials, EndsWith, Leaves, Tries, trial_of};
 
 use crate::auditing::{Audited, Left, asks_of, audit_of, doubts_of, mismatches_of};
@@ -60,8 +62,23 @@ fn found_of(alloc: Global, run: &Run) -> Result<Found, Failure>
     }
 }
 
-/// Runs these events anew and the crash behind them, settles, asks for every case that is in doubt by the
-/// logs, settles again, and audits the logs.
+/// Runs these events and the crash behind them in a tree that has just opened, settles, asks for every case
+/// that is in doubt by the logs, settles again, and audits the logs.
+fn crash(alloc: Global, run: &mut Run, events: &[Event], point: Point) -> Result<Found, Failure>
+    requires { (tree : List TreeEntry) × Begins tree run.old }
+    ensures tries { IfOk result (λ found. (tree : List TreeEntry) → Begins tree run.old
+        → Tries tree events.now point found) }
+    ensures memory { IfErr result (λ e. e ≡ Failure.Memory) }
+{
+    run.go_on(events)?;
+    run.go_on(&crash_events(alloc, point)?)?;
+    let audited = audit_of(alloc, run.world())?;
+    run.go_on(&asks_of(alloc, &audited)?)?;
+    run.go_on(&[Event::Settle])?;
+    found_of(alloc, run)
+}
+
+/// Tries this crash behind these events, in a run of its own.
 pub fn try_point(
     alloc: Global,
     tree: &Tree,
@@ -73,12 +90,9 @@ pub fn try_point(
     ensures memory { IfErr result (λ e. e ≡ Failure.Memory) }
 {
     let mut run = Run::open(alloc, tree)?;
-    run.go_on(events)?;
-    run.go_on(&crash_events(alloc, point)?)?;
-    let audited = audit_of(alloc, run.world())?;
-    run.go_on(&asks_of(alloc, &audited)?)?;
-    run.go_on(&[Event::Settle])?;
-    found_of(alloc, &run)
+    let found = crash(alloc, &mut run, events, point);
+    run.close();
+    found
 }
 
 /// Adds a crash that was tried.
@@ -118,6 +132,29 @@ fn try_points(
     Ok(())
 }
 
+/// Runs these events in a tree that has just opened, and tries each crash behind them.
+fn try_behind(
+    alloc: Global,
+    tree: &Tree,
+    run: &mut Run,
+    events: &[Event],
+    trials: &mut Vec<Trial>,
+) -> Result<Refusal, Failure>
+    requires { Begins tree.now run.old }
+    ensures adds { IfOk result (λ refusal. Adds tree.now events.now refusal
+        trials.old.items trials.new.items) }
+    ensures memory { IfErr result (λ e. e ≡ Failure.Memory) }
+{
+    run.go_on(events)?;
+    let refusal = run.refusal();
+    if refusal.is_some() {
+        return Ok(refusal);
+    }
+    let points = points_of(alloc, run.world())?;
+    try_points(alloc, tree, events, &points, trials)?;
+    Ok(None)
+}
+
 /// Tries each crash behind these events; or tells which of them is refused, and tries none.
 pub fn try_event(
     alloc: Global,
@@ -131,12 +168,7 @@ pub fn try_event(
     ensures memory { IfErr result (λ e. e ≡ Failure.Memory) }
 {
     let mut run = Run::open(alloc, tree)?;
-    run.go_on(events)?;
-    let refusal = run.refusal();
-    if refusal.is_some() {
-        return Ok(refusal);
-    }
-    let points = points_of(alloc, run.world())?;
-    try_points(alloc, tree, events, &points, trials)?;
-    Ok(None)
+    let refusal = try_behind(alloc, tree, &mut run, events, trials);
+    run.close();
+    refusal
 }

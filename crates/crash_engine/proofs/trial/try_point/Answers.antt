@@ -1,47 +1,14 @@
-use Rattle.std.proofs.Common.{◌∙◌, ◌++◌, [], subst, sym}
 use Rattle.std.proofs.lemmas.Result.{IfOk-weaker}
-use Rattle.tree_model.specs.Trees.{IsTree}
-use Rattle.tree_world.specs.Worlds.{state}
-use Rattle.crash_engine.specs.Audits.{Audits}
-use Rattle.crash_engine.proofs.Trying.{still_tree, tried_so}
+use Rattle.crash_engine.specs.Runs.{Begins}
 use Rattle.crash_engine.proofs.trial.try_point.Goals as goal
 
-pub audit_of-requires : goal.audit_of-requires
-audit_of-requires c =
-    let start = state c.in_ok-run.run'.world in
-    let events = c.args.events.now in
-    let first = c.in_ok-go_on.ensures.goes_on start [] c.in_ok-run.ensures.begins in
-    let crashed = c.in_ok-go_on-2.ensures.goes_on start events first in
-    subst (λ w. IsTree w.tree) (sym c.world.ensures)
-    (still_tree c.args.tree.now start (events ++ c.deref.result.now) c.go_on-2.new.self c.requires
-    c.in_ok-run.ensures.opened crashed)
-
-pub found_of-requires : goal.found_of-requires
-found_of-requires c =
-    let start = state c.in_ok-run.run'.world in
-    let events = c.args.events.now in
-    let crash = c.deref.result.now in
-    let asks = c.deref-2.result.now in
-    let first = c.in_ok-go_on.ensures.goes_on start [] c.in_ok-run.ensures.begins in
-    let crashed = c.in_ok-go_on-2.ensures.goes_on start events first in
-    let asked = c.in_ok-go_on-3.ensures.goes_on start (events ++ crash) crashed in
-    let ended = c.in_ok-go_on-4.ensures.goes_on start ((events ++ crash) ++ asks) asked in
-    still_tree c.args.tree.now start _ c.go_on-4.new.self c.requires c.in_ok-run.ensures.opened ended
+pub crash-found-requires : goal.crash-found-requires
+crash-found-requires c =
+    let run = c.in_ok-run.ensures in
+    (c.args.tree.now, record { is_tree = c.requires; opened = run.opened; begins = run.begins })
 
 pub returns-clause-tries : goal.returns-clause-tries
 returns-clause-tries c =
-    let start = state c.in_ok-run.run'.world in
-    let events = c.args.events.now in
-    let crash = c.deref.result.now in
-    let asks = c.deref-2.result.now in
-    let first = c.in_ok-go_on.ensures.goes_on start [] c.in_ok-run.ensures.begins in
-    let crashed = c.in_ok-go_on-2.ensures.goes_on start events first in
-    let asked = c.in_ok-go_on-3.ensures.goes_on start (events ++ crash) crashed in
-    let ended = c.in_ok-go_on-4.ensures.goes_on start ((events ++ crash) ++ asks) asked in
-    let audits = subst (λ w. Audits (state w) c.in_ok-audited.audited) c.world.ensures
-    c.in_ok-audited.ensures.audits in
-    IfOk-weaker c.found_of.result _ _ (λ f h. tried_so c.args.tree.now events c.args.point
-    c.in_ok-audited.audited crash asks start
-    c.go_on-2.new.self c.go_on-4.new.self f c.requires c.in_ok-run.ensures.opened crashed
-    (c.deref.ensures.value ∙ c.in_ok-crash_events.ensures) audits
-    (c.deref-2.ensures.value ∙ c.in_ok-asks_of.ensures) ended h) c.found_of.ensures.ends
+    let run = c.in_ok-run.ensures in
+    IfOk-weaker c.crash-found.result _ _ (λ f h. h c.args.tree.now
+    (record { is_tree = c.requires; opened = run.opened; begins = run.begins })) c.crash-found.ensures.tries

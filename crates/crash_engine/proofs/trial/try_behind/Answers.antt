@@ -4,29 +4,29 @@ use Rattle.core_law.specs.worlds.Refusals.{Refusal}
 use Rattle.crash_engine.specs.Points.{points_in}
 use Rattle.crash_engine.specs.Trials.{Adds}
 use Rattle.crash_engine.proofs.Trying.{all_tried, comes_to, refused_adds}
-use Rattle.crash_engine.proofs.trial.try_event.Goals as goal
+use Rattle.crash_engine.proofs.trial.try_behind.Goals as goal
 
 pub returns-then-is_some-clause-adds : goal.returns-then-is_some-clause-adds
 returns-then-is_some-clause-adds c =
-    let start = state c.in_ok-run.run'.world in
+    let start = state c.args.run.now.world in
     let run = c.go_on.new.self in
     let tree = c.args.tree.now in
     let events = c.args.events.now in
-    let come = c.in_ok-go_on.ensures.goes_on start [] c.in_ok-run.ensures.begins in
+    let come = c.in_ok-go_on.ensures.goes_on start [] c.requires.begins in
     let some : is_some c.refusal-refusal.result ≡ true = search rules in
     let same : c.refusal-refusal.result ≡ run.refusal = c.refusal-refusal.ensures in
     let refused : is_some run.refusal ≡ true = ap (λ (r : Refusal). is_some r) (sym same) ∙ some in
     subst (λ r. Adds tree events r c.args.trials.now.items c.args.trials.now.items) (sym same)
     (refused_adds tree events (state run.world) run.refusal c.args.trials.now.items refused
-    (comes_to tree start events run c.requires c.in_ok-run.ensures.opened come))
+    (comes_to tree start events run c.requires.is_tree c.requires.opened come))
 
 pub returns-clause-adds : goal.returns-clause-adds
 returns-clause-adds c =
-    let start = state c.in_ok-run.run'.world in
+    let start = state c.args.run.now.world in
     let run = c.go_on.new.self in
     let tree = c.args.tree.now in
     let events = c.args.events.now in
-    let come = c.in_ok-go_on.ensures.goes_on start [] c.in_ok-run.ensures.begins in
+    let come = c.in_ok-go_on.ensures.goes_on start [] c.requires.begins in
     let none : is_some c.refusal-refusal.result ≡ false = search rules in
     let same : c.refusal-refusal.result ≡ run.refusal = c.refusal-refusal.ensures in
     let made : is_some run.refusal ≡ false = ap (λ (r : Refusal). is_some r) (sym same) ∙ none in
@@ -34,5 +34,5 @@ returns-clause-adds c =
     c.deref.ensures.value ∙ c.in_ok-points.ensures ∙ ap (λ w. points_in (state w)) c.world.ensures in
     all_tried tree events (state run.world) run.refusal c.deref.result.now c.args.trials.now.items
     c.try_points.new.trials.items made
-    (comes_to tree start events run c.requires c.in_ok-run.ensures.opened come) points
+    (comes_to tree start events run c.requires.is_tree c.requires.opened come) points
     c.in_ok-try_points.ensures.tried
