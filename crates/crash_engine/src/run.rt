@@ -3,10 +3,8 @@
 ghost use Rattle.std.specs.Prelude.{◌≡◌, ◌+◌, ◌++◌, [], IfErr, IfOk, List, OnOk};
 ghost use Rattle.tree_model.specs.declared.events.Event.{Event as AnyEvent};
 ghost use Rattle.tree_model.specs.Trees.{IsTree};
-ghost use Rattle.core_law.specs.worlds.Runs.{IsOpened};
 ghost use Rattle.core_law.specs.worlds.Worlds.{WorldState};
-ghost use Rattle.tree_world.specs.Worlds.{state};
-ghost use Rattle.crash_engine.specs.Runs.{HasCome};
+ghost use Rattle.crash_engine.specs.Runs.{Begins, HasCome};
 
 use log_store::MemoryStore;
 use report_io::Failure;
@@ -38,8 +36,7 @@ impl Run {
     /// A tree that opens over logs in memory. The tree is one that passed its check.
     pub fn open(alloc: Global, tree: &Tree) -> Result<Run, Failure>
         requires { IsTree tree.now }
-        ensures opened { IfOk result (λ run. IsOpened (state run.world) tree.now) }
-        ensures begins { IfOk result (λ run. HasCome (state run.world) [] run) }
+        ensures begins { IfOk result (λ run. Begins tree.now run) }
         ensures memory { IfErr result (λ e. e ≡ Failure.Memory) }
     {
         let copy = copied_tree(alloc, tree.entries())?;

@@ -68,13 +68,13 @@ record Parts (p : Kind) (left : List ℕ) (rs : List LogRecord) (text : List ℕ
 parts_of : (p : Kind) (left text : List ℕ) (rs : List LogRecord) → take 5 left ≡ header
     → LeavesText p left rs text → Parts p left rs text
 parts_of p left text rs h l =
-    let s = l.sounds in
+    let s = l.ends.sounds in
     let whole : left ≡ (header ++ s.sound) ++ s.tail = sym (take-append-drop 5 left)
     ∙ ap (λ t. t ++ drop 5 left) h ∙ ap (λ t. header ++ t) s.split
     ∙ sym (append_assoc header s.sound s.tail) in
-    let size : 5 + l.size ≡ length (header ++ s.sound) =
-    omega (arith, s.sound_size, length-append header s.sound) in
-    let cut : take (5 + l.size) left ≡ header ++ s.sound = ap (λ n. take n left) size
+    let size : l.end ≡ length (header ++ s.sound) =
+    omega (arith, l.ends.header, s.sound_size, length-append header s.sound) in
+    let cut : take l.end left ≡ header ++ s.sound = ap (λ n. take n left) size
     ∙ ap (take (length (header ++ s.sound))) whole ∙ take-append_seam (header ++ s.sound) s.tail in
     record {
       sound = s.sound;

@@ -170,9 +170,9 @@ pub record EndsSound (p : Kind) (text : List ℕ) (end : ℕ) : Type 0 where
 
 -- what a restart writes: what is left without a torn tail, and new records
 pub record LeavesText (p : Kind) (left : List ℕ) (rs : List LogRecord) (text : List ℕ) : Type 0 where
-  pub size : ℕ
-  pub sounds : Sounds p (body left) size
-  pub is : text ≡ take (5 + size) left ++ records_text rs
+  pub end : ℕ
+  pub ends : EndsSound p left end
+  pub is : text ≡ take end left ++ records_text rs
 
 -- a log of what a crash left that kept so many bytes, and of these new records, all of them forced
 pub record Restarts (old new : LogState) (keep : ℕ) (rs : List LogRecord) : Type 0 where

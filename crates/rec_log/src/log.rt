@@ -35,8 +35,8 @@ pub enum LogError {
 pub struct RecLog<L: LogStore> {
     kind: Kind,
     store: L,
-    /// How many bytes at the front are known to be the header and whole records, all of them forced. No
-    /// restart looks for the end of a record there.
+    /// How many bytes at the front are known to be the header and whole records, all of them forced: a
+    /// restart looks for the end of the last whole record behind them alone.
     known: usize,
     failed: bool,
 }
@@ -160,7 +160,7 @@ pub(crate) fn push_frames(text: &mut Vec<u8>, frames: &[Frame]) -> Result<(), Al
     Ok(())
 }
 
-/// Where the whole frames of records at the front end, behind the known bytes.
+/// Where the whole frames of records at the front end, looked for behind the known bytes.
 fn sound_end(kind: Kind, left: &[u8], known: usize, alloc: Global) -> Result<usize, AllocError>
     requires { IsKnown kind left.now (length left.now) known }
     ensures { IfOk result (λ end. EndsSound kind left.now end) }

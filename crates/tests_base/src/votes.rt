@@ -32,23 +32,20 @@ fn heard<M: ResourceManager>(
 }
 
 /// What a process with one work votes.
-fn vote<M: ResourceManager>(player: &mut Subordinate<M>, op: Op) -> Result<Reaction, Fail> {
+fn vote<M: ResourceManager + Drop>(mut player: Subordinate<M>, op: Op) -> Result<Reaction, Fail> {
     let parent = parent_case();
     let own = Case {
         txn: parent.txn,
         ticket: Some(first_ticket()),
     };
-    heard(player, Message::Join(parent))?;
-    heard(player, Message::Work(own, 1, op))?;
-    heard(player, Message::Prepare(own, 1))
+    heard(&mut player, Message::Join(parent))?;
+    heard(&mut player, Message::Work(own, 1, op))?;
+    heard(&mut player, Message::Prepare(own, 1))
 }
 
 /// The same over a manager that refuses every operation or does what is asked of it.
 fn voted(alloc: Global, refuses: bool, op: Op) -> Result<Reaction, Fail> {
-    let mut player = opened(alloc, refuses)?;
-    let vote = vote(&mut player, op);
-    drop(player);
-    vote
+    vote(opened(alloc, refuses)?, op)
 }
 
 /// The one message of a reaction, if it has one.
