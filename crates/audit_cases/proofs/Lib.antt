@@ -1,3 +1,4 @@
 pub mod KindLaws
 pub mod NoteLaws
+pub mod FirstLaws
 mod SayingLaws

@@ -1,3 +1,4 @@
 pub mod Kinds
 pub mod Notes
+pub mod Firsts
 pub mod Sayings

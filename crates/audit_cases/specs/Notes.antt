@@ -9,10 +9,10 @@ use Rattle.tree_model.specs.declared.names.Ticket.{Ticket}
 use Rattle.tree_model.specs.declared.records.Record.{Record}
 use Rattle.tree_model.specs.declared.records.Record.TheVariants.{Collecting, Prepare, Commit, Abort, End}
 use Rattle.tree_model.specs.declared.trees.TreeEntry.{TreeEntry}
-use Rattle.tree_model.specs.contracts.names.CasePartialEq.TheImpl as cases
 use Rattle.tree_model.specs.Nodes.{Place, role_by}
 use Rattle.tree_model.specs.Records.{cases_in, named_by, record_case}
 use Rattle.tree_headline.specs.auditor.Audits.{since_promise}
+use Rattle.inquire_core.specs.Readings.{same}
 use Rattle.audit_cases.specs.declared.kinds.Kinds.{Kinds}
 use Rattle.audit_cases.specs.Kinds.{kinds_after, kinds_of, no_kinds}
 
@@ -68,10 +68,6 @@ note_after n r = record { kinds = kinds_after n.kinds r; named = n.named ++ tick
 -- for each case, in order of the first records, what is noted of it
 abbrev pub Table : Type 0
 Table = List (Case × CaseNote)
-
--- two cases are one
-abbrev pub same : Case → Case → Bool
-same = cases.ghosts.eq
 
 -- what is noted of a case
 abbrev pub note_in : Table → Case → CaseNote

@@ -1,7 +1,6 @@
 -- What a process says of the cases of its children, by what is noted of its own.
-use Rattle.std.specs.Prelude.{◌≡◌, Bool, ◌&&◌, if◌then◌else◌, is_some, Option, Some, None, unwrap_or, List, [], find, fold}
+use Rattle.std.specs.Prelude.{◌≡◌, Bool, ◌&&◌, Option, Some, None, unwrap_or, List, [], find, fold}
 use Rattle.std.specs.Map.{lookup}
-use Rattle.indexmap.specs.IndexMap.{insert_entry}
 use Rattle.tree_model.specs.declared.names.Case.{Case}
 use Rattle.tree_model.specs.declared.names.Outcome.{Outcome}
 use Rattle.tree_model.specs.declared.names.Outcome.TheVariants.{Aborted}
@@ -11,7 +10,9 @@ use Rattle.tree_model.specs.Names.{child_case, presumed, same_txn}
 use Rattle.tree_model.specs.Records.{in_list}
 use Rattle.tree_headline.specs.auditor.Audits.{decided_or}
 use Rattle.audit_cases.specs.Kinds.{decision_in}
-use Rattle.audit_cases.specs.Notes.{CaseNote, Table, same}
+use Rattle.inquire_core.specs.Readings.{same}
+use Rattle.audit_cases.specs.Firsts.{with_named}
+use Rattle.audit_cases.specs.Notes.{CaseNote, Table}
 
 -- the outcomes of the cases of children that a process's own cases name
 abbrev pub Outcomes : Type 0
@@ -46,14 +47,6 @@ AreSaid above notes s = (x : Txn) (t : Ticket)
     → lookup (same (child_case x t)) s ≡ outcome_at above (first_naming notes x t)
 
 -- The pass.
-
--- these outcomes with that of a child's case, unless it has one there
-abbrev pub with_first : Outcomes → Case → Outcome → Outcomes
-with_first s c o = if is_some (lookup (same c) s) then s else insert_entry same s c o
-
--- these outcomes with that of a case of the transaction which names these tickets
-abbrev pub with_named : Txn → Outcome → Outcomes → List Ticket → Outcomes
-with_named x o s ts = fold (λ t u. with_first t (child_case x u) o) s ts
 
 -- these outcomes with that of an entry's case
 abbrev pub with_entry : Option Outcomes → Outcomes → Case × CaseNote → Outcomes

@@ -1,11 +1,11 @@
 //! What a process says of the cases of its children.
 
-ghost use Rattle.std.specs.Prelude.{◌≡◌, Some, IfOk, OnOk};
+ghost use Rattle.std.specs.Prelude.{◌≡◌, Some, IfOk};
 ghost use Rattle.std.specs.Option.{option_copied};
-ghost use Rattle.audit_cases.specs.Sayings.{AreSaid, outcome_in, said_by, sayings_of, with_first, with_named};
+ghost use Rattle.audit_cases.specs.Sayings.{AreSaid, outcome_in, said_by, sayings_of};
 
+use crate::firsts::Firsts;
 use crate::notes::{Noted, Notes};
-use indexmap::IndexMap;
 use inquire_core::presumed;
 use std::alloc::{AllocError, Global};
 use std::marker::Model;
@@ -15,7 +15,7 @@ use tree_model::{Case, Outcome};
 /// that names it.
 #[derive(Drop)]
 pub struct Sayings {
-    outcomes: IndexMap<Case, Outcome>,
+    outcomes: Firsts<Outcome>,
 }
 
 impl Model for Sayings {
@@ -23,7 +23,7 @@ impl Model for Sayings {
 
     ghost Value = { Outcomes };
 
-    ghost view = { λ s. s.outcomes.entries };
+    ghost view = { λ s. s.outcomes };
 }
 
 /// The outcome of a case: its own decision or what it was told, or else what is said above. Above the root
@@ -45,13 +45,11 @@ impl Sayings {
     fn passing(alloc: Global, above: Option<&Sayings>, notes: &Notes) -> Result<Sayings, AllocError>
         ensures { IfOk result (λ s. s ≡ sayings_of (option_copied above.entry) notes.now) }
     {
-        let mut sayings = Sayings {
-            outcomes: IndexMap::new(alloc),
-        };
+        let mut outcomes = Firsts::new(alloc);
         for (case, note) in notes.cases() {
-            sayings.add(case, note, outcome_of(above, case, note))?;
+            outcomes.keep_named(case, note, outcome_of(above, case, note))?;
         }
-        Ok(sayings)
+        Ok(Sayings { outcomes })
     }
 
     /// What a process says that knows this of its cases, where this is said of them above it. It goes
@@ -60,30 +58,6 @@ impl Sayings {
         ensures { IfOk result (λ s. AreSaid (option_copied above.entry) notes.now s) }
     {
         Sayings::passing(alloc, above, notes)
-    }
-
-    /// One case more, with its outcome.
-    fn add(&mut self, case: &Case, note: &Noted, outcome: Outcome) -> Result<(), AllocError>
-        ensures { OnOk result (self.new ≡ with_named case.now.txn outcome self.old note.now.named) }
-    {
-        for ticket in note.named() {
-            let child = Case {
-                txn: case.txn,
-                ticket: Some(*ticket),
-            };
-            self.put(child, outcome)?;
-        }
-        Ok(())
-    }
-
-    /// The outcome of a child's case, unless there is one of it.
-    fn put(&mut self, child: Case, outcome: Outcome) -> Result<(), AllocError>
-        ensures { OnOk result (self.new ≡ with_first self.old child outcome) }
-    {
-        if self.outcomes.get(&child).is_none() {
-            let _ = self.outcomes.insert(child, outcome)?;
-        }
-        Ok(())
     }
 
     /// What is said of a child's case: the outcome, or where no case names it what is presumed.

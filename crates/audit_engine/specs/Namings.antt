@@ -1,13 +1,14 @@
 -- Which case of a process names a child's case, by what is noted of its cases, and what stands of it.
-use Rattle.std.specs.Prelude.{◌≡◌, Bool, true, false, if◌then◌else◌, is_some, Option, Some, None, unwrap_or, List, [], fold}
+use Rattle.std.specs.Prelude.{◌≡◌, Bool, true, false, Option, Some, None, unwrap_or, List, [], fold}
 use Rattle.std.specs.Map.{lookup}
-use Rattle.indexmap.specs.IndexMap.{insert_entry}
 use Rattle.tree_model.specs.declared.names.Case.{Case}
 use Rattle.tree_model.specs.declared.names.Ticket.{Ticket}
 use Rattle.tree_model.specs.declared.names.Txn.{Txn}
 use Rattle.tree_model.specs.Names.{child_case}
 use Rattle.audit_cases.specs.declared.kinds.Kinds.{Kinds}
-use Rattle.audit_cases.specs.Notes.{CaseNote, Table, same}
+use Rattle.inquire_core.specs.Readings.{same}
+use Rattle.audit_cases.specs.Firsts.{with_named}
+use Rattle.audit_cases.specs.Notes.{CaseNote, Table}
 use Rattle.audit_cases.specs.Sayings.{first_naming}
 use Rattle.audit_engine.specs.declared.steps.Found.{Found}
 use Rattle.audit_engine.specs.declared.steps.Found.TheVariants.{Kept, Nothing}
@@ -48,14 +49,6 @@ found_at s c = unwrap_or (lookup (same c) s) Nothing
 -- this is what a process finds of the cases of its children
 abbrev pub AreNamed : Table → Founds → Type 0
 AreNamed notes s = (x : Txn) (t : Ticket) → found_at s (child_case x t) ≡ finds notes x t
-
--- these with what is found of a child's case, unless something was before
-abbrev pub with_first : Founds → Case → Found → Founds
-with_first s c f = if is_some (lookup (same c) s) then s else insert_entry same s c f
-
--- these with what is found of the cases of these tickets
-abbrev pub with_named : Txn → Found → Founds → List Ticket → Founds
-with_named x f s ts = fold (λ t u. with_first t (child_case x u) f) s ts
 
 -- these with what is found of the cases that an entry's case names
 abbrev pub with_entry : Founds → Case × CaseNote → Founds

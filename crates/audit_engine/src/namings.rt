@@ -1,10 +1,10 @@
 //! Which case of a process names a child's case.
 
-ghost use Rattle.std.specs.Prelude.{◌≡◌, IfOk, OnOk};
-ghost use Rattle.audit_engine.specs.Namings.{AreNamed, found_at, namings_of, stands_in, with_entry, with_first, with_named};
+ghost use Rattle.std.specs.Prelude.{◌≡◌, IfOk};
+ghost use Rattle.audit_engine.specs.Namings.{AreNamed, found_at, namings_of, stands_in};
 
 use crate::steps::{Found, Stands};
-use audit_cases::{Kinds, Noted, Notes};
+use audit_cases::{Firsts, Kinds, Notes};
 use indexmap::IndexMap;
 use std::alloc::{AllocError, Global};
 use std::marker::Model;
@@ -32,7 +32,7 @@ fn stands_of(kinds: Kinds) -> Stands
 /// stands of it.
 #[derive(Drop)]
 pub struct Namings {
-    found: IndexMap<Case, Found>,
+    found: Firsts<Found>,
 }
 
 impl Model for Namings {
@@ -40,7 +40,7 @@ impl Model for Namings {
 
     ghost Value = { Founds };
 
-    ghost view = { λ s. s.found.entries };
+    ghost view = { λ s. s.found };
 }
 
 impl Namings {
@@ -48,13 +48,11 @@ impl Namings {
     fn passing(alloc: Global, notes: &Notes) -> Result<Namings, AllocError>
         ensures { IfOk result (λ s. s ≡ namings_of notes.now) }
     {
-        let mut namings = Namings {
-            found: IndexMap::new(alloc),
-        };
+        let mut found = Firsts::new(alloc);
         for (case, note) in notes.cases() {
-            namings.add(case, note)?;
+            found.keep_named(case, note, Found::Kept(*case, stands_of(note.kinds())))?;
         }
-        Ok(namings)
+        Ok(Namings { found })
     }
 
     /// What a process names of which this is noted. It goes through its cases once.
@@ -62,38 +60,6 @@ impl Namings {
         ensures { IfOk result (λ s. AreNamed notes.now s) }
     {
         Namings::passing(alloc, notes)
-    }
-
-    /// One case more, with its tickets.
-    fn add(&mut self, case: &Case, note: &Noted) -> Result<(), AllocError>
-        ensures { OnOk result (self.new ≡ with_entry self.old (case.now, note.now)) }
-    {
-        let found = Found::Kept(*case, stands_of(note.kinds()));
-        self.put_all(case, note, found)
-    }
-
-    /// What is found of the cases of a case's tickets.
-    fn put_all(&mut self, case: &Case, note: &Noted, found: Found) -> Result<(), AllocError>
-        ensures { OnOk result (self.new ≡ with_named case.now.txn found self.old note.now.named) }
-    {
-        for ticket in note.named() {
-            let child = Case {
-                txn: case.txn,
-                ticket: Some(*ticket),
-            };
-            self.put(child, found)?;
-        }
-        Ok(())
-    }
-
-    /// What is found of a child's case, unless something was before.
-    fn put(&mut self, child: Case, found: Found) -> Result<(), AllocError>
-        ensures { OnOk result (self.new ≡ with_first self.old child found) }
-    {
-        if self.found.get(&child).is_none() {
-            let _ = self.found.insert(child, found)?;
-        }
-        Ok(())
     }
 
     /// What is found of a child's case.

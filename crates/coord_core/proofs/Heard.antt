@@ -31,10 +31,10 @@ use Rattle.live_table.proofs.Writes.{live_found}
 use Rattle.core_model.specs.Turns.{Turn as CoreTurn, Refuses as RefusesTurn, Takes as TakesTurn, Finds, act_turn, asked_by, cascaded_turn, child_says, coordinator_act, is_case_of, message_turn, seat_in, turn_of, work_for_turn, work_turn}
 use Rattle.coord_table.specs.declared.held.Held.{Held}
 use Rattle.coord_table.specs.Cases.{Slots, has_child, held_view, view_in}
-use Rattle.coord_turns.specs.declared.asked.Asked.{Asked}
-use Rattle.coord_turns.specs.declared.asked.Asked.TheVariants.{Joined as AskedJoined, Vote as AskedVote, Ack as AskedAck, Inquire as AskedInquire, Prepare as AskedPrepare, Commits, Aborts, Join, Work, Commit as AskedCommit, AbortActive, AbortCollecting, Ask}
-use Rattle.coord_turns.specs.Asks.{Accepts, is_of_root, is_retiring}
-use Rattle.coord_turns.specs.Takes.{IsAt}
+use Rattle.coord_table.specs.declared.asked.Asked.{Asked}
+use Rattle.coord_table.specs.declared.asked.Asked.TheVariants.{Joined as AskedJoined, Vote as AskedVote, Ack as AskedAck, Inquire as AskedInquire, Prepare as AskedPrepare, Commits, Aborts, Join, Work, Commit as AskedCommit, AbortActive, AbortCollecting, Ask}
+use Rattle.coord_table.specs.Asks.{Accepts, is_of_root, is_retiring}
+use Rattle.coord_table.specs.Takes.{IsAt}
 use Rattle.coord_core.specs.declared.turn.Turn.{Turn}
 use Rattle.coord_core.specs.declared.turn.Turn.TheVariants.{Refuses, Takes, Presumes, Nothing}
 use Rattle.coord_core.specs.States.{CoordinatorValue, place_of, role_below, state}

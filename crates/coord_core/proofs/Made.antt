@@ -35,11 +35,11 @@ use Rattle.coord_rows.specs.declared.seat.Seat.{Seat}
 use Rattle.coord_rows.specs.declared.effect.Framed.{Framed}
 use Rattle.coord_rows.specs.declared.effect.RowEffect.{RowEffect}
 use Rattle.coord_rows.specs.Rows.{AreFramed, Does, seat, written_of}
-use Rattle.coord_turns.specs.declared.asked.Asked.{Asked}
-use Rattle.coord_turns.specs.declared.asked.Asked.TheVariants.{Join, Work, Commit, AbortActive, AbortCollecting, Ask, Joined, Vote, Ack, Inquire, Prepare, Commits, Aborts}
-use Rattle.coord_turns.specs.Asks.{asked_row, is_for_any, is_retiring}
-use Rattle.coord_turns.specs.Takes.{TakesRowOf, retired_if}
-use Rattle.coord_turns.proofs.Given.{gone_keeps}
+use Rattle.coord_table.specs.declared.asked.Asked.{Asked}
+use Rattle.coord_table.specs.declared.asked.Asked.TheVariants.{Join, Work, Commit, AbortActive, AbortCollecting, Ask, Joined, Vote, Ack, Inquire, Prepare, Commits, Aborts}
+use Rattle.coord_table.specs.Asks.{asked_row, is_for_any, is_retiring}
+use Rattle.coord_table.specs.Takes.{TakesRowOf, retired_if}
+use Rattle.coord_table.proofs.Given.{gone_keeps}
 use Rattle.coord_core.specs.declared.turn.Turn.{Turn}
 use Rattle.coord_core.specs.declared.turn.Turn.TheVariants.{Refuses, Begins as BeginsOne, Issues as IssuesOne}
 use Rattle.coord_core.specs.States.{CoordinatorValue, IsCoordinator, own_ticket, own_txn, role_below, state}

@@ -22,8 +22,8 @@ use Rattle.core_model.proofs.Alike.{same_view}
 use Rattle.coord_table.specs.declared.held.Held.{Held}
 use Rattle.coord_table.specs.Cases.{is_for}
 use Rattle.inquire_core.specs.Readings.{role_below}
-use Rattle.coord_restart.specs.Restores.{IsNumbered, IsRestored, Rebuilds}
-use Rattle.coord_restart.specs.declared.rebuilding.Rebuilt.{Rebuilt}
+use Rattle.coord_table.specs.Restores.{IsNumbered, IsRestored, Rebuilds}
+use Rattle.coord_table.specs.declared.rebuilding.Rebuilt.{Rebuilt}
 use Rattle.coord_core.specs.States.{CoordinatorValue, IsCoordinator, error_of, own_ticket, own_txn, place_of, state}
 
 -- but for its log nothing is otherwise

@@ -18,10 +18,10 @@ use Rattle.live_table.specs.Tables.{AreApart, live_value}
 use Rattle.core_model.specs.Turns.{Turn as CoreTurn, Refuses as RefusesTurn, Begins as BeginsTurn, Issues as IssuesTurn, Takes as TakesTurn, Says as SaysTurn, Finds, asked_by, coordinator_act, next_begun, next_ticket, seat_in, turn_of}
 use Rattle.core_model.specs.Makes.{retires}
 use Rattle.coord_table.specs.Cases.{FitsGiven, Slots, has_child, ticket_in, view_in}
-use Rattle.coord_turns.specs.declared.asked.Asked.{Asked}
-use Rattle.coord_turns.specs.declared.asked.Asked.TheVariants.{Vote, Ack, Inquire}
-use Rattle.coord_turns.specs.Asks.{Accepts, asked_row, is_for_any, is_of_root, is_retiring}
-use Rattle.coord_turns.specs.Takes.{IsAt}
+use Rattle.coord_table.specs.declared.asked.Asked.{Asked}
+use Rattle.coord_table.specs.declared.asked.Asked.TheVariants.{Vote, Ack, Inquire}
+use Rattle.coord_table.specs.Asks.{Accepts, asked_row, is_for_any, is_of_root, is_retiring}
+use Rattle.coord_table.specs.Takes.{IsAt}
 use Rattle.coord_core.specs.declared.turn.Turn.{Turn}
 use Rattle.coord_core.specs.declared.turn.Turn.TheVariants.{Refuses, Begins, Issues, Takes, Answers, Repeats, Presumes, Nothing}
 use Rattle.coord_core.specs.States.{CoordinatorValue, state}

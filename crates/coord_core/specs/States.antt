@@ -20,7 +20,7 @@ use Rattle.rec_log.specs.Sights.{Breaks, LogState}
 use Rattle.core_model.specs.States.{CoreState, wrote}
 use Rattle.core_model.specs.Opening.{first_opened}
 use Rattle.coord_table.specs.Cases.{Slots, ticket_in, view_in}
-use Rattle.coord_turns.specs.Takes.{GivenAreActive}
+use Rattle.coord_table.specs.Takes.{GivenAreActive}
 use Rattle.inquire_core.specs.Readings.{place_below}
 
 -- who it is and its parent, if it has one; its tree; its log; its boot; how many transactions it began and

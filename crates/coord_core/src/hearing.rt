@@ -5,13 +5,13 @@ ghost use Rattle.tree_model.specs.declared.events.Input.{Input as AnyInput};
 ghost use Rattle.tree_model.specs.declared.events.Input.TheVariants as input;
 ghost use Rattle.core_model.specs.Turns.{Takes, cascaded_turn, child_says, joined_turn, message_turn};
 ghost use Rattle.coord_table.specs.Cases.{ticket_in};
-ghost use Rattle.coord_turns.specs.Asks.{is_for_any};
+ghost use Rattle.coord_table.specs.Asks.{is_for_any};
 ghost use Rattle.coord_core.specs.Meets.{Hears, HearsOf, May, RetiresAs, is_of_child, meant, met, no_data};
 ghost use Rattle.coord_core.specs.States.{place_of, state};
 
 use crate::coordinator::Coordinator;
 use crate::turn::Turn;
-use coord_turns::Asked;
+use coord_table::Asked;
 use log_store::LogStore;
 use tree_model::{Case, Message, ProcessId, Ticket, Txn, Vote};
 

@@ -5,13 +5,13 @@ ghost use Rattle.live_table.specs.Tables.{AreApart};
 ghost use Rattle.tree_model.specs.declared.events.Input.{Input as AnyInput};
 ghost use Rattle.core_model.specs.Turns.{live_turn};
 ghost use Rattle.coord_table.specs.Cases.{view_in};
-ghost use Rattle.coord_turns.specs.Takes.{IsAt};
+ghost use Rattle.coord_table.specs.Takes.{IsAt};
 ghost use Rattle.coord_core.specs.Meets.{IsClosed, May, Meets, MeetsAct, is_refusal, meant};
 
 use crate::coordinator::Coordinator;
 use crate::places::{is_child, is_manager};
 use crate::turn::Turn;
-use coord_turns::Asked;
+use coord_table::Asked;
 use core_model::is_listed;
 use log_store::LogStore;
 use tree_model::{Act, Case, Input, Op, Presumption, ProcessId, Standing, StepError, Txn};

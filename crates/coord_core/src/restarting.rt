@@ -5,7 +5,7 @@ ghost use Rattle.core_model.specs.Restarting.{NotRestarted, NotTrimmed, Restarts
 ghost use Rattle.coord_core.specs.States.{error_of, state};
 
 use crate::coordinator::Coordinator;
-use coord_restart::rebuild;
+use coord_table::rebuild;
 use log_store::LogStore;
 use rec_log::LogError;
 use tree_model::{Reaction, StepError};

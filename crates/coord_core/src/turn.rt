@@ -1,6 +1,6 @@
 //! What an input meets at a coordinator.
 
-use coord_turns::Asked;
+use coord_table::Asked;
 use tree_model::{Case, Presumption, ProcessId, StepError, Ticket, Txn};
 
 /// What an input meets.

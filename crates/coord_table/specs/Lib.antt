@@ -1,2 +1,5 @@
 pub mod Cases
 pub mod Lends
+pub mod Asks
+pub mod Takes
+pub mod Restores

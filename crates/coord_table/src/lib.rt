@@ -1,8 +1,26 @@
-//! The live cases of a coordinator, and the tickets that it gave and that are active.
+//! A coordinator without its log: its live cases, what an input makes of them, and what it is as it restarts.
+//!
+//! ```text
+//! cases       the live cases, and the tickets that it gave and that are active
+//! asked       what an input asks of a case
+//! rows        the row of the reaction table that it meets there
+//! taking      what that row leaves of the cases
+//! rebuilding  what the records of a log leave: the cases, and what they send again
+//! ```
 #![tactic(auto)]
 
+mod asked;
 mod cases;
 mod held;
+mod rebuilding;
+mod reopening;
+mod restoring;
+mod rows;
+mod taking;
 
+pub use asked::Asked;
 pub use cases::Cases;
 pub use held::Held;
+pub use rebuilding::{Rebuilt, rebuild};
+pub use rows::{answer, take_row};
+pub use taking::take;

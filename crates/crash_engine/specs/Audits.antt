@@ -12,7 +12,7 @@ use Rattle.audit_cases.specs.declared.kinds.Own.TheVariants.{InDoubt}
 use Rattle.tree_audit.specs.Reports.{IsReport}
 use Rattle.tree_audit.specs.declared.report.Line.{Line}
 use Rattle.core_law.specs.worlds.Worlds.{WorldState}
-use Rattle.tree_engine.specs.Logs.{AreLogs}
+use Rattle.tree_world.specs.LogsLeft.{AreLogs}
 use Rattle.crash_engine.specs.declared.auditing.Audited.{Audited}
 use Rattle.crash_engine.specs.declared.auditing.Audited.TheVariants.{Damaged, Report}
 

@@ -10,9 +10,8 @@ use log_store::MemoryStore;
 use report_io::Failure;
 use std::alloc::{AllocError, Global};
 use tree_audit::{AuditError, Line, Report, audit};
-use tree_engine::logs_left;
 use tree_model::{Act, Case, Event, ProcessId};
-use tree_world::World;
+use tree_world::{World, logs_left};
 
 /// What an audit of the logs of a tree finds: a report, or the first log that is damaged, and where.
 #[derive(Drop)]

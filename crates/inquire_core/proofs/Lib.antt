@@ -1,3 +1,4 @@
 pub mod Summaries
+pub mod CaseTables
 pub mod Readings
 pub mod Inquiries

@@ -5,3 +5,12 @@ pub mod Making
 pub mod Passes
 pub mod Holding
 pub mod Noting
+pub mod Rebasing
+pub mod Promised
+pub mod Deciding
+pub mod Trims
+pub mod Ordered
+pub mod Named
+pub mod Spelt
+pub mod Sorted
+pub mod KeysIn

@@ -1,3 +1,5 @@
 pub mod Folds
 pub mod Decisions
 pub mod Replays
+pub mod Names
+pub mod Keeping

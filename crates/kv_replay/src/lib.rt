@@ -1,5 +1,5 @@
 //! What the records of a log leave of a key store: the data that they make, of the branches in doubt their
-//! writes and their locks, and what operators decided.
+//! writes and their locks, and what operators decided; and the data as a trim writes them.
 //!
 //! ```text
 //! Opened                   the boot
@@ -14,10 +14,14 @@
 
 mod data;
 mod fault;
+mod frames;
 mod heuristic;
 pub mod law;
+mod pairs;
 mod promises;
 mod replayed;
 
 pub use fault::ReplayError;
+pub use frames::base_frames;
+pub use pairs::pairs_of;
 pub use replayed::{Replayed, replay};

@@ -12,7 +12,7 @@ use Rattle.logs_script.specs.Logs.{bytes_of, each_has_log, has_log}
 use Rattle.logs_script.specs.spelling.Fits.{FitsEntry, FitsLogs}
 use Rattle.core_law.specs.worlds.Worlds.{WorldState}
 use Rattle.tree_world.specs.Nodes.{SpellsLogBy}
-use Rattle.tree_engine.specs.Logs.{AreByteLogs, AreLogs}
+use Rattle.tree_world.specs.LogsLeft.{AreByteLogs, AreLogs}
 use Rattle.tree_audit.proofs.TreePlaces.{counted, here_once, how_many, itself, no_more, times_both}
 
 some_entry : (a b : TreeEntry) → Some a ≡ Some b → a ≡ b

@@ -32,7 +32,8 @@ use Rattle.core_law.specs.worlds.Ties.{Follows}
 use Rattle.core_law.specs.worlds.Worlds.{WorldState}
 use Rattle.tree_world.specs.Nodes.{SpellsLogBy, log_kind}
 use Rattle.tree_engine.specs.declared.tree.Output.TheVariants.{Logs}
-use Rattle.tree_engine.specs.Logs.{AreLogs, LeavesLogs}
+use Rattle.tree_world.specs.LogsLeft.{AreLogs}
+use Rattle.tree_engine.specs.Logs.{LeavesLogs}
 use Rattle.tree_engine.specs.Trees.{Tells, ending}
 use Rattle.core_law.specs.worlds.Sayings.{Saying}
 use Rattle.tree_audit.specs.Reports.{entry_kind, kept_lists, mismatches_in, whole_records}

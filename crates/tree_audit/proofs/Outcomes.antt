@@ -16,7 +16,8 @@ use Rattle.tree_nodes.specs.WorldHolds.{IsChildRole, is_naming, parent_in}
 use Rattle.tree_nodes.proofs.Levels.{climbs, has_entry, parent_climbs}
 use Rattle.tree_steps.proofs.crashes.Named.{named-by}
 use Rattle.tree_headline.specs.auditor.Audits.{Logs, asked_above, audited, decided_or, has_place, is_case_at, naming_case, outcome_within, own_decision, said_above}
-use Rattle.audit_cases.specs.Notes.{note_of, notes_of, same}
+use Rattle.inquire_core.specs.Readings.{same}
+use Rattle.audit_cases.specs.Notes.{note_of, notes_of}
 use Rattle.audit_cases.specs.Sayings.{AreSaid, Outcomes, names, outcome_at, outcome_in, said_by}
 use Rattle.audit_cases.proofs.KindLaws.{decision_is}
 use Rattle.tree_audit.specs.Tables.{SaysTruly}

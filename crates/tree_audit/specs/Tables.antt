@@ -20,7 +20,8 @@ use Rattle.log_rules.specs.order.Logs.{Whole, Damaged, read_log}
 use Rattle.logs_script.specs.Places.{placed_in}
 use Rattle.tree_headline.specs.auditor.Audits.{Logs, audited, is_case_at, naming_case}
 use Rattle.audit_cases.specs.Kinds.{decided_in, decision_in, line_in, own_in}
-use Rattle.audit_cases.specs.Notes.{CaseNote, Table, noted, notes_of, place_at, same}
+use Rattle.inquire_core.specs.Readings.{same}
+use Rattle.audit_cases.specs.Notes.{CaseNote, Table, noted, notes_of, place_at}
 use Rattle.audit_cases.specs.Sayings.{AreSaid, Outcomes, outcome_in}
 use Rattle.tree_audit.specs.declared.report.AuditError.{AuditError}
 use Rattle.tree_audit.specs.declared.report.AuditError.TheVariants as error

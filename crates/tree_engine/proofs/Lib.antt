@@ -1,4 +1,3 @@
 pub mod Sums
-pub mod LogsLeft
 pub mod Traces
 pub mod TreeReports

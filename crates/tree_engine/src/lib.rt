@@ -10,7 +10,6 @@ mod text;
 mod trace;
 mod tree;
 
-pub use logs::logs_left;
 pub use report_io::{Failure, Status};
 pub use trace::push_refused;
 pub use tree::{Output, Refusal, refusal, run_tree};

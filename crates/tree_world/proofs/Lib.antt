@@ -2,6 +2,7 @@ pub mod EmptyLogs
 pub mod Handling
 pub mod LastRecords
 pub mod Logs
+pub mod LogsLeft
 pub mod Modelled
 pub mod OpenNodes
 pub mod Processes

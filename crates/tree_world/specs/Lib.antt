@@ -1,4 +1,5 @@
 pub mod Nodes
+pub mod LogsLeft
 pub mod Openings
 pub mod Restarts
 pub mod Unforced

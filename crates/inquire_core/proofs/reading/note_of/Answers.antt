@@ -3,7 +3,7 @@ use Rattle.std.specs.Map.{lookup, set_value}
 use Rattle.indexmap.specs.IndexMap.{insert_entry}
 use Rattle.inquire_core.specs.Readings.{same}
 use Rattle.inquire_core.specs.Summaries.{no_records, summary_after}
-use Rattle.inquire_core.proofs.Readings.{put_there}
+use Rattle.inquire_core.proofs.CaseTables.{put_there}
 use Rattle.inquire_core.proofs.reading.note_of.Goals as goal
 
 pub returns-in_ok-note-in-Some : goal.returns-in_ok-note-in-Some

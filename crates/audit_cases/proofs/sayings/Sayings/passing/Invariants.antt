@@ -5,5 +5,5 @@ use Rattle.audit_cases.proofs.sayings.Sayings.passing.Given as goal
 
 abbrev pub invariant-loop-case : goal.invariant-loop-case
 invariant-loop-case l =
-    fold (with_entry (option_copied l.fn.above)) l.sayings l.case-iterator
+    fold (with_entry (option_copied l.fn.above)) l.outcomes l.case-iterator
     ≡ sayings_of (option_copied l.fn.above) l.fn.notes

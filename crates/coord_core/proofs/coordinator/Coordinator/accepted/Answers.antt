@@ -2,7 +2,7 @@ use Rattle.std.proofs.Common.{rules, ◌≡◌, Some, sym, ap, ◌∙◌}
 use Rattle.tree_model.specs.Memory.{ticket_of_child}
 use Rattle.tree_model.specs.Standings.{CoordinatorView}
 use Rattle.coord_table.specs.Cases.{live_at}
-use Rattle.coord_turns.proofs.Lent.{view_here}
+use Rattle.coord_table.proofs.Lent.{view_here}
 use Rattle.coord_core.proofs.coordinator.Coordinator.accepted.Goals as goal
 
 pub returns : goal.returns

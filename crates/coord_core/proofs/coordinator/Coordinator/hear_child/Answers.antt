@@ -5,7 +5,7 @@ use Rattle.tree_model.specs.declared.events.Input.TheVariants.{Message as Messag
 use Rattle.tree_model.specs.Names.{child_case}
 use Rattle.core_model.specs.Turns.{child_says}
 use Rattle.tree_model.specs.declared.standings.Vote.TheVariants.{Yes as VoteYes, No as VoteNo, Read as VoteRead}
-use Rattle.coord_turns.specs.declared.asked.Asked.TheVariants.{Vote as AskedVote, Ack as AskedAck, Inquire as AskedInquire}
+use Rattle.coord_table.specs.declared.asked.Asked.TheVariants.{Vote as AskedVote, Ack as AskedAck, Inquire as AskedInquire}
 use Rattle.coord_core.specs.declared.turn.Turn.TheVariants.{Nothing, Presumes}
 use Rattle.coord_core.specs.States.{state}
 use Rattle.coord_core.specs.Meets.{Hears, HearsOf}

@@ -3,7 +3,7 @@ use Rattle.tree_model.specs.declared.standings.Standing.TheVariants.{Active}
 use Rattle.tree_model.specs.Nodes.{is_leaf, role_of}
 use Rattle.tree_model.specs.Memory.{ticket_of_child}
 use Rattle.coord_table.specs.Cases.{view_in}
-use Rattle.coord_turns.specs.Takes.{IsAt}
+use Rattle.coord_table.specs.Takes.{IsAt}
 use Rattle.coord_core.proofs.Heard.{meets_work}
 use Rattle.coord_core.proofs.coordinator.Coordinator.meet_work.Goals as goal
 

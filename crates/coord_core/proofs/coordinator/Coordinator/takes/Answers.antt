@@ -3,7 +3,7 @@ use Rattle.tree_model.specs.declared.events.Input.{Input}
 use Rattle.rec_log.specs.Sights.{Breaks}
 use Rattle.core_model.specs.Turns.{Takes}
 use Rattle.core_model.specs.Makes.{BreaksIn}
-use Rattle.coord_turns.specs.Takes.{TakesRowOf}
+use Rattle.coord_table.specs.Takes.{TakesRowOf}
 use Rattle.coord_core.specs.States.{CoordinatorValue, state}
 use Rattle.coord_core.specs.Meets.{RetiresAs, met}
 use Rattle.coord_core.specs.Turned.{Turned, WritesDown, framed_of}

@@ -1,0 +1,18 @@
+-- What is kept of the cases of children, by the first case that names them.
+use Rattle.std.specs.Prelude.{if◌then◌else◌, is_some, List, fold}
+use Rattle.std.specs.Map.{lookup}
+use Rattle.indexmap.specs.IndexMap.{insert_entry}
+use Rattle.tree_model.specs.declared.names.Case.{Case}
+use Rattle.tree_model.specs.declared.names.Ticket.{Ticket}
+use Rattle.tree_model.specs.declared.names.Txn.{Txn}
+use Rattle.tree_model.specs.Names.{child_case}
+use Rattle.inquire_core.specs.Readings.{same}
+
+module _ {A : Type 0} where
+  -- these with what is kept of a child's case, unless something was before
+  abbrev pub with_first : List (Case × A) → Case → A → List (Case × A)
+  with_first s c v = if is_some (lookup (same c) s) then s else insert_entry same s c v
+
+  -- these with what is kept of the cases of these tickets
+  abbrev pub with_named : Txn → A → List (Case × A) → List Ticket → List (Case × A)
+  with_named x v s ts = fold (λ t u. with_first t (child_case x u) v) s ts

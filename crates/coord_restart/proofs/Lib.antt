@@ -1,4 +1,0 @@
-pub mod Framed
-pub mod Restores
-pub mod OwnCases
-pub mod Rebuilds

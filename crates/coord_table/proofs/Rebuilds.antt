@@ -1,0 +1,112 @@
+-- What a restart makes of the records of a log.
+use Rattle.std.proofs.Common.{◌≡◌, ◌∙◌, List, ◌++◌, Option, Some, None, map, unwrap_or, refl, sym, ap, subst}
+use Rattle.std.proofs.lemmas.List.Folds.{flat_map-map}
+use Rattle.std.specs.List.{flat_map}
+use Rattle.std.specs.Map.{lookup}
+use Rattle.tree_model.specs.declared.names.Case.{Case}
+use Rattle.tree_model.specs.declared.names.Kind.TheVariants.{Coordinator}
+use Rattle.tree_model.specs.declared.names.ProcessId.{ProcessId}
+use Rattle.tree_model.specs.declared.messages.Envelope.{Envelope}
+use Rattle.tree_model.specs.declared.records.LogRecord.{LogRecord}
+use Rattle.tree_model.specs.declared.records.Logged.{Logged}
+use Rattle.tree_model.specs.declared.records.Record.{Record}
+use Rattle.tree_model.specs.declared.trees.TreeEntry.{TreeEntry}
+use Rattle.tree_model.specs.LogNames.{in_log, own_records}
+use Rattle.tree_model.specs.Nodes.{Place, logged_of}
+use Rattle.tree_model.specs.Records.{cases_in}
+use Rattle.tree_model.specs.Restarts.{coordinator_reopens, coordinator_resumes, forced_all, recorded_view, reopens, resumes, resumes_by}
+use Rattle.tree_model.specs.Standings.{CoordinatorView}
+use Rattle.log_text.specs.Made.{frame_record}
+use Rattle.rec_log.specs.Sights.{AreRecords}
+use Rattle.core_model.specs.Restarting.{recorded_view_at}
+use Rattle.coord_table.specs.declared.rebuilding.Rebuilt.{Rebuilt}
+use Rattle.inquire_core.specs.Summaries.{Summary, no_records, summary_of, view_of}
+use Rattle.inquire_core.specs.Readings.{ReadLog, place_below, reading_of, role_below, same}
+use Rattle.coord_table.specs.Restores.{IsRestored, Rebuilds, RestoresAll, read_again, resumed_of, view_found}
+use Rattle.inquire_core.proofs.Summaries.{view_recorded}
+use Rattle.inquire_core.proofs.CaseTables.{entry_by}
+use Rattle.inquire_core.proofs.Readings.{each_alike, view_is}
+use Rattle.coord_table.proofs.OwnCases.{parent_again, read_again_is, reopens_role}
+
+-- the view that the table says is the one that the records say
+found_view : (rs : List Record) (c : Case) → view_found
+    (lookup (same c) (reading_of rs).table) ≡ recorded_view rs c
+found_view rs c = by_found (lookup (same c) (reading_of rs).table) ∙ view_is rs c
+  where
+    by_found : (o : Option Summary) → view_found o ≡ view_of (unwrap_or o no_records)
+    by_found None = refl
+    by_found (Some s) = refl
+
+viewed_at : (parent : Option ProcessId) (rs : List Record) (c : Case)
+    → recorded_view rs c ≡ recorded_view_at (role_below parent) rs c
+viewed_at None rs c = refl
+viewed_at (Some p) rs c = refl
+
+resumes_of : (me : ProcessId) (parent : Option ProcessId) (rs : List Record) (c : Case)
+    → resumed_of me parent (entry_by (summary_of rs) c) ≡ coordinator_resumes me parent rs c
+resumes_of me parent rs c = ap (λ (v : CoordinatorView). resumes_by
+    (record { me = me; parent = parent; own = c }) v v.standing) (sym (view_recorded rs c))
+
+resumes_role : (me : ProcessId) (parent : Option ProcessId) (rs : List Record)
+    → flat_map (coordinator_resumes me parent rs) (cases_in rs) ≡ resumes (role_below parent) me rs
+resumes_role me None rs = refl
+resumes_role me (Some p) rs = refl
+
+resumes_so : (me : ProcessId) (parent : Option ProcessId) (rs : List Record)
+    → flat_map (resumed_of me parent) (reading_of rs).table ≡ resumes (role_below parent) me rs
+resumes_so me parent rs =
+    flat_map-map (resumed_of me parent) (entry_by (summary_of rs)) (cases_in rs)
+    ∙ each_alike (λ c. resumed_of me parent (entry_by (summary_of rs) c)) (coordinator_resumes me parent rs)
+    (resumes_of me parent rs) (cases_in rs)
+    ∙ resumes_role me parent rs
+
+module _ (me : ProcessId) (parent : Option ProcessId) (tree : List TreeEntry) (ls : List LogRecord)
+    (new : List Record) (behind : ReadLog)
+    (appends : new ≡ coordinator_reopens (own_records (place_below me parent tree) ls))
+    (reads : behind ≡ reading_of (own_records (place_below me parent tree) ls
+    ++ coordinator_reopens (own_records (place_below me parent tree) ls))) where
+  -- where the process sits
+  abbrev here : Place
+  here = place_below me parent tree
+
+  -- the records of the log, as the process reads them
+  abbrev mine : List Record
+  mine = own_records here ls
+
+  new_so : new ≡ reopens (role_below parent) mine
+  new_so = appends ∙ sym (reopens_role parent mine)
+
+  behind_so : behind ≡ reading_of (read_again here ls)
+  behind_so = reads ∙ ap reading_of (ap (λ rs. mine ++ rs) (sym (reopens_role parent mine))
+      ∙ sym (read_again_is me parent tree ls))
+
+  pub rebuilds : (r : Rebuilt) (written : List Logged) (messages : List Envelope) → r.boot ≡ behind.boot
+      → map frame_record r.frames.items ≡ map (in_log parent) new
+      → AreRecords Coordinator (map frame_record r.frames.items)
+      → written ≡ map logged_of (forced_all new) → RestoresAll me parent behind r.cases messages
+      → r.reaction ≡ record { begun = None; written = written; told = None; messages = messages; kept = None }
+      → Rebuilds here ls r
+  rebuilds r written messages boot spells sound shows restores reaction =
+      record {
+        boot = boot ∙ ap (λ (s : ReadLog). s.boot) behind_so;
+        frames = spells ∙ ap (map (in_log parent)) new_so
+            ∙ ap (λ p. map (in_log p) (reopens (role_below parent) mine)) (sym (parent_again parent));
+        sound = sound;
+        views = λ c.
+            restores.views c ∙ ap (λ (s : ReadLog). view_found (lookup (same c) s.table)) behind_so
+            ∙ found_view (read_again here ls) c
+            ∙ viewed_at parent (read_again here ls) c;
+        tickets = restores.tickets;
+        entries = λ k p at. subst (λ b. IsRestored b p) (sym boot) (restores.entries k p at);
+        shown =
+            reaction
+            ∙ (λ i. record {
+              begun = None;
+              written = (shows ∙ ap (λ rs. map logged_of (forced_all rs)) new_so) i;
+              told = None;
+              messages = (restores.messages ∙ ap (λ (s : ReadLog). flat_map (resumed_of me parent) s.table)
+                  behind_so ∙ resumes_so me parent (read_again here ls)
+                  ∙ ap (resumes (role_below parent) me) (read_again_is me parent tree ls)) i;
+              kept = None;
+            });
+      }

@@ -1,0 +1,101 @@
+-- The live cases as records leave them, and what a restart makes of a log.
+use Rattle.std.specs.Prelude.{◌≡◌, ◌<◌, ◌⊎◌, ℕ, false, Option, Some, None, List, ◌++◌, map}
+use Rattle.std.specs.List.{flat_map}
+use Rattle.std.specs.Map.{lookup}
+use Rattle.tree_model.specs.declared.names.Case.{Case}
+use Rattle.tree_model.specs.declared.names.Kind.TheVariants.{Coordinator}
+use Rattle.tree_model.specs.declared.names.ProcessId.{ProcessId}
+use Rattle.tree_model.specs.declared.names.Ticket.{Ticket}
+use Rattle.tree_model.specs.declared.names.Txn.{Txn}
+use Rattle.tree_model.specs.declared.messages.Envelope.{Envelope}
+use Rattle.tree_model.specs.declared.records.LogRecord.{LogRecord}
+use Rattle.tree_model.specs.declared.records.Record.{Record}
+use Rattle.tree_model.specs.CoordinatorRows.{Seat as CaseSeat}
+use Rattle.tree_model.specs.LogNames.{in_log, own_records, parent_of}
+use Rattle.tree_model.specs.Names.{same_case}
+use Rattle.tree_model.specs.Nodes.{Place, reaction_of}
+use Rattle.tree_model.specs.Records.{boot_of}
+use Rattle.tree_model.specs.Restarts.{reopens, resumes_by}
+use Rattle.tree_model.specs.Standings.{CoordinatorView, unknown_view}
+use Rattle.live_table.specs.Tables.{entry_at, live_value}
+use Rattle.log_text.specs.Made.{frame_record}
+use Rattle.rec_log.specs.Sights.{AreRecords}
+use Rattle.core_model.specs.Restarting.{recorded_view_at, reopening}
+use Rattle.coord_rows.specs.declared.seat.Seat.{Seat}
+use Rattle.coord_rows.specs.Rows.{seat}
+use Rattle.coord_table.specs.declared.held.Held.{Held}
+use Rattle.coord_table.specs.Cases.{Slots, ticket_in, view_in}
+use Rattle.inquire_core.specs.Summaries.{Summary, view_of}
+use Rattle.inquire_core.specs.Readings.{ReadLog, same}
+use Rattle.coord_table.specs.declared.rebuilding.Rebuilt.{Rebuilt}
+
+-- Numbers.
+
+-- the boot that gave the ticket, or at the root that began the transaction, is before this one
+abbrev pub is_before : ℕ → Txn → Option Ticket → Type 0
+is_before boot x None = x.boot < boot
+is_before boot x (Some t) = t.boot < boot
+
+-- the case was numbered in a boot before this one
+abbrev pub IsNumbered : ℕ → Case → Type 0
+IsNumbered boot c = is_before boot c.txn c.ticket
+
+-- Cases.
+
+-- what a case sends again, of which the records say this
+abbrev pub resumed_by : CaseSeat → Summary → List Envelope
+resumed_by s summary = resumes_by s (view_of summary) (view_of summary).standing
+
+-- what an entry's case sends again
+abbrev pub resumed_of : ProcessId → Option ProcessId → Case × Summary → List Envelope
+resumed_of me parent e = resumed_by (record { me = me; parent = parent; own = e.0 }) e.1
+
+-- the view of what was found of a case; where nothing was, it is Unknown
+abbrev pub view_found : Option Summary → CoordinatorView
+view_found None = unknown_view
+view_found (Some s) = view_of s
+
+-- what is held under a key was given for nobody, and its case was numbered in a boot before this one
+pub record IsRestored (boot : ℕ) (p : Case × Held) : Type 0 where
+  pub ungiven : p.1.given_for ≡ None
+  pub numbered : IsNumbered boot p.0
+
+-- one case more stands as its records say, and what it sends again is sent
+pub record RestoresNext (boot : ℕ) (s : Seat) (summary : Summary) (old new : Slots)
+    (sent now_sent : List Envelope) : Type 0 where
+  pub messages : now_sent ≡ sent ++ resumed_by (seat s) summary
+  pub own : view_in new s.case ≡ view_of summary
+  pub others : (d : Case) → same_case s.case d ≡ false → view_in new d ≡ view_in old d
+  pub only : (d : Case) → same_case s.case d ≡ false → live_value old d ≡ None → live_value new d ≡ None
+  pub tickets : (d : Case) → ticket_in new d ≡ ticket_in old d
+  pub entries : (k : ℕ) (p : Case × Held) → entry_at new k ≡ Some p
+      → (entry_at old k ≡ Some p) ⊎ IsRestored boot p
+
+-- each case stands as its records say, no ticket is active, and what the cases send again is sent
+pub record RestoresAll (me : ProcessId) (parent : Option ProcessId) (r : ReadLog) (slots : Slots)
+    (sent : List Envelope) : Type 0 where
+  pub messages : sent ≡ flat_map (resumed_of me parent) r.table
+  pub views : (c : Case) → view_in slots c ≡ view_found (lookup (same c) r.table)
+  pub tickets : (d : Case) → ticket_in slots d ≡ None
+  pub entries : (k : ℕ) (p : Case × Held) → entry_at slots k ≡ Some p → IsRestored r.boot p
+
+-- A restart.
+
+-- the records that a restart appends to this log, as the log holds them
+abbrev pub appended_to : Place → List LogRecord → List LogRecord
+appended_to place ls = map (in_log (parent_of place.role)) (reopens place.role (own_records place ls))
+
+-- the records of the restarted log, as its process reads them
+abbrev pub read_again : Place → List LogRecord → List Record
+read_again place ls = own_records place (ls ++ appended_to place ls)
+
+-- what a restart makes of these records of a log: the boot, the frames that it appends, the live cases, and
+-- what it shows
+pub record Rebuilds (place : Place) (ls : List LogRecord) (r : Rebuilt) : Type 0 where
+  pub boot : r.boot ≡ boot_of (read_again place ls)
+  pub frames : map frame_record r.frames.items ≡ appended_to place ls
+  pub sound : AreRecords Coordinator (map frame_record r.frames.items)
+  pub views : (c : Case) → view_in r.cases c ≡ recorded_view_at place.role (read_again place ls) c
+  pub tickets : (d : Case) → ticket_in r.cases d ≡ None
+  pub entries : (k : ℕ) (p : Case × Held) → entry_at r.cases k ≡ Some p → IsRestored r.boot p
+  pub shown : r.reaction ≡ reaction_of (reopening place.role place.me (own_records place ls))

@@ -1,0 +1,53 @@
+//! What a restart makes of the records that a crash leaves.
+
+ghost use Rattle.std.specs.Prelude.{◌≡◌, IfOk};
+ghost use Rattle.coord_table.specs.Restores.{Rebuilds};
+ghost use Rattle.inquire_core.specs.Readings.{place_below};
+
+use crate::cases::Cases;
+use crate::reopening::{all_shown, framed};
+use crate::restoring::restores;
+use inquire_core::{RestartPlan, plan};
+use log_text::Frame;
+use std::alloc::{AllocError, Global};
+use tree_model::{LogRecord, ProcessId, Reaction, Tree};
+
+/// A coordinator as it restarts: its boot, the frames of the records that it appends, its live cases, and
+/// the reaction.
+#[derive(Drop)]
+pub struct Rebuilt {
+    pub boot: u64,
+    pub frames: Vec<Frame>,
+    pub cases: Cases,
+    pub reaction: Reaction,
+}
+
+/// What the coordinator `me` below this parent is, as it restarts with these records of its log. It goes
+/// through them once. Refused as for want of memory is what no run leaves: a record that no log can hold, a
+/// boot of 2^63, and a live case of a boot behind the last one.
+pub fn rebuild(
+    alloc: Global,
+    me: ProcessId,
+    parent: Option<ProcessId>,
+    tree: &Tree,
+    records: &[LogRecord],
+) -> Result<Rebuilt, AllocError>
+    ensures { IfOk result (Rebuilds (place_below me parent tree.now) records.now) }
+{
+    let RestartPlan { appended, reading } = plan(alloc, me, parent, tree, records)?;
+    let written = all_shown(alloc, &appended)?;
+    let frames = framed(alloc, parent, appended)?;
+    let (cases, messages) = restores(alloc, me, parent, &reading)?;
+    Ok(Rebuilt {
+        boot: reading.boot(),
+        frames,
+        cases,
+        reaction: Reaction {
+            begun: None,
+            written,
+            told: None,
+            messages,
+            kept: None,
+        },
+    })
+}

@@ -1,0 +1,155 @@
+//! The row that an input meets where a case stands (R*).
+
+ghost use Rattle.std.specs.Prelude.{◌≡◌, true, IfOk, OnErr};
+ghost use Rattle.tree_model.specs.Records.{in_list as is_in};
+ghost use Rattle.tree_model.specs.CoordinatorRows.{
+  on_ack as ack_row,
+  on_inquiry as inquiry_row,
+  on_joined as joined_row,
+  on_prepare as prepare_row,
+  on_vote as vote_row,
+};
+ghost use Rattle.tree_model.specs.Standings.{unknown_view};
+ghost use Rattle.core_model.specs.Views.{SameView};
+ghost use Rattle.coord_rows.specs.Rows.{Does, seat as seat_meant};
+ghost use Rattle.coord_table.specs.Asks.{Accepts, asked_row, is_for_any};
+
+use crate::asked::Asked;
+use coord_case::Live;
+use coord_rows::{
+    Reason, RowEffect, Seat, aborting_prepare, active_abort, active_commit, active_join,
+    active_joined, active_work, collecting_abort, collecting_vote, decided_ack, decided_inquiry,
+    on_abort, on_commit, prepared_ask, prepared_prepare, unknown_abort, unknown_commit,
+    unknown_prepare,
+};
+use std::alloc::{AllocError, Global};
+use tree_model::{Outcome, Standing, Ticket, Vote};
+
+/// JOINED of a child.
+fn on_joined(
+    alloc: Global,
+    seat: Seat,
+    ticket: Ticket,
+    live: &mut Live,
+) -> Result<RowEffect, AllocError>
+    ensures ok { IfOk result (λ effect. Does seat
+        (joined_row ticket live.old live.old.standing) effect live.new) }
+    ensures err { OnErr result (live.new ≡ live.old) }
+{
+    match live.standing() {
+        Standing::Active => active_joined(alloc, seat, ticket, live),
+        _ => Ok(RowEffect::quiet(alloc)),
+    }
+}
+
+/// A vote of a child.
+fn on_vote(
+    alloc: Global,
+    seat: Seat,
+    ticket: Ticket,
+    vote: Vote,
+    live: &mut Live,
+) -> Result<RowEffect, AllocError>
+    ensures ok { IfOk result (λ effect. Does seat
+        (vote_row (seat_meant seat) ticket vote live.old live.old.standing) effect live.new) }
+    ensures err { OnErr result (SameView live.new live.old) }
+{
+    match live.standing() {
+        Standing::Collecting => collecting_vote(alloc, seat, ticket, vote, live),
+        _ => Ok(RowEffect::quiet(alloc)),
+    }
+}
+
+/// An acknowledgement of a child: it does something only where it agrees with the decision.
+fn on_ack(
+    alloc: Global,
+    seat: Seat,
+    ticket: Ticket,
+    outcome: Outcome,
+    live: &mut Live,
+) -> Result<RowEffect, AllocError>
+    ensures ok { IfOk result (λ effect. Does seat
+        (ack_row (seat_meant seat) ticket outcome live.old live.old.standing) effect live.new) }
+    ensures err { OnErr result (live.new ≡ live.old) }
+{
+    match (outcome, live.standing()) {
+        (Outcome::Committed, Standing::Committing) | (Outcome::Aborted, Standing::Aborting) => {
+            decided_ack(alloc, seat, ticket, live)
+        }
+        _ => Ok(RowEffect::quiet(alloc)),
+    }
+}
+
+/// An inquiry of a child of the case.
+fn on_inquiry(
+    alloc: Global,
+    seat: Seat,
+    ticket: Ticket,
+    live: &Live,
+) -> Result<RowEffect, AllocError>
+    ensures { IfOk result (λ effect. Does seat
+        (inquiry_row (seat_meant seat) ticket live.now live.now.standing) effect live.now) }
+{
+    match inquire_core::answer(live.standing(), seat.case.txn.presumption) {
+        Some(outcome) => decided_inquiry(alloc, seat, outcome, ticket),
+        None => Ok(RowEffect::quiet(alloc)),
+    }
+}
+
+/// PREPARE of the parent.
+fn on_prepare(alloc: Global, seat: Seat, live: &mut Live) -> Result<RowEffect, AllocError>
+    ensures ok { IfOk result (λ effect. Does seat
+        (prepare_row (seat_meant seat) live.old live.old.standing) effect live.new) }
+    ensures err { OnErr result (live.new ≡ live.old) }
+{
+    match live.standing() {
+        Standing::Active => active_commit(alloc, seat, live),
+        Standing::Prepared => prepared_prepare(alloc, seat, live),
+        Standing::Aborting => aborting_prepare(alloc, seat),
+        Standing::Unknown => unknown_prepare(alloc, seat),
+        _ => Ok(RowEffect::quiet(alloc)),
+    }
+}
+
+/// The live case takes the row that it meets. Memory: it says the same as before.
+pub fn take_row(
+    alloc: Global,
+    seat: Seat,
+    asked: Asked,
+    live: &mut Live,
+) -> Result<RowEffect, AllocError>
+    requires { Accepts asked live.old }
+    ensures ok { IfOk result (λ effect. Does seat
+        (asked_row (seat_meant seat) asked.entry live.old) effect live.new) }
+    ensures err { OnErr result (SameView live.new live.old) }
+{
+    match asked {
+        Asked::Join(child) => active_join(alloc, seat, child, live),
+        Asked::Work(ticket, op) => active_work(alloc, seat, ticket, op, live),
+        Asked::Commit => active_commit(alloc, seat, live),
+        Asked::AbortActive => active_abort(alloc, seat, live),
+        Asked::AbortCollecting => collecting_abort(alloc, seat, Reason::Act, live),
+        Asked::Ask => prepared_ask(alloc, seat, live),
+        Asked::Joined(ticket) => on_joined(alloc, seat, ticket, live),
+        Asked::Vote(ticket, vote) => on_vote(alloc, seat, ticket, vote, live),
+        Asked::Ack(ticket, outcome) => on_ack(alloc, seat, ticket, outcome, live),
+        Asked::Inquire(ticket) => on_inquiry(alloc, seat, ticket, live),
+        Asked::Prepare => on_prepare(alloc, seat, live),
+        Asked::Commits => on_commit(alloc, seat, live),
+        Asked::Aborts => on_abort(alloc, seat, live),
+    }
+}
+
+/// The row that a case meets which is not live: JOINED and the messages of the parent.
+pub fn answer(alloc: Global, seat: Seat, asked: Asked) -> Result<RowEffect, AllocError>
+    requires { is_for_any asked ≡ true }
+    ensures { IfOk result (λ effect. Does seat
+        (asked_row (seat_meant seat) asked.entry unknown_view) effect unknown_view) }
+{
+    match asked {
+        Asked::Prepare => unknown_prepare(alloc, seat),
+        Asked::Commits => unknown_commit(alloc, seat),
+        Asked::Aborts => unknown_abort(alloc, seat),
+        _ => Ok(RowEffect::quiet(alloc)),
+    }
+}

@@ -1,4 +1,0 @@
-pub mod Given
-pub mod Lent
-pub mod Standings
-pub mod Taken

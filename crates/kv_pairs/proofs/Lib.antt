@@ -1,9 +1,0 @@
-pub mod Rebasing
-pub mod Promises
-pub mod Deciding
-pub mod Trims
-pub mod Ordered
-pub mod Named
-pub mod Spelt
-pub mod Sorted
-pub mod KeysIn

@@ -1,8 +1,0 @@
-use Rattle.std.proofs.Common.{take}
-use Rattle.tree_world.specs.Worlds.{state}
-use Rattle.tree_engine.specs.Logs.{AreByteLogs, AreLogs}
-use Rattle.tree_engine.proofs.logs.logs_left.Given as goal
-
-abbrev pub invariant-loop-entry : goal.invariant-loop-entry
-invariant-loop-entry l =
-    AreLogs (state l.world) (take l.entry-index l.entry-items) l.logs.items × AreByteLogs l.logs.items

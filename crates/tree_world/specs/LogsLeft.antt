@@ -1,0 +1,18 @@
+-- The logs that the processes of a tree keep, as bytes.
+use Rattle.std.specs.Prelude.{◌≡◌, ◌<◌, ℕ, All, List, [], ◌∷◌}
+use Rattle.std.specs.List.{AllByRecursion}
+use Rattle.tree_model.specs.declared.trees.TreeEntry.{TreeEntry}
+use Rattle.logs_script.specs.declared.line.ProcessLog.{ProcessLog}
+use Rattle.core_law.specs.worlds.Worlds.{WorldState}
+use Rattle.tree_world.specs.Nodes.{SpellsLogBy}
+
+-- for each of these processes, in order, one log, whose bytes read as what the process keeps
+abbrev pub AreLogs : WorldState → List TreeEntry → List ProcessLog → Type 0
+AreLogs w [] [] = Unit {0}
+AreLogs w [] (l ∷ ls) = ⊥
+AreLogs w (e ∷ es) [] = ⊥
+AreLogs w (e ∷ es) (l ∷ ls) = (l.process ≡ e.id) × SpellsLogBy (w.node_at e.id) l.bytes × AreLogs w es ls
+
+-- each number in these logs is a byte
+abbrev pub AreByteLogs : List ProcessLog → Type 0
+AreByteLogs logs = AllByRecursion (λ l. All (λ b. b < 256) l.bytes) logs

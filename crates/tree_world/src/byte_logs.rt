@@ -1,0 +1,36 @@
+//! The logs that the processes keep, as bytes.
+
+ghost use Rattle.std.specs.Prelude.{◌≡◌, ◌<◌, All, IfOk};
+ghost use Rattle.tree_world.specs.LogsLeft.{AreByteLogs, AreLogs};
+ghost use Rattle.tree_world.specs.Worlds.{state};
+
+use crate::world::World;
+use log_store::LogStore;
+use logs_script::ProcessLog;
+use std::alloc::{AllocError, Global};
+use tree_model::Bytes;
+
+/// What the type says of bytes: each is below 256. It does nothing.
+fn are_bytes(bytes: &[u8])
+    ensures { All (λ b. b < 256) bytes.now }
+{}
+
+/// The log of each process, in the order of the tree.
+pub fn logs_left<L: LogStore>(
+    alloc: Global,
+    world: &World<L>,
+) -> Result<Vec<ProcessLog>, AllocError>
+    ensures logs { IfOk result (λ logs. AreLogs (state world.now) (state world.now).tree logs.items) }
+    ensures bytes { IfOk result (λ logs. AreByteLogs logs.items) }
+{
+    let mut logs = Vec::new(alloc);
+    for entry in world.tree().entries() {
+        let text = world.log_text(entry.id)?;
+        are_bytes(&text);
+        logs.push(ProcessLog {
+            process: entry.id,
+            bytes: Bytes::from_vec(text),
+        })?;
+    }
+    Ok(logs)
+}
