@@ -6,7 +6,7 @@ use manager_model::ResourceManager;
 use std::alloc::{AllocError, Global};
 use std::test::Fail;
 use sub_core::Subordinate;
-use tree_model::{Bytes, Case, Input, Message, Op, ProcessId, Reaction, Tree};
+use tree_model::{Bytes, Case, Input, Message, Op, ProcessId, Reaction, Tree, Vote};
 
 /// Process 2 below process 1, over a manager that refuses every operation or does what is asked of it.
 fn opened(alloc: Global, refuses: bool) -> Result<Subordinate<FakeManager>, AllocError> {
@@ -18,21 +18,37 @@ fn opened(alloc: Global, refuses: bool) -> Result<Subordinate<FakeManager>, Allo
 // These say nothing of the process that they leave, and are for any manager, so that the proof of a test
 // stays short.
 
+/// The vote that a process gives, if that is all it sends.
+fn vote_in(reaction: &Reaction) -> Option<Vote> {
+    match reaction.messages.as_slice() {
+        [envelope] => match &envelope.message {
+            Message::Yes(_) => Some(Vote::Yes),
+            Message::No(_) => Some(Vote::No),
+            Message::Read(_) => Some(Vote::Read),
+            _ => None,
+        },
+        _ => None,
+    }
+}
+
 fn heard<M: ResourceManager>(
     player: &mut Subordinate<M>,
     message: Message,
-) -> Result<Reaction, Fail> {
+) -> Result<Option<Vote>, Fail> {
     if !player.has_numbers() {
         return Err(Fail::from("a message that can be heard"));
     }
     match player.step(&Input::Message(1, message)) {
-        Ok(reaction) => Ok(reaction),
+        Ok(reaction) => Ok(vote_in(&reaction)),
         Err(_) => Err(Fail::from("a message that is heard")),
     }
 }
 
 /// What a process with one work votes.
-fn vote<M: ResourceManager + Drop>(mut player: Subordinate<M>, op: Op) -> Result<Reaction, Fail> {
+fn vote<M: ResourceManager + Drop>(
+    mut player: Subordinate<M>,
+    op: Op,
+) -> Result<Option<Vote>, Fail> {
     let parent = parent_case();
     let own = Case {
         txn: parent.txn,
@@ -44,16 +60,8 @@ fn vote<M: ResourceManager + Drop>(mut player: Subordinate<M>, op: Op) -> Result
 }
 
 /// The same over a manager that refuses every operation or does what is asked of it.
-fn voted(alloc: Global, refuses: bool, op: Op) -> Result<Reaction, Fail> {
+fn voted(alloc: Global, refuses: bool, op: Op) -> Result<Option<Vote>, Fail> {
     vote(opened(alloc, refuses)?, op)
-}
-
-/// The one message of a reaction, if it has one.
-fn only(reaction: &Reaction) -> Option<&Message> {
-    match reaction.messages.as_slice() {
-        [envelope] => Some(&envelope.message),
-        _ => None,
-    }
 }
 
 fn key(alloc: Global) -> Result<Bytes, AllocError> {
@@ -69,10 +77,10 @@ fn put(alloc: Global) -> Result<Op, AllocError> {
 fn votes_follow_the_work(rt: HostRuntime) -> Result<(), Fail> {
     let alloc = rt.alloc();
     let wrote = voted(alloc, false, put(alloc)?)?;
-    assert!(rt; matches!(only(&wrote), Some(Message::Yes(_))));
+    assert!(rt; matches!(wrote, Some(Vote::Yes)));
     let read = voted(alloc, false, Op::Get(key(alloc)?))?;
-    assert!(rt; matches!(only(&read), Some(Message::Read(_))));
+    assert!(rt; matches!(read, Some(Vote::Read)));
     let refused = voted(alloc, true, put(alloc)?)?;
-    assert!(rt; matches!(only(&refused), Some(Message::No(_))));
+    assert!(rt; matches!(refused, Some(Vote::No)));
     Ok(())
 }
