@@ -10,7 +10,7 @@ use Rattle.tree_model.specs.Records.{in_list}
 use Rattle.tree_model.proofs.Equality.{case_equality}
 use Rattle.inquire_core.specs.Readings.{same}
 use Rattle.inquire_core.proofs.CaseTables.{apart_back, same_is}
-use Rattle.audit_cases.specs.Firsts.{with_first, with_named}
+use Rattle.audit_cases.specs.Firsts.{firsts_of, with_entry, with_first, with_named}
 use Rattle.audit_cases.specs.Notes.{CaseNote, Table}
 use Rattle.audit_cases.specs.Sayings.{first_naming, names}
 
@@ -124,29 +124,25 @@ named_found y v s (u ∷ us) x t =
 
 -- The cases.
 
--- these with what an entry says of the cases that it names
-abbrev with_entry : {A : Type 0} → (Case × CaseNote → A) → List (Case × A) → Case × CaseNote → List (Case × A)
-with_entry say s e = with_named e.0.txn (say e) s e.1.named
-
-module _ {A : Type 0} (say : Case × CaseNote → A) (x : Txn) (t : Ticket) where
+module _ {A : Type 0} (kept : Case × CaseNote → A) (x : Txn) (t : Ticket) where
   all_found : (s : List (Case × A)) (notes : Table) → lookup (same (child_case x t))
-      (fold (with_entry say) s notes)
-      ≡ or_else (lookup (same (child_case x t)) s) (option_map say (first_naming notes x t))
+      (fold (with_entry kept) s notes)
+      ≡ or_else (lookup (same (child_case x t)) s) (option_map kept (first_naming notes x t))
   all_found s [] = sym (or_nothing (lookup (same (child_case x t)) s))
   all_found s (e ∷ notes) =
-      all_found (with_entry say s e) notes
-      ∙ ap (λ a. or_else a (option_map say (first_naming notes x t)))
-      (named_found e.0.txn (say e) s e.1.named x t)
-      ∙ or_assoc (lookup (same (child_case x t)) s) (only (names x t e) (say e))
-      (option_map say (first_naming notes x t))
+      all_found (with_entry kept s e) notes
+      ∙ ap (λ a. or_else a (option_map kept (first_naming notes x t)))
+      (named_found e.0.txn (kept e) s e.1.named x t)
+      ∙ or_assoc (lookup (same (child_case x t)) s) (only (names x t e) (kept e))
+      (option_map kept (first_naming notes x t))
       ∙ ap (or_else (lookup (same (child_case x t)) s)) (by_test (names x t e))
     where
-      by_test : (b : Bool) → or_else (only b (say e)) (option_map say (first_naming notes x t))
-          ≡ option_map say (if b then Some e else find (names x t) notes)
+      by_test : (b : Bool) → or_else (only b (kept e)) (option_map kept (first_naming notes x t))
+          ≡ option_map kept (if b then Some e else find (names x t) notes)
       by_test true = refl
       by_test false = refl
 
   -- what a pass over all cases keeps
-  pub first_kept : (notes : Table) → lookup (same (child_case x t)) (fold (with_entry say) [] notes)
-      ≡ option_map say (first_naming notes x t)
+  pub first_kept : (notes : Table) → lookup (same (child_case x t)) (firsts_of kept notes)
+      ≡ option_map kept (first_naming notes x t)
   first_kept notes = all_found [] notes

@@ -1,5 +1,5 @@
 -- What a process says of the cases of its children, by what is noted of its own.
-use Rattle.std.specs.Prelude.{◌≡◌, Bool, ◌&&◌, Option, Some, None, unwrap_or, List, [], find, fold}
+use Rattle.std.specs.Prelude.{◌≡◌, Bool, ◌&&◌, Option, Some, None, unwrap_or, List, find}
 use Rattle.std.specs.Map.{lookup}
 use Rattle.tree_model.specs.declared.names.Case.{Case}
 use Rattle.tree_model.specs.declared.names.Outcome.{Outcome}
@@ -11,7 +11,7 @@ use Rattle.tree_model.specs.Records.{in_list}
 use Rattle.tree_headline.specs.auditor.Audits.{decided_or}
 use Rattle.audit_cases.specs.Kinds.{decision_in}
 use Rattle.inquire_core.specs.Readings.{same}
-use Rattle.audit_cases.specs.Firsts.{with_named}
+use Rattle.audit_cases.specs.Firsts.{firsts_of}
 use Rattle.audit_cases.specs.Notes.{CaseNote, Table}
 
 -- the outcomes of the cases of children that a process's own cases name
@@ -48,10 +48,6 @@ AreSaid above notes s = (x : Txn) (t : Ticket)
 
 -- The pass.
 
--- these outcomes with that of an entry's case
-abbrev pub with_entry : Option Outcomes → Outcomes → Case × CaseNote → Outcomes
-with_entry above s e = with_named e.0.txn (outcome_in above e.0 e.1) s e.1.named
-
--- the outcomes of all entries' cases, the first that names a ticket before the others
+-- the outcomes of all entries' cases
 abbrev pub sayings_of : Option Outcomes → Table → Outcomes
-sayings_of above notes = fold (with_entry above) [] notes
+sayings_of above notes = firsts_of (λ e. outcome_in above e.0 e.1) notes

@@ -1,5 +1,5 @@
 -- Which case of a process names a child's case, by what is noted of its cases, and what stands of it.
-use Rattle.std.specs.Prelude.{◌≡◌, Bool, true, false, Option, Some, None, unwrap_or, List, [], fold}
+use Rattle.std.specs.Prelude.{◌≡◌, Bool, true, false, Option, Some, None, unwrap_or, List}
 use Rattle.std.specs.Map.{lookup}
 use Rattle.tree_model.specs.declared.names.Case.{Case}
 use Rattle.tree_model.specs.declared.names.Ticket.{Ticket}
@@ -7,7 +7,7 @@ use Rattle.tree_model.specs.declared.names.Txn.{Txn}
 use Rattle.tree_model.specs.Names.{child_case}
 use Rattle.audit_cases.specs.declared.kinds.Kinds.{Kinds}
 use Rattle.inquire_core.specs.Readings.{same}
-use Rattle.audit_cases.specs.Firsts.{with_named}
+use Rattle.audit_cases.specs.Firsts.{firsts_of}
 use Rattle.audit_cases.specs.Notes.{CaseNote, Table}
 use Rattle.audit_cases.specs.Sayings.{first_naming}
 use Rattle.audit_engine.specs.declared.steps.Found.{Found}
@@ -50,10 +50,6 @@ found_at s c = unwrap_or (lookup (same c) s) Nothing
 abbrev pub AreNamed : Table → Founds → Type 0
 AreNamed notes s = (x : Txn) (t : Ticket) → found_at s (child_case x t) ≡ finds notes x t
 
--- these with what is found of the cases that an entry's case names
-abbrev pub with_entry : Founds → Case × CaseNote → Founds
-with_entry s e = with_named e.0.txn (Kept e.0 (stands_in e.1.kinds)) s e.1.named
-
--- what is found of all, the first that names a ticket before the others
+-- what is found of the cases that the entries name
 abbrev pub namings_of : Table → Founds
-namings_of notes = fold with_entry [] notes
+namings_of notes = firsts_of (λ e. Kept e.0 (stands_in e.1.kinds)) notes

@@ -9,7 +9,7 @@ use Rattle.tree_model.specs.Names.{child_case, same_ticket}
 use Rattle.tree_model.specs.Records.{in_list}
 use Rattle.tree_model.specs.Memory.{is_counted, same_vote, voted_so, works_of}
 use Rattle.tree_model.specs.CoordinatorRows.{Seat, post, prepares}
-use Rattle.core_model.specs.Views.{SameView}
+use Rattle.tree_model.specs.SameViews.{SameView}
 use Rattle.coord_case.specs.declared.child.Child.{Child}
 use Rattle.coord_case.specs.Lives.{Uncounts, accepted_in, are_distinct, changing, is_vote, meant, sending, vote_of, votes_in, voting, works_in}
 use Rattle.coord_case.proofs.Children.{accepted-changing, accepted_in-push, each_two, casts-unvoting, casts-voting, counted_is, map_each, voted-casts, voted_so-push, votes_in-push, works-voting, works_in-push}

@@ -13,10 +13,9 @@ ghost use Rattle.tree_model.specs.Memory.{
 ghost use Rattle.tree_model.specs.Records.{in_list as is_in, none_of as is_none_of};
 ghost use Rattle.tree_model.specs.CoordinatorRows.{awaits as awaits_view, other_tickets as others_in, post, prepares as prepares_to};
 ghost use Rattle.tree_model.specs.Standings.{unknown_view};
-ghost use Rattle.core_model.specs.Views.{SameView};
-ghost use Rattle.core_model.specs.Makes.{open_view};
 ghost use Rattle.coord_case.specs.Lives.{Uncounts, meant};
 ghost use Rattle.tree_model.specs.Names.{child_case as case_of, root_case};
+ghost use Rattle.tree_model.specs.SameViews.{SameView, open_view};
 
 use crate::child::Child;
 use crate::lists::{

@@ -20,14 +20,14 @@ use Rattle.tree_model.specs.declared.messages.Message.TheVariants.{Joined as Joi
 use Rattle.tree_model.specs.CoordinatorRows.{Row, Seat as SeatRow, post, unknown_commit_by}
 use Rattle.tree_model.specs.Reactions.{row_effect, sends_only}
 use Rattle.tree_model.specs.Views.{begin_effect}
+use Rattle.tree_model.specs.SameViews.{SameView, open_view}
 use Rattle.tree_model.proofs.NameTests.{case_tells}
 use Rattle.live_table.specs.Tables.{AreApart, case_of, entry_at, live_value}
 use Rattle.live_table.proofs.Writes.{live_found}
 use Rattle.rec_log.specs.Sights.{Breaks, LogSight, LogState}
-use Rattle.core_model.specs.Views.{SameView}
 use Rattle.core_model.specs.States.{CoreState, SameCore, logged, wrote}
 use Rattle.core_model.specs.Turns.{Says as SaysTurn, Takes as TakesTurn, reacted, seat_in}
-use Rattle.core_model.specs.Makes.{BreaksIn, Makes, NotMade, OpensCase, open_view, retired_by}
+use Rattle.core_model.specs.Makes.{BreaksIn, Makes, NotMade, OpensCase, retired_by}
 use Rattle.core_model.proofs.Alike.{same_view}
 use Rattle.coord_table.specs.declared.held.Held.{Held}
 use Rattle.coord_table.specs.Cases.{Begins, FitsGiven, Gives, Slots, held_view, ticket_in, view_in}

@@ -6,9 +6,9 @@ use Rattle.tree_model.specs.declared.trees.TreeEntry.{TreeEntry}
 use Rattle.tree_model.specs.declared.records.Record.TheVariants.{Opened}
 use Rattle.tree_model.specs.Nodes.{Place}
 use Rattle.tree_model.specs.Standings.{CoordinatorView, unknown_view}
+use Rattle.tree_model.specs.SameViews.{SameView}
 use Rattle.live_table.specs.Tables.{live_value}
 use Rattle.rec_log.specs.Sights.{LogState, records_of}
-use Rattle.core_model.specs.Views.{SameView}
 use Rattle.core_model.specs.Restarting.{recorded_view_at}
 use Rattle.core_model.proofs.Opened.{opened_is_read}
 use Rattle.coord_table.specs.Cases.{Slots, ticket_in, view_in}

@@ -8,6 +8,7 @@ use Rattle.tree_model.specs.declared.records.Record.{Record}
 use Rattle.tree_model.specs.Names.{child_case, root_case}
 use Rattle.tree_model.specs.Restarts.{data_records}
 use Rattle.tree_model.specs.Standings.{CoordinatorView, unknown_branch}
+use Rattle.tree_model.specs.SameViews.{SameView}
 use Rattle.live_table.specs.Tables.{case_of, entry_at}
 use Rattle.log_text.specs.Made.{frame_record}
 use Rattle.log_rules.specs.trim.Trims.{front_of_trim}
@@ -15,7 +16,6 @@ use Rattle.rec_log.specs.Sights.{LogState, NotRestarted as LogNotRestarted, NotR
 use Rattle.rec_log.specs.Trimming.{Trimmed, trim_of}
 use Rattle.rec_log.specs.declared.log.LogError.{LogError}
 use Rattle.rec_log.specs.declared.log.LogError.TheVariants as log_error
-use Rattle.core_model.specs.Views.{SameView}
 use Rattle.core_model.specs.States.{SameButLog, SameCore, logged}
 use Rattle.core_model.specs.Restarting.{NotRestarted, NotTrimmed, Restarts, Trims, read_of, recorded_branch_at, recorded_view_at, restarted_log, trimmed_log}
 use Rattle.core_model.proofs.Alike.{same_view}

@@ -9,8 +9,8 @@ use Rattle.tree_model.specs.Records.{in_list}
 use Rattle.tree_model.specs.Memory.{has_voted, is_counted, same_vote, voted_so, works_of}
 use Rattle.tree_model.specs.Standings.{CoordinatorView}
 use Rattle.tree_model.specs.CoordinatorRows.{Row, collecting_after, collecting_vote}
+use Rattle.tree_model.specs.SameViews.{SameRow, SameView}
 use Rattle.tree_model.proofs.NameTests.{ticket_tells}
-use Rattle.core_model.specs.Views.{SameRow, SameView}
 use Rattle.core_model.proofs.Alike.{collecting_after-same, has_voted-so, row_effect-same}
 use Rattle.coord_rows.specs.declared.effect.RowEffect.{RowEffect}
 use Rattle.coord_rows.specs.declared.seat.Seat.{Seat}

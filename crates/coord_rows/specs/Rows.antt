@@ -17,9 +17,9 @@ use Rattle.tree_model.specs.Nodes.{Written as WrittenRecord, logged_of, reaction
 use Rattle.tree_model.specs.Standings.{CoordinatorView}
 use Rattle.tree_model.specs.CoordinatorRows.{Row, Seat as CaseSeat, Reason as AnyReason, ByVote, ByAct, ByAbort}
 use Rattle.tree_model.specs.Reactions.{row_effect}
+use Rattle.tree_model.specs.SameViews.{SameView}
 use Rattle.log_text.specs.Made.{frame_record}
 use Rattle.rec_log.specs.Sights.{IsRecord}
-use Rattle.core_model.specs.Views.{SameView}
 use Rattle.coord_rows.specs.declared.seat.Seat.{Seat}
 use Rattle.coord_rows.specs.declared.seat.Reason.{Reason}
 use Rattle.coord_rows.specs.declared.seat.Reason.TheVariants.{Vote, Act, Abort}

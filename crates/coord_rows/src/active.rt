@@ -10,7 +10,7 @@ ghost use Rattle.tree_model.specs.CoordinatorRows.{
   active_joined as joined_row,
   active_work as work_row,
 };
-ghost use Rattle.core_model.specs.Views.{SameView};
+ghost use Rattle.tree_model.specs.SameViews.{SameView};
 ghost use Rattle.coord_rows.specs.Rows.{Does, seat as seat_meant};
 
 use crate::effect::{RowEffect, Written};

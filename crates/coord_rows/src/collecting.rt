@@ -12,7 +12,7 @@ ghost use Rattle.tree_model.specs.CoordinatorRows.{
   collecting_vote as vote_row,
   root_commits as commits_row,
 };
-ghost use Rattle.core_model.specs.Views.{SameView};
+ghost use Rattle.tree_model.specs.SameViews.{SameView};
 ghost use Rattle.coord_rows.specs.Rows.{Does, reason as reason_meant, seat as seat_meant};
 
 use crate::deciding::{decides_owed, forgets_behind};

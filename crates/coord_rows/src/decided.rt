@@ -13,7 +13,7 @@ ghost use Rattle.tree_model.specs.CoordinatorRows.{
   unknown_inquiry as presumed_row,
   unknown_prepare as prepare_row,
 };
-ghost use Rattle.core_model.specs.Views.{SameView};
+ghost use Rattle.tree_model.specs.SameViews.{SameView};
 ghost use Rattle.coord_rows.specs.Rows.{Does, seat as seat_meant};
 
 use crate::deciding::forgets_behind;

@@ -7,7 +7,7 @@ ghost use Rattle.tree_model.specs.CoordinatorRows.{
   prepared_commit as commit_row,
   prepared_prepare as prepare_row,
 };
-ghost use Rattle.core_model.specs.Views.{SameView};
+ghost use Rattle.tree_model.specs.SameViews.{SameView};
 ghost use Rattle.coord_rows.specs.Rows.{Does, seat as seat_meant};
 
 use crate::deciding::{decides_owed, forgets_behind};

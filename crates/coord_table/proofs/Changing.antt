@@ -5,8 +5,8 @@ use Rattle.tree_model.specs.declared.names.Case.{Case}
 use Rattle.tree_model.specs.declared.names.Ticket.{Ticket}
 use Rattle.tree_model.specs.Names.{child_case, same_case, same_txn}
 use Rattle.tree_model.specs.Standings.{CoordinatorView}
+use Rattle.tree_model.specs.SameViews.{open_view}
 use Rattle.tree_model.proofs.NameTests.{case_tells, txn_tells}
-use Rattle.core_model.specs.Makes.{open_view}
 use Rattle.live_table.specs.Tables.{AreApart, Inserts, Moves as MovesValue, Removes, Updates, entry_at}
 use Rattle.live_table.proofs.Writes.{Moves-changed, Updates-set, live_at, same_case-itself}
 use Rattle.coord_table.specs.declared.held.Held.{Held}

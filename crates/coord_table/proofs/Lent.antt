@@ -3,9 +3,9 @@ use Rattle.std.proofs.Common.{◌≡◌, ℕ, Option, None, Some, Result, Ok, Er
 use Rattle.std.specs.declared.alloc.AllocError.{AllocError}
 use Rattle.tree_model.specs.declared.names.Case.{Case}
 use Rattle.tree_model.specs.Standings.{CoordinatorView}
+use Rattle.tree_model.specs.SameViews.{SameView}
 use Rattle.live_table.specs.Tables.{AreApart, case_of, entry_at}
 use Rattle.live_table.proofs.Writes.{live_at as value_of_case, same_case-itself}
-use Rattle.core_model.specs.Views.{SameView}
 use Rattle.coord_table.specs.declared.held.Held.{Held}
 use Rattle.coord_table.specs.Cases.{FitsGiven, Slots, held_view, live_at, live_of, view_in}
 use Rattle.coord_table.specs.Lends.{with_live}

@@ -5,10 +5,10 @@ use Rattle.tree_model.specs.declared.names.Case.{Case}
 use Rattle.tree_model.specs.declared.standings.Standing.TheVariants.{Active, Unknown}
 use Rattle.tree_model.specs.Names.{same_case}
 use Rattle.tree_model.specs.Standings.{CoordinatorView, unknown_view}
+use Rattle.tree_model.specs.SameViews.{SameView}
 use Rattle.tree_model.proofs.NameTests.{case_tells}
 use Rattle.live_table.specs.Tables.{case_of, entry_at, is_of_case, live_value}
 use Rattle.live_table.proofs.Writes.{live_found, same_case-itself}
-use Rattle.core_model.specs.Views.{SameView}
 use Rattle.core_model.proofs.Alike.{same_view}
 use Rattle.coord_table.specs.declared.held.Held.{Held}
 use Rattle.coord_table.specs.Cases.{Ends, Relives, Retires, Slots, is_for, live_at, live_of, ticket_in, view_in}

@@ -7,8 +7,8 @@ use Rattle.tree_model.specs.Names.{child_case, same_case, same_txn}
 use Rattle.tree_model.specs.Records.{in_list}
 use Rattle.tree_model.specs.Standings.{CoordinatorView, unknown_view}
 use Rattle.tree_model.specs.Restarts.{is_known}
+use Rattle.tree_model.specs.SameViews.{open_view}
 use Rattle.live_table.specs.Tables.{Updates, entry_at, live_count, live_value}
-use Rattle.core_model.specs.Makes.{open_view}
 use Rattle.coord_table.specs.declared.held.Held.{Held}
 
 -- the slots of the table

@@ -5,8 +5,8 @@ use Rattle.tree_model.specs.declared.names.Ticket.{Ticket}
 use Rattle.tree_model.specs.declared.standings.Standing.TheVariants.{Active}
 use Rattle.tree_model.specs.Names.{child_case, same_case}
 use Rattle.tree_model.specs.Standings.{CoordinatorView, unknown_view}
+use Rattle.tree_model.specs.SameViews.{SameView}
 use Rattle.live_table.specs.Tables.{AreApart, case_of, entry_at, live_value}
-use Rattle.core_model.specs.Views.{SameView}
 use Rattle.coord_table.specs.declared.held.Held.{Held}
 use Rattle.coord_table.specs.Cases.{Ends, FitsGiven, Relives, Retires, Slots, is_for, live_at, ticket_in, view_in}
 use Rattle.coord_rows.specs.declared.seat.Seat.{Seat}

@@ -10,7 +10,7 @@ ghost use Rattle.tree_model.specs.CoordinatorRows.{
   on_vote as vote_row,
 };
 ghost use Rattle.tree_model.specs.Standings.{unknown_view};
-ghost use Rattle.core_model.specs.Views.{SameView};
+ghost use Rattle.tree_model.specs.SameViews.{SameView};
 ghost use Rattle.coord_rows.specs.Rows.{Does, seat as seat_meant};
 ghost use Rattle.coord_table.specs.Asks.{Accepts, asked_row, is_for_any};
 

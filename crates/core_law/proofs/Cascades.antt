@@ -35,6 +35,7 @@ use Rattle.tree_model.specs.Standings.{CoordinatorView, case_of_child, coordinat
 use Rattle.tree_model.specs.CoordinatorRows.{Row, Seat, ByAbort, active_abort, active_commit, active_join, active_joined, active_work, collecting_abort, collecting_vote, decided_ack, on_abort, on_ack, on_commit, on_inquiry, on_joined, on_prepare, on_vote, other_tickets, post, prepared_ask, quiet, sends, unknown_commit_by}
 use Rattle.tree_model.specs.Reactions.{is_passed_over, sends_only}
 use Rattle.tree_model.specs.Views.{vote_message}
+use Rattle.tree_model.specs.SameViews.{SameRow, SameView, open_view}
 use Rattle.tree_model.proofs.AckLaws.{acked, acked_abort, acked_commit, refused_abort, refused_commit}
 use Rattle.tree_model.proofs.BeginLaws.{begun_pure}
 use Rattle.tree_model.proofs.PhaseLaws.{asked_quiet}
@@ -44,9 +45,8 @@ use Rattle.tree_model.proofs.StandingLaws.{active_facts, never_heuristic, not_ac
 use Rattle.tree_model.proofs.TicketLaws.{undecided_owes}
 use Rattle.tree_nodes.proofs.Selves.{Self, issuer_self, joins_self, self_of, self_same}
 use Rattle.rec_log.specs.Sights.{LogSight}
-use Rattle.core_model.specs.Views.{SameRow, SameView}
 use Rattle.core_model.specs.States.{CoreState, wrote}
-use Rattle.core_model.specs.Makes.{open_view, retired_by, retires as retires_ticket}
+use Rattle.core_model.specs.Makes.{retired_by, retires as retires_ticket}
 use Rattle.core_model.specs.Turns.{Finds, Issues, Refuses, Says, Takes, Turn, abort_turn, ack_turn, ask_turn, asked_in, asked_of, cascaded_turn, child_turn, commit_turn, coordinator_act, inquiry_turn, join_turn, joined_turn, live_turn, next_ticket as next_of, vote_turn, work_for_turn, work_turn}
 use Rattle.core_model.proofs.Alike.{active_abort-same, active_commit-same, active_join-same, active_joined-same, active_work-same, collecting_abort-same, on_abort-same, on_ack-same, on_commit-same, on_inquiry-same, on_joined-same, on_prepare-same, on_vote-same, sends-same}
 use Rattle.core_law.specs.Ties.{Stands, StandsUp}

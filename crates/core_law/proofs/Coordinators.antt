@@ -17,12 +17,12 @@ use Rattle.tree_model.specs.Memory.{Memory, active_ticket, memory_of, remembers}
 use Rattle.tree_model.specs.Standings.{CoordinatorView, coordinator_standing, coordinator_view, unknown_branch, view_at as view_by}
 use Rattle.tree_model.specs.CoordinatorRows.{Row}
 use Rattle.tree_model.specs.Reactions.{row_effect, sends_only}
+use Rattle.tree_model.specs.SameViews.{SameRow, SameView}
 use Rattle.tree_model.proofs.ListLaws.{memory_of-after}
 use Rattle.tree_model.proofs.RootViewLaws.{IsOf, quiet_of}
 use Rattle.tree_model.proofs.StandingLaws.{view-after}
 use Rattle.tree_nodes.proofs.Selves.{Self, self_after, self_of, self_remembers}
 use Rattle.rec_log.specs.Sights.{LogSight}
-use Rattle.core_model.specs.Views.{SameRow, SameView}
 use Rattle.core_model.specs.States.{CoreState, wrote}
 use Rattle.core_model.specs.Makes.{TakesRow, retired_by, retires as retires_ticket}
 use Rattle.core_model.specs.Turns.{Refuses, Says, Takes}

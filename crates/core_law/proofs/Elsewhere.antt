@@ -20,10 +20,10 @@ use Rattle.tree_model.specs.Memory.{Asked, Idle, Memory, Open, Over, Phase, has_
 use Rattle.tree_model.specs.Standings.{CoordinatorView, belongs, coordinator_standing, coordinator_view, decided_outcome, own_cases, still_owed, view_at as view_by}
 use Rattle.tree_model.specs.Restarts.{is_known}
 use Rattle.tree_model.specs.Views.{IsOpenAlike, vote_message}
+use Rattle.tree_model.specs.SameViews.{SameView}
 use Rattle.tree_model.proofs.AckLaws.{has_acked-push}
 use Rattle.tree_model.proofs.NameTests.{case_tells, txn_tells}
 use Rattle.tree_model.proofs.StandingLaws.{view_standing}
-use Rattle.core_model.specs.Views.{SameView}
 use Rattle.core_model.specs.States.{CoreState}
 use Rattle.core_model.specs.Turns.{Finds, is_case_of}
 use Rattle.core_law.specs.Ties.{ChildrenFit}

@@ -31,11 +31,11 @@ use Rattle.tree_model.specs.Standings.{CoordinatorView, ManagerView, Unmarked, m
 use Rattle.tree_model.specs.ManagerRows.{Leaf, LeafRow, on_abort, on_commit, on_prepare, on_work, heuristic_forget, prepared_decide, untold_ask}
 use Rattle.tree_model.specs.Reactions.{Does, leaf_effect, leaf_joins, leaf_of, sends_only}
 use Rattle.tree_model.specs.Views.{JoinsBranch, MovesBranch, fresh_case, leaf_place}
+use Rattle.tree_model.specs.SameViews.{SameView}
 use Rattle.tree_model.proofs.ListLaws.{memory_of-after}
 use Rattle.tree_model.proofs.ManagerViewLaws.{Givens, abort_own, commit_own, gives_fresh, gives_heard, givens_of, manager_views, prepare_own, quiet-after, remembers_gives, same_givens, work_writes}
 use Rattle.std.proofs.lemmas.List.{append-nil}
 use Rattle.rec_log.specs.Sights.{LogSight}
-use Rattle.core_model.specs.Views.{SameView}
 use Rattle.core_model.specs.States.{CoreState, wrote}
 use Rattle.core_model.specs.Makes.{HandlesRow, Moves, retired_by, retires as retires_ticket}
 use Rattle.core_model.specs.Turns.{Handles, Issues, Refuses, Says, Turn, childless_turn, decide_turn, forget_turn, leaf_ask_turn, leaf_joined_turn, manager_act, manager_turn, next_ticket as next_of, reacted, untold_turn}

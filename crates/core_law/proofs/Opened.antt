@@ -5,8 +5,8 @@ use Rattle.tree_model.specs.Records.{boot_of, has, none_of, owing_by}
 use Rattle.tree_model.specs.Nodes.{AtLeaf, AtRoot, Below, Place, Role, kept, opened_node}
 use Rattle.tree_model.specs.Memory.{active_ticket, memory_of}
 use Rattle.tree_model.specs.Standings.{coordinator_view, manager_view, mark_of, unknown_branch, unknown_view}
+use Rattle.tree_model.specs.SameViews.{SameView}
 use Rattle.core_model.specs.Laws.{opened_core}
-use Rattle.core_model.specs.Views.{SameView}
 use Rattle.core_model.proofs.Alike.{same_view}
 use Rattle.core_law.specs.Ties.{Stands, branch_at, view_at}
 

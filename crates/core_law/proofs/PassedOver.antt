@@ -25,8 +25,8 @@ use Rattle.tree_model.specs.Restarts.{is_known}
 use Rattle.tree_model.specs.Standings.{CoordinatorView, belongs, case_of_child, coordinator_view, own_cases}
 use Rattle.tree_model.specs.CoordinatorRows.{on_ack, quiet}
 use Rattle.tree_model.specs.Reactions.{Does, is_early_ack, is_passed_over, is_prepared_case, is_prepared_standing}
+use Rattle.tree_model.specs.SameViews.{SameView}
 use Rattle.tree_nodes.proofs.OwnCases.{child_belongs, child_txn}
-use Rattle.core_model.specs.Views.{SameView}
 use Rattle.core_model.specs.States.{CoreState, SameCore}
 use Rattle.core_model.specs.Makes.{Moves, retired_by}
 use Rattle.core_model.specs.Turns.{Finds, Refuses, Takes, Turn, ack_turn, asked_by, asked_of, child_turn, reacted, seat_in, turn_of, up_turn}

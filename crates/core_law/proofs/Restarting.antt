@@ -16,10 +16,10 @@ use Rattle.tree_model.specs.Restarts.{left_of, recorded_branch, recorded_view, r
 use Rattle.tree_model.specs.Standings.{coordinator_standing, coordinator_view, manager_view, marked_branch, mark_of, view_at as standing_view}
 use Rattle.tree_model.specs.declared.records.Branch.TheVariants.{Case as CaseBranch}
 use Rattle.tree_model.specs.World.{fault_effect, node_makes}
+use Rattle.tree_model.specs.SameViews.{SameView}
 use Rattle.rec_log.specs.Sights.{Kept, LogSight, left_by, records_of, record_size, whole_within}
 use Rattle.core_model.specs.Restarting.{NotRestarted, ReadOff, Restarts, read_of, recorded_branch_at, recorded_view_at, reopened, reopening, restarted_log}
 use Rattle.core_model.specs.States.{CoreState, logged, parent}
-use Rattle.core_model.specs.Views.{SameView}
 use Rattle.core_law.specs.Fits.{KeepsOwn}
 use Rattle.core_law.specs.Steps.{BreaksAs, StepsAs, quiet_move, records_kept, restart_of}
 use Rattle.core_law.specs.Ties.{Stands, StandsUp, branch_at, view_at}

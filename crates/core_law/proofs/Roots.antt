@@ -33,12 +33,12 @@ use Rattle.tree_model.specs.Standings.{CoordinatorView, coordinator_view, some_c
 use Rattle.tree_model.specs.CoordinatorRows.{Row, Seat, ByAct, active_abort, active_commit, active_join, active_work, collecting_abort, on_ack, on_inquiry, on_joined, on_vote, post, prepared_ask, quiet, sends}
 use Rattle.tree_model.specs.Reactions.{row_effect}
 use Rattle.tree_model.specs.Views.{begin_effect, next_begun, root_place, root_seat, vote_message}
+use Rattle.tree_model.specs.SameViews.{SameRow, SameView}
 use Rattle.tree_model.proofs.BeginLaws.{root_begins, same_begun}
 use Rattle.tree_model.proofs.NameTests.{case_tells}
 use Rattle.tree_model.proofs.RootViewLaws.{IsOf, root_views}
 use Rattle.tree_nodes.proofs.Selves.{Self, root_self, self_after, self_is, self_of}
 use Rattle.rec_log.specs.Sights.{LogSight}
-use Rattle.core_model.specs.Views.{SameRow, SameView}
 use Rattle.core_model.specs.States.{CoreState, wrote}
 use Rattle.core_model.specs.Makes.{retired_by}
 use Rattle.core_model.specs.Turns.{Begins, Finds, Refuses, Says, Takes, Turn, abort_turn, ack_turn, ask_turn, asked_in, asked_of, child_says, child_turn, commit_turn, coordinator_act, inquiry_turn, join_turn, live_turn, next_begun as begun_next, vote_turn, work_for_turn, work_turn}

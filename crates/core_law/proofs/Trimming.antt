@@ -12,12 +12,12 @@ use Rattle.tree_model.specs.Nodes.{AtLeaf, AtRoot, Below, Node, Place, Role, kep
 use Rattle.tree_model.specs.Records.{boot_of}
 use Rattle.tree_model.specs.Restarts.{trim_effect, trim_fails, trimmed, trims}
 use Rattle.tree_model.specs.World.{Refuses, fault_effect, node_makes, trim_makes}
+use Rattle.tree_model.specs.SameViews.{SameView}
 use Rattle.tree_nodes.proofs.Boots.{trimmed_boot, trims_memory}
 use Rattle.rec_log.specs.Sights.{Kept, LogSight, records_of}
 use Rattle.log_rules.specs.reads.ReadTrims.{Coordinates}
 use Rattle.core_model.specs.Restarting.{NotTrimmed, Trims, trimmed_log}
 use Rattle.core_model.specs.States.{CoreState, logged, parent}
-use Rattle.core_model.specs.Views.{SameView}
 use Rattle.core_law.specs.Fits.{HasOpened, KeepsOwn, OpenFits}
 use Rattle.core_law.specs.Steps.{BreaksAs, IsSoundLog, StepsAs, quiet_move, trim_reaction}
 use Rattle.core_law.specs.Ties.{Stands, StandsUp, branch_at, view_at}

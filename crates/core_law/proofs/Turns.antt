@@ -23,7 +23,7 @@ use Rattle.tree_model.specs.Standings.{CoordinatorView, case_of_child, coordinat
 use Rattle.tree_model.specs.CoordinatorRows.{on_abort, on_ack, on_commit, on_inquiry, on_joined, on_prepare, on_vote, post, tells_outcome}
 use Rattle.tree_model.specs.ManagerRows as leaf
 use Rattle.tree_model.specs.Reactions.{Does, Refused, ack_for, act_is_listed, acts, cascaded_hears, coordinator_acts, handles, hears, hears_from_child, inquiry_for, joins_with, leaf_joins, leaf_of, manager_hears, reacts, row_effect, seat_of, sends_only, vote_for}
-use Rattle.core_model.specs.Views.{SameView}
+use Rattle.tree_model.specs.SameViews.{SameView}
 use Rattle.core_model.specs.States.{CoreState, SameCore, parent}
 use Rattle.core_model.specs.Turns.{Finds, Handles, Refuses, Says, Takes, Turn, act_turn, ack_turn, asked_by, asked_in, asked_of, cascaded_turn, child_says, child_turn, inquiry_turn, joined_turn, leaf_joined_turn, manager_turn, message_turn, next_ticket as next_ticket_of, reacted, seat_in, turn_of, up_turn, vote_turn}
 use Rattle.core_model.proofs.AlikeTurns.{finds-alike, same_cores_up}

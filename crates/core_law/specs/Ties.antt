@@ -9,7 +9,7 @@ use Rattle.tree_model.specs.Nodes.{Role, AtLeaf, Node, Place, kept}
 use Rattle.tree_model.specs.Memory.{active_ticket, memory_of}
 use Rattle.tree_model.specs.Standings.{CoordinatorView, ManagerView, belongs, coordinator_view, manager_view, own_cases, unknown_branch, unknown_view}
 use Rattle.tree_model.specs.Restarts.{is_known}
-use Rattle.core_model.specs.Views.{SameView}
+use Rattle.tree_model.specs.SameViews.{SameView}
 use Rattle.core_model.specs.States.{CoreState, logged}
 
 -- how a case stands at a coordinator, read off its lists; a manager has no such views

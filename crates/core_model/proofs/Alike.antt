@@ -23,8 +23,8 @@ use Rattle.tree_model.specs.Memory.{all_voted, has_child, has_voted, is_counted,
 use Rattle.tree_model.specs.Standings.{CoordinatorView, unknown_view}
 use Rattle.tree_model.specs.CoordinatorRows.{Reason, Row, Seat, ByVote, ByAbort, active_abort, active_commit, active_commit_alone, active_commit_with, active_join, active_joined, active_work, awaits, collecting_abort, collecting_abort_by, collecting_after, collecting_full, collecting_read_only, collecting_vote, decided_ack, decided_ack_by, decides, on_abort, on_ack, on_commit, on_inquiry, on_joined, on_prepare, on_vote, other_tickets, post, prepared_abort_by, prepared_commit_by, prepares, quiet, root_commits, sends, unknown_commit_by}
 use Rattle.tree_model.specs.Reactions.{row_effect}
+use Rattle.tree_model.specs.SameViews.{SameRow, SameView}
 use Rattle.tree_model.proofs.NameTests.{ticket_tells}
-use Rattle.core_model.specs.Views.{SameRow, SameView}
 
 pub same_view : (v : CoordinatorView) → SameView v v
 same_view v = record {

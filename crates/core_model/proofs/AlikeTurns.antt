@@ -26,7 +26,7 @@ use Rattle.tree_model.specs.Memory.{of_ticket, ticket_of_child}
 use Rattle.tree_model.specs.Standings.{CoordinatorView}
 use Rattle.tree_model.specs.CoordinatorRows.{ByAct, Row, Seat, active_join, active_work, on_abort, on_ack, on_commit, on_inquiry, on_joined, on_prepare, on_vote}
 use Rattle.tree_model.specs.Reactions.{Does, act_is_listed}
-use Rattle.core_model.specs.Views.{SameRow, SameView}
+use Rattle.tree_model.specs.SameViews.{SameRow, SameView}
 use Rattle.core_model.specs.States.{CoreState, SameCore}
 use Rattle.core_model.specs.Turns.{Finds, Refuses, Says, Takes, Turn, abort_turn, act_turn, ack_turn, ask_turn, cascaded_turn, child_says, commit_turn, coordinator_act, inquiry_turn, is_case_of, join_turn, live_turn, message_turn, reacted, seat_in, turn_of, up_turn, vote_turn, work_for_turn, work_turn}
 use Rattle.core_model.proofs.Alike.{active_abort-same, active_commit-same, active_join-same, active_work-same, collecting_abort-same, on_abort-same, on_ack-same, on_commit-same, on_inquiry-same, on_joined-same, on_prepare-same, on_vote-same, row_effect-same, sends-same}

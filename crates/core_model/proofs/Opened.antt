@@ -6,7 +6,7 @@ use Rattle.tree_model.specs.Nodes.{AtLeaf, AtRoot, Below, Place, Role}
 use Rattle.tree_model.specs.Records.{boot_of, has, none_of, owing_by}
 use Rattle.tree_model.specs.Standings.{mark_of, unknown_branch, unknown_view}
 use Rattle.tree_model.specs.Restarts.{recorded_branch, recorded_view}
-use Rattle.core_model.specs.Views.{SameView}
+use Rattle.tree_model.specs.SameViews.{SameView}
 use Rattle.core_model.specs.Laws.{opened_core}
 use Rattle.core_model.specs.Restarting.{ReadOff, recorded_branch_at, recorded_view_at}
 use Rattle.core_model.proofs.Alike.{same_view}

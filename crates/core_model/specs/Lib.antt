@@ -1,4 +1,3 @@
-pub mod Views
 pub mod States
 pub mod Turns
 pub mod Makes

@@ -1,5 +1,5 @@
 -- What a turn makes of a process, and what a refusal and a fault leave of it.
-use Rattle.std.specs.Prelude.{◌≡◌, ◌+◌, Bool, false, if◌then◌else◌, Option, Some, None, List, []}
+use Rattle.std.specs.Prelude.{◌≡◌, ◌+◌, Bool, false, if◌then◌else◌, Option, Some, None, List}
 use Rattle.tree_model.specs.declared.names.Case.{Case}
 use Rattle.tree_model.specs.declared.names.Ticket.{Ticket}
 use Rattle.tree_model.specs.declared.names.Txn.{Txn}
@@ -15,12 +15,12 @@ use Rattle.tree_model.specs.declared.events.StepError.TheVariants.{Memory, Devic
 use Rattle.tree_model.specs.declared.records.Record.{Record}
 use Rattle.tree_model.specs.Names.{same_case, child_case, root_case}
 use Rattle.tree_model.specs.Nodes.{Role, AtLeaf, DataAnswer, Effect, entries_written, reaction_of}
-use Rattle.tree_model.specs.Standings.{CoordinatorView, ManagerView}
+use Rattle.tree_model.specs.Standings.{ManagerView}
 use Rattle.tree_model.specs.CoordinatorRows.{Row}
 use Rattle.tree_model.specs.ManagerRows.{LeafRow}
 use Rattle.tree_model.specs.Reactions.{Does}
+use Rattle.tree_model.specs.SameViews.{SameView, open_view}
 use Rattle.rec_log.specs.Sights.{LogSight, LogState, Breaks}
-use Rattle.core_model.specs.Views.{SameView}
 use Rattle.core_model.specs.States.{CoreState, SameCore, log_behind, logged}
 use Rattle.core_model.specs.Turns.{Turn, Refuses, Begins, Issues, Takes, Handles, Says, Finds, asked_by, reacted, turn_of}
 
@@ -62,11 +62,6 @@ pub record HandlesRow (old new : CoreState) (i : Input) (c : Case) (row : LeafRo
   pub begun : new.begun ≡ old.begun
   pub given : new.given ≡ old.given
   pub stays : Stays old new i
-
--- a case that takes children and work, and has none
-abbrev pub open_view : CoordinatorView
-open_view =
-    record { standing = Active; accepted = []; votes = []; works = []; promised = []; named = []; owed = [] }
 
 -- a branch that was joined, and did no work
 abbrev pub open_branch : ManagerView

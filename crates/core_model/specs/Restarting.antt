@@ -12,9 +12,9 @@ use Rattle.tree_model.specs.Records.{boot_of}
 use Rattle.tree_model.specs.Nodes.{Role, AtLeaf, Effect, reaction_of}
 use Rattle.tree_model.specs.Standings.{CoordinatorView, ManagerView, unknown_branch, unknown_view}
 use Rattle.tree_model.specs.Restarts.{data_records, forced_all, recorded_branch, recorded_view, reopens, resumes}
+use Rattle.tree_model.specs.SameViews.{SameView}
 use Rattle.rec_log.specs.Trimming.{front_of_trim}
 use Rattle.rec_log.specs.Sights.{RestartBreaks, left_by, records_of}
-use Rattle.core_model.specs.Views.{SameView}
 use Rattle.core_model.specs.States.{CoreState, SameButLog, SameCore, forced_sight, logged}
 use Rattle.core_model.specs.Makes.{seen}
 

@@ -9,8 +9,8 @@ use Rattle.tree_model.specs.declared.records.Record.{Record}
 use Rattle.tree_model.specs.LogNames.{in_log, parent_of}
 use Rattle.tree_model.specs.Nodes.{Place, Written, entries_written, is_any_forced}
 use Rattle.tree_model.specs.Standings.{CoordinatorView, ManagerView}
+use Rattle.tree_model.specs.SameViews.{SameView}
 use Rattle.rec_log.specs.Sights.{LogSight, records_of}
-use Rattle.core_model.specs.Views.{SameView}
 
 -- Where it sits; its log; its boot; how many transactions it began and how many tickets it gave in this boot;
 -- the active ticket that was given to a parent's case; and how each case stands, which is Unknown where it is

@@ -6,7 +6,7 @@ use Rattle.tree_model.specs.Names.{same_case}
 use Rattle.tree_model.specs.ManagerRows.{LeafRow}
 use Rattle.tree_model.specs.Reactions.{leaf_effect}
 use Rattle.tree_model.specs.Standings.{unknown_view}
-use Rattle.core_model.specs.Views.{SameView}
+use Rattle.tree_model.specs.SameViews.{SameView}
 use Rattle.core_model.specs.States.{SameCore, log_behind}
 use Rattle.core_model.specs.Turns.{Handles}
 use Rattle.core_model.specs.Makes.{retired_by}

@@ -15,9 +15,6 @@ fn opened(alloc: Global, refuses: bool) -> Result<Subordinate<FakeManager>, Allo
     Ok(Subordinate::open(alloc, CHILD, ProcessId(1), tree, manager))
 }
 
-// These say nothing of the process that they leave, and are for any manager, so that the proof of a test
-// stays short.
-
 /// The vote that a process gives, if that is all it sends.
 fn vote_in(reaction: &Reaction) -> Option<Vote> {
     match reaction.messages.as_slice() {
@@ -30,6 +27,9 @@ fn vote_in(reaction: &Reaction) -> Option<Vote> {
         _ => None,
     }
 }
+
+// These say nothing of the process that they leave, and are for any manager, so that the proof of a test
+// stays short.
 
 fn heard<M: ResourceManager>(
     player: &mut Subordinate<M>,

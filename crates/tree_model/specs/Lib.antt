@@ -19,5 +19,6 @@ pub mod World
 pub mod Outcomes
 pub mod Plays
 pub mod Views
+pub mod SameViews
 pub mod Counts
 pub mod Rows

@@ -8,8 +8,8 @@ use Rattle.tree_model.specs.Memory.{active_ticket, memory_of}
 use Rattle.tree_model.specs.Standings.{coordinator_view, manager_view}
 use Rattle.tree_model.specs.Restarts.{recorded_branch, recorded_view}
 use Rattle.tree_model.specs.World.{journal_of, opened_world, opens}
+use Rattle.tree_model.specs.SameViews.{SameView}
 use Rattle.rec_log.specs.Sights.{LogSight}
-use Rattle.core_model.specs.Views.{SameView}
 use Rattle.core_model.specs.States.{CoreState}
 use Rattle.core_model.specs.Opening.{IsOpened as OpensAt}
 use Rattle.core_model.specs.Restarting.{recorded_branch_at, recorded_view_at}

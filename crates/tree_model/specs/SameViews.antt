@@ -1,7 +1,8 @@
 -- When two views of a coordinator say the same, so that a core may keep counters where the definitions keep
 -- lists.
-use Rattle.std.specs.Prelude.{◌≡◌}
+use Rattle.std.specs.Prelude.{◌≡◌, []}
 use Rattle.tree_model.specs.declared.names.Ticket.{Ticket}
+use Rattle.tree_model.specs.declared.standings.Standing.TheVariants.{Active}
 use Rattle.tree_model.specs.declared.standings.Vote.{Vote}
 use Rattle.tree_model.specs.Records.{in_list}
 use Rattle.tree_model.specs.Memory.{voted_so, works_of}
@@ -27,3 +28,8 @@ pub record SameRow (r q : Row) : Type 0 where
   pub accepts : r.accepts ≡ q.accepts
   pub counts : r.counts ≡ q.counts
   pub view : SameView r.view q.view
+
+-- a case that takes children and work, and has none
+abbrev pub open_view : CoordinatorView
+open_view =
+    record { standing = Active; accepted = []; votes = []; works = []; promised = []; named = []; owed = [] }
