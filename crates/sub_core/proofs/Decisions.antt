@@ -30,8 +30,8 @@ use Rattle.manager_model.specs.Sights.{ManagerSight}
 use Rattle.manager_model.specs.Deciding.{decision_writes}
 use Rattle.manager_model.specs.Ends.{decided_behind, row_for, row_of, tells, written_by}
 use Rattle.sub_deeds.specs.Deeds.{Comes, Decides, Finishes, NotDecided, NotFinished, Wrote, outcome_call}
-use Rattle.sub_table.specs.declared.branch.Branch.{Branch}
-use Rattle.sub_table.specs.declared.branch.Stage.TheVariants.{Heuristic}
+use Rattle.sub_branch.specs.declared.branch.Branch.{Branch}
+use Rattle.sub_branch.specs.declared.branch.Stage.TheVariants.{Heuristic}
 use Rattle.sub_table.specs.Tables.{BranchTable, IsKept, Notes, Retires, kept_view, nothing, ticket_in, view_in}
 use Rattle.sub_core.specs.Subordinates.{Hears, IsAt, IsNamed, IsTied, NotHeard, NotTurned, OthersWriteNothing, SubState, Turns, Writes, core_of, decided, decision_kind, logged_alone, outcome_reply, prepared, turn_for}
 use Rattle.sub_deeds.specs.Replies.{shown}

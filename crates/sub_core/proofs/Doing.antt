@@ -18,9 +18,9 @@ use Rattle.live_table.specs.Tables.{Moves}
 use Rattle.manager_model.specs.Sights.{ManagerSight}
 use Rattle.sub_deeds.specs.Deeds.{Idles, Works, Wrote}
 use Rattle.tree_model.specs.Plays.{op_writes}
-use Rattle.sub_table.specs.declared.branch.Branch.{Branch}
-use Rattle.sub_table.specs.declared.branch.Stage.{Stage}
-use Rattle.sub_table.specs.declared.branch.Stage.TheVariants.{Active}
+use Rattle.sub_branch.specs.declared.branch.Branch.{Branch}
+use Rattle.sub_branch.specs.declared.branch.Stage.{Stage}
+use Rattle.sub_branch.specs.declared.branch.Stage.TheVariants.{Active}
 use Rattle.sub_table.specs.Tables.{BranchTable, Notes, kept_view, stage_view, ticket_in}
 use Rattle.sub_core.specs.Subordinates.{Hears, IsAt, IsTied, SubState, Turns, active, core_of, takes_work, turn_for, written_behind, xid_of}
 use Rattle.sub_deeds.specs.Replies.{shown}

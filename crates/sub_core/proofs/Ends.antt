@@ -25,7 +25,7 @@ use Rattle.manager_model.specs.Sights.{ManagerSight}
 use Rattle.manager_model.specs.Ends.{logged_under, state_of, written_by, written_for}
 use Rattle.live_table.specs.Tables.{Moves}
 use Rattle.sub_deeds.specs.Deeds.{NotDone, NotFinished}
-use Rattle.sub_table.specs.declared.branch.Branch.{Branch}
+use Rattle.sub_branch.specs.declared.branch.Branch.{Branch}
 use Rattle.sub_table.specs.Tables.{BranchTable, Retires, retired_at, ticket_in}
 use Rattle.sub_core.specs.Subordinates.{IsAt, IsGiven, IsNamed, IsTied, NotTurned, SubState, core_of}
 use Rattle.sub_core.proofs.Ties.{behind, same_tied, still_tied}

@@ -23,7 +23,7 @@ use Rattle.core_model.specs.States.{SameCore}
 use Rattle.core_model.specs.Turns.{Issues, Says, Turn, leaf_joined_turn, next_ticket}
 use Rattle.manager_model.specs.Sights.{ManagerSight, SameManager}
 use Rattle.sub_deeds.specs.Deeds.{Begins, HasBegun, starts}
-use Rattle.sub_table.specs.declared.branch.Branch.{Branch}
+use Rattle.sub_branch.specs.declared.branch.Branch.{Branch}
 use Rattle.sub_table.specs.Tables.{BranchTable, Opens, SameTable, branch_in, kept_view, opened, ticket_in}
 use Rattle.sub_core.specs.Subordinates.{AgreesWith, Hears, IsGiven, IsNamed, IsTied, Joins, SubState, Turns, core_of, next_case, stage_state, xid_of}
 use Rattle.sub_deeds.specs.Replies.{shown}

@@ -24,9 +24,9 @@ use Rattle.manager_model.specs.Sights.{ManagerSight}
 use Rattle.xa_heur.specs.declared.decision.Decision.{Decision}
 use Rattle.manager_model.specs.Ends.{written_by}
 use Rattle.sub_deeds.specs.Deeds.{Finishes, NotFinished, can_roll_back}
-use Rattle.sub_table.specs.declared.branch.Branch.{Branch}
-use Rattle.sub_table.specs.declared.branch.Stage.{Stage}
-use Rattle.sub_table.specs.declared.branch.Stage.TheVariants.{Active, Heuristic, Prepared}
+use Rattle.sub_branch.specs.declared.branch.Branch.{Branch}
+use Rattle.sub_branch.specs.declared.branch.Stage.{Stage}
+use Rattle.sub_branch.specs.declared.branch.Stage.TheVariants.{Active, Heuristic, Prepared}
 use Rattle.sub_table.specs.Tables.{BranchTable, IsGivenFor, IsKept, Retires, branch_in, has_promised, kept_view, nothing, retired_at, ticket_in}
 use Rattle.sub_core.specs.Subordinates.{Hears, IsAt, IsTied, NotHeard, NotTurned, OthersWriteNothing, SubState, Turns, Writes, active, core_of, prepared, stage_state, turn_for, xid_of}
 use Rattle.sub_deeds.specs.Replies.{shown}

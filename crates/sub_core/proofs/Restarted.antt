@@ -31,15 +31,15 @@ use Rattle.manager_model.specs.Restarting.{RestartFails, Restarts as ManagerRest
 use Rattle.manager_model.specs.Sights.{Calls, ManagerSight}
 use Rattle.sub_deeds.specs.Deeds.{IsIdle}
 use Rattle.sub_deeds.proofs.Quiet.{same_idle}
-use Rattle.sub_restart.specs.declared.rebuilt.Rebuilt.{Rebuilt}
-use Rattle.sub_restart.specs.Rebuilt.{IsLeft, Rebuilds, leaf}
-use Rattle.sub_restart.proofs.Booting.{boot_branch, boot_last, boot_read, boot_resumes}
-use Rattle.sub_restart.proofs.Marks.{boots_alike, marks_alike}
-use Rattle.sub_restart.proofs.Steps.{left_xid}
+use Rattle.sub_table.specs.declared.rebuilt.Rebuilt.{Rebuilt}
+use Rattle.sub_table.specs.Rebuilt.{IsLeft, Rebuilds, leaf}
+use Rattle.sub_table.proofs.Booting.{boot_branch, boot_last, boot_read, boot_resumes}
+use Rattle.sub_table.proofs.Marks.{boots_alike, marks_alike}
+use Rattle.sub_table.proofs.Steps.{left_xid}
 use Rattle.sub_core.proofs.Told.{left_mark, left_state, told_by_mark}
-use Rattle.sub_table.specs.declared.branch.Branch.{Branch}
-use Rattle.sub_table.specs.declared.branch.Stage.{Stage}
-use Rattle.sub_table.specs.declared.branch.Stage.TheVariants.{Active, Heuristic, Prepared}
+use Rattle.sub_branch.specs.declared.branch.Branch.{Branch}
+use Rattle.sub_branch.specs.declared.branch.Stage.{Stage}
+use Rattle.sub_branch.specs.declared.branch.Stage.TheVariants.{Active, Heuristic, Prepared}
 use Rattle.sub_core.specs.Subordinates.{AgreesWith, IsGiven, IsNamed, IsTied, SubState, core_of, stage_state}
 use Rattle.sub_core.proofs.Joins.{is_real}
 use Rattle.sub_core.proofs.Opened.{bare_quiet}

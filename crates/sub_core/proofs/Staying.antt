@@ -19,10 +19,11 @@ use Rattle.rec_log.specs.Sights.{LogSight}
 use Rattle.core_model.specs.States.{log_behind, wrote}
 use Rattle.core_model.specs.Turns.{Handles, Turn, leaf_in}
 use Rattle.core_model.specs.Makes.{retired_by}
-use Rattle.sub_table.specs.declared.branch.Branch.{Branch}
-use Rattle.sub_table.specs.declared.branch.Stage.{Stage}
-use Rattle.sub_table.specs.declared.branch.Stage.TheVariants.{Active, Heuristic, Prepared}
-use Rattle.sub_table.specs.Tables.{BranchTable, IsKept, branch_in, kept_view, retired_at, takes, ticket_in, view_in}
+use Rattle.sub_branch.specs.declared.branch.Branch.{Branch}
+use Rattle.sub_branch.specs.declared.branch.Stage.{Stage}
+use Rattle.sub_branch.specs.declared.branch.Stage.TheVariants.{Active, Heuristic, Prepared}
+use Rattle.sub_branch.specs.Stages.{takes}
+use Rattle.sub_table.specs.Tables.{BranchTable, IsKept, branch_in, kept_view, retired_at, ticket_in, view_in}
 use Rattle.sub_core.specs.Subordinates.{Hears, IsAt, SubState, Turns, Writes, active, core_of, decided, prepared, takes_work, turn_for, xid_of}
 use Rattle.sub_deeds.specs.Replies.{shown}
 use Rattle.sub_core.proofs.Ties.{one}

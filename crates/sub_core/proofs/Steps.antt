@@ -21,10 +21,11 @@ use Rattle.tree_model.specs.ManagerRows.{Leaf, untold_ask}
 use Rattle.tree_model.specs.Reactions.{act_is_listed, sends_only}
 use Rattle.core_model.specs.Turns.{Finds, Handles, Refuses, Says, Turn, asked_by, asked_in, leaf_ask_turn, leaf_in, reacted, turn_of, up_turn}
 use Rattle.core_model.specs.Makes.{Makes, NotMade}
-use Rattle.sub_table.specs.declared.branch.Branch.{Branch}
-use Rattle.sub_table.specs.declared.branch.Stage.{Stage}
-use Rattle.sub_table.specs.declared.branch.Stage.TheVariants.{Active, Heuristic, Prepared}
-use Rattle.sub_table.specs.Tables.{awaits, branch_in, kept_view, stage_view, ticket_in}
+use Rattle.sub_branch.specs.declared.branch.Branch.{Branch}
+use Rattle.sub_branch.specs.declared.branch.Stage.{Stage}
+use Rattle.sub_branch.specs.declared.branch.Stage.TheVariants.{Active, Heuristic, Prepared}
+use Rattle.sub_branch.specs.Stages.{awaits}
+use Rattle.sub_table.specs.Tables.{branch_in, kept_view, stage_view, ticket_in}
 use Rattle.sub_core.specs.Subordinates.{Hears, NotHeard, NotTurned, SubState, Turns, Writes, core_of, turn_for}
 use Rattle.sub_deeds.specs.Replies.{shown}
 use Rattle.sub_core.specs.Steps.{Acts, Leaves, NotActed, data_answer, is_refusal, turn_at}

@@ -18,7 +18,7 @@ use Rattle.live_table.proofs.Writes.{same_case-itself}
 use Rattle.manager_model.specs.Sights.{ManagerSight, SameManager}
 use Rattle.sub_deeds.specs.Deeds.{Comes, IsIdle}
 use Rattle.sub_deeds.proofs.Quiet.{same_idle}
-use Rattle.sub_table.specs.declared.branch.Branch.{Branch}
+use Rattle.sub_branch.specs.declared.branch.Branch.{Branch}
 use Rattle.sub_table.specs.Tables.{BranchTable, branch_in}
 use Rattle.sub_core.specs.Subordinates.{AgreesWith, IsGiven, IsNamed, IsTied, SubState, stage_state}
 

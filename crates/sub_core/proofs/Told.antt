@@ -11,10 +11,10 @@ use Rattle.tree_model.specs.Standings.{Decided, Finished, Mark, Promised, ToldOf
 use Rattle.xa_heur.specs.declared.decision.Decision.{Decision}
 use Rattle.xa_heur.specs.Decisions.{decision_after, decision_of}
 use Rattle.manager_model.specs.Restarting.{marked_state}
-use Rattle.sub_table.specs.declared.branch.Branch.{Branch}
-use Rattle.sub_table.specs.declared.branch.Stage.TheVariants.{Heuristic, Prepared}
-use Rattle.sub_restart.specs.Rebuilt.{branch_left, kept_at}
-use Rattle.sub_restart.proofs.Steps.{mark_told}
+use Rattle.sub_branch.specs.declared.branch.Branch.{Branch}
+use Rattle.sub_branch.specs.declared.branch.Stage.TheVariants.{Heuristic, Prepared}
+use Rattle.sub_table.specs.Rebuilt.{branch_left, kept_at}
+use Rattle.sub_table.proofs.Steps.{mark_told}
 use Rattle.sub_core.specs.Subordinates.{stage_state}
 
 -- a mark and what is known of the decision say the same of what the branch was told

@@ -33,7 +33,7 @@ use Rattle.manager_model.specs.Sights.{ManagerSight, SameManager}
 use Rattle.manager_model.specs.declared.errors.TrimError.{TrimError}
 use Rattle.manager_model.specs.declared.errors.TrimError.TheVariants as trim_error
 use Rattle.manager_model.specs.Trimming.{NotTrimmed as NotTrimmedBy, TrimFails, Trims as ManagerTrims, trimmed, unnamed}
-use Rattle.sub_restart.specs.Rebuilt.{leaf}
+use Rattle.sub_table.specs.Rebuilt.{leaf}
 use Rattle.sub_core.specs.Subordinates.{SubState, core_of}
 use Rattle.sub_core.proofs.Ties.{behind}
 

@@ -29,7 +29,7 @@ use Rattle.manager_model.specs.Sights.{ManagerSight}
 use Rattle.xa_heur.specs.declared.decision.Decision.{Decision}
 use Rattle.manager_model.specs.Ends.{prepare_row, written_by}
 use Rattle.sub_deeds.specs.Deeds.{Finishes, NotFinished, vote_of}
-use Rattle.sub_table.specs.declared.branch.Branch.{Branch}
+use Rattle.sub_branch.specs.declared.branch.Branch.{Branch}
 use Rattle.sub_table.specs.Tables.{BranchTable, Retires, kept_view, nothing, promised, retired_at, ticket_in}
 use Rattle.sub_core.specs.Subordinates.{Hears, IsAt, IsTied, NotHeard, NotTurned, SubState, Turns, active, core_of, turn_for, xid_of}
 use Rattle.sub_deeds.specs.Replies.{shown}

@@ -42,11 +42,12 @@ use Rattle.core_model.specs.Turns.{Refuses, Turn, manager_turn, next_ticket, rea
 use Rattle.core_model.specs.Makes.{BreaksIn, IssuesTicket, Moves}
 use Rattle.manager_model.specs.Sights.{ManagerSight}
 use Rattle.sub_deeds.specs.Deeds.{IsIdle, Wrote, starts}
-use Rattle.sub_table.specs.declared.branch.Branch.{Branch}
-use Rattle.sub_table.specs.declared.branch.Stage.{Stage}
-use Rattle.sub_table.specs.declared.branch.Stage.TheVariants.{Active, Heuristic, Prepared}
+use Rattle.sub_branch.specs.declared.branch.Branch.{Branch}
+use Rattle.sub_branch.specs.declared.branch.Stage.{Stage}
+use Rattle.sub_branch.specs.declared.branch.Stage.TheVariants.{Active, Heuristic, Prepared}
 use Rattle.live_table.specs.Tables.{entry_at}
-use Rattle.sub_table.specs.Tables.{BranchTable, branch_in, takes, ticket_in, view_in}
+use Rattle.sub_branch.specs.Stages.{takes}
+use Rattle.sub_table.specs.Tables.{BranchTable, branch_in, ticket_in, view_in}
 
 -- what a subordinate is: where it sits, how many tickets it gave in this boot, its live branches, and its
 -- manager

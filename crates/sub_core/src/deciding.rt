@@ -14,7 +14,7 @@ use crate::subordinate::{Subordinate, find_branch};
 use manager_model::ResourceManager;
 use std::alloc::{AllocError, Global};
 use sub_deeds::{decide, forget, logged, silence, tell};
-use sub_table::Stage;
+use sub_branch::Stage;
 use tree_model::{Case, Outcome, Reaction, RecordKind, StepError};
 use xa_xid::Xid;
 

@@ -8,7 +8,7 @@ use crate::ending::acknowledges;
 use crate::subordinate::{Subordinate, find_branch};
 use manager_model::ResourceManager;
 use sub_deeds::{reply, silence};
-use sub_table::Stage;
+use sub_branch::Stage;
 use tree_model::{Case, Message, Outcome, Reaction, StepError};
 
 impl<M: ResourceManager> Subordinate<M> {

@@ -5,7 +5,7 @@ ghost use Rattle.std.specs.Prelude.{◌≡◌, ◌∷◌, ◌+◌, [], true, IfE
 ghost use Rattle.core_model.specs.Restarting.{NotRestarted, NotTrimmed, Restarts, Trims};
 ghost use Rattle.manager_model.specs.Restarting.{NotRestarted as NotReopened};
 ghost use Rattle.rec_log.specs.Sights.{left_by};
-ghost use Rattle.sub_restart.specs.Rebuilt.{Rebuilds, leaf};
+ghost use Rattle.sub_table.specs.Rebuilt.{Rebuilds, leaf};
 ghost use Rattle.sub_core.specs.Subordinates.{seen};
 ghost use Rattle.sub_core.specs.Steps.{LeavesPromises, Reopens, state};
 ghost use Rattle.tree_model.specs.declared.records.RecordKind.TheVariants as kind;
@@ -14,7 +14,7 @@ ghost use Rattle.tree_model.specs.declared.records.Subject.TheVariants as subjec
 use crate::subordinate::Subordinate;
 use manager_model::{ResourceManager, RestartError, TrimError};
 use std::alloc::{AllocError, Global};
-use sub_restart::{Rebuilt, rebuild};
+use sub_table::{Rebuilt, rebuild};
 use tree_model::{Logged, Reaction, RecordKind, Sequence, StepError, Subject};
 use xa_codes::Flags;
 

@@ -13,7 +13,8 @@ ghost use Rattle.sub_core.specs.Steps.{state};
 use manager_model::ResourceManager;
 use std::alloc::Global;
 use std::marker::Model;
-use sub_table::{Branch, Branches, Stage};
+use sub_branch::{Branch, Stage};
+use sub_table::Branches;
 use tree_model::{Case, ProcessId, Standing, Tree};
 use xa_codes::Flags;
 

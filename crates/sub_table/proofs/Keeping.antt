@@ -9,9 +9,9 @@ use Rattle.tree_model.proofs.NameTests.{case_tells}
 use Rattle.live_table.specs.Tables.{AreApart, Inserts, Moves, Removes, Updates, entry_at, live_value}
 use Rattle.live_table.specs.Lends.{rewritten, with_value}
 use Rattle.live_table.proofs.Writes.{Moves-changed, Updates-set, apart_changed, apart_inserted, apart_removed, live_at, same_case-itself}
-use Rattle.sub_table.specs.declared.branch.Branch.{Branch}
-use Rattle.sub_table.specs.declared.branch.Stage.{Stage}
-use Rattle.sub_table.specs.declared.branch.Stage.TheVariants.{Active, Heuristic, Prepared}
+use Rattle.sub_branch.specs.declared.branch.Branch.{Branch}
+use Rattle.sub_branch.specs.declared.branch.Stage.{Stage}
+use Rattle.sub_branch.specs.declared.branch.Stage.TheVariants.{Active, Heuristic, Prepared}
 use Rattle.sub_table.specs.Tables.{BranchTable, HasTicket, IsGivenFor, IsKept, Notes, Opens, Retires, branch_in, has_promised, nothing, promised, retired_at, ticket_in}
 
 abbrev pub Tickets : Type 0

@@ -7,7 +7,7 @@ use Rattle.tree_model.specs.Names.{child_case, same_case}
 use Rattle.tree_model.proofs.NameTests.{case_tells}
 use Rattle.live_table.specs.Tables.{Moves, entry_at}
 use Rattle.live_table.proofs.Writes.{same_case-itself}
-use Rattle.sub_table.specs.declared.branch.Branch.{Branch}
+use Rattle.sub_branch.specs.declared.branch.Branch.{Branch}
 use Rattle.sub_table.specs.Tables.{BranchTable, IsKept, Opens, Retires, SameTable, branch_in, nothing, opened, retired_at, ticket_in}
 
 one : (c d : Case) → same_case c d ≡ true → c ≡ d

@@ -1,6 +1,6 @@
 -- The live branches of a subordinate, and the tickets that it gave for cases of its parent and that are
 -- active.
-use Rattle.std.specs.Prelude.{◌≡◌, ◌+◌, ◌==◌, ◌&&◌, not, ℕ, Bool, true, false, is_none, if◌then◌else◌, Option, Some, None, List}
+use Rattle.std.specs.Prelude.{◌≡◌, ℕ, Bool, true, false, if◌then◌else◌, Option, Some, None, List}
 use Rattle.xa_xid.specs.declared.xid.Xid.{Xid}
 use Rattle.tree_model.specs.declared.names.Case.{Case}
 use Rattle.tree_model.specs.declared.names.Ticket.{Ticket}
@@ -8,9 +8,9 @@ use Rattle.tree_model.specs.declared.standings.Standing.TheVariants.{Active as A
 use Rattle.tree_model.specs.Names.{child_case, same_case}
 use Rattle.tree_model.specs.Standings.{ManagerView, standing_branch, unknown_branch}
 use Rattle.live_table.specs.Tables.{AreApart, Moves, entry_at, live_value}
-use Rattle.sub_table.specs.declared.branch.Branch.{Branch}
-use Rattle.sub_table.specs.declared.branch.Stage.{Stage}
-use Rattle.sub_table.specs.declared.branch.Stage.TheVariants.{Active, Heuristic, Prepared}
+use Rattle.sub_branch.specs.declared.branch.Branch.{Branch}
+use Rattle.sub_branch.specs.declared.branch.Stage.{Stage}
+use Rattle.sub_branch.specs.declared.branch.Stage.TheVariants.{Active, Heuristic, Prepared}
 
 -- what a contract sees: the live branches by case, and by the parent's case the active ticket that was given
 -- for it
@@ -41,25 +41,6 @@ kept_view (Some b) = stage_view b.stage
 -- how a case stands
 abbrev pub view_in : BranchTable → Case → ManagerView
 view_in t c = kept_view (branch_in t c)
-
--- a branch at this stage asks its parent for the outcome: it is in doubt, or an operator decided it and it
--- was not told
-abbrev pub awaits : Stage → Bool
-awaits (Active d done spoiled) = false
-awaits Prepared = true
-awaits (Heuristic told) = is_none told
-
--- a branch at this stage takes the work with this number: it is Active, no work was refused, and this is the
--- next
-abbrev pub takes : Stage → ℕ → Bool
-takes (Active d done spoiled) i = (i == done + 1) && not spoiled
-takes _ i = false
-
--- what a branch has that takes the work with this number: the parent's case of its ticket, and how many
--- works are done; nothing, where it takes no such work
-abbrev pub TakesBy : Stage → ℕ → Option (Case × ℕ) → Type 0
-TakesBy stage i None = takes stage i ≡ false
-TakesBy stage i (Some f) = (stage ≡ Active f.0 f.1 false) × (i ≡ f.1 + 1)
 
 -- the branch is Active, by a ticket that was given for the parent's case
 abbrev pub IsGivenFor : Case → Stage → Type 0

@@ -1,8 +1,11 @@
-//! The live branches of a subordinate, and its active tickets.
+//! The live branches of a subordinate and its active tickets, and what the records of a log leave of them.
 #![tactic(auto)]
 
-mod branch;
+mod cases;
+mod names;
+mod rebuilt;
 mod table;
 
-pub use branch::{Branch, Stage};
+pub use names::RebuildError;
+pub use rebuilt::{Rebuilt, rebuild};
 pub use table::Branches;

@@ -3,14 +3,14 @@
 ghost use Rattle.std.specs.Prelude.{◌≡◌, ◌≢◌, [], true, None, Some, IfOk, IsSome, OnErr, OnOk};
 ghost use Rattle.live_table.specs.Tables.{Finds, Moves, entry_at, live_count, live_value, value_at};
 ghost use Rattle.tree_model.specs.Names.{child_case};
-ghost use Rattle.sub_table.specs.declared.branch.Branch.{Branch as AnyBranch};
-ghost use Rattle.sub_table.specs.declared.branch.Stage.TheVariants as stage;
+ghost use Rattle.sub_branch.specs.declared.branch.Branch.{Branch as AnyBranch};
+ghost use Rattle.sub_branch.specs.declared.branch.Stage.TheVariants as stage;
 ghost use Rattle.sub_table.specs.Tables.{IsGivenFor, IsKept, Notes, Opens, Restores, Retires, SameTable, branch_in, has_promised, nothing, opened, promised, ticket_in};
 
-use crate::branch::{Branch, Stage};
 use live_table::LiveTable;
 use std::alloc::{AllocError, Global};
 use std::marker::Model;
+use sub_branch::{Branch, Stage};
 use tree_model::{Case, Outcome, Ticket};
 use xa_xid::Xid;
 

@@ -3,7 +3,7 @@ use Rattle.xa_tables.specs.declared.call.Call.TheVariants as call
 use Rattle.tree_model.specs.declared.messages.Message.TheVariants.{Abort}
 use Rattle.sub_deeds.specs.Deeds.{can_roll_back}
 use Rattle.manager_model.specs.Sights.{ManagerSight}
-use Rattle.sub_table.specs.declared.branch.Branch.{Branch}
+use Rattle.sub_branch.specs.declared.branch.Branch.{Branch}
 use Rattle.sub_core.specs.Subordinates.{Hears, IsAt, NotHeard, SubState, active, seen}
 use Rattle.sub_core.proofs.Ties.{behind}
 use Rattle.sub_core.proofs.Outcomes.{ended, ended_tied, not_ended, abort_row, rollable}

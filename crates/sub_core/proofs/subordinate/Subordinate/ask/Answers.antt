@@ -1,5 +1,6 @@
 use Rattle.std.proofs.Common.{◌≡◌, ◌∙◌, Some, true, rules, sym, ap, subst}
-use Rattle.sub_table.specs.Tables.{awaits, branch_in}
+use Rattle.sub_branch.specs.Stages.{awaits}
+use Rattle.sub_table.specs.Tables.{branch_in}
 use Rattle.sub_core.specs.Subordinates.{SubState, seen}
 use Rattle.sub_core.specs.Steps.{Acts}
 use Rattle.tree_model.specs.declared.events.Act.TheVariants.{Ask}

@@ -1,6 +1,6 @@
 use Rattle.std.proofs.Common.{sym, subst}
 use Rattle.tree_model.specs.declared.messages.Message.TheVariants.{Commit}
-use Rattle.sub_table.specs.declared.branch.Stage.{Stage}
+use Rattle.sub_branch.specs.declared.branch.Stage.{Stage}
 use Rattle.sub_core.specs.Subordinates.{Hears, IsAt, SubState, seen}
 use Rattle.sub_core.proofs.Staying.{heard, commit_active, commit_unknown}
 use Rattle.sub_core.proofs.subordinate.Subordinate.commit.Goals as goal

@@ -2,7 +2,7 @@ use Rattle.std.proofs.Common.{◌∙◌, refl, sym, ap, subst}
 use Rattle.tree_model.specs.declared.events.Act.TheVariants.{Decide}
 use Rattle.live_table.specs.Tables.{value_of}
 use Rattle.manager_model.specs.Sights.{ManagerSight}
-use Rattle.sub_table.specs.declared.branch.Branch.{Branch}
+use Rattle.sub_branch.specs.declared.branch.Branch.{Branch}
 use Rattle.sub_core.specs.Subordinates.{IsAt, SubState, logged_alone, prepared, seen}
 use Rattle.sub_core.specs.Steps.{Acts, NotActed}
 use Rattle.sub_core.proofs.Ties.{behind}

@@ -2,7 +2,7 @@ use Rattle.std.proofs.Common.{sym, subst}
 use Rattle.xa_tables.specs.declared.call.Call.TheVariants as call
 use Rattle.tree_model.specs.declared.events.Act.TheVariants.{Forget}
 use Rattle.manager_model.specs.Sights.{ManagerSight}
-use Rattle.sub_table.specs.declared.branch.Branch.{Branch}
+use Rattle.sub_branch.specs.declared.branch.Branch.{Branch}
 use Rattle.sub_table.specs.Tables.{IsKept}
 use Rattle.sub_core.specs.Subordinates.{IsAt, SubState, decided, seen}
 use Rattle.sub_core.specs.Steps.{Acts, NotActed}

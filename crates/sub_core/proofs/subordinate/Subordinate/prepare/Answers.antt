@@ -1,6 +1,6 @@
 use Rattle.std.proofs.Common.{sym, subst}
 use Rattle.tree_model.specs.declared.messages.Message.TheVariants.{Prepare}
-use Rattle.sub_table.specs.declared.branch.Stage.{Stage}
+use Rattle.sub_branch.specs.declared.branch.Stage.{Stage}
 use Rattle.sub_core.specs.Subordinates.{Hears, IsAt, SubState, seen}
 use Rattle.sub_core.proofs.Staying.{heard, prepare_again, prepare_decided, prepare_unknown}
 use Rattle.sub_core.proofs.subordinate.Subordinate.prepare.Goals as goal

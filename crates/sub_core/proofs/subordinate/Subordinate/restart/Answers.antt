@@ -6,8 +6,8 @@ use Rattle.core_model.specs.Restarting.{NotRestarted, Restarts}
 use Rattle.tree_model.specs.declared.events.StepError.TheVariants.{Device}
 use Rattle.manager_model.specs.Sights.{ManagerSight}
 use Rattle.manager_model.specs.Restarting.{NotRestarted as NotRestartedBy, writes_left}
-use Rattle.sub_restart.specs.declared.rebuilt.Rebuilt.{Rebuilt}
-use Rattle.sub_restart.specs.Rebuilt.{Rebuilds, leaf}
+use Rattle.sub_table.specs.declared.rebuilt.Rebuilt.{Rebuilt}
+use Rattle.sub_table.specs.Rebuilt.{Rebuilds, leaf}
 use Rattle.sub_core.specs.Subordinates.{SubState, core_of}
 use Rattle.sub_core.specs.Steps.{Reopens, state}
 use Rattle.sub_core.proofs.Restarted.{broken, broken_tied, reopened_tied, restarted}

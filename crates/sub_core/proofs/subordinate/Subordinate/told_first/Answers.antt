@@ -2,7 +2,7 @@ use Rattle.std.proofs.Common.{None, refl, sym, ap, subst}
 use Rattle.tree_model.specs.CoordinatorRows.{tells_outcome}
 use Rattle.live_table.specs.Tables.{value_of}
 use Rattle.manager_model.specs.Sights.{ManagerSight}
-use Rattle.sub_table.specs.declared.branch.Branch.{Branch}
+use Rattle.sub_branch.specs.declared.branch.Branch.{Branch}
 use Rattle.sub_table.specs.Tables.{IsKept}
 use Rattle.sub_core.specs.Subordinates.{Hears, IsAt, NotHeard, SubState, decided, seen}
 use Rattle.sub_core.proofs.Ties.{behind}

@@ -1,7 +1,7 @@
 use Rattle.std.proofs.Common.{sym, subst}
 use Rattle.tree_model.specs.declared.messages.Message.TheVariants.{Work}
-use Rattle.sub_table.specs.declared.branch.Stage.{Stage}
-use Rattle.sub_table.specs.Tables.{TakesBy}
+use Rattle.sub_branch.specs.declared.branch.Stage.{Stage}
+use Rattle.sub_branch.specs.Stages.{TakesBy}
 use Rattle.sub_core.specs.Subordinates.{Hears, IsAt, SubState, seen}
 use Rattle.sub_core.proofs.Staying.{heard, work_unknown, work_untaken}
 use Rattle.sub_core.proofs.subordinate.Subordinate.work.Goals as goal

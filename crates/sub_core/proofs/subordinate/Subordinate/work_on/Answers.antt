@@ -3,7 +3,7 @@ use Rattle.tree_model.specs.declared.messages.Message.TheVariants.{Work}
 use Rattle.live_table.specs.Tables.{value_of}
 use Rattle.manager_model.specs.Sights.{ManagerSight}
 use Rattle.sub_deeds.specs.Deeds.{Works}
-use Rattle.sub_table.specs.declared.branch.Branch.{Branch}
+use Rattle.sub_branch.specs.declared.branch.Branch.{Branch}
 use Rattle.sub_core.specs.Subordinates.{Hears, IsAt, SubState, active, seen}
 use Rattle.sub_core.proofs.Ties.{behind}
 use Rattle.sub_core.proofs.Doing.{did, did_tied, idles_tied, spoils, spoils_tied}

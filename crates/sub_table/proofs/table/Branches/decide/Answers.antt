@@ -2,8 +2,8 @@ use Rattle.std.proofs.Common.{true, ap, subst, sym, ◌∙◌, ◌≡◌}
 use Rattle.live_table.specs.Lends.{with_value}
 use Rattle.live_table.specs.Tables.{value_at}
 use Rattle.live_table.proofs.Writes.{entry_of}
-use Rattle.sub_table.specs.declared.branch.Branch.{Branch}
-use Rattle.sub_table.specs.declared.branch.Stage.TheVariants.{Heuristic}
+use Rattle.sub_branch.specs.declared.branch.Branch.{Branch}
+use Rattle.sub_branch.specs.declared.branch.Stage.TheVariants.{Heuristic}
 use Rattle.sub_table.specs.Tables.{BranchTable, Notes, has_promised}
 use Rattle.sub_table.proofs.Keeping.{decides, some_same, table}
 use Rattle.sub_table.proofs.table.Branches.decide.Goals as goal

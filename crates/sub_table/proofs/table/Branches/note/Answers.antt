@@ -2,8 +2,8 @@ use Rattle.std.proofs.Common.{ap, subst, sym, ◌∙◌}
 use Rattle.live_table.specs.Lends.{with_value}
 use Rattle.live_table.specs.Tables.{value_at}
 use Rattle.live_table.proofs.Writes.{entry_of}
-use Rattle.sub_table.specs.declared.branch.Branch.{Branch}
-use Rattle.sub_table.specs.declared.branch.Stage.TheVariants.{Active}
+use Rattle.sub_branch.specs.declared.branch.Branch.{Branch}
+use Rattle.sub_branch.specs.declared.branch.Stage.TheVariants.{Active}
 use Rattle.sub_table.specs.Tables.{BranchTable, IsGivenFor, Notes}
 use Rattle.sub_table.proofs.Keeping.{notes, some_same, table}
 use Rattle.sub_table.proofs.table.Branches.note.Goals as goal

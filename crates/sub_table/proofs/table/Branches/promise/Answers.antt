@@ -1,7 +1,7 @@
 use Rattle.std.proofs.Common.{sym, subst}
 use Rattle.live_table.proofs.Writes.{entry_of}
 use Rattle.live_table.specs.Lends.{with_value}
-use Rattle.sub_table.specs.declared.branch.Stage.TheVariants.{Prepared}
+use Rattle.sub_branch.specs.declared.branch.Stage.TheVariants.{Prepared}
 use Rattle.sub_table.specs.Tables.{Retires, promised}
 use Rattle.sub_table.proofs.Keeping.{dropped, none_dropped, promises, table, ticket_there}
 use Rattle.sub_table.proofs.table.Branches.promise.Goals as goal

@@ -1,13 +1,14 @@
 //! The cases of the records that were read so far.
 
 ghost use Rattle.std.specs.Prelude.{◌≡◌, [], OnOk};
-ghost use Rattle.sub_restart.specs.Rebuilt.{AddsCase, DecidesCase, Ends, Promises, Takes, leaf};
+ghost use Rattle.sub_table.specs.Rebuilt.{AddsCase, DecidesCase, Ends, Promises, Takes, leaf};
 
 use crate::names::{RebuildError, Saying, own_case, saying_of};
+use crate::table::Branches;
 use indexmap::IndexSet;
 use log_text::name_xid;
 use std::alloc::{AllocError, Global};
-use sub_table::{Branches, Stage};
+use sub_branch::Stage;
 use tree_model::{Branch, Case, LogRecord, Outcome, ProcessId, Tree};
 
 /// The live branches, the process's own cases in order of their first records, the last boot, and the newest

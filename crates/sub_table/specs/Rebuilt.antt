@@ -21,14 +21,15 @@ use Rattle.tree_model.specs.Restarts.{manager_resumes, recorded_branch}
 use Rattle.tree_model.specs.Standings.{Decided, Mark, Promised, ToldOf, mark_of}
 use Rattle.log_text.specs.Parts.{name_in}
 use Rattle.live_table.specs.Tables.{Moves}
-use Rattle.sub_table.specs.declared.branch.Branch.{Branch}
-use Rattle.sub_table.specs.declared.branch.Stage.{Stage}
-use Rattle.sub_table.specs.declared.branch.Stage.TheVariants.{Heuristic, Prepared}
-use Rattle.sub_table.specs.Tables.{BranchTable, awaits, branch_in, ticket_in, view_in}
-use Rattle.sub_restart.specs.declared.names.Saying.{Saying}
-use Rattle.sub_restart.specs.declared.names.Saying.TheVariants.{Nothing, Boot, Promises as PromisesOf, Ends as EndsOf, Decides, Coordinates}
-use Rattle.sub_restart.specs.declared.cases.Cases.{Cases}
-use Rattle.sub_restart.specs.declared.rebuilt.Rebuilt.{Rebuilt}
+use Rattle.sub_branch.specs.declared.branch.Branch.{Branch}
+use Rattle.sub_branch.specs.declared.branch.Stage.{Stage}
+use Rattle.sub_branch.specs.declared.branch.Stage.TheVariants.{Heuristic, Prepared}
+use Rattle.sub_branch.specs.Stages.{awaits}
+use Rattle.sub_table.specs.Tables.{BranchTable, branch_in, ticket_in, view_in}
+use Rattle.sub_table.specs.declared.names.Saying.{Saying}
+use Rattle.sub_table.specs.declared.names.Saying.TheVariants.{Nothing, Boot, Promises as PromisesOf, Ends as EndsOf, Decides, Coordinates}
+use Rattle.sub_table.specs.declared.cases.Cases.{Cases}
+use Rattle.sub_table.specs.declared.rebuilt.Rebuilt.{Rebuilt}
 
 -- where a subordinate sits
 abbrev pub leaf : ProcessId → ProcessId → List TreeEntry → Place

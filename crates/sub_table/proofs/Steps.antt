@@ -18,12 +18,12 @@ use Rattle.tree_model.specs.Nodes.{Place}
 use Rattle.tree_model.specs.Records.{boot_after, boot_of, cases_in, with_case, with_record}
 use Rattle.tree_model.specs.Standings.{Decided, Finished, Mark, Promised, ToldOf, Unmarked, mark_after, mark_of}
 use Rattle.live_table.specs.Tables.{live_value}
-use Rattle.sub_table.specs.declared.branch.Branch.{Branch}
-use Rattle.sub_table.specs.declared.branch.Stage.TheVariants.{Heuristic, Prepared}
+use Rattle.sub_branch.specs.declared.branch.Branch.{Branch}
+use Rattle.sub_branch.specs.declared.branch.Stage.TheVariants.{Heuristic, Prepared}
 use Rattle.sub_table.specs.Tables.{branch_in, ticket_in}
-use Rattle.sub_restart.specs.declared.cases.Cases.{Cases}
-use Rattle.sub_restart.specs.Rebuilt.{DecidesBy, DecidesCase, Ends, EndsBy, IsGivenBy, IsOwn, Leaves, NameReads, Promises, PromisesBy, ReadsBack, Takes, branch_left, kept_at, leaf, own_case}
-use Rattle.sub_restart.proofs.Reading.{One, is_it, one_base, one_committed, one_committed_so, one_direct, one_forgot, one_opened, one_pair, one_prepared, one_rolled_back, one_rolled_back_so, one_told, own_append}
+use Rattle.sub_table.specs.declared.cases.Cases.{Cases}
+use Rattle.sub_table.specs.Rebuilt.{DecidesBy, DecidesCase, Ends, EndsBy, IsGivenBy, IsOwn, Leaves, NameReads, Promises, PromisesBy, ReadsBack, Takes, branch_left, kept_at, leaf, own_case}
+use Rattle.sub_table.proofs.Reading.{One, is_it, one_base, one_committed, one_committed_so, one_direct, one_forgot, one_opened, one_pair, one_prepared, one_rolled_back, one_rolled_back_so, one_told, own_append}
 
 one : (c d : Case) → same_case c d ≡ true → c ≡ d
 one c d e = (case_tells c d).0 e

@@ -12,9 +12,9 @@ use Rattle.tree_model.specs.Nodes.{Place}
 use Rattle.tree_model.specs.Restarts.{inquires_by, manager_resumes, recorded_branch}
 use Rattle.tree_model.specs.Standings.{Decided, Finished, Mark, Promised, ToldOf, Unmarked, mark_of, marked_branch}
 use Rattle.sub_table.specs.Tables.{kept_view, view_in}
-use Rattle.sub_restart.specs.declared.cases.Cases.{Cases}
-use Rattle.sub_restart.specs.Rebuilt.{Leaves, Rebuilds, asks, asks_by, branch_left}
-use Rattle.sub_restart.proofs.Steps.{more_own}
+use Rattle.sub_table.specs.declared.cases.Cases.{Cases}
+use Rattle.sub_table.specs.Rebuilt.{Leaves, Rebuilds, asks, asks_by, branch_left}
+use Rattle.sub_table.proofs.Steps.{more_own}
 
 -- how a case stands
 view_left : (p : ProcessId) (c : Case) (m : Mark)

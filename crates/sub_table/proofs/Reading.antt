@@ -16,7 +16,7 @@ use Rattle.tree_model.specs.Names.{same_case}
 use Rattle.tree_model.specs.Nodes.{AtLeaf, Place}
 use Rattle.tree_model.specs.Records.{boot_after, branch_case, record_case, same_branch}
 use Rattle.tree_model.specs.Standings.{Decided, Finished, Mark, Promised, ToldOf, mark_after}
-use Rattle.sub_restart.specs.Rebuilt.{leaf, own_case}
+use Rattle.sub_table.specs.Rebuilt.{leaf, own_case}
 
 pub own_append : (place : Place) (xs ys : List LogRecord)
     → own_records place (xs ++ ys) ≡ own_records place xs ++ own_records place ys

@@ -19,8 +19,8 @@ use Rattle.tree_model.specs.Standings.{Decided, Finished, Mark, Promised, ToldOf
 use Rattle.tree_model.proofs.NameTests.{case_tells, process_tells}
 use Rattle.log_text.specs.Parts.{Name, name_in}
 use Rattle.log_text.proofs.NameReading.{same_xid_is, same_xid_refl}
-use Rattle.sub_restart.specs.Rebuilt.{NameReads, ReadsBack, leaf, own_case}
-use Rattle.sub_restart.proofs.Reading.{is_it, own_append, read_as, read_is, read_name}
+use Rattle.sub_table.specs.Rebuilt.{NameReads, ReadsBack, leaf, own_case}
+use Rattle.sub_table.proofs.Reading.{is_it, own_append, read_as, read_is, read_name}
 
 -- a record of a log, its branch named by its XID
 abbrev pub named_by : Option ProcessId → Option Branch → Record → Record

@@ -1,8 +1,8 @@
 use Rattle.std.proofs.Common.{◌∙◌, ap, arith}
 use Rattle.std.specs.List.{flat_map}
-use Rattle.sub_restart.specs.Rebuilt.{asks, leaf}
-use Rattle.sub_restart.proofs.Rebuilding.{rebuilds}
-use Rattle.sub_restart.proofs.rebuilt.rebuild.Goals as goal
+use Rattle.sub_table.specs.Rebuilt.{asks, leaf}
+use Rattle.sub_table.proofs.Rebuilding.{rebuilds}
+use Rattle.sub_table.proofs.rebuilt.rebuild.Goals as goal
 
 pub returns : goal.returns
 returns c =

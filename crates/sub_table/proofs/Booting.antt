@@ -15,9 +15,9 @@ use Rattle.tree_model.specs.Nodes.{AtLeaf}
 use Rattle.tree_model.specs.Records.{boot_of, cases_in}
 use Rattle.tree_model.specs.Restarts.{inquires_by, manager_resumes, recorded_branch, resumes}
 use Rattle.tree_model.specs.Standings.{mark_of, marked_branch}
-use Rattle.sub_restart.specs.Rebuilt.{leaf}
-use Rattle.sub_restart.proofs.Reading.{own_append}
-use Rattle.sub_restart.proofs.Rebuilding.{same_flat}
+use Rattle.sub_table.specs.Rebuilt.{leaf}
+use Rattle.sub_table.proofs.Reading.{own_append}
+use Rattle.sub_table.proofs.Rebuilding.{same_flat}
 
 boot_mark : (rs : List Record) (n : ℕ) (c : Case)
     → mark_of (CaseBranch c) (rs ++ Opened n ∷ []) ≡ mark_of (CaseBranch c) rs

@@ -1,6 +1,6 @@
 use Rattle.std.proofs.Common.{◌∙◌, ◌∷◌, [], ◌++◌, refl, ap, if◌then◌else◌}
-use Rattle.sub_restart.proofs.Noting.{has_as}
-use Rattle.sub_restart.proofs.cases.Cases.note.Goals as goal
+use Rattle.sub_table.proofs.Noting.{has_as}
+use Rattle.sub_table.proofs.cases.Cases.note.Goals as goal
 
 pub returns : goal.returns
 returns c = (

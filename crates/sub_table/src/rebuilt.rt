@@ -3,12 +3,12 @@
 ghost use Rattle.std.specs.Prelude.{◌≡◌, IfOk};
 ghost use Rattle.std.specs.List.{flat_map};
 ghost use Rattle.sub_table.specs.Tables.{branch_in};
-ghost use Rattle.sub_restart.specs.Rebuilt.{Leaves, Rebuilds, asks, is_asked, leaf};
+ghost use Rattle.sub_table.specs.Rebuilt.{Leaves, Rebuilds, asks, is_asked, leaf};
 
 use crate::cases::Cases;
 use crate::names::RebuildError;
+use crate::table::Branches;
 use std::alloc::{AllocError, Global};
-use sub_table::Branches;
 use tree_model::{Case, Envelope, Envelopes, LogRecord, Message, ProcessId, Sequence, Tree};
 
 /// The last boot that another can follow.

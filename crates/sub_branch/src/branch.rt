@@ -1,7 +1,7 @@
 //! What a subordinate keeps of a live branch.
 
 ghost use Rattle.std.specs.Prelude.{◌≡◌};
-ghost use Rattle.sub_table.specs.Tables.{TakesBy, awaits};
+ghost use Rattle.sub_branch.specs.Stages.{TakesBy, awaits};
 
 use tree_model::{Case, Outcome};
 use xa_xid::Xid;

@@ -1,6 +1,6 @@
 use Rattle.std.proofs.Common.{take}
-use Rattle.sub_restart.specs.Rebuilt.{Leaves, leaf}
-use Rattle.sub_restart.proofs.rebuilt.read.Given as goal
+use Rattle.sub_table.specs.Rebuilt.{Leaves, leaf}
+use Rattle.sub_table.proofs.rebuilt.read.Given as goal
 
 abbrev pub invariant-loop-next : goal.invariant-loop-next
 invariant-loop-next l = Leaves (leaf l.me l.parent l.tree) l.parent (take l.next-index l.records) l.cases

@@ -2,7 +2,7 @@
 
 ghost use Rattle.std.specs.Prelude.{◌≡◌, Some, IfOk, IsTrue};
 ghost use Rattle.tree_model.specs.LogNames.{is_own};
-ghost use Rattle.sub_restart.specs.Rebuilt.{NameReads, leaf, own_case, saying_of};
+ghost use Rattle.sub_table.specs.Rebuilt.{NameReads, leaf, own_case, saying_of};
 
 use log_text::{name_in, name_xid};
 use std::alloc::AllocError;

@@ -1,8 +1,8 @@
 use Rattle.std.proofs.Common.{◌∙◌, ◌∷◌, [], ◌++◌, take, ap, sym, subst}
 use Rattle.std.proofs.lemmas.List.{take_more}
-use Rattle.sub_restart.specs.Rebuilt.{Leaves, leaf}
-use Rattle.sub_restart.proofs.Steps.{nothing_left, taken}
-use Rattle.sub_restart.proofs.rebuilt.read.Goals as goal
+use Rattle.sub_table.specs.Rebuilt.{Leaves, leaf}
+use Rattle.sub_table.proofs.Steps.{nothing_left, taken}
+use Rattle.sub_table.proofs.rebuilt.read.Goals as goal
 
 pub loop-next-init : goal.loop-next-init
 loop-next-init c =

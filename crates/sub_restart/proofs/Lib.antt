@@ -1,6 +1,0 @@
-pub mod Reading
-pub mod Steps
-pub mod Noting
-pub mod Rebuilding
-pub mod Marks
-pub mod Booting
