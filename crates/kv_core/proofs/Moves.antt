@@ -17,11 +17,11 @@ use Rattle.xa_assoc.specs.Associations.{Row}
 use Rattle.xa_assoc.proofs.Sound.{same_is}
 use Rattle.xa_branch.specs.Branches.{Moves as BranchMoves, Scans, scan_refusal, state_in}
 use Rattle.xa_branch.specs.Names.{same}
-use Rattle.xa_states.specs.declared.states.States.{States}
-use Rattle.xa_states.specs.Answers.{Answers, ByState, Checked, Does, Reacts, Recovers, Refuses, Same, Scanned, Wanted, left_state, state_at}
-use Rattle.xa_states.specs.Reacting.{left_by, resumed}
-use Rattle.xa_states.specs.Ready.{is_work, is_work_verb}
-use Rattle.xa_states.proofs.Finishing.{works_as}
+use Rattle.xa_assoc.specs.declared.states.States.{States}
+use Rattle.xa_assoc.specs.Answers.{Answers, ByState, Checked, Does, Reacts, Recovers, Refuses, Same, Scanned, Wanted, left_state, state_at}
+use Rattle.xa_assoc.specs.Reacting.{left_by, resumed}
+use Rattle.xa_assoc.specs.Ready.{is_work, is_work_verb}
+use Rattle.xa_assoc.proofs.Finishing.{works_as}
 
 -- a branch that passes a test of its state passed it before
 abbrev pub Keeps : (BranchState → Bool) → States → States → Type 0

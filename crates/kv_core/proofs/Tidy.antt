@@ -4,7 +4,7 @@ use Rattle.std.specs.Prelude.{MatchBool, is_some}
 use Rattle.std.proofs.lemmas.Grind.{common_steps}
 use Rattle.xa_tables.specs.declared.states.BranchState.{BranchState}
 use Rattle.xa_xid.specs.declared.xid.Xid.{Xid}
-use Rattle.xa_states.specs.Answers.{Takes as TakesRow}
+use Rattle.xa_assoc.specs.Answers.{Takes as TakesRow}
 use Rattle.log_rules.specs.order.Orders.{names_key}
 use Rattle.tree_model.specs.declared.records.Write.{Write}
 use Rattle.tree_model.specs.Records.{same_bytes}

@@ -4,7 +4,7 @@ use Rattle.xa_tables.specs.declared.states.BranchState.{BranchState}
 use Rattle.xa_tables.specs.declared.states.BranchState.TheVariants.{S0, S1, S2, S3, S4, S5}
 use Rattle.xa_xid.specs.declared.xid.Xid.{Xid}
 use Rattle.xa_assoc.specs.Associations.{active_of}
-use Rattle.xa_manager.specs.declared.errors.WorkError.TheVariants.{RollbackOnly, TooLong}
+use Rattle.xa_assoc.specs.declared.errors.WorkError.TheVariants.{RollbackOnly, TooLong}
 use Rattle.kv_locks.specs.declared.holders.Mode.{Mode}
 use Rattle.kv_locks.specs.Locks.{blocked_by, holders_of}
 use Rattle.kv_core.specs.Stores.{KeySight, is_let_go, state_of}

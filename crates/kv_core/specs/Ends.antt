@@ -8,8 +8,8 @@ use Rattle.xa_tables.specs.declared.states.BranchState.TheVariants.{S3}
 use Rattle.xa_tables.specs.Tables.{branch_rows}
 use Rattle.xa_xid.specs.declared.xid.Xid.{Xid}
 use Rattle.xa_branch.specs.Branches.{off_row}
-use Rattle.xa_states.specs.Answers.{Takes}
-use Rattle.xa_states.specs.Ready.{ready}
+use Rattle.xa_assoc.specs.Answers.{Takes}
+use Rattle.xa_assoc.specs.Ready.{ready}
 use Rattle.xa_heur.specs.declared.decision.Decision.{Decision}
 use Rattle.xa_heur.specs.Decisions.{decided_as, told_behind}
 use Rattle.xa_heur.specs.Cases.{DecisionTable, Notes, decision_in, decision_or}

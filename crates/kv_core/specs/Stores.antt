@@ -3,9 +3,9 @@ use Rattle.std.specs.Prelude.{◌≡◌, ◌-◌, ◌^◌, nat_lt, ℕ, Bool, tr
 use Rattle.xa_tables.specs.declared.states.BranchState.{BranchState}
 use Rattle.xa_tables.specs.declared.states.BranchState.TheVariants.{S0, S5}
 use Rattle.xa_xid.specs.declared.xid.Xid.{Xid}
-use Rattle.xa_states.specs.declared.states.States.{States}
-use Rattle.xa_states.specs.Answers.{Same, state_at}
-use Rattle.xa_states.specs.Restored.{Restored}
+use Rattle.xa_assoc.specs.declared.states.States.{States}
+use Rattle.xa_assoc.specs.Answers.{Same, state_at}
+use Rattle.xa_assoc.specs.Restored.{Restored}
 use Rattle.xa_heur.specs.Cases.{DecisionTable, SameDecisions, decision_in}
 use Rattle.log_rules.specs.order.Orders.{names_key}
 use Rattle.kv_locks.specs.declared.holders.Mode.TheVariants.{Exclusive}

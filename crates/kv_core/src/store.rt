@@ -3,12 +3,12 @@
 ghost use Rattle.std.specs.Prelude.{◌≡◌, ◌≤◌, ◌<◌, ◌+◌, ◌^◌, ◌↔◌, not, IsTrue, Contains, MatchResult, IfOk, IfErr, OnOk, OnErr, Some, None, option_map, true, false};
 ghost use Rattle.kv_locks.specs.declared.holders.Mode.TheVariants as mode;
 ghost use Rattle.kv_store.specs.writes.Writes.{AreWrites, writes_of};
-ghost use Rattle.xa_states.specs.Answers.{Answers, Closes, Opens, Recovers, Wanted, map_ok};
-ghost use Rattle.xa_states.specs.Ready.{is_closed, is_work_verb, leaves};
+ghost use Rattle.xa_assoc.specs.Answers.{Answers, Closes, Opens, Recovers, Wanted, map_ok};
+ghost use Rattle.xa_assoc.specs.Ready.{is_closed, is_work_verb, leaves};
 ghost use Rattle.xa_tables.specs.Calls.{legal};
 ghost use Rattle.xa_branch.specs.Branches.{in_doubt, is_known};
-ghost use Rattle.xa_states.specs.declared.states.States.{States as AnyStates};
-ghost use Rattle.xa_states.specs.Restored.{Restored, restore_refusal};
+ghost use Rattle.xa_assoc.specs.declared.states.States.{States as AnyStates};
+ghost use Rattle.xa_assoc.specs.Restored.{Restored, restore_refusal};
 ghost use Rattle.kv_core.specs.Stores.{IsTidy, MovesTables, Rebuilt, SameStore, has_numbers, is_let_go, state_of};
 ghost use Rattle.xa_heur.specs.Cases.{Notes, decision_in};
 ghost use Rattle.xa_heur.specs.Decisions.{decision_at};
@@ -24,8 +24,8 @@ use std::marker::Model;
 use tree_model::{Bytes, Outcome, Sequence, Write};
 use xa_codes::{Code, Flags};
 use xa_heur::{Decision, Heuristics};
-use xa_manager::WorkError;
-use xa_states::States;
+use xa_assoc::WorkError;
+use xa_assoc::States;
 use xa_tables::{BranchState, Call, Verb, next_branch};
 use xa_xid::Xid;
 

@@ -11,7 +11,7 @@ use Rattle.xa_tables.specs.declared.states.BranchState.TheVariants.{S0, S3, S5}
 use Rattle.xa_xid.specs.declared.xid.Xid.{Xid}
 use Rattle.xa_branch.specs.Names.{same}
 use Rattle.xa_branch.specs.Branches.{is_known}
-use Rattle.xa_states.specs.Answers.{Same, Takes as TakesRow}
+use Rattle.xa_assoc.specs.Answers.{Same, Takes as TakesRow}
 use Rattle.xa_heur.specs.declared.decision.Decision.{Decision}
 use Rattle.xa_heur.specs.Decisions.{decided_as, heur_code}
 use Rattle.xa_heur.specs.Cases.{decision_in, decision_or}

@@ -8,15 +8,15 @@ use Rattle.xa_tables.specs.declared.call.Call.{Call}
 use Rattle.xa_tables.specs.declared.call.Verb.TheVariants as verb
 use Rattle.xa_assoc.specs.Associations.{IsBare}
 use Rattle.xa_branch.specs.Branches.{BranchList, state_in}
-use Rattle.xa_states.specs.Answers.{Closed, Closes, Opened, Opens}
+use Rattle.xa_assoc.specs.Answers.{Closed, Closes, Opened, Opens}
 use Rattle.xa_tables.specs.declared.states.BranchState.{BranchState}
 use Rattle.xa_tables.specs.declared.states.BranchState.TheVariants.{S0, S1, S2, S3, S4, S5}
 use Rattle.xa_xid.specs.declared.xid.Xid.{Xid}
-use Rattle.xa_states.specs.declared.states.States.{States}
+use Rattle.xa_assoc.specs.declared.states.States.{States}
 use Rattle.xa_assoc.proofs.Sound.{same_is}
 use Rattle.xa_branch.specs.Names.{same}
-use Rattle.xa_manager.specs.declared.errors.WorkError.{WorkError}
-use Rattle.xa_manager.specs.declared.errors.WorkError.TheVariants.{Memory, NotAssociated, Locked, TooLong, TooManyWrites, RmFail, RollbackOnly}
+use Rattle.xa_assoc.specs.declared.errors.WorkError.{WorkError}
+use Rattle.xa_assoc.specs.declared.errors.WorkError.TheVariants.{Memory, NotAssociated, Locked, TooLong, TooManyWrites, RmFail, RollbackOnly}
 use Rattle.tree_model.specs.Store.{Data}
 use Rattle.kv_store.specs.Versions.{SameData, VersionTable, value_at}
 use Rattle.kv_replay.specs.Folds.{AreData}

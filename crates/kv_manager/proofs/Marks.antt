@@ -4,7 +4,7 @@ use Rattle.std.specs.List.{IsDistinct}
 use Rattle.std.specs.Map.{keys_of}
 use Rattle.xa_tables.specs.declared.states.BranchState.{BranchState}
 use Rattle.xa_tables.specs.declared.states.BranchState.TheVariants.{S0, S3}
-use Rattle.xa_states.specs.Restored.{state_left}
+use Rattle.xa_assoc.specs.Restored.{state_left}
 use Rattle.xa_xid.specs.declared.xid.Xid.{Xid}
 use Rattle.tree_model.specs.declared.names.ProcessId.{ProcessId}
 use Rattle.tree_model.specs.declared.records.Branch.TheVariants.{Case as CaseBranch, Foreign}

@@ -14,11 +14,11 @@ use Rattle.xa_xid.specs.declared.xid.Xid.{Xid}
 use Rattle.xa_branch.specs.Names.{same}
 use Rattle.xa_branch.specs.Branches.{off_row}
 use Rattle.xa_assoc.specs.Associations.{active_of}
-use Rattle.xa_states.specs.declared.states.States.{States}
-use Rattle.xa_states.specs.Answers.{Same, Takes as TakesRow}
-use Rattle.xa_states.specs.Ready.{has_rows, is_work, is_work_verb}
-use Rattle.xa_states.proofs.Finishing.{passed, works_as}
-use Rattle.xa_states.proofs.Reactions.{stays}
+use Rattle.xa_assoc.specs.declared.states.States.{States}
+use Rattle.xa_assoc.specs.Answers.{Same, Takes as TakesRow}
+use Rattle.xa_assoc.specs.Ready.{has_rows, is_work, is_work_verb}
+use Rattle.xa_assoc.proofs.Finishing.{passed, works_as}
+use Rattle.xa_assoc.proofs.Reactions.{stays}
 use Rattle.xa_heur.specs.declared.decision.Decision.{Decision}
 use Rattle.xa_heur.specs.Decisions.{first_told, told_behind}
 use Rattle.xa_heur.specs.Cases.{decision_in, decision_or}
@@ -34,8 +34,8 @@ use Rattle.tree_model.specs.Plays.{op_writes}
 use Rattle.log_text.specs.Parts.{name_in}
 use Rattle.rec_log.specs.Sights.{Breaks}
 use Rattle.core_model.specs.States.{wrote}
-use Rattle.xa_manager.specs.declared.errors.WorkError.{WorkError}
-use Rattle.xa_manager.specs.declared.errors.WorkError.TheVariants.{Locked, Memory, NotAssociated, RmFail, RollbackOnly, TooLong, TooManyWrites}
+use Rattle.xa_assoc.specs.declared.errors.WorkError.{WorkError}
+use Rattle.xa_assoc.specs.declared.errors.WorkError.TheVariants.{Locked, Memory, NotAssociated, RmFail, RollbackOnly, TooLong, TooManyWrites}
 use Rattle.manager_model.specs.Sights.{Calls, SameManager}
 use Rattle.manager_model.specs.Works.{WorkRefused, Works, work_refusal}
 use Rattle.manager_model.specs.Works as model

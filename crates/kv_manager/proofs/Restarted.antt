@@ -1,9 +1,9 @@
 -- A key store behind a restart is what a resource manager is then.
 use Rattle.std.proofs.Common.{◌≡◌, ◌∙◌, ℕ, List, [], ◌∷◌, ◌++◌, refl, sym, ap, subst}
 use Rattle.xa_xid.specs.declared.xid.Xid.{Xid}
-use Rattle.xa_states.specs.declared.states.States.{States}
-use Rattle.xa_states.specs.Answers.{Same}
-use Rattle.xa_states.proofs.Reactions.{stays}
+use Rattle.xa_assoc.specs.declared.states.States.{States}
+use Rattle.xa_assoc.specs.Answers.{Same}
+use Rattle.xa_assoc.proofs.Reactions.{stays}
 use Rattle.tree_model.specs.declared.records.LogRecord.{LogRecord}
 use Rattle.rec_log.specs.Sights.{LogState, RestartBreaks, Restarts as LogRestarts, left_by}
 use Rattle.core_model.specs.States.{forced_sight}

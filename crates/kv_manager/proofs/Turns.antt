@@ -16,7 +16,7 @@ use Rattle.xa_xid.specs.Xids.{XidParts}
 use Rattle.xa_branch.specs.Names.{same}
 use Rattle.xa_branch.specs.Branches.{is_known}
 use Rattle.xa_assoc.proofs.Sound.{same_is}
-use Rattle.xa_states.specs.Answers.{Takes as TakesRow, state_at}
+use Rattle.xa_assoc.specs.Answers.{Takes as TakesRow, state_at}
 use Rattle.log_text.specs.Parts.{name_in}
 use Rattle.tree_model.specs.declared.names.Outcome.{Outcome}
 use Rattle.tree_model.specs.declared.names.Outcome.TheVariants.{Aborted as AbortedOutcome, Committed as CommittedOutcome}
@@ -52,7 +52,7 @@ use Rattle.kv_manager.specs.Sights.{IsKept, IsLogged, KvSight, SameManager, Says
 use Rattle.manager_model.specs.Restarting.{mark_at}
 use Rattle.kv_manager.proofs.Keeping.{KeepsPromises, one_data}
 use Rattle.kv_manager.proofs.Marks.{branch_same}
-use Rattle.xa_states.proofs.Reactions.{stays}
+use Rattle.xa_assoc.proofs.Reactions.{stays}
 use Rattle.core_model.specs.States.{wrote}
 use Rattle.core_log.specs.Writes.{Writes}
 use Rattle.kv_manager.specs.Turns.{Fails, HasWrites, IsDueTurn, Logs, Makes, OnlyRoom, commits as commits_data, with_record}

@@ -5,8 +5,8 @@ use Rattle.xa_codes.specs.declared.code.Code.TheVariants as code
 use Rattle.manager_model.specs.declared.errors.DecideError.{DecideError}
 use Rattle.manager_model.specs.declared.errors.DecideError.TheVariants as decides
 use Rattle.xa_xid.specs.declared.xid.Xid.{Xid}
-use Rattle.xa_manager.specs.declared.errors.WorkError.{WorkError}
-use Rattle.xa_manager.specs.declared.errors.WorkError.TheVariants.{TooLong}
+use Rattle.xa_assoc.specs.declared.errors.WorkError.{WorkError}
+use Rattle.xa_assoc.specs.declared.errors.WorkError.TheVariants.{TooLong}
 use Rattle.tree_model.specs.declared.messages.Op.{Op}
 use Rattle.tree_model.specs.declared.messages.Op.TheVariants.{Put, Get, Delete}
 use Rattle.manager_model.specs.Sights.{ManagerSight}

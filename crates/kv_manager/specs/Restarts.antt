@@ -3,7 +3,7 @@ use Rattle.std.specs.Prelude.{◌≡◌, ◌+◌, ◌-◌, ◌^◌, ◌⊎◌, �
 use Rattle.xa_codes.specs.declared.code.Code.{Code}
 use Rattle.xa_xid.specs.declared.xid.Xid.{Xid}
 use Rattle.xa_branch.specs.Branches.{in_doubt}
-use Rattle.xa_states.specs.Restored.{Restored, restore_refusal}
+use Rattle.xa_assoc.specs.Restored.{Restored, restore_refusal}
 use Rattle.tree_model.specs.declared.records.LogRecord.{LogRecord}
 use Rattle.tree_model.specs.declared.records.Record.TheVariants.{Opened}
 use Rattle.log_rules.specs.order.Orders.{SeenLog, left_by as in_doubt_by, promised}

@@ -12,7 +12,7 @@ use Rattle.kv_replay.specs.Folds.{AreData, data_of}
 use Rattle.kv_replay.specs.Decisions.{decided_in, says_decided}
 use Rattle.kv_store.specs.Versions.{SameData}
 use Rattle.kv_store.specs.writes.Writes.{SameWrites, writes_of}
-use Rattle.xa_states.specs.Answers.{Same}
+use Rattle.xa_assoc.specs.Answers.{Same}
 use Rattle.manager_model.specs.Restarting.{mark_at}
 use Rattle.xa_heur.specs.declared.decision.Decision.{Decision}
 use Rattle.xa_heur.specs.Cases.{SameDecisions}

@@ -6,7 +6,7 @@ use Rattle.xa_tables.specs.declared.call.Call.{Call}
 use Rattle.xa_tables.specs.declared.call.Verb.{Verb}
 use Rattle.xa_xid.specs.declared.xid.Xid.{Xid}
 use Rattle.xa_branch.specs.Branches.{is_known}
-use Rattle.xa_states.specs.Answers.{Takes as TakesRow}
+use Rattle.xa_assoc.specs.Answers.{Takes as TakesRow}
 use Rattle.tree_model.specs.declared.records.LogRecord.{LogRecord}
 use Rattle.tree_model.specs.declared.records.Write.{Write}
 use Rattle.rec_log.specs.Sights.{Breaks, LogSight}
@@ -17,8 +17,8 @@ use Rattle.kv_turns.specs.declared.entries.Entry.TheVariants.{Prepared, Direct}
 use Rattle.kv_turns.specs.declared.turns.Turn.{Turn}
 use Rattle.kv_turns.specs.Turns.{applies, entry_record}
 use Rattle.kv_store.specs.writes.Writes.{writes_of}
-use Rattle.xa_manager.specs.declared.errors.WorkError.{WorkError}
-use Rattle.xa_manager.specs.declared.errors.WorkError.TheVariants.{RmFail}
+use Rattle.xa_assoc.specs.declared.errors.WorkError.{WorkError}
+use Rattle.xa_assoc.specs.declared.errors.WorkError.TheVariants.{RmFail}
 use Rattle.xa_heur.specs.Cases.{Notes, decision_in}
 use Rattle.kv_core.specs.Stores.{KeySight, has_numbers}
 use Rattle.kv_core.specs.Works.{IsRefused}

@@ -11,7 +11,7 @@ use std::alloc::AllocError;
 use tree_model::{LogRecord, Op, Outcome};
 use xa_codes::{Code, Flags};
 use xa_heur::Decision;
-use xa_manager::WorkError;
+use xa_assoc::WorkError;
 use xa_tables::BranchState;
 use xa_xid::Xid;
 

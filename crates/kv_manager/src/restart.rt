@@ -2,8 +2,8 @@
 
 ghost use Rattle.std.specs.Prelude.{◌≡◌, ◌<◌, ◌^◌, ◌∷◌, [], true, false, IfOk, IfErr, OnOk};
 ghost use Rattle.xa_branch.specs.Branches.{in_doubt};
-ghost use Rattle.xa_states.specs.declared.states.States.{States as AnyStates};
-ghost use Rattle.xa_states.specs.Restored.{Restored};
+ghost use Rattle.xa_assoc.specs.declared.states.States.{States as AnyStates};
+ghost use Rattle.xa_assoc.specs.Restored.{Restored};
 ghost use Rattle.kv_core.specs.Stores.{IsTidy, Rebuilt};
 ghost use Rattle.tree_model.specs.declared.names.Kind.TheVariants as kind;
 ghost use Rattle.log_text.specs.Made.{frame_record};

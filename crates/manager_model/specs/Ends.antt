@@ -12,8 +12,8 @@ use Rattle.xa_tables.specs.declared.states.BranchState.{BranchState}
 use Rattle.xa_tables.specs.declared.states.BranchState.TheVariants.{S0, S2, S3, S5}
 use Rattle.xa_xid.specs.declared.xid.Xid.{Xid}
 use Rattle.xa_branch.specs.Names.{same}
-use Rattle.xa_states.specs.Answers.{Same, Takes, state_at}
-use Rattle.xa_states.specs.Ready.{leaves, ready}
+use Rattle.xa_assoc.specs.Answers.{Same, Takes, state_at}
+use Rattle.xa_assoc.specs.Ready.{leaves, ready}
 use Rattle.tree_model.specs.declared.names.Kind.TheVariants.{Manager}
 use Rattle.tree_model.specs.declared.names.Presumption.{Presumption}
 use Rattle.tree_model.specs.declared.names.Presumption.TheVariants.{PresumeAbort}

@@ -5,7 +5,7 @@ use Rattle.xa_tables.specs.declared.states.BranchState.TheVariants.{S0, S3, S5}
 use Rattle.xa_tables.specs.declared.states.InitState.TheVariants.{R0}
 use Rattle.xa_xid.specs.declared.xid.Xid.{Xid}
 use Rattle.xa_assoc.specs.Associations.{IsBare}
-use Rattle.xa_states.specs.Answers.{Same, state_at}
+use Rattle.xa_assoc.specs.Answers.{Same, state_at}
 use Rattle.xa_heur.specs.declared.decision.Decision.{Decision}
 use Rattle.xa_heur.specs.Decisions.{decision_of}
 use Rattle.tree_model.specs.declared.names.ProcessId.{ProcessId}

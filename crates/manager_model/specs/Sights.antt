@@ -1,9 +1,9 @@
 -- What a process sees of the resource manager that it drives, whichever it is.
 use Rattle.std.specs.Prelude.{◌≡◌, ℕ, Bool, true, false, Option, List}
 use Rattle.xa_xid.specs.declared.xid.Xid.{Xid}
-use Rattle.xa_states.specs.declared.states.States.{States}
-use Rattle.xa_states.specs.Answers.{Same}
-use Rattle.xa_manager.specs.declared.errors.WorkError.{WorkError}
+use Rattle.xa_assoc.specs.declared.states.States.{States}
+use Rattle.xa_assoc.specs.Answers.{Same}
+use Rattle.xa_assoc.specs.declared.errors.WorkError.{WorkError}
 use Rattle.xa_heur.specs.declared.decision.Decision.{Decision}
 use Rattle.tree_model.specs.declared.messages.Op.{Op}
 use Rattle.tree_model.specs.declared.records.Write.{Write}

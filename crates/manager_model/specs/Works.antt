@@ -5,9 +5,9 @@ use Rattle.xa_tables.specs.declared.states.BranchState.TheVariants.{S1, S4}
 use Rattle.xa_xid.specs.declared.xid.Xid.{Xid}
 use Rattle.xa_assoc.specs.Associations.{active_of}
 use Rattle.xa_branch.specs.Names.{same}
-use Rattle.xa_states.specs.Answers.{Same, state_at}
-use Rattle.xa_manager.specs.declared.errors.WorkError.{WorkError}
-use Rattle.xa_manager.specs.declared.errors.WorkError.TheVariants.{Memory, NotAssociated, RmFail, RollbackOnly}
+use Rattle.xa_assoc.specs.Answers.{Same, state_at}
+use Rattle.xa_assoc.specs.declared.errors.WorkError.{WorkError}
+use Rattle.xa_assoc.specs.declared.errors.WorkError.TheVariants.{Memory, NotAssociated, RmFail, RollbackOnly}
 use Rattle.tree_model.specs.declared.messages.Op.{Op}
 use Rattle.tree_model.specs.Plays.{op_writes}
 use Rattle.manager_model.specs.Sights.{ManagerSight, SameManager}

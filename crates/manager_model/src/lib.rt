@@ -6,5 +6,5 @@ mod manager;
 
 pub use errors::{DecideError, RestartError, TrimError};
 pub use manager::ResourceManager;
+pub use xa_assoc::WorkError;
 pub use xa_heur::Decision;
-pub use xa_manager::WorkError;

@@ -3,7 +3,7 @@
 ghost use Rattle.std.specs.Prelude.{◌≡◌, false, Err, IfErr, IfOk, OnErr, OnOk};
 ghost use Rattle.std.specs.List.{AllByRecursion};
 ghost use Rattle.xa_heur.specs.Decisions.{decision_at};
-ghost use Rattle.xa_states.specs.Answers.{Answers, Closes, Opens, Recovers, Wanted, map_ok, state_at};
+ghost use Rattle.xa_assoc.specs.Answers.{Answers, Closes, Opens, Recovers, Wanted, map_ok, state_at};
 ghost use Rattle.manager_model.specs.Sights.{Calls, ManagerSight, SameManager};
 ghost use Rattle.manager_model.specs.Works.{WorkRefused, Works};
 ghost use Rattle.manager_model.specs.Ends.{Finishes, is_left};
@@ -19,7 +19,7 @@ use std::alloc::AllocError;
 use tree_model::{LogRecord, Op, Outcome};
 use xa_codes::{Code, Flags};
 use xa_heur::Decision;
-use xa_manager::WorkError;
+use xa_assoc::WorkError;
 use xa_tables::{BranchState, Verb};
 use xa_xid::Xid;
 

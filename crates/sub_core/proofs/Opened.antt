@@ -3,7 +3,7 @@ use Rattle.std.proofs.Common.{◌≡◌, ◌∙◌, ◌∷◌, [], false, List, 
 use Rattle.std.specs.Prelude.{length}
 use Rattle.xa_codes.specs.declared.code.Code.{Code}
 use Rattle.xa_assoc.specs.Associations.{AssocList, IsBare, moved_of}
-use Rattle.xa_states.specs.Answers.{Opens}
+use Rattle.xa_assoc.specs.Answers.{Opens}
 use Rattle.tree_model.specs.declared.names.Case.{Case}
 use Rattle.tree_model.specs.declared.names.ProcessId.{ProcessId}
 use Rattle.tree_model.specs.declared.trees.TreeEntry.{TreeEntry}

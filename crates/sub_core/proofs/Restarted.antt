@@ -4,7 +4,7 @@ use Rattle.xa_codes.specs.declared.code.Code.{Code}
 use Rattle.xa_tables.specs.declared.states.BranchState.{BranchState}
 use Rattle.xa_xid.specs.declared.xid.Xid.{Xid}
 use Rattle.xa_branch.specs.Branches.{BranchList, state_in}
-use Rattle.xa_states.specs.Answers.{Opens, state_at}
+use Rattle.xa_assoc.specs.Answers.{Opens, state_at}
 use Rattle.tree_model.specs.declared.names.Case.{Case}
 use Rattle.tree_model.specs.declared.messages.Envelope.{Envelope}
 use Rattle.tree_model.specs.declared.records.Branch.TheVariants.{Case as CaseBranch, Foreign}

@@ -5,7 +5,7 @@ use Rattle.xa_tables.specs.declared.states.BranchState.TheVariants.{S2, S3, S4, 
 use Rattle.xa_xid.specs.declared.xid.Xid.{Xid}
 use Rattle.xa_xid.specs.Xids.{XidParts, null_xid}
 use Rattle.xa_branch.specs.Names.{same}
-use Rattle.xa_states.specs.Answers.{state_at}
+use Rattle.xa_assoc.specs.Answers.{state_at}
 use Rattle.xa_heur.specs.declared.decision.Decision.{Decision}
 use Rattle.tree_model.specs.declared.names.Case.{Case}
 use Rattle.tree_model.specs.declared.names.ProcessId.{ProcessId}

@@ -14,8 +14,8 @@ use Rattle.xa_xid.specs.Xids.{null_xid}
 use Rattle.xa_xid.specs.declared.xid.Xid.{Xid}
 use Rattle.xa_assoc.specs.Associations.{AssocList}
 use Rattle.xa_branch.specs.Branches.{state_in}
-use Rattle.xa_states.specs.Answers.{state_at}
-use Rattle.xa_states.specs.Ready.{has_rows, ready}
+use Rattle.xa_assoc.specs.Answers.{state_at}
+use Rattle.xa_assoc.specs.Ready.{has_rows, ready}
 use Rattle.tree_model.specs.declared.standings.Vote.TheVariants.{Yes, Read}
 use Rattle.tree_model.specs.declared.records.Write.{Write}
 use Rattle.manager_model.specs.Sights.{ManagerSight, SameManager}

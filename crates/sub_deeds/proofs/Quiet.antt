@@ -18,9 +18,9 @@ use Rattle.xa_assoc.specs.Names.{same}
 use Rattle.xa_assoc.specs.Associations.{AssocList, has_active, has_suspended, moved_of}
 use Rattle.xa_assoc.proofs.Sound.{same_is}
 use Rattle.xa_branch.specs.Branches.{is_known}
-use Rattle.xa_states.specs.declared.states.States.{States}
-use Rattle.xa_states.specs.Answers.{Same, is_held, state_at}
-use Rattle.xa_states.specs.Ready.{finish_refusal, has_rows, is_closed, judged, ready, unless_refused}
+use Rattle.xa_assoc.specs.declared.states.States.{States}
+use Rattle.xa_assoc.specs.Answers.{Same, is_held, state_at}
+use Rattle.xa_assoc.specs.Ready.{finish_refusal, has_rows, is_closed, judged, ready, unless_refused}
 use Rattle.manager_model.specs.Sights.{ManagerSight}
 use Rattle.sub_deeds.specs.Deeds.{IsIdle, IsQuiet}
 

@@ -17,12 +17,12 @@ use Rattle.xa_assoc.specs.Associations.{AssocList, Moves, Row, active_of, end_pl
 use Rattle.xa_assoc.proofs.Sound.{is_active-T1}
 use Rattle.xa_branch.specs.Branches.{is_known, state_in}
 use Rattle.xa_branch.specs.Names.{same}
-use Rattle.xa_states.specs.declared.states.States.{States}
-use Rattle.xa_states.specs.Answers.{Answers, ByState, Checked, Ends, Reacts, Refuses, Same, Walks, Wanted, left_state, start_reaction, state_at}
-use Rattle.xa_states.specs.Reacting.{by_state, end_call, left_by}
+use Rattle.xa_assoc.specs.declared.states.States.{States}
+use Rattle.xa_assoc.specs.Answers.{Answers, ByState, Checked, Ends, Reacts, Refuses, Same, Walks, Wanted, left_state, start_reaction, state_at}
+use Rattle.xa_assoc.specs.Reacting.{by_state, end_call, left_by}
 use Rattle.manager_model.specs.Sights.{Calls, ManagerSight, SameData, SameManager}
-use Rattle.xa_manager.specs.declared.errors.WorkError.{WorkError}
-use Rattle.xa_manager.specs.declared.errors.WorkError.TheVariants.{Memory, RmFail}
+use Rattle.xa_assoc.specs.declared.errors.WorkError.{WorkError}
+use Rattle.xa_assoc.specs.declared.errors.WorkError.TheVariants.{Memory, RmFail}
 use Rattle.tree_model.specs.declared.messages.Op.{Op}
 use Rattle.tree_model.specs.declared.records.Write.{Write}
 use Rattle.tree_model.specs.Plays.{op_writes}

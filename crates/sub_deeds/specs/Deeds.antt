@@ -9,7 +9,7 @@ use Rattle.xa_tables.specs.declared.states.BranchState.TheVariants.{S2, S3, S4, 
 use Rattle.xa_xid.specs.declared.xid.Xid.{Xid}
 use Rattle.xa_assoc.specs.Associations.{AssocList, moved_of}
 use Rattle.xa_branch.specs.Names.{same}
-use Rattle.xa_states.specs.Answers.{start_reaction, state_at}
+use Rattle.xa_assoc.specs.Answers.{start_reaction, state_at}
 use Rattle.xa_heur.specs.Decisions.{decided_as}
 use Rattle.tree_model.specs.declared.names.Outcome.{Outcome}
 use Rattle.tree_model.specs.declared.names.Outcome.TheVariants.{Committed, Aborted}

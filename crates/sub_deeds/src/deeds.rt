@@ -4,7 +4,7 @@ ghost use Rattle.std.specs.Prelude.{◌≡◌, ◌≢◌, false, true, IfErr, If
 ghost use Rattle.xa_tables.specs.declared.call.Call.TheVariants as call;
 ghost use Rattle.xa_tables.specs.declared.states.BranchState.TheVariants as state;
 ghost use Rattle.xa_xid.specs.Xids.{null_xid};
-ghost use Rattle.xa_states.specs.Answers.{state_at};
+ghost use Rattle.xa_assoc.specs.Answers.{state_at};
 ghost use Rattle.manager_model.specs.Sights.{SameManager};
 ghost use Rattle.sub_deeds.specs.Deeds.{Decides, Finishes, HasBegun, Idles, IsIdle, NotDecided, NotFinished, Works, can_commit, can_roll_back, outcome_call, vote_of};
 

@@ -6,7 +6,7 @@ use Rattle.xa_tables.specs.declared.call.Call.{Call}
 use Rattle.xa_tables.specs.declared.call.Verb.{Verb}
 use Rattle.xa_tables.specs.declared.states.BranchState.{BranchState}
 use Rattle.xa_xid.specs.declared.xid.Xid.{Xid}
-use Rattle.xa_states.specs.declared.states.States.{States}
+use Rattle.xa_assoc.specs.declared.states.States.{States}
 use Rattle.manager_model.specs.Sights.{Calls, ManagerSight, SameData, SameManager}
 use Rattle.manager_model.specs.Ends.{Fails, Finishes, Makes}
 use Rattle.tree_model.specs.declared.messages.Op.{Op}

@@ -1,8 +1,8 @@
 -- What a process sees of a manager that votes as it was told.
 use Rattle.std.specs.Prelude.{Bool, true, false, Option, Some}
 use Rattle.xa_xid.specs.declared.xid.Xid.{Xid}
-use Rattle.xa_manager.specs.declared.errors.WorkError.{WorkError}
-use Rattle.xa_manager.specs.declared.errors.WorkError.TheVariants.{TooLong}
+use Rattle.xa_assoc.specs.declared.errors.WorkError.{WorkError}
+use Rattle.xa_assoc.specs.declared.errors.WorkError.TheVariants.{TooLong}
 use Rattle.tree_model.specs.declared.messages.Op.{Op}
 use Rattle.manager_model.specs.Sights.{ManagerSight}
 

@@ -13,7 +13,7 @@ use std::alloc::{AllocError, Global};
 use tree_model::{LogRecord, Op, Outcome};
 use xa_codes::{Code, Flags};
 use xa_heur::Decision;
-use xa_manager::WorkError;
+use xa_assoc::WorkError;
 use xa_tables::BranchState;
 use xa_xid::Xid;
 

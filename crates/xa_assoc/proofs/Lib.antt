@@ -1,2 +1,5 @@
 pub mod Sound
 pub mod Counts
+pub mod Reactions
+pub mod Finishing
+pub mod Restoring

@@ -15,16 +15,16 @@ use Rattle.xa_tables.specs.declared.states.BranchState.TheVariants.{S0, S1, S2, 
 use Rattle.xa_xid.specs.declared.xid.Xid.{Xid}
 use Rattle.xa_assoc.specs.Associations.{IsBare}
 use Rattle.xa_branch.specs.Branches.{BranchList, state_in}
-use Rattle.xa_states.specs.declared.states.States.{States}
-use Rattle.xa_states.specs.Answers.{Answers, Closed, Closes, IsNew, Opened, Opens, Recovers, Same, Takes as TakesRow, Wanted, state_at}
-use Rattle.xa_states.specs.Ready.{is_work_verb}
-use Rattle.xa_states.specs.Restored.{Restored}
-use Rattle.xa_states.proofs.Finishing.{finishing, refused_call}
-use Rattle.xa_states.proofs.Reactions.{stays}
+use Rattle.xa_assoc.specs.declared.states.States.{States}
+use Rattle.xa_assoc.specs.Answers.{Answers, Closed, Closes, IsNew, Opened, Opens, Recovers, Same, Takes as TakesRow, Wanted, state_at}
+use Rattle.xa_assoc.specs.Ready.{is_work_verb}
+use Rattle.xa_assoc.specs.Restored.{Restored}
+use Rattle.xa_assoc.proofs.Finishing.{finishing, refused_call}
+use Rattle.xa_assoc.proofs.Reactions.{stays}
 use Rattle.xa_law.specs.Moves.{Declines, FitsRows, is_own, Leads as LeadsMoves, Makes as MakesMove, Move, Open as OpenMove, Close as CloseMove, Branch as BranchMove, Recover as RecoverMove, Work as WorkMove, Decide as DecideMove, Restart as RestartMove}
 use Rattle.xa_law.proofs.Histories.{legal_history}
-use Rattle.xa_manager.specs.declared.errors.WorkError.{WorkError}
-use Rattle.xa_manager.specs.declared.errors.WorkError.TheVariants as work_error
+use Rattle.xa_assoc.specs.declared.errors.WorkError.{WorkError}
+use Rattle.xa_assoc.specs.declared.errors.WorkError.TheVariants as work_error
 use Rattle.tree_model.specs.declared.messages.Op.{Op}
 use Rattle.tree_model.specs.declared.messages.Op.TheVariants.{Put, Get, Delete}
 use Rattle.tree_model.specs.declared.records.LogRecord.{LogRecord}

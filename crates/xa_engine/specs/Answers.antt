@@ -5,9 +5,9 @@ use Rattle.std.specs.Fmt.{decimal}
 use Rattle.xa_codes.specs.Codes.{code_name}
 use Rattle.xa_xid.specs.declared.xid.Xid.{Xid}
 use Rattle.xa_xid.specs.Text.{xid_text}
-use Rattle.xa_manager.specs.Errors.{number_of}
-use Rattle.xa_manager.specs.declared.errors.WorkError.{WorkError}
-use Rattle.xa_manager.specs.declared.errors.WorkError.TheVariants.{Locked}
+use Rattle.xa_assoc.specs.Errors.{number_of}
+use Rattle.xa_assoc.specs.declared.errors.WorkError.{WorkError}
+use Rattle.xa_assoc.specs.declared.errors.WorkError.TheVariants.{Locked}
 use Rattle.kv_manager.specs.declared.restart.RestartError.{RestartError}
 use Rattle.kv_manager.specs.declared.restart.RestartError.TheVariants.{Memory, Device, Unfit, Exhausted}
 use Rattle.manager_model.specs.declared.errors.DecideError.{DecideError}

@@ -10,7 +10,7 @@ use std::alloc::{AllocError, Global};
 use trace_lines::{push, push_number};
 use tree_model::{Bytes, Sequence};
 use xa_codes::Code;
-use xa_manager::WorkError;
+use xa_assoc::WorkError;
 use xa_xid::Xid;
 
 /// What a request is answered.

@@ -14,7 +14,7 @@ use manager_model::{DecideError, TrimError};
 use std::alloc::AllocError;
 use tree_model::{Op, Outcome, Sequence};
 use xa_codes::{Code, Flags};
-use xa_manager::WorkError;
+use xa_assoc::WorkError;
 use xa_xid::Xid;
 
 /// The manager of a script: its log is in memory.

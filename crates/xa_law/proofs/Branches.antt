@@ -17,12 +17,12 @@ use Rattle.xa_xid.specs.Xids.{null_xid}
 use Rattle.xa_assoc.specs.Names.{same, same_seat}
 use Rattle.xa_assoc.specs.Associations.{AssocList, moved_of, own_state}
 use Rattle.xa_assoc.proofs.Sound.{same_is}
-use Rattle.xa_states.specs.declared.states.States.{States}
-use Rattle.xa_states.specs.Answers.{Checked, Same, Wanted, state_at}
+use Rattle.xa_assoc.specs.declared.states.States.{States}
+use Rattle.xa_assoc.specs.Answers.{Checked, Same, Wanted, state_at}
 use Rattle.xa_law.specs.Moves.{FitsRows, Branch}
 use Rattle.xa_law.specs.Refusals.{Made, behind_flags, branch_checks, first_of, first_refusal, is_refusal, state_checks}
 use Rattle.xa_law.specs.Histories.{HasBranchRow, HasOwnRow, HasMigrationRow, MigrationRow, OwnRow, is_work_call, is_work_on}
-use Rattle.xa_states.specs.Ready.{is_closed}
+use Rattle.xa_assoc.specs.Ready.{is_closed}
 use Rattle.xa_law.proofs.Reached.{IsKept, IsReached, moved_kept, moved_states, names_apart, seats_apart}
 use Rattle.xa_law.proofs.Refused.{Steps, legal_refuses, moves_on, refused_step}
 use Rattle.xa_law.proofs.Outcomes.{Finished, Outcome, Works, comes}

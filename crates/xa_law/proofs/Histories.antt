@@ -22,13 +22,13 @@ use Rattle.xa_assoc.specs.Associations.{AssocList, IsBare, active_of, moved_of, 
 use Rattle.xa_assoc.proofs.Sound.{is_active-T1, same_is}
 use Rattle.xa_branch.specs.Branches.{Scans, scan_refusal, starts_scan, state_in}
 use Rattle.xa_branch.specs.Scans.{has_scan}
-use Rattle.xa_states.specs.declared.states.States.{States}
-use Rattle.xa_states.specs.Answers.{Closed, IsNew, Opened, Same, Scanned, Takes, state_at}
-use Rattle.xa_states.specs.Restored.{Restored}
+use Rattle.xa_assoc.specs.declared.states.States.{States}
+use Rattle.xa_assoc.specs.Answers.{Closed, IsNew, Opened, Same, Scanned, Takes, state_at}
+use Rattle.xa_assoc.specs.Restored.{Restored}
 use Rattle.xa_law.specs.Moves.{Answered, Declines, Leads, Makes, Move, Open, Close, Branch, Recover, Work, Decide, Restart}
 use Rattle.xa_law.specs.Refusals.{AnswersFirst, Made, behind_flags, first_of, first_refusal, has_associations, is_refusal, scan_checks}
 use Rattle.xa_law.specs.Histories.{BranchStep, InitStep, IsLegalHistory, MigrationStep, OwnStep, WalksBy}
-use Rattle.xa_states.specs.Ready.{is_closed}
+use Rattle.xa_assoc.specs.Ready.{is_closed}
 use Rattle.xa_law.proofs.Reached.{AllHere, IsKept, IsReached, bare_moved, bare_states, empty_states, moved_states, new_reached, restored_reached, same_reached}
 use Rattle.xa_law.proofs.Refused.{IsLegalStep, Steps, decides_on, declined_step, kept_branch, kept_moved, kept_own, legal_refuses, refused_step}
 use Rattle.xa_law.proofs.Branches.{branch_step}

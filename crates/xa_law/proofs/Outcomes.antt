@@ -19,13 +19,13 @@ use Rattle.xa_xid.specs.declared.xid.Xid.{Xid}
 use Rattle.xa_assoc.specs.Names.{same}
 use Rattle.xa_assoc.specs.Associations.{AssocList, IsRowOf, Moves as AssocMoves, Row, active_of, end_plan, has_room, has_seat, is_active, moved_of, own_part, own_state, resume_plan, start_plan, suspend_plan}
 use Rattle.xa_branch.specs.Branches.{Moves as BranchMoves, is_known}
-use Rattle.xa_states.specs.declared.states.States.{States}
-use Rattle.xa_states.specs.Answers.{ByState, Does, Finishes, Reacts, Refuses, Same, is_held, left_state, start_reaction, state_at, Wanted}
-use Rattle.xa_states.specs.Reacting.{by_state, end_call, resumed, suspend_call}
+use Rattle.xa_assoc.specs.declared.states.States.{States}
+use Rattle.xa_assoc.specs.Answers.{ByState, Does, Finishes, Reacts, Refuses, Same, is_held, left_state, start_reaction, state_at, Wanted}
+use Rattle.xa_assoc.specs.Reacting.{by_state, end_call, resumed, suspend_call}
 use Rattle.xa_law.specs.Moves.{FitsRows}
 use Rattle.xa_law.specs.Refusals.{first_of, is_at_limit, is_out_of_state, is_refusal, naming_check, state_checks}
-use Rattle.xa_states.specs.Ready.{has_rows, is_work}
-use Rattle.xa_states.proofs.Finishing.{off_is}
+use Rattle.xa_assoc.specs.Ready.{has_rows, is_work}
+use Rattle.xa_assoc.proofs.Finishing.{off_is}
 use Rattle.xa_law.proofs.Plans.{Agrees, Seen, begins, checks_by, ends, joins, own_by, resumes, suspends}
 use Rattle.xa_law.proofs.Reached.{IsHereOr, IsReached, here_at}
 

@@ -11,9 +11,9 @@ use Rattle.xa_tables.specs.declared.states.AssocState.TheVariants.{T0, T1, T2, M
 use Rattle.xa_tables.specs.declared.states.BranchState.{BranchState}
 use Rattle.xa_tables.specs.declared.states.BranchState.TheVariants.{S0, S1, S2, S3, S4, S5}
 use Rattle.xa_assoc.specs.Associations.{Row, row, own_part}
-use Rattle.xa_states.specs.Reacting.{IsAt, end_call, suspend_call}
+use Rattle.xa_assoc.specs.Reacting.{IsAt, end_call, suspend_call}
 use Rattle.xa_law.specs.Refusals.{first_of, naming_check, is_lost, is_refusal}
-use Rattle.xa_states.specs.Ready.{is_start, is_work, has_rows}
+use Rattle.xa_assoc.specs.Ready.{is_start, is_work, has_rows}
 
 -- a branch that is known is in a state but S0
 abbrev pub IsHere : BranchState → Type 0

@@ -18,9 +18,9 @@ use Rattle.xa_assoc.specs.Associations.{AssocList, IsBare, Moves as AssocMoves, 
 use Rattle.xa_assoc.proofs.Sound.{has_some-seat, same_is}
 use Rattle.xa_branch.specs.Branches.{Moves as BranchMoves}
 use Rattle.xa_branch.proofs.Placed.{AllIn, GoneOr, NoneOr, all_placed, found}
-use Rattle.xa_states.specs.declared.states.States.{States}
-use Rattle.xa_states.specs.Answers.{Same, IsNew}
-use Rattle.xa_states.specs.Restored.{Restored, state_left, states_left}
+use Rattle.xa_assoc.specs.declared.states.States.{States}
+use Rattle.xa_assoc.specs.Answers.{Same, IsNew}
+use Rattle.xa_assoc.specs.Restored.{Restored, state_left, states_left}
 use Rattle.xa_law.proofs.Plans.{IsHere}
 
 -- each known branch is in a state but S0

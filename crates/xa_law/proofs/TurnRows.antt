@@ -9,8 +9,8 @@ use Rattle.xa_tables.specs.declared.call.Verb.{Verb}
 use Rattle.xa_tables.specs.declared.states.BranchState.{BranchState}
 use Rattle.xa_tables.specs.declared.states.BranchState.TheVariants.{S0, S1, S2, S3, S4, S5}
 use Rattle.xa_xid.specs.declared.xid.Xid.{Xid}
-use Rattle.xa_states.specs.Ready.{has_rows, is_work, is_work_verb, ready}
-use Rattle.xa_states.proofs.Finishing.{passed, works_as}
+use Rattle.xa_assoc.specs.Ready.{has_rows, is_work, is_work_verb, ready}
+use Rattle.xa_assoc.proofs.Finishing.{passed, works_as}
 use Rattle.xa_heur.specs.declared.decision.Decision.{Decision}
 use Rattle.xa_heur.specs.Decisions.{heur_code}
 use Rattle.tree_model.specs.declared.names.Outcome.{Outcome}

@@ -17,10 +17,10 @@ use Rattle.xa_xid.specs.declared.xid.Xid.{Xid}
 use Rattle.xa_assoc.specs.Associations.{moved_of, own_part, own_state, counts}
 use Rattle.xa_branch.specs.Branches.{state_in}
 use Rattle.xa_branch.specs.Names.{same}
-use Rattle.xa_states.specs.declared.states.States.{States}
-use Rattle.xa_states.specs.Answers.{state_at}
-use Rattle.xa_states.specs.Ready.{is_work}
-use Rattle.xa_states.specs.Restored.{states_left}
+use Rattle.xa_assoc.specs.declared.states.States.{States}
+use Rattle.xa_assoc.specs.Answers.{state_at}
+use Rattle.xa_assoc.specs.Ready.{is_work}
+use Rattle.xa_assoc.specs.Restored.{states_left}
 use Rattle.xa_law.specs.Moves.{Move, Open, Close, Branch, Decide, Restart}
 use Rattle.xa_law.specs.Refusals.{AnswersFirst, is_refusal}
 

@@ -8,10 +8,10 @@ use Rattle.xa_tables.specs.declared.call.Verb.{Verb}
 use Rattle.xa_tables.specs.declared.states.BranchState.{BranchState}
 use Rattle.xa_tables.specs.declared.states.BranchState.TheVariants.{S3, S5}
 use Rattle.xa_xid.specs.declared.xid.Xid.{Xid}
-use Rattle.xa_states.specs.declared.states.States.{States}
-use Rattle.xa_states.specs.Answers.{Answers, Closes, Opens, Recovers, Same, Takes, Wanted, state_at}
-use Rattle.xa_states.specs.Ready.{has_rows, is_work}
-use Rattle.xa_states.specs.Restored.{Restored}
+use Rattle.xa_assoc.specs.declared.states.States.{States}
+use Rattle.xa_assoc.specs.Answers.{Answers, Closes, Opens, Recovers, Same, Takes, Wanted, state_at}
+use Rattle.xa_assoc.specs.Ready.{has_rows, is_work}
+use Rattle.xa_assoc.specs.Restored.{Restored}
 
 -- a call with its answer; or a move without a call: an operator decides a branch, or the manager restarts
 -- with these branches in doubt, each decided or not. Work is whatever leaves the tables alone, as a thread's

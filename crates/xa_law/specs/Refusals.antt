@@ -18,9 +18,9 @@ use Rattle.xa_assoc.specs.Associations.{AssocList, active_of, has_room, has_seat
 use Rattle.xa_branch.specs.Branches.{is_known, starts_scan}
 use Rattle.xa_branch.specs.Names.{same}
 use Rattle.xa_branch.specs.Scans.{has_scan}
-use Rattle.xa_states.specs.declared.states.States.{States}
-use Rattle.xa_states.specs.Answers.{Same, is_held, state_at}
-use Rattle.xa_states.specs.Ready.{has_rows, is_closed, is_start, is_work}
+use Rattle.xa_assoc.specs.declared.states.States.{States}
+use Rattle.xa_assoc.specs.Answers.{Same, is_held, state_at}
+use Rattle.xa_assoc.specs.Ready.{has_rows, is_closed, is_start, is_work}
 use Rattle.xa_law.specs.Moves.{Move, Open, Close, Branch, Recover, is_own}
 
 -- the answer of the first of some checks that applies

@@ -4,8 +4,8 @@ use Rattle.xa_codes.specs.declared.code.Code.{Code}
 use Rattle.xa_tables.specs.declared.call.Verb.{Verb}
 use Rattle.xa_tables.specs.declared.states.BranchState.{BranchState}
 use Rattle.xa_xid.specs.declared.xid.Xid.{Xid}
-use Rattle.xa_states.specs.Answers.{Wanted}
-use Rattle.xa_states.specs.Ready.{is_work_verb, ready}
+use Rattle.xa_assoc.specs.Answers.{Wanted}
+use Rattle.xa_assoc.specs.Ready.{is_work_verb, ready}
 use Rattle.xa_law.specs.Moves.{FitsRows}
 use Rattle.xa_heur.specs.declared.decision.Decision.{Decision}
 use Rattle.tree_model.specs.declared.records.Branch.{Branch}

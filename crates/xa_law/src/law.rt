@@ -1,8 +1,8 @@
 //! That every history is legal.
 
 ghost use Rattle.std.specs.Prelude.{List};
-ghost use Rattle.xa_states.specs.declared.states.States.{States as AnyStates};
-ghost use Rattle.xa_states.specs.Answers.{IsNew};
+ghost use Rattle.xa_assoc.specs.declared.states.States.{States as AnyStates};
+ghost use Rattle.xa_assoc.specs.Answers.{IsNew};
 ghost use Rattle.xa_law.specs.Moves.{Leads, Move};
 ghost use Rattle.xa_law.specs.Histories.{IsLegalHistory};
 

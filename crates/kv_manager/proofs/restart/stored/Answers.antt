@@ -1,5 +1,5 @@
 use Rattle.std.proofs.Common.{subst}
-use Rattle.xa_states.specs.Restored.{Restored}
+use Rattle.xa_assoc.specs.Restored.{Restored}
 use Rattle.kv_manager.proofs.restart.stored.Goals as goal
 
 pub restored-requires : goal.restored-requires

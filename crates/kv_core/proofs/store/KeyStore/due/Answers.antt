@@ -1,8 +1,8 @@
 use Rattle.std.proofs.Common.{rules, ◌≡◌, ◌∙◌, sym, ap, subst, true, false, Ok, IsTrue}
 use Rattle.std.specs.Prelude.{Contains}
 use Rattle.xa_tables.specs.Tables.{branch_rows}
-use Rattle.xa_states.specs.Ready.{is_work, ready}
-use Rattle.xa_states.proofs.Finishing.{off_is, passed, works_as}
+use Rattle.xa_assoc.specs.Ready.{is_work, ready}
+use Rattle.xa_assoc.proofs.Finishing.{off_is, passed, works_as}
 use Rattle.kv_core.specs.Stores.{state_of}
 use Rattle.kv_core.specs.Ends.{Unlisted, turn_for}
 use Rattle.kv_core.proofs.Turning.{listed_for, turn_is}

@@ -3,7 +3,7 @@ use Rattle.xa_tables.specs.declared.states.BranchState.{BranchState}
 use Rattle.kv_core.specs.Stores.{is_decided, is_let_go}
 use Rattle.kv_core.proofs.Moves.{Keeps, either_way, recovers_keep, same_keeps}
 use Rattle.kv_core.proofs.Tidy.{tidy_called}
-use Rattle.xa_states.specs.Answers.{Recovers, Same, map_ok}
+use Rattle.xa_assoc.specs.Answers.{Recovers, Same, map_ok}
 use Rattle.kv_core.proofs.store.KeyStore.recover.Goals as goal
 
 pub invariant_of-self : goal.invariant_of-self

@@ -1,13 +1,13 @@
 use Rattle.std.proofs.Common.{◌≡◌, Bool, false, refl}
 use Rattle.xa_tables.specs.Calls.{legal}
-use Rattle.xa_states.specs.Ready.{leaves}
+use Rattle.xa_assoc.specs.Ready.{leaves}
 use Rattle.kv_core.specs.Stores.{is_decided, is_let_go}
 use Rattle.kv_core.proofs.Moves.{IsApart, Keeps, either_way, works_keep, same_keeps}
 use Rattle.kv_core.proofs.Tidy.{tidy_called}
 use Rattle.xa_codes.specs.declared.code.Code.TheVariants.{Proto}
 use Rattle.xa_tables.specs.declared.states.BranchState.{BranchState}
 use Rattle.xa_tables.specs.declared.states.BranchState.TheVariants.{S0}
-use Rattle.xa_states.specs.Answers.{Answers, Same, Wanted}
+use Rattle.xa_assoc.specs.Answers.{Answers, Same, Wanted}
 use Rattle.kv_core.proofs.store.KeyStore.work_call.Goals as goal
 
 pub invariant_of-self : goal.invariant_of-self

@@ -1,7 +1,7 @@
 use Rattle.std.proofs.Common.{rules, ◌≡◌, ◌≤◌, ◌∙◌, false, IfErr, refl, sym, ap, subst}
 use Rattle.xa_tables.specs.declared.call.Call.TheVariants.{Commit}
 use Rattle.xa_tables.specs.declared.states.BranchState.TheVariants.{S3}
-use Rattle.xa_states.specs.Answers.{state_at}
+use Rattle.xa_assoc.specs.Answers.{state_at}
 use Rattle.manager_model.specs.Deciding.{NotDecided}
 use Rattle.kv_turns.specs.Turns.{decide_turn}
 use Rattle.kv_core.specs.Stores.{state_of}

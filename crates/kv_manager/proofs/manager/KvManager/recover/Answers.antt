@@ -1,4 +1,4 @@
-use Rattle.xa_states.specs.Answers.{Recovers, map_ok}
+use Rattle.xa_assoc.specs.Answers.{Recovers, map_ok}
 use Rattle.kv_core.specs.Stores.{MovesTables, SameStore, is_decided}
 use Rattle.kv_core.proofs.Moves.{recovers_keep}
 use Rattle.kv_manager.specs.Sights.{KvSight}

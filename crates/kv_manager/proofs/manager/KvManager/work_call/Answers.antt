@@ -2,8 +2,8 @@ use Rattle.std.proofs.Common.{rules, ◌≡◌, refl, true, false, sym, ◌∙�
 use Rattle.xa_codes.specs.declared.code.Code.TheVariants as code
 use Rattle.xa_tables.specs.declared.states.BranchState.TheVariants.{S0}
 use Rattle.xa_tables.specs.Calls.{legal}
-use Rattle.xa_states.specs.Answers.{Answers, Wanted}
-use Rattle.xa_states.specs.Ready.{leaves}
+use Rattle.xa_assoc.specs.Answers.{Answers, Wanted}
+use Rattle.xa_assoc.specs.Ready.{leaves}
 use Rattle.kv_core.specs.Stores.{MovesTables, SameStore, is_decided}
 use Rattle.kv_core.proofs.Moves.{works_keep}
 use Rattle.kv_manager.specs.Sights.{KvSight}

@@ -1,7 +1,7 @@
 use Rattle.std.proofs.Common.{◌≡◌}
 use Rattle.xa_codes.specs.declared.code.Code.TheVariants as code
 use Rattle.xa_tables.specs.declared.call.Verb.TheVariants.{End}
-use Rattle.xa_states.specs.Answers.{Answers, Wanted}
+use Rattle.xa_assoc.specs.Answers.{Answers, Wanted}
 use Rattle.kv_core.specs.Stores.{MovesTables}
 use Rattle.manager_model.specs.Sights.{Calls as Moved}
 use Rattle.kv_manager.specs.Resources.{sight_of}

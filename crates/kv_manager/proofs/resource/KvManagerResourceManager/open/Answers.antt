@@ -1,6 +1,6 @@
 use Rattle.std.proofs.Common.{◌≡◌}
 use Rattle.xa_codes.specs.declared.code.Code.TheVariants as code
-use Rattle.xa_states.specs.Answers.{Opens}
+use Rattle.xa_assoc.specs.Answers.{Opens}
 use Rattle.kv_manager.proofs.Resources.{called}
 use Rattle.kv_manager.proofs.resource.KvManagerResourceManager.open.Goals as goal
 

@@ -1,7 +1,7 @@
 use Rattle.std.proofs.Common.{◌≡◌}
 use Rattle.xa_codes.specs.declared.code.Code.TheVariants as code
 use Rattle.xa_tables.specs.declared.call.Verb.TheVariants.{Start}
-use Rattle.xa_states.specs.Answers.{Answers}
+use Rattle.xa_assoc.specs.Answers.{Answers}
 use Rattle.kv_manager.specs.Resources.{sight_of as store_sight}
 use Rattle.tests_base.proofs.Told.{called, on_answer}
 use Rattle.tests_base.proofs.manager.FakeManagerResourceManager.start.Goals as goal

@@ -16,8 +16,8 @@ use Rattle.xa_xid.specs.declared.xid.Xid.{Xid}
 use Rattle.xa_xid.specs.Xids.{null_xid}
 use Rattle.xa_assoc.specs.Associations.{AssocList, IsBare, Row, Moves as AssocMoves, active_of, has_seat, has_active, has_suspended, moved_of, start_plan, resume_plan, suspend_plan, end_plan}
 use Rattle.xa_branch.specs.Branches.{Moves as BranchMoves, Stays, Scans, scan_refusal, is_known, state_in, off_row}
-use Rattle.xa_states.specs.declared.states.States.{States}
-use Rattle.xa_states.specs.Reacting.{by_state, left_by, resumed, suspend_call, end_call}
+use Rattle.xa_assoc.specs.declared.states.States.{States}
+use Rattle.xa_assoc.specs.Reacting.{by_state, left_by, resumed, suspend_call, end_call}
 
 -- nothing changes but room
 pub record Same (old new : States) : Type 0 where

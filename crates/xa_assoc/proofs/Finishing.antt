@@ -17,9 +17,9 @@ use Rattle.xa_xid.specs.Xids.{null_xid}
 use Rattle.xa_assoc.proofs.Sound.{same_is}
 use Rattle.xa_branch.specs.Branches.{is_known, off_row}
 use Rattle.xa_branch.specs.Names.{same}
-use Rattle.xa_states.specs.declared.states.States.{States}
-use Rattle.xa_states.specs.Answers.{Answers, Checked, Does, Ends, Finishes, Refuses, Same, Takes, Wanted, is_held, state_at}
-use Rattle.xa_states.specs.Ready.{finish_refusal, has_rows, is_closed, is_work, is_work_verb, judged, ready, unless_refused}
+use Rattle.xa_assoc.specs.declared.states.States.{States}
+use Rattle.xa_assoc.specs.Answers.{Answers, Checked, Does, Ends, Finishes, Refuses, Same, Takes, Wanted, is_held, state_at}
+use Rattle.xa_assoc.specs.Ready.{finish_refusal, has_rows, is_closed, is_work, is_work_verb, judged, ready, unless_refused}
 
 -- Which calls a verb makes.
 

@@ -9,7 +9,7 @@ use Rattle.xa_tables.specs.declared.states.BranchState.TheVariants.{S3, S5}
 use Rattle.xa_xid.specs.declared.xid.Xid.{Xid}
 use Rattle.xa_assoc.specs.Associations.{IsBare}
 use Rattle.xa_branch.specs.Names.{same}
-use Rattle.xa_states.specs.declared.states.States.{States}
+use Rattle.xa_assoc.specs.declared.states.States.{States}
 
 -- the state of a branch that a restart finds in doubt: decided by an operator, or prepared
 abbrev pub state_left : Bool → BranchState

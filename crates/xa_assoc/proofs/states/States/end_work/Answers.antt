@@ -2,10 +2,10 @@ use Rattle.std.proofs.Common.{◌≢◌, ◌∙◌, ap, refl, rules}
 use Rattle.std.specs.Prelude.{◌||◌, not}
 use Rattle.xa_codes.specs.declared.code.Code.TheVariants as code
 use Rattle.xa_assoc.specs.Associations.{end_plan, has_active}
-use Rattle.xa_states.specs.Answers.{state_at}
-use Rattle.xa_states.specs.Reacting.{left_by, end_call}
-use Rattle.xa_states.proofs.Reactions.{made_step, end_is_plan, end_listed}
-use Rattle.xa_states.proofs.states.States.end_work.Goals as goal
+use Rattle.xa_assoc.specs.Answers.{state_at}
+use Rattle.xa_assoc.specs.Reacting.{left_by, end_call}
+use Rattle.xa_assoc.proofs.Reactions.{made_step, end_is_plan, end_listed}
+use Rattle.xa_assoc.proofs.states.States.end_work.Goals as goal
 
 pub returns : goal.returns
 returns c =

@@ -2,9 +2,9 @@
 
 ghost use Rattle.std.specs.Prelude.{◌≡◌, ◌↔◌, ◌⊎◌, ◌||◌, not, IsTrue};
 ghost use Rattle.xa_tables.specs.Tables.{branch_rows};
-ghost use Rattle.xa_states.specs.Reacting.{resumed, suspend_call, end_call};
-ghost use Rattle.xa_states.specs.Ready.{has_rows};
-ghost use Rattle.xa_states.specs.Restored.{state_left};
+ghost use Rattle.xa_assoc.specs.Reacting.{resumed, suspend_call, end_call};
+ghost use Rattle.xa_assoc.specs.Ready.{has_rows};
+ghost use Rattle.xa_assoc.specs.Restored.{state_left};
 
 use xa_codes::Code;
 use xa_tables::{BranchState, Call, next_branch};

@@ -14,7 +14,7 @@ use Rattle.xa_xid.specs.declared.xid.Xid.{Xid}
 use Rattle.xa_branch.specs.Branches.{Begins, BranchList, is_known, placed}
 use Rattle.xa_branch.specs.Names.{same}
 use Rattle.xa_branch.proofs.Placed.{placed_last}
-use Rattle.xa_states.specs.Restored.{has_twice, restore_refusal, state_left, states_left}
+use Rattle.xa_assoc.specs.Restored.{has_twice, restore_refusal, state_left, states_left}
 
 placed_left : (bs : List (Xid × BranchState)) (x : Xid) (d : Bool) → is_known bs x ≡ false
     → placed bs x (state_left d) ≡ bs ++ (x, state_left d) ∷ []

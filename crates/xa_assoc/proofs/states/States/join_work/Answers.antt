@@ -5,9 +5,9 @@ use Rattle.xa_tables.specs.Tables.{branch_rows}
 use Rattle.xa_tables.specs.declared.call.Call.TheVariants as call
 use Rattle.xa_tables.specs.declared.states.BranchState.TheVariants.{S1}
 use Rattle.xa_assoc.specs.Associations.{start_plan}
-use Rattle.xa_states.specs.Answers.{state_at}
-use Rattle.xa_states.proofs.Reactions.{made, answer_is, known_at, start_is_plan, start_listed}
-use Rattle.xa_states.proofs.states.States.join_work.Goals as goal
+use Rattle.xa_assoc.specs.Answers.{state_at}
+use Rattle.xa_assoc.proofs.Reactions.{made, answer_is, known_at, start_is_plan, start_listed}
+use Rattle.xa_assoc.proofs.states.States.join_work.Goals as goal
 
 pub returns-clause-answer : goal.returns-clause-answer
 returns-clause-answer c =

@@ -1,7 +1,7 @@
 //! What a resource manager refuses.
 
 ghost use Rattle.std.specs.Prelude.{◌≡◌};
-ghost use Rattle.xa_manager.specs.Errors.{number_of};
+ghost use Rattle.xa_assoc.specs.Errors.{number_of};
 
 use std::alloc::AllocError;
 use thiserror::Error;
@@ -34,7 +34,7 @@ pub enum WorkError {
 }
 
 impl From<AllocError> for WorkError {
-    ghost use Rattle.xa_manager.specs.declared.errors.WorkError.TheVariants as refusal;
+    ghost use Rattle.xa_assoc.specs.declared.errors.WorkError.TheVariants as refusal;
 
     ghost from_gives = { λ e w. w ≡ refusal.Memory };
 

@@ -13,9 +13,9 @@ use Rattle.xa_assoc.specs.Associations.{AssocList, Row, Steps, start_plan, resum
 use Rattle.std.specs.Map.{lookup}
 use Rattle.xa_branch.specs.Names.{same}
 use Rattle.xa_branch.specs.Branches.{BranchList, Moves, Stays, is_known}
-use Rattle.xa_states.specs.declared.states.States.{States}
-use Rattle.xa_states.specs.Answers.{Reacts, state_at}
-use Rattle.xa_states.specs.Reacting.{IsAt, resumed, left_by, suspend_call, end_call}
+use Rattle.xa_assoc.specs.declared.states.States.{States}
+use Rattle.xa_assoc.specs.Answers.{Reacts, state_at}
+use Rattle.xa_assoc.specs.Reacting.{IsAt, resumed, left_by, suspend_call, end_call}
 
 pub stays : (old new : BranchList) → new ≡ old → Stays old new
 stays old new e = subst (λ (b : BranchList). Stays old b) (sym e)

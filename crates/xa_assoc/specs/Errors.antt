@@ -1,7 +1,7 @@
 -- The numbers of a manager's refusals.
 use Rattle.std.specs.Prelude.{ℕ}
-use Rattle.xa_manager.specs.declared.errors.WorkError.{WorkError}
-use Rattle.xa_manager.specs.declared.errors.WorkError.TheVariants.{Memory, NotAssociated, Locked, TooLong, TooManyWrites, RmFail, RollbackOnly}
+use Rattle.xa_assoc.specs.declared.errors.WorkError.{WorkError}
+use Rattle.xa_assoc.specs.declared.errors.WorkError.TheVariants.{Memory, NotAssociated, Locked, TooLong, TooManyWrites, RmFail, RollbackOnly}
 
 -- the number by which a script's output names a refusal of work
 abbrev pub number_of : WorkError → ℕ

@@ -1,5 +1,5 @@
 use Rattle.std.proofs.Common.{refl}
-use Rattle.xa_states.proofs.states.States.finish.Goals as goal
+use Rattle.xa_assoc.proofs.states.States.finish.Goals as goal
 
 pub returns-clause-row : goal.returns-clause-row
 returns-clause-row c = λ k h. let w = c.step.ensures.row k h in

@@ -2,10 +2,10 @@ use Rattle.std.proofs.Common.{◌≢◌, refl, rules}
 use Rattle.xa_codes.specs.declared.code.Code.TheVariants as code
 use Rattle.xa_tables.specs.declared.call.Call.TheVariants as call
 use Rattle.xa_assoc.specs.Associations.{resume_plan}
-use Rattle.xa_states.specs.Answers.{state_at}
-use Rattle.xa_states.specs.Reacting.{resumed}
-use Rattle.xa_states.proofs.Reactions.{made_step, resume_is_plan, resume_listed}
-use Rattle.xa_states.proofs.states.States.resume_work.Goals as goal
+use Rattle.xa_assoc.specs.Answers.{state_at}
+use Rattle.xa_assoc.specs.Reacting.{resumed}
+use Rattle.xa_assoc.proofs.Reactions.{made_step, resume_is_plan, resume_listed}
+use Rattle.xa_assoc.proofs.states.States.resume_work.Goals as goal
 
 pub returns-clause-answer : goal.returns-clause-answer
 returns-clause-answer c =

@@ -1,10 +1,10 @@
 //! The tables of a resource manager, and the calls that walk their rows.
 
+use crate::associations::Associations;
 use crate::reacting::{
     end_call, has_rows, is_failed, is_refusal, resumed, state_left, suspend_call,
 };
 use std::alloc::{AllocError, Global};
-use xa_assoc::Associations;
 use xa_branch::Branches;
 use xa_codes::{Code, Flags};
 use xa_tables::{BranchState, Call, InitState, Verb, legal_call};
@@ -28,11 +28,11 @@ impl States {
     ghost use Rattle.xa_tables.specs.declared.call.Call.TheVariants as call;
     ghost use Rattle.xa_assoc.specs.Associations.{active_of, start_plan, resume_plan, suspend_plan, end_plan};
     ghost use Rattle.xa_branch.specs.Branches.{in_doubt, is_known, off_row};
-    ghost use Rattle.xa_states.specs.Reacting.{IsAt, resumed, suspend_call, end_call};
-    ghost use Rattle.xa_states.specs.Answers.{Same, IsNew, Opens, Closes, Wanted, Answers, Recovers, Refuses, Takes, map_ok, Reacts, Resumes, Suspends, Ends, left_state, is_held, start_reaction, join_reaction, state_at};
-    ghost use Rattle.xa_states.specs.Ready.{is_work_verb, is_closed, leaves, ready};
+    ghost use Rattle.xa_assoc.specs.Reacting.{IsAt, resumed, suspend_call, end_call};
+    ghost use Rattle.xa_assoc.specs.Answers.{Same, IsNew, Opens, Closes, Wanted, Answers, Recovers, Refuses, Takes, map_ok, Reacts, Resumes, Suspends, Ends, left_state, is_held, start_reaction, join_reaction, state_at};
+    ghost use Rattle.xa_assoc.specs.Ready.{is_work_verb, is_closed, leaves, ready};
     ghost use Rattle.xa_tables.specs.Calls.{legal};
-    ghost use Rattle.xa_states.specs.Restored.{Restored, restore_refusal};
+    ghost use Rattle.xa_assoc.specs.Restored.{Restored, restore_refusal};
 
     /// A manager that is not open.
     pub fn new(alloc: Global) -> Self

@@ -1,6 +1,6 @@
 use Rattle.std.proofs.Common.{◌∙◌, sym, rules}
-use Rattle.xa_states.proofs.Finishing.{answered, fails, works_as}
-use Rattle.xa_states.proofs.states.States.work_call.Goals as goal
+use Rattle.xa_assoc.proofs.Finishing.{answered, fails, works_as}
+use Rattle.xa_assoc.proofs.states.States.work_call.Goals as goal
 
 pub returns-in_default : goal.returns-in_default
 returns-in_default c =

@@ -1,10 +1,10 @@
 use Rattle.std.proofs.Common.{◌≢◌, refl, rules}
 use Rattle.xa_codes.specs.declared.code.Code.TheVariants as code
 use Rattle.xa_assoc.specs.Associations.{suspend_plan, has_active}
-use Rattle.xa_states.specs.Answers.{state_at}
-use Rattle.xa_states.specs.Reacting.{left_by, suspend_call}
-use Rattle.xa_states.proofs.Reactions.{made_step, suspend_is_plan, suspend_listed}
-use Rattle.xa_states.proofs.states.States.suspend_work.Goals as goal
+use Rattle.xa_assoc.specs.Answers.{state_at}
+use Rattle.xa_assoc.specs.Reacting.{left_by, suspend_call}
+use Rattle.xa_assoc.proofs.Reactions.{made_step, suspend_is_plan, suspend_listed}
+use Rattle.xa_assoc.proofs.states.States.suspend_work.Goals as goal
 
 pub returns-clause-answer : goal.returns-clause-answer
 returns-clause-answer c =

@@ -2,8 +2,8 @@ use Rattle.std.proofs.Common.{◌≡◌, ◌≢◌, ◌∙◌, ◌+◌, ◌++◌
 use Rattle.std.proofs.lemmas.List.{take_more}
 use Rattle.xa_codes.specs.declared.code.Code.TheVariants as code
 use Rattle.xa_branch.specs.Branches.{Begins}
-use Rattle.xa_states.proofs.Restoring.{is_refused, is_taken}
-use Rattle.xa_states.proofs.states.States.restored.Goals as goal
+use Rattle.xa_assoc.proofs.Restoring.{is_refused, is_taken}
+use Rattle.xa_assoc.proofs.states.States.restored.Goals as goal
 
 pub returns-then-ne : goal.returns-then-ne
 returns-then-ne c =

@@ -14,8 +14,8 @@ use Rattle.xa_xid.specs.declared.xid.Xid.{Xid}
 use Rattle.xa_xid.specs.Xids.{null_xid}
 use Rattle.xa_branch.specs.Branches.{is_known}
 use Rattle.xa_branch.specs.Names.{same}
-use Rattle.xa_states.specs.declared.states.States.{States}
-use Rattle.xa_states.specs.Answers.{is_held, state_at}
+use Rattle.xa_assoc.specs.declared.states.States.{States}
+use Rattle.xa_assoc.specs.Answers.{is_held, state_at}
 
 -- a start or an end, which works on an association; each other call on a branch finishes it
 abbrev pub is_work_verb : Verb → Bool

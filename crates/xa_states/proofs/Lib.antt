@@ -1,3 +1,0 @@
-pub mod Reactions
-pub mod Finishing
-pub mod Restoring

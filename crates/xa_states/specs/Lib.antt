@@ -1,4 +1,0 @@
-pub mod Reacting
-pub mod Answers
-pub mod Ready
-pub mod Restored
