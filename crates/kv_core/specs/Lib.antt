@@ -1,3 +1,8 @@
 pub mod Stores
 pub mod Works
 pub mod Ends
+pub mod Folds
+pub mod Decisions
+pub mod Replays
+pub mod Names
+pub mod Keeping

@@ -1,5 +1,5 @@
 //! A key store behind XA, without its log: the tables of calls, what each branch has written, the locks and
-//! the data.
+//! the data. And what the records of a log leave of one, and the data as a trim writes them.
 //!
 //! ```text
 //! get, put, delete   a thread's work in the branch that it is active in
@@ -7,9 +7,30 @@
 //! stage              the branch's writes, unseen; it takes all memory. Behind it the log is written
 //! reserve_decision   room for an operator's decision, before the log is written
 //! publish, finish    they are data; the branch takes its turn. They take no memory and cannot fail
+//!
+//! What the records say of data, branches and locks:
+//! Opened                   the boot
+//! Base, Pair               the data behind a trim
+//! Prepared                 the branch is open: it holds its writes and their locks
+//! Committed, HeurCommit    an open branch's writes become data
+//! Direct                   its own writes become data
+//! HeurCommit, HeurRollback an operator decided an open branch
+//! Told, Forgot             what it was told since, and the decision is forgotten
 //! ```
 #![tactic(auto)]
 
+mod data;
+mod fault;
+mod frames;
+mod heuristic;
+pub mod law;
+mod pairs;
+mod promises;
+mod replayed;
 mod store;
 
+pub use fault::ReplayError;
+pub use frames::base_frames;
+pub use pairs::pairs_of;
+pub use replayed::{Replayed, replay};
 pub use store::KeyStore;

@@ -22,10 +22,9 @@ use kv_turns::{Entry, Turn, branch_of};
 use std::alloc::{AllocError, Global};
 use std::marker::Model;
 use tree_model::{Bytes, Outcome, Sequence, Write};
+use xa_assoc::{States, WorkError};
 use xa_codes::{Code, Flags};
 use xa_heur::{Decision, Heuristics};
-use xa_assoc::WorkError;
-use xa_assoc::States;
 use xa_tables::{BranchState, Call, Verb, next_branch};
 use xa_xid::Xid;
 

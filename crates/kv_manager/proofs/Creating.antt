@@ -6,7 +6,7 @@ use Rattle.tree_model.specs.Records.{same_bytes}
 use Rattle.log_rules.specs.order.Logs.{Whole, read_log}
 use Rattle.log_rules.specs.order.Orders.{SeenLog, nothing_seen}
 use Rattle.rec_log.specs.Sights.{records_of}
-use Rattle.kv_replay.specs.Replays.{seen_after, seen_of}
+use Rattle.kv_core.specs.Replays.{seen_after, seen_of}
 use Rattle.core_model.specs.Opening.{first_opened}
 use Rattle.manager_model.specs.Opening.{IsNew}
 use Rattle.kv_manager.specs.Resources.{sight_of}

@@ -19,7 +19,7 @@ use Rattle.xa_assoc.specs.declared.errors.WorkError.{WorkError}
 use Rattle.xa_assoc.specs.declared.errors.WorkError.TheVariants.{Memory, NotAssociated, Locked, TooLong, TooManyWrites, RmFail, RollbackOnly}
 use Rattle.tree_model.specs.Store.{Data}
 use Rattle.kv_store.specs.Versions.{SameData, VersionTable, value_at}
-use Rattle.kv_replay.specs.Folds.{AreData}
+use Rattle.kv_core.specs.Folds.{AreData}
 use Rattle.kv_store.specs.writes.Writes.{writes_of}
 use Rattle.xa_heur.specs.Cases.{decision_in, decision_or}
 use Rattle.kv_core.specs.Stores.{KeySight, SameStore, is_decided, state_of}

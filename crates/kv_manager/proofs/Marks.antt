@@ -19,10 +19,10 @@ use Rattle.log_text.proofs.NameReading.{same_xid_is, same_xid_refl}
 use Rattle.log_rules.specs.declared.order.seen.Mark.TheVariants.{Open, Decided, Told}
 use Rattle.log_rules.specs.declared.order.seen.Promise.{Promise}
 use Rattle.log_rules.specs.order.Orders.{SeenLog, after, boot_rises, followed, found, is_heuristic, is_open, is_opened, is_untold, keys_free, keys_once, nothing_seen, opens, promised, promised_by, promises, rank_in, rises, same, with_promise, without_promise}
-use Rattle.kv_replay.specs.Folds.{by_xid, data_of, renamed_by}
-use Rattle.kv_replay.specs.Replays.{seen_after, seen_of}
-use Rattle.kv_replay.proofs.Lawful.{IsLawful, lawful_after, lawful_of, never_seen}
-use Rattle.kv_replay.proofs.Lookups.{found_out, found_put, same_is, same_itself, true_is_false}
+use Rattle.kv_core.specs.Folds.{by_xid, data_of, renamed_by}
+use Rattle.kv_core.specs.Replays.{seen_after, seen_of}
+use Rattle.kv_core.proofs.Lawful.{IsLawful, lawful_after, lawful_of, never_seen}
+use Rattle.kv_core.proofs.Lookups.{found_out, found_put, same_is, same_itself, true_is_false}
 use Rattle.manager_model.specs.Restarting.{mark_at, marked_state, marked_writes, next_boot as boot_behind, writes_left}
 use Rattle.kv_manager.specs.Restarts.{next_boot}
 

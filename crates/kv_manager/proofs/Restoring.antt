@@ -20,13 +20,13 @@ use Rattle.kv_locks.specs.Locks.{LockTable, holders_of, holds}
 use Rattle.kv_store.specs.Pairs.{keys_rise}
 use Rattle.kv_store.specs.Versions.{VersionTable}
 use Rattle.kv_store.specs.writes.Writes.{WriteTable, writes_of}
-use Rattle.kv_replay.specs.Folds.{AreData, data_of}
-use Rattle.kv_replay.specs.Replays.{HoldPromises, Leaves, seen_of}
-use Rattle.kv_replay.specs.declared.fault.ReplayError.{ReplayError}
-use Rattle.kv_replay.specs.declared.fault.ReplayError.TheVariants.{Memory, Malformed, Exhausted}
-use Rattle.kv_replay.specs.Replays.{Fails}
-use Rattle.kv_replay.proofs.Lawful.{lawful_of}
-use Rattle.kv_replay.proofs.Lookups.{same_is}
+use Rattle.kv_core.specs.Folds.{AreData, data_of}
+use Rattle.kv_core.specs.Replays.{HoldPromises, Leaves, seen_of}
+use Rattle.kv_core.specs.declared.fault.ReplayError.{ReplayError}
+use Rattle.kv_core.specs.declared.fault.ReplayError.TheVariants.{Memory, Malformed, Exhausted}
+use Rattle.kv_core.specs.Replays.{Fails}
+use Rattle.kv_core.proofs.Lawful.{lawful_of}
+use Rattle.kv_core.proofs.Lookups.{same_is}
 use Rattle.tree_model.specs.declared.names.Kind.TheVariants.{Manager}
 use Rattle.log_text.specs.Made.{frame_record}
 use Rattle.core_log.specs.Writes.{Writes}
@@ -36,7 +36,7 @@ use Rattle.kv_manager.specs.declared.restart.Ready.{Ready}
 use Rattle.kv_manager.specs.declared.restart.RestartError.{RestartError}
 use Rattle.kv_manager.specs.declared.restart.RestartError.TheVariants.{Device, Exhausted as ExhaustedRestart, Memory as MemoryRestart, Unfit}
 use Rattle.xa_heur.specs.Cases.{DecisionTable}
-use Rattle.kv_replay.specs.Decisions.{KnowDecided, decided_in, says_decided}
+use Rattle.kv_core.specs.Decisions.{KnowDecided, decided_in, says_decided}
 use Rattle.kv_core.specs.Stores.{IsTidy, KeySight, Rebuilt, is_decided, is_let_go}
 use Rattle.kv_core.specs.Ends.{known_of}
 use Rattle.kv_manager.specs.Restarts.{FailsToRestart, IsReady, LeavesNone, LeavesStore, NotBegun, NotRebuilt, NotStored, StartsOver, error_of, next_boot, opened}

@@ -22,12 +22,12 @@ use Rattle.kv_store.specs.writes.Writes.{WriteTable}
 use Rattle.xa_heur.specs.Cases.{DecisionTable}
 use Rattle.tree_model.specs.Standings.{Decided, Finished, Mark, Promised, ToldOf, Unmarked}
 use Rattle.kv_core.specs.Ends.{known_of}
-use Rattle.kv_replay.specs.Decisions.{says_decided}
-use Rattle.kv_replay.specs.Folds.{AreData, data_of}
-use Rattle.kv_replay.specs.Replays.{Leaves}
-use Rattle.kv_replay.proofs.Lawful.{lawful_of}
-use Rattle.kv_replay.specs.Keeping.{KeepsData, is_managers, trim_of, unnamed}
-use Rattle.kv_replay.proofs.Trims.{trims_keep_data}
+use Rattle.kv_core.specs.Decisions.{says_decided}
+use Rattle.kv_core.specs.Folds.{AreData, data_of}
+use Rattle.kv_core.specs.Replays.{Leaves}
+use Rattle.kv_core.proofs.Lawful.{lawful_of}
+use Rattle.kv_core.specs.Keeping.{KeepsData, is_managers, trim_of, unnamed}
+use Rattle.kv_core.proofs.Trims.{trims_keep_data}
 use Rattle.manager_model.specs.Restarting.{mark_at}
 use Rattle.kv_manager.specs.Sights.{IsKept, IsLogged, KvSight, SaysDecided, logged}
 use Rattle.kv_manager.proofs.Turns.{same_data}

@@ -40,11 +40,11 @@ use Rattle.kv_turns.specs.declared.entries.Entry.{Entry}
 use Rattle.kv_turns.specs.declared.entries.Entry.TheVariants.{Prepared, Committed, RolledBack, Direct, HeurCommit, HeurRollback, Told, Forgot}
 use Rattle.kv_turns.specs.declared.turns.Turn.{Turn}
 use Rattle.kv_turns.specs.Turns.{IsEntry, applies, decide_turn, entry_of, entry_record, presumption_of, silent, tell_turn, turn_of, writes}
-use Rattle.kv_replay.specs.Folds.{AreData, by_xid, data_of}
+use Rattle.kv_core.specs.Folds.{AreData, by_xid, data_of}
 use Rattle.xa_heur.specs.declared.decision.Decision.{Decision}
 use Rattle.xa_heur.specs.Decisions.{decided_as, decision_after, decision_of, first_told, told_behind}
 use Rattle.xa_heur.specs.Cases.{DecisionTable, Notes, decision_in, decision_or}
-use Rattle.kv_replay.specs.Decisions.{decided_in, says_decided}
+use Rattle.kv_core.specs.Decisions.{decided_in, says_decided}
 use Rattle.kv_core.specs.Stores.{KeySight, is_decided, is_let_go, state_of}
 use Rattle.kv_core.specs.Ends.{IsListed, IsTurn, LetsGo, OfCall, OfOperator, PublishesWrites, StagesWrites, TakesTurn, known_behind, known_of, wrote_some}
 use Rattle.kv_locks.specs.Locks.{Releases}

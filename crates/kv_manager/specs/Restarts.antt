@@ -12,11 +12,11 @@ use Rattle.log_text.specs.Made.{frame_record}
 use Rattle.rec_log.specs.Openings.{NotOpened, Opens}
 use Rattle.rec_log.specs.Sights.{Breaks, IsRecord, LogState, RestartBreaks, Restarts, left_by, log_state, records_of}
 use Rattle.kv_store.specs.writes.Writes.{writes_of}
-use Rattle.kv_replay.specs.declared.fault.ReplayError.{ReplayError}
-use Rattle.kv_replay.specs.declared.fault.ReplayError.TheVariants as replays
-use Rattle.kv_replay.specs.Folds.{AreData, data_of}
-use Rattle.kv_replay.specs.Decisions.{KnowDecided}
-use Rattle.kv_replay.specs.Replays.{AreMalformed, CountTooFar, HoldPromises, seen_of}
+use Rattle.kv_core.specs.declared.fault.ReplayError.{ReplayError}
+use Rattle.kv_core.specs.declared.fault.ReplayError.TheVariants as replays
+use Rattle.kv_core.specs.Folds.{AreData, data_of}
+use Rattle.kv_core.specs.Decisions.{KnowDecided}
+use Rattle.kv_core.specs.Replays.{AreMalformed, CountTooFar, HoldPromises, seen_of}
 use Rattle.kv_core.specs.Stores.{KeySight}
 use Rattle.kv_manager.specs.declared.restart.RestartError.{RestartError}
 use Rattle.kv_manager.specs.declared.restart.RestartError.TheVariants.{Device, Exhausted, Memory, Unfit}

@@ -8,8 +8,8 @@ use Rattle.tree_model.specs.Standings.{Promised}
 use Rattle.tree_model.specs.Store.{Data, writes_of as promised_of}
 use Rattle.rec_log.specs.Sights.{LogState, records_of}
 use Rattle.kv_store.specs.Pairs.{keys_rise}
-use Rattle.kv_replay.specs.Folds.{AreData, data_of}
-use Rattle.kv_replay.specs.Decisions.{decided_in, says_decided}
+use Rattle.kv_core.specs.Folds.{AreData, data_of}
+use Rattle.kv_core.specs.Decisions.{decided_in, says_decided}
 use Rattle.kv_store.specs.Versions.{SameData}
 use Rattle.kv_store.specs.writes.Writes.{SameWrites, writes_of}
 use Rattle.xa_assoc.specs.Answers.{Same}

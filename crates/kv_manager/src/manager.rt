@@ -37,9 +37,9 @@ use std::marker::Model;
 use std::mem;
 use thiserror::Error;
 use tree_model::{Bytes, Kind, LogRecord, Outcome};
+use xa_assoc::WorkError;
 use xa_codes::{Code, Flags};
 use xa_heur::Decision;
-use xa_assoc::WorkError;
 use xa_tables::{BranchState, Call, Verb};
 use xa_xid::Xid;
 

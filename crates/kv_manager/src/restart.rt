@@ -12,8 +12,7 @@ ghost use Rattle.rec_log.specs.Sights.{IsRecord, Restarts};
 ghost use Rattle.kv_manager.specs.Restarts.{FailsToRestart, IsReady, LeavesNone, LeavesStore, NotBegun, NotRebuilt, NotStored, StartsOver, error_of, next_boot, opened};
 
 use core_log::write;
-use kv_core::KeyStore;
-use kv_replay::{ReplayError, Replayed, replay};
+use kv_core::{KeyStore, ReplayError, Replayed, replay};
 use log_store::LogStore;
 use log_text::Frame;
 use rec_log::{LogError, RecLog};

@@ -5,13 +5,13 @@ ghost use Rattle.tree_model.specs.declared.names.Kind.TheVariants as kind;
 ghost use Rattle.tree_model.specs.Store.{base_records};
 ghost use Rattle.log_text.specs.Made.{frame_record};
 ghost use Rattle.rec_log.specs.Sights.{AreRecords, records_of};
-ghost use Rattle.kv_replay.specs.Keeping.{unnamed};
-ghost use Rattle.kv_replay.specs.Folds.{data_of};
+ghost use Rattle.kv_core.specs.Keeping.{unnamed};
+ghost use Rattle.kv_core.specs.Folds.{data_of};
 ghost use Rattle.kv_manager.specs.Resources.{sight_of, trim_error};
 ghost use Rattle.manager_model.specs.Trimming.{NotTrimmed, Trims};
 
 use crate::manager::KvManager;
-use kv_replay::{base_frames, pairs_of, replay};
+use kv_core::{base_frames, pairs_of, replay};
 use log_store::LogStore;
 use log_text::Frame;
 use manager_model::TrimError;

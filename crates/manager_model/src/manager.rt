@@ -17,9 +17,9 @@ ghost use Rattle.tree_model.specs.declared.names.Kind.TheVariants as kind;
 use crate::errors::{DecideError, RestartError, TrimError};
 use std::alloc::AllocError;
 use tree_model::{LogRecord, Op, Outcome};
+use xa_assoc::WorkError;
 use xa_codes::{Code, Flags};
 use xa_heur::Decision;
-use xa_assoc::WorkError;
 use xa_tables::{BranchState, Verb};
 use xa_xid::Xid;
 

@@ -9,8 +9,8 @@ ghost use Rattle.sub_core.specs.Steps.{Acts, NotActed, is_refusal};
 
 use crate::subordinate::{Subordinate, find_branch};
 use manager_model::ResourceManager;
-use sub_deeds::reply;
 use sub_branch::{Branch, Stage};
+use sub_deeds::reply;
 use tree_model::{Act, Case, Message, Reaction, StepError};
 
 /// Why an act for children is refused, by what is kept of its case: a manager has none.

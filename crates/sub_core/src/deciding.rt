@@ -13,8 +13,8 @@ use crate::ending::{acknowledges, ends_by};
 use crate::subordinate::{Subordinate, find_branch};
 use manager_model::ResourceManager;
 use std::alloc::{AllocError, Global};
-use sub_deeds::{decide, forget, logged, silence, tell};
 use sub_branch::Stage;
+use sub_deeds::{decide, forget, logged, silence, tell};
 use tree_model::{Case, Outcome, Reaction, RecordKind, StepError};
 use xa_xid::Xid;
 

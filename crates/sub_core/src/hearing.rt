@@ -7,8 +7,8 @@ ghost use Rattle.sub_core.specs.Subordinates.{Hears, NotHeard, seen};
 use crate::ending::acknowledges;
 use crate::subordinate::{Subordinate, find_branch};
 use manager_model::ResourceManager;
-use sub_deeds::{reply, silence};
 use sub_branch::Stage;
+use sub_deeds::{reply, silence};
 use tree_model::{Case, Message, Outcome, Reaction, StepError};
 
 impl<M: ResourceManager> Subordinate<M> {

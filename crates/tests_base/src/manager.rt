@@ -11,9 +11,9 @@ use log_store::MemoryStore;
 use manager_model::{DecideError, ResourceManager, RestartError, TrimError};
 use std::alloc::{AllocError, Global};
 use tree_model::{LogRecord, Op, Outcome};
+use xa_assoc::WorkError;
 use xa_codes::{Code, Flags};
 use xa_heur::Decision;
-use xa_assoc::WorkError;
 use xa_tables::BranchState;
 use xa_xid::Xid;
 

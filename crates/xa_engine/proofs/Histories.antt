@@ -39,7 +39,7 @@ use Rattle.rec_log.specs.Openings.{Opens as OpensLog}
 use Rattle.rec_log.specs.Sights.{Kept, LogSight, LogState, RestartBreaks, left_by, records_of}
 use Rattle.tree_model.specs.Nodes.{Written, is_any_forced}
 use Rattle.core_model.specs.States.{wrote}
-use Rattle.kv_replay.specs.Replays.{seen_after, seen_of}
+use Rattle.kv_core.specs.Replays.{seen_after, seen_of}
 use Rattle.kv_turns.specs.declared.entries.Entry.{Entry}
 use Rattle.kv_turns.specs.declared.entries.Entry.TheVariants as entry
 use Rattle.kv_turns.specs.declared.turns.Turn.{Turn}

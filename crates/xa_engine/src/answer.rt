@@ -9,8 +9,8 @@ use manager_model::{DecideError, TrimError};
 use std::alloc::{AllocError, Global};
 use trace_lines::{push, push_number};
 use tree_model::{Bytes, Sequence};
-use xa_codes::Code;
 use xa_assoc::WorkError;
+use xa_codes::Code;
 use xa_xid::Xid;
 
 /// What a request is answered.

@@ -13,8 +13,8 @@ use log_store::MemoryStore;
 use manager_model::{DecideError, TrimError};
 use std::alloc::AllocError;
 use tree_model::{Op, Outcome, Sequence};
-use xa_codes::{Code, Flags};
 use xa_assoc::WorkError;
+use xa_codes::{Code, Flags};
 use xa_xid::Xid;
 
 /// The manager of a script: its log is in memory.

@@ -1,6 +1,6 @@
 use Rattle.std.proofs.Common.{◌≡◌, ◌∙◌, Some, ap, inr, refl, sym, subst}
-use Rattle.kv_replay.specs.Replays.{Leaves}
-use Rattle.kv_replay.specs.declared.replayed.Replayed.{Replayed}
+use Rattle.kv_core.specs.Replays.{Leaves}
+use Rattle.kv_core.specs.declared.replayed.Replayed.{Replayed}
 use Rattle.xa_assoc.specs.Restored.{Restored}
 use Rattle.kv_manager.specs.Restarts.{NotRebuilt, next_boot}
 use Rattle.kv_manager.proofs.Restoring.{left_store, not_rebuilt, not_stored, tidy_restored}

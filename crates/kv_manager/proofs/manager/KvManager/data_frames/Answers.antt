@@ -5,8 +5,8 @@ use Rattle.tree_model.specs.Store.{base_records, pair_record}
 use Rattle.log_text.specs.Made.{frame_record}
 use Rattle.rec_log.specs.Sights.{records_of}
 use Rattle.kv_store.specs.Pairs.{keys_rise}
-use Rattle.kv_replay.specs.Folds.{AreData, data_of}
-use Rattle.kv_replay.specs.Keeping.{unnamed}
+use Rattle.kv_core.specs.Folds.{AreData, data_of}
+use Rattle.kv_core.specs.Keeping.{unnamed}
 use Rattle.kv_manager.proofs.Keeping.{map_ok}
 use Rattle.kv_manager.proofs.Trimmed.{of_data, rise_left}
 use Rattle.kv_manager.proofs.manager.KvManager.data_frames.Goals as goal

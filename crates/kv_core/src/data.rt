@@ -1,0 +1,73 @@
+//! What each record makes of the data.
+
+ghost use Rattle.std.specs.Prelude.{◌≡◌, false, IfErr, OnOk};
+ghost use Rattle.kv_store.specs.Versions.{Applies, Sets, pair_write};
+ghost use Rattle.kv_core.specs.Replays.{CommitFails, KeepsBefore, TakeFails, Takes};
+
+use crate::fault::ReplayError;
+use kv_store::Versions;
+use log_rules::order::Seen;
+use log_text::name_xid;
+use std::alloc::{AllocError, Global};
+use tree_model::{Bytes, LogRecord, Record, Write};
+
+/// Fewer commits than this are counted.
+const COMMITS: u64 = 1 << 63;
+
+/// Makes a commit of these writes.
+fn commit(versions: &mut Versions, writes: &[Write]) -> Result<(), ReplayError>
+    requires { versions.old.is_staged ≡ false }
+    ensures ok { OnOk result (Applies versions.old versions.new writes.now) }
+    ensures err { IfErr result (CommitFails versions.old) }
+{
+    if versions.count() >= COMMITS - 1 {
+        return Err(ReplayError::Exhausted);
+    }
+    versions.apply(writes)?;
+    Ok(())
+}
+
+/// Sets a key of the base.
+fn set(versions: &mut Versions, key: &Bytes, value: &Bytes, alloc: Global) -> Result<(), AllocError>
+    requires { versions.old.is_staged ≡ false }
+    ensures { OnOk result (Sets versions.old versions.new (pair_write (key.now, value.now))) }
+{
+    let write = Write {
+        key: key.copied(alloc)?,
+        value: Some(value.copied(alloc)?),
+    };
+    versions.set(&write)
+}
+
+/// The data take the next record behind those that have been seen.
+pub(crate) fn take(
+    versions: &mut Versions,
+    seen: &Seen,
+    next: &LogRecord,
+    alloc: Global,
+) -> Result<(), ReplayError>
+    requires { versions.old.is_staged ≡ false }
+    ensures ok { OnOk result (Takes seen.now next.now versions.old versions.new) }
+    ensures before { OnOk result (KeepsBefore versions.old versions.new next.now.entry) }
+    ensures err { IfErr result (TakeFails seen.now next.now versions.old) }
+{
+    match &next.entry {
+        Record::Committed(branch) | Record::HeurCommit(branch) => {
+            let xid = name_xid(next.parent, *branch);
+            if !seen.is_open(&xid) {
+                return Err(ReplayError::Malformed);
+            }
+            commit(versions, seen.promised(&xid))
+        }
+        Record::Direct(_, writes) => commit(versions, writes.as_slice()),
+        Record::Base(count) => {
+            *versions = Versions::new(alloc, *count);
+            Ok(())
+        }
+        Record::Pair(key, value) => {
+            set(versions, key, value, alloc)?;
+            Ok(())
+        }
+        _ => Ok(()),
+    }
+}

@@ -1,0 +1,65 @@
+//! What operators decided.
+
+ghost use Rattle.std.specs.Prelude.{IfOk, OnOk, Some};
+ghost use Rattle.xa_heur.specs.Cases.{Notes, decision_in, decision_or};
+ghost use Rattle.kv_core.specs.Decisions.{KnowDecided, NotesRecord};
+
+use log_text::name_xid;
+use std::alloc::{AllocError, Global};
+use tree_model::{LogRecord, Outcome, Record};
+use xa_heur::{Decision, Heuristics};
+use xa_xid::Xid;
+
+/// A decided branch was told an outcome.
+fn told(heuristics: &mut Heuristics, xid: &Xid, outcome: Outcome) -> Result<(), AllocError>
+    ensures { OnOk result (Notes heuristics.old heuristics.new xid.now
+        (Some (record {
+          outcome = (decision_or
+              (decision_in heuristics.old xid.now)).outcome;
+          told = Some outcome;
+        }))) }
+{
+    let decision = Decision {
+        outcome: heuristics.known(xid).outcome,
+        told: Some(outcome),
+    };
+    heuristics.restore(xid, decision)
+}
+
+/// Notes what the next record says of an operator's decision.
+fn note(heuristics: &mut Heuristics, next: &LogRecord) -> Result<(), AllocError>
+    ensures { OnOk result (NotesRecord heuristics.old heuristics.new next.now) }
+{
+    match &next.entry {
+        Record::Prepared(branch, _writes) => {
+            heuristics.forget(&name_xid(next.parent, *branch));
+        }
+        Record::Forgot(branch) => {
+            heuristics.forget(&name_xid(next.parent, *branch));
+        }
+        Record::HeurCommit(branch) => {
+            let xid = name_xid(next.parent, *branch);
+            heuristics.restore(&xid, Decision::new(Outcome::Committed))?;
+        }
+        Record::HeurRollback(branch) => {
+            let xid = name_xid(next.parent, *branch);
+            heuristics.restore(&xid, Decision::new(Outcome::Aborted))?;
+        }
+        Record::Told(branch, outcome) => {
+            told(heuristics, &name_xid(next.parent, *branch), *outcome)?;
+        }
+        _ => {}
+    }
+    Ok(())
+}
+
+/// What operators decided by the records of a log.
+pub(crate) fn decided(records: &[LogRecord], alloc: Global) -> Result<Heuristics, AllocError>
+    ensures { IfOk result (KnowDecided records.now) }
+{
+    let mut heuristics = Heuristics::new(alloc);
+    for record in records {
+        note(&mut heuristics, record)?;
+    }
+    Ok(heuristics)
+}

@@ -1,0 +1,101 @@
+//! The pass over the records of a log.
+
+ghost use Rattle.std.specs.Prelude.{◌≡◌, false, Some, IfOk, IfErr, OnOk};
+ghost use Rattle.log_rules.specs.order.Orders.{after};
+ghost use Rattle.kv_core.specs.Replays.{Fails, KeepsBefore, Leaves, Reads, TakeFails, Takes};
+
+use crate::data;
+use crate::fault::ReplayError;
+use crate::heuristic::decided;
+use crate::promises::{InDoubt, in_doubt};
+use kv_locks::Locks;
+use kv_store::Versions;
+use kv_store::writes::BranchWrites;
+use log_rules::order::Seen;
+use std::alloc::Global;
+use tree_model::LogRecord;
+use xa_heur::Heuristics;
+use xa_xid::Xid;
+
+/// What the records of a log leave of a key store.
+#[derive(Drop)]
+pub struct Replayed {
+    /// The last boot; none where there are no records.
+    pub boot: Option<u64>,
+    /// The branches in doubt, in the order of their promises, and whether an operator decided them.
+    pub left: Vec<(Xid, bool)>,
+    /// What the commits left, behind the last Base.
+    pub data: Versions,
+    /// What each open branch promised.
+    pub writes: BranchWrites,
+    /// The keys of these writes, each held exclusively.
+    pub locks: Locks,
+    /// What operators decided of branches that are not forgotten, and what these were told since.
+    pub decisions: Heuristics,
+}
+
+/// The records so far: what they have said, and the data that they make.
+#[derive(Drop)]
+struct Reading {
+    seen: Seen,
+    data: Versions,
+}
+
+impl Reading {
+    /// Takes the next record.
+    fn take(&mut self, next: LogRecord, alloc: Global) -> Result<(), ReplayError>
+        requires { self.old.data.is_staged ≡ false }
+        ensures may { OnOk result (after self.old.seen next ≡ Some self.new.seen) }
+        ensures takes { OnOk result (Takes self.old.seen next self.old.data self.new.data) }
+        ensures before { OnOk result (KeepsBefore self.old.data self.new.data next.entry) }
+        ensures err { IfErr result (TakeFails self.old.seen next self.old.data) }
+    {
+        data::take(&mut self.data, &self.seen, &next, alloc)?;
+        self.seen.take(next)?;
+        Ok(())
+    }
+}
+
+/// What all records have said, and the data that they make.
+fn read(records: Vec<LogRecord>, alloc: Global) -> Result<Reading, ReplayError>
+    ensures ok { IfOk result (λ all. Reads records.items all.seen all.data) }
+    ensures err { IfErr result (Fails records.items) }
+{
+    let mut reading = Reading {
+        seen: Seen::new(alloc),
+        data: Versions::new(alloc, 0),
+    };
+    for record in records {
+        reading.take(record, alloc)?;
+    }
+    Ok(reading)
+}
+
+/// What the records of a log leave of a key store. It goes through them twice.
+///
+/// Malformed: a record may not follow those before it, or a branch that is open behind the last one promised
+/// more than 64 writes, a key that has not 1 to 64 bytes, or a value of more than 256. Exhausted: some
+/// records in front count 2^63 commits or more. With an error the records are gone.
+pub fn replay(records: Vec<LogRecord>, alloc: Global) -> Result<Replayed, ReplayError>
+    ensures ok { IfOk result (λ r. Leaves records.items r.boot r.left.items r.data
+        r.writes r.locks r.decisions) }
+    ensures err { IfErr result (Fails records.items) }
+{
+    let decisions = decided(&records, alloc)?;
+    let reading = read(records, alloc)?;
+    let held = in_doubt(&reading.seen, alloc)?;
+    let Reading { seen, data } = reading;
+    let InDoubt {
+        left,
+        writes,
+        locks,
+    } = held;
+    Ok(Replayed {
+        boot: seen.boot(),
+        left,
+        data,
+        writes,
+        locks,
+        decisions,
+    })
+}

@@ -1,5 +1,0 @@
-pub mod Folds
-pub mod Decisions
-pub mod Replays
-pub mod Names
-pub mod Keeping
