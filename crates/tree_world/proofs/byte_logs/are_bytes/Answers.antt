@@ -2,7 +2,7 @@ use Rattle.std.proofs.Common.{◌<◌}
 use Rattle.std.specs.Int.{w8}
 use Rattle.std.proofs.Math.Facts.{Fits-lt-pow}
 use Rattle.std.proofs.lemmas.List.Elements.{All-from_get_or}
-use Rattle.tree_world.proofs.logs_left.are_bytes.Goals as goal
+use Rattle.tree_world.proofs.byte_logs.are_bytes.Goals as goal
 
 pub returns : goal.returns
 returns c = All-from_get_or (λ b. b < 256) c.args.bytes.now 0

@@ -1,7 +1,7 @@
 use Rattle.std.proofs.Common.{take}
 use Rattle.tree_world.specs.Worlds.{state}
 use Rattle.tree_world.specs.LogsLeft.{AreByteLogs, AreLogs}
-use Rattle.tree_world.proofs.logs_left.logs_left.Given as goal
+use Rattle.tree_world.proofs.byte_logs.logs_left.Given as goal
 
 abbrev pub invariant-loop-entry : goal.invariant-loop-entry
 invariant-loop-entry g l =

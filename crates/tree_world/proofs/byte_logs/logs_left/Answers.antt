@@ -3,7 +3,7 @@ use Rattle.std.specs.List.{All}
 use Rattle.tree_world.specs.Nodes.{SpellsLogBy}
 use Rattle.tree_world.specs.Worlds.{state}
 use Rattle.tree_world.proofs.LogsLeft.{bytes_more, tell_more}
-use Rattle.tree_world.proofs.logs_left.logs_left.Goals as goal
+use Rattle.tree_world.proofs.byte_logs.logs_left.Goals as goal
 
 pub loop-entry-preserved : goal.loop-entry-preserved
 loop-entry-preserved g c = (
