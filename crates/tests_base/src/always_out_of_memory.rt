@@ -1,41 +1,10 @@
 //! A script is read, and values are copied, with ample memory: none of these calls answers want of memory.
 
+use crate::players::{CHILD, ROOT, bytes, child_case, put};
 use link_script::read;
-use std::alloc::{AllocError, Global};
 use std::test::Fail;
 use trace_lines::case_text;
-use tree_model::{
-    Act, Bytes, Case, Envelope, Event, Message, Op, Presumption, ProcessId, Record, Ticket, Txn,
-};
-
-const ROOT: ProcessId = ProcessId(1);
-
-const CHILD: ProcessId = ProcessId(2);
-
-/// The case of the child by its first ticket.
-fn child_case() -> Case {
-    Case {
-        txn: Txn {
-            root: ROOT,
-            boot: 1,
-            sequence: 1,
-            presumption: Presumption::PresumeCommit,
-        },
-        ticket: Some(Ticket {
-            child: CHILD,
-            boot: 1,
-            number: 1,
-        }),
-    }
-}
-
-fn bytes(alloc: Global, text: &[u8]) -> Result<Bytes, AllocError> {
-    Ok(Bytes::from_vec(Vec::from_slice(alloc, text)?))
-}
-
-fn put(alloc: Global) -> Result<Op, AllocError> {
-    Ok(Op::Put(bytes(alloc, b"x")?, bytes(alloc, b"1")?))
-}
+use tree_model::{Act, Envelope, Event, Message, Op, Presumption, Record};
 
 #[test]
 fn a_script_is_read(rt: HostRuntime) -> Result<(), Fail> {
@@ -49,7 +18,7 @@ fn a_script_is_read(rt: HostRuntime) -> Result<(), Fail> {
             [Event::Act(Act::Begin(Presumption::PresumeAbort))]
         )
     );
-    assert!(rt; case_text(alloc, &child_case())?.as_slice() == b"c1.1@2.1.1".as_slice());
+    assert!(rt; case_text(alloc, &child_case())?.as_slice() == b"a1.1@2.1.1".as_slice());
     Ok(())
 }
 

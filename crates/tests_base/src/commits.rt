@@ -1,13 +1,10 @@
 //! Many commits of one key.
 
+use crate::players::bytes;
 use kv_store::Versions;
 use std::alloc::{AllocError, Global};
 use std::test::Fail;
 use tree_model::{Bytes, Write};
-
-fn bytes(alloc: Global, text: &[u8]) -> Result<Bytes, AllocError> {
-    Ok(Bytes::from_vec(Vec::from_slice(alloc, text)?))
-}
 
 /// The value `1`, or none.
 fn value(alloc: Global, is_put: bool) -> Result<Option<Bytes>, AllocError> {

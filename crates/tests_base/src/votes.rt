@@ -1,18 +1,18 @@
 //! How a subordinate votes, over a manager that votes as it was told.
 
 use crate::manager::FakeManager;
-use crate::players::{CHILD, first_ticket, parent_case};
+use crate::players::{CHILD, ROOT, bytes, child_case, parent_case, put};
 use manager_model::ResourceManager;
 use std::alloc::{AllocError, Global};
 use std::test::Fail;
 use sub_core::Subordinate;
-use tree_model::{Bytes, Case, Input, Message, Op, ProcessId, Reaction, Tree, Vote};
+use tree_model::{Input, Message, Op, Reaction, Tree, Vote};
 
-/// Process 2 below process 1, over a manager that refuses every operation or does what is asked of it.
+/// The child below the root, over a manager that refuses every operation or does what is asked of it.
 fn opened(alloc: Global, refuses: bool) -> Result<Subordinate<FakeManager>, AllocError> {
     let manager = FakeManager::create(alloc, refuses)?;
     let tree = Tree::from_vec(Vec::new(alloc));
-    Ok(Subordinate::open(alloc, CHILD, ProcessId(1), tree, manager))
+    Ok(Subordinate::open(alloc, CHILD, ROOT, tree, manager))
 }
 
 /// The vote that a process gives, if that is all it sends.
@@ -49,27 +49,14 @@ fn vote<M: ResourceManager + Drop>(
     mut player: Subordinate<M>,
     op: Op,
 ) -> Result<Option<Vote>, Fail> {
-    let parent = parent_case();
-    let own = Case {
-        txn: parent.txn,
-        ticket: Some(first_ticket()),
-    };
-    heard(&mut player, Message::Join(parent))?;
-    heard(&mut player, Message::Work(own, 1, op))?;
-    heard(&mut player, Message::Prepare(own, 1))
+    heard(&mut player, Message::Join(parent_case()))?;
+    heard(&mut player, Message::Work(child_case(), 1, op))?;
+    heard(&mut player, Message::Prepare(child_case(), 1))
 }
 
 /// The same over a manager that refuses every operation or does what is asked of it.
 fn voted(alloc: Global, refuses: bool, op: Op) -> Result<Option<Vote>, Fail> {
     vote(opened(alloc, refuses)?, op)
-}
-
-fn key(alloc: Global) -> Result<Bytes, AllocError> {
-    Ok(Bytes::from_vec(Vec::from_slice(alloc, b"x")?))
-}
-
-fn put(alloc: Global) -> Result<Op, AllocError> {
-    Ok(Op::Put(key(alloc)?, key(alloc)?))
 }
 
 /// A branch that wrote votes YES, one that read votes READ, and one whose work was refused votes NO.
@@ -78,7 +65,7 @@ fn votes_follow_the_work(rt: HostRuntime) -> Result<(), Fail> {
     let alloc = rt.alloc();
     let wrote = voted(alloc, false, put(alloc)?)?;
     assert!(rt; matches!(wrote, Some(Vote::Yes)));
-    let read = voted(alloc, false, Op::Get(key(alloc)?))?;
+    let read = voted(alloc, false, Op::Get(bytes(alloc, b"x")?))?;
     assert!(rt; matches!(read, Some(Vote::Read)));
     let refused = voted(alloc, true, put(alloc)?)?;
     assert!(rt; matches!(refused, Some(Vote::No)));
