@@ -1,2 +1,10 @@
-//! Lists by keys of bytes: what contracts say of a map from keys to lists, and what follows of its calls.
+//! What a key of a key store has: the holders of its lock, and, in contracts, a list in a map by keys.
+//!
+//! ```text
+//! holders    who holds a key, who is in the way of a lock, and who holds it behind one
+//! ```
 #![tactic(auto)]
+
+mod holders;
+
+pub use holders::{Holder, Mode, blocked_by, given, holds, remove};

@@ -6,11 +6,12 @@ use Rattle.std.specs.Map.{lookup}
 use Rattle.xa_xid.specs.declared.xid.Xid.{Xid}
 use Rattle.tree_model.specs.declared.records.Write.{Write}
 use Rattle.tree_model.specs.Records.{same_bytes}
-use Rattle.kv_locks.specs.declared.holders.Holder.{Holder}
-use Rattle.kv_locks.specs.declared.holders.Mode.TheVariants.{Exclusive}
+use Rattle.key_tables.specs.declared.holders.Holder.{Holder}
+use Rattle.key_tables.specs.declared.holders.Mode.TheVariants.{Exclusive}
 use Rattle.kv_locks.specs.declared.locks.LockError.{LockError}
 use Rattle.kv_locks.specs.declared.locks.LockError.TheVariants.{Held}
-use Rattle.kv_locks.specs.Locks.{Gives, LockTable, Refuses, blocked_by, holders_of}
+use Rattle.key_tables.specs.Holders.{blocked_by}
+use Rattle.kv_locks.specs.Locks.{Gives, LockTable, Refuses, holders_of}
 use Rattle.kv_store.proofs.Order.{bytes_are_same, same_is as key_is, same_itself as key_itself}
 use Rattle.kv_store.specs.writes.Writes.{Leaves, WriteTable, writes_of}
 use Rattle.tree_model.specs.declared.records.LogRecord.{LogRecord}

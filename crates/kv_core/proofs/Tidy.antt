@@ -11,11 +11,12 @@ use Rattle.tree_model.specs.Records.{same_bytes}
 use Rattle.tree_model.specs.Plays.{with_write}
 use Rattle.key_tables.specs.Tables.{same_key}
 use Rattle.kv_store.proofs.Order.{same_is as bytes_same}
-use Rattle.kv_locks.specs.declared.holders.Holder.{Holder}
-use Rattle.kv_locks.specs.declared.holders.Mode.{Mode}
-use Rattle.kv_locks.specs.declared.holders.Mode.TheVariants.{Exclusive, Shared}
-use Rattle.kv_locks.specs.Locks.{LockTable, Releases, Takes, blocked_by, given, holders_of, holds, same, without}
-use Rattle.kv_locks.proofs.Holding.{holds_given, holds_without, same_is as locks_same, without_itself}
+use Rattle.key_tables.specs.declared.holders.Holder.{Holder}
+use Rattle.key_tables.specs.declared.holders.Mode.{Mode}
+use Rattle.key_tables.specs.declared.holders.Mode.TheVariants.{Exclusive, Shared}
+use Rattle.key_tables.specs.Holders.{blocked_by, given, holds, same, without}
+use Rattle.kv_locks.specs.Locks.{LockTable, Releases, Takes, holders_of}
+use Rattle.key_tables.proofs.Holding.{holds_given, holds_without, same_is as locks_same, without_itself}
 use Rattle.kv_store.specs.writes.Writes.{Leaves, SameWrites, WriteTable, writes_of}
 use Rattle.kv_store.proofs.writes.Lists.{with_write_names}
 use Rattle.kv_turns.specs.declared.turns.Turn.{Turn}

@@ -5,8 +5,9 @@ use Rattle.xa_tables.specs.declared.states.BranchState.TheVariants.{S0, S1, S2, 
 use Rattle.xa_xid.specs.declared.xid.Xid.{Xid}
 use Rattle.xa_assoc.specs.Associations.{active_of}
 use Rattle.xa_assoc.specs.declared.errors.WorkError.TheVariants.{RollbackOnly, TooLong}
-use Rattle.kv_locks.specs.declared.holders.Mode.{Mode}
-use Rattle.kv_locks.specs.Locks.{blocked_by, holders_of}
+use Rattle.key_tables.specs.declared.holders.Mode.{Mode}
+use Rattle.key_tables.specs.Holders.{blocked_by}
+use Rattle.kv_locks.specs.Locks.{holders_of}
 use Rattle.kv_core.specs.Stores.{KeySight, is_let_go, state_of}
 use Rattle.kv_core.specs.Works.{at_work, branch_refusal, is_spoiled, is_too_long, limit_refusal, unless_locked, worker_of, working}
 

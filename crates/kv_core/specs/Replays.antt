@@ -11,8 +11,9 @@ use Rattle.tree_model.specs.Store.{Data, stored_after, writes_of as writes_promi
 use Rattle.log_text.specs.declared.records.ReadFault.{ReadFault}
 use Rattle.log_text.specs.declared.records.ReadFault.TheVariants as fault
 use Rattle.log_rules.specs.order.Orders.{SeenLog, after, found, is_open, keys_once, left_by, names_key, nothing_seen, promised, same}
-use Rattle.kv_locks.specs.declared.holders.Mode.TheVariants.{Exclusive}
-use Rattle.kv_locks.specs.Locks.{LockTable, blocked_by, holders_of}
+use Rattle.key_tables.specs.declared.holders.Mode.TheVariants.{Exclusive}
+use Rattle.key_tables.specs.Holders.{blocked_by}
+use Rattle.kv_locks.specs.Locks.{LockTable, holders_of}
 use Rattle.kv_store.specs.writes.Writes.{AreWrites, WriteTable, writes_of}
 use Rattle.kv_store.specs.Pairs.{keys_rise}
 use Rattle.kv_store.specs.Versions.{VersionTable, value_at}

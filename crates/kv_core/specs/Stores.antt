@@ -8,8 +8,9 @@ use Rattle.xa_assoc.specs.Answers.{Same, state_at}
 use Rattle.xa_assoc.specs.Restored.{Restored}
 use Rattle.xa_heur.specs.Cases.{DecisionTable, SameDecisions, decision_in}
 use Rattle.log_rules.specs.order.Orders.{names_key}
-use Rattle.kv_locks.specs.declared.holders.Mode.TheVariants.{Exclusive}
-use Rattle.kv_locks.specs.Locks.{LockTable, holders_of, holds}
+use Rattle.key_tables.specs.declared.holders.Mode.TheVariants.{Exclusive}
+use Rattle.key_tables.specs.Holders.{holds}
+use Rattle.kv_locks.specs.Locks.{LockTable, holders_of}
 use Rattle.kv_store.specs.Versions.{VersionTable}
 use Rattle.kv_store.specs.writes.Writes.{SameWrites, WriteTable, writes_of}
 

@@ -8,9 +8,10 @@ use Rattle.xa_assoc.specs.declared.errors.WorkError.{WorkError}
 use Rattle.xa_assoc.specs.declared.errors.WorkError.TheVariants.{Memory, NotAssociated, Locked, TooLong, TooManyWrites, RollbackOnly}
 use Rattle.tree_model.specs.declared.records.Write.{Write}
 use Rattle.tree_model.specs.Plays.{with_write}
-use Rattle.kv_locks.specs.declared.holders.Mode.{Mode}
-use Rattle.kv_locks.specs.declared.holders.Mode.TheVariants.{Exclusive, Shared}
-use Rattle.kv_locks.specs.Locks.{Takes, blocked_by, holders_of}
+use Rattle.key_tables.specs.declared.holders.Mode.{Mode}
+use Rattle.key_tables.specs.declared.holders.Mode.TheVariants.{Exclusive, Shared}
+use Rattle.key_tables.specs.Holders.{blocked_by}
+use Rattle.kv_locks.specs.Locks.{Takes, holders_of}
 use Rattle.kv_store.specs.Versions.{value_at}
 use Rattle.kv_store.specs.writes.Writes.{Leaves, is_of, is_within_limit, writes_of}
 use Rattle.kv_core.specs.Stores.{KeySight, SameStore, state_of}

@@ -1,7 +1,7 @@
 //! A key store behind XA, without its log.
 
 ghost use Rattle.std.specs.Prelude.{◌≡◌, ◌≤◌, ◌<◌, ◌+◌, ◌^◌, ◌↔◌, not, IsTrue, Contains, MatchResult, IfOk, IfErr, OnOk, OnErr, Some, None, option_map, true, false};
-ghost use Rattle.kv_locks.specs.declared.holders.Mode.TheVariants as mode;
+ghost use Rattle.key_tables.specs.declared.holders.Mode.TheVariants as mode;
 ghost use Rattle.kv_store.specs.writes.Writes.{AreWrites, writes_of};
 ghost use Rattle.xa_assoc.specs.Answers.{Answers, Closes, Opens, Recovers, Wanted, map_ok};
 ghost use Rattle.xa_assoc.specs.Ready.{is_closed, is_work_verb, leaves};
@@ -15,7 +15,8 @@ ghost use Rattle.xa_heur.specs.Decisions.{decision_at};
 ghost use Rattle.kv_core.specs.Works.{IsRefused, Reads, Writes, at_work, branch_refusal, is_too_long, refusal_by, value_for, work_refusal};
 ghost use Rattle.kv_core.specs.Ends.{CanNote, IsDue, IsListed, IsOff, IsTurn, PublishesWrites, Reserves, SameButData, StagesWrites, TakesTurn, known_behind, known_of, wrote_some};
 
-use kv_locks::{LockError, Locks, Mode};
+use key_tables::Mode;
+use kv_locks::{LockError, Locks};
 use kv_store::Versions;
 use kv_store::writes::BranchWrites;
 use kv_turns::{Entry, Turn, branch_of};

@@ -1,15 +1,16 @@
 -- The table of holders and the lists of keys, as the maps hold them.
-use Rattle.std.proofs.Common.{◌≡◌, ℕ, Bool, true, false, cond, None, Some, List, [], ◌∷◌, ◌++◌, subst, refl, sym, ap, ◌∙◌, arith, rules, inl, inr, ◌<◌, ◌≤◌, ◌-◌, length, take, drop, slice_index_or}
+use Rattle.std.proofs.Common.{◌≡◌, ℕ, Bool, true, false, cond, None, Some, List, [], ◌∷◌, ◌++◌, subst, refl, sym, ap, ◌∙◌, arith, rules, inl, inr}
 use Rattle.std.proofs.lemmas.Grind.{common_steps}
 use Rattle.std.proofs.lemmas.List.Folds.{list_any-append}
 use Rattle.std.specs.Global.{Vec}
 use Rattle.std.specs.Map.{lookup}
 use Rattle.xa_xid.specs.declared.xid.Xid.{Xid}
-use Rattle.kv_locks.specs.declared.holders.Holder.{Holder}
-use Rattle.kv_locks.specs.declared.holders.Mode.{Mode}
+use Rattle.key_tables.specs.declared.holders.Holder.{Holder}
+use Rattle.key_tables.specs.declared.holders.Mode.{Mode}
 use Rattle.key_tables.specs.Tables.{Becomes, same_key, table_of}
-use Rattle.kv_locks.specs.Locks.{IsKept, KeepsKeys, LockTable, Releases, blocked_by, given, holders_of, holds, keeps_rule, keys_in, keys_of, names_key, same, without}
-use Rattle.kv_locks.proofs.Holding.{same_is, rule_given, holds_given, rule_without, holds_without, without_idle, without_itself, without_twice}
+use Rattle.key_tables.specs.Holders.{blocked_by, given, holds, keeps_rule, same, without}
+use Rattle.kv_locks.specs.Locks.{IsKept, KeepsKeys, LockTable, Releases, holders_of, keys_in, keys_of, names_key}
+use Rattle.key_tables.proofs.Holding.{same_is, rule_given, holds_given, rule_without, holds_without, without_idle, without_itself, without_twice}
 
 -- nothing is held, and nothing is listed
 pub kept_nothing : (es : List (Vec ℕ × Vec Holder)) (held : List (Xid × Vec (Vec ℕ))) → es ≡ [] → held ≡ []

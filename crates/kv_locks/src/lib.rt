@@ -9,8 +9,6 @@
 //! A conflict is a refusal that names the holder in the way, never a wait.
 #![tactic(auto)]
 
-mod holders;
 mod locks;
 
-pub use holders::{Holder, Mode};
 pub use locks::{LockError, Locks};

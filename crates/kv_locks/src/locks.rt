@@ -1,25 +1,13 @@
 //! Which branch holds which key.
 
 ghost use Rattle.std.specs.Prelude.{◌≡◌, ◌↔◌, ℕ, List, [], true, false, IsTrue, IfErr, OnOk, OnErr, Some, None};
-ghost use Rattle.kv_locks.specs.declared.holders.Mode.TheVariants as mode;
+ghost use Rattle.key_tables.specs.declared.holders.Mode.TheVariants as mode;
 ghost use Rattle.key_tables.specs.Tables.{table_of};
-ghost use Rattle.kv_locks.specs.Locks.{
-  Gives,
-  HoldsAtMost,
-  KeepsKeys,
-  LetsGo,
-  Refuses,
-  Releases,
-  Takes,
-  blocked_by,
-  holders_of,
-  keeps_rule,
-  keys_of,
-  names_key,
-};
+ghost use Rattle.key_tables.specs.Holders.{blocked_by, keeps_rule};
+ghost use Rattle.kv_locks.specs.Locks.{Gives, HoldsAtMost, KeepsKeys, LetsGo, Refuses, Releases, Takes, holders_of, keys_of, names_key};
 
-use crate::holders::{Holder, Mode, blocked_by, given, holds, remove};
 use indexmap::IndexMap;
+use key_tables::{Holder, Mode, blocked_by, given, holds, remove};
 use std::alloc::{AllocError, Global};
 use std::marker::Model;
 use thiserror::Error;
@@ -75,7 +63,7 @@ impl Locks {
     }
 
     /// The holders of a key, in the order in which they took it.
-    #[tactic(auto, using(key_tables::proofs::Tables::list_at_key), unfolding(crate::specs::Locks::keeps_rule))]
+    #[tactic(auto, using(key_tables::proofs::Tables::list_at_key), unfolding(key_tables::specs::Holders::keeps_rule))]
     pub fn holders(&self, key: &[u8]) -> &[Holder]
         ensures holders { result.now ≡ holders_of self.now key.now }
         ensures rule { keeps_rule result.now ≡ true }

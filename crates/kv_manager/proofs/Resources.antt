@@ -40,9 +40,10 @@ use Rattle.manager_model.specs.Sights.{Calls, SameManager}
 use Rattle.manager_model.specs.Works.{WorkRefused, Works, work_refusal}
 use Rattle.manager_model.specs.Works as model
 use Rattle.manager_model.specs.Ends.{Broke, Fails, Failed, Finishes, Limited, Made, Makes, Refused, Unlisted, decided_behind, left_with, logged_under, outcome_row, row_for, row_of, state_of as state_of_log, tells, written_by, written_for}
-use Rattle.kv_locks.specs.declared.holders.Mode.{Mode}
-use Rattle.kv_locks.specs.declared.holders.Mode.TheVariants.{Exclusive, Shared}
-use Rattle.kv_locks.specs.Locks.{blocked_by, holders_of}
+use Rattle.key_tables.specs.declared.holders.Mode.{Mode}
+use Rattle.key_tables.specs.declared.holders.Mode.TheVariants.{Exclusive, Shared}
+use Rattle.key_tables.specs.Holders.{blocked_by}
+use Rattle.kv_locks.specs.Locks.{holders_of}
 use Rattle.kv_store.specs.writes.Writes.{SameWrites, is_within_limit, writes_of}
 use Rattle.kv_turns.specs.declared.entries.Entry.{Entry}
 use Rattle.kv_turns.specs.declared.turns.Turn.{Turn}

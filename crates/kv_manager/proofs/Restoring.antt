@@ -15,8 +15,9 @@ use Rattle.tree_model.specs.declared.records.LogRecord.{LogRecord}
 use Rattle.tree_model.specs.Store.{Data, writes_of as promised_of}
 use Rattle.log_rules.specs.declared.order.seen.Promise.{Promise}
 use Rattle.log_rules.specs.order.Orders.{SeenLog, found, is_open, left_by, names_key, opens, promised, promised_by, same}
-use Rattle.kv_locks.specs.declared.holders.Mode.TheVariants.{Exclusive}
-use Rattle.kv_locks.specs.Locks.{LockTable, holders_of, holds}
+use Rattle.key_tables.specs.declared.holders.Mode.TheVariants.{Exclusive}
+use Rattle.key_tables.specs.Holders.{holds}
+use Rattle.kv_locks.specs.Locks.{LockTable, holders_of}
 use Rattle.kv_store.specs.Pairs.{keys_rise}
 use Rattle.kv_store.specs.Versions.{VersionTable}
 use Rattle.kv_store.specs.writes.Writes.{WriteTable, writes_of}

@@ -10,9 +10,10 @@ use Rattle.xa_assoc.specs.declared.errors.WorkError.TheVariants.{TooLong}
 use Rattle.tree_model.specs.declared.messages.Op.{Op}
 use Rattle.tree_model.specs.declared.messages.Op.TheVariants.{Put, Get, Delete}
 use Rattle.manager_model.specs.Sights.{ManagerSight}
-use Rattle.kv_locks.specs.declared.holders.Mode.{Mode}
-use Rattle.kv_locks.specs.declared.holders.Mode.TheVariants.{Exclusive, Shared}
-use Rattle.kv_locks.specs.Locks.{blocked_by, holders_of}
+use Rattle.key_tables.specs.declared.holders.Mode.{Mode}
+use Rattle.key_tables.specs.declared.holders.Mode.TheVariants.{Exclusive, Shared}
+use Rattle.key_tables.specs.Holders.{blocked_by}
+use Rattle.kv_locks.specs.Locks.{holders_of}
 use Rattle.kv_store.specs.writes.Writes.{writes_of}
 use Rattle.kv_core.specs.Stores.{KeySight, has_numbers}
 use Rattle.kv_core.specs.Ends.{known_of}

@@ -1,7 +1,7 @@
 //! A key store with a log, as an XA manager.
 
 ghost use Rattle.std.specs.Prelude.{◌≡◌, ◌<◌, ◌≤◌, ◌+◌, ◌^◌, ◌∷◌, [], length, false, true, IfOk, IfErr, OnOk, OnErr, Err, Some, None};
-ghost use Rattle.kv_locks.specs.declared.holders.Mode.TheVariants as mode;
+ghost use Rattle.key_tables.specs.declared.holders.Mode.TheVariants as mode;
 ghost use Rattle.kv_core.specs.Stores.{MovesTables, state_of};
 ghost use Rattle.kv_core.specs.Works.{Reads, Writes, work_refusal};
 ghost use Rattle.kv_core.specs.Ends.{IsDue, known_of};

@@ -7,7 +7,8 @@ use Rattle.xa_codes.specs.declared.code.Code.TheVariants as code
 use Rattle.xa_tables.specs.declared.call.Call.{Call}
 use Rattle.xa_tables.specs.declared.call.Call.TheVariants as call
 use Rattle.xa_tables.specs.declared.states.BranchState.{BranchState}
-use Rattle.xa_tables.specs.declared.states.BranchState.TheVariants.{S0, S3, S5}
+use Rattle.xa_tables.specs.declared.states.BranchState.TheVariants.{S0}
+use Rattle.xa_tables.specs.Tables.{is_in_doubt}
 use Rattle.xa_xid.specs.declared.xid.Xid.{Xid}
 use Rattle.xa_branch.specs.Names.{same}
 use Rattle.xa_branch.specs.Scans.{ScanList, scan_of, has_scan, Leaves}
@@ -71,12 +72,6 @@ abbrev pub ends_scan : Call → Bool
 ends_scan call.RecoverEnd = true
 ends_scan call.RecoverWhole = true
 ends_scan _ = false
-
--- a branch is in doubt: prepared, or decided by an operator
-abbrev pub is_in_doubt : BranchState → Bool
-is_in_doubt S3 = true
-is_in_doubt S5 = true
-is_in_doubt _ = false
 
 -- the branches in doubt, in order of beginning
 abbrev pub in_doubt : List (Xid × BranchState) → List Xid

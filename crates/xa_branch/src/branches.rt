@@ -236,13 +236,13 @@ impl Branches {
         }
     }
 
-    /// The branches in S3 and S5, in order of beginning.
+    /// The branches in doubt, in order of beginning.
     pub fn in_doubt(&self) -> Result<Vec<Xid>, AllocError>
         ensures { IfOk result (λ v. v.items ≡ in_doubt self.now.branches) }
     {
         self.states
             .iter()
-            .filter(|(_, state)| matches!(state, BranchState::S3 | BranchState::S5))
+            .filter(|(_, state)| state.is_in_doubt())
             .map(|(xid, _)| *xid)
             .collect(self.alloc)
     }

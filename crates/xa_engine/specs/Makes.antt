@@ -11,7 +11,7 @@ use Rattle.xa_assoc.specs.declared.errors.WorkError.{WorkError}
 use Rattle.xa_assoc.specs.declared.errors.WorkError.TheVariants as work_error
 use Rattle.tree_model.specs.declared.messages.Op.{Op}
 use Rattle.tree_model.specs.declared.messages.Op.TheVariants.{Put, Get, Delete}
-use Rattle.kv_locks.specs.declared.holders.Mode.TheVariants.{Exclusive, Shared}
+use Rattle.key_tables.specs.declared.holders.Mode.TheVariants.{Exclusive, Shared}
 use Rattle.kv_core.specs.Stores.{MovesTables}
 use Rattle.kv_core.specs.Works.{Reads, Writes, work_refusal}
 use Rattle.kv_manager.specs.declared.restart.RestartError.TheVariants as restart_error

@@ -1,7 +1,7 @@
 //! The requests of a script, made of a manager.
 
 ghost use Rattle.std.specs.Prelude.{◌≡◌, IfOk, Some, None};
-ghost use Rattle.kv_locks.specs.declared.holders.Mode.TheVariants as mode;
+ghost use Rattle.key_tables.specs.declared.holders.Mode.TheVariants as mode;
 ghost use Rattle.kv_core.specs.Works.{Reads, Writes, work_refusal};
 ghost use Rattle.kv_manager.specs.Turns.{Calls, Refuses};
 ghost use Rattle.xa_engine.specs.Makes.{Boots, CallsBranch, Decides, IsRead, IsRefused, IsWritten, Makes, Scans, Trims, Works};

@@ -1,6 +1,6 @@
 -- The tables of the interface (this profile's own, drawn after C193, chapter 6): for each state and call
 -- every answer and the state behind it. A pair without a row has none.
-use Rattle.std.specs.Prelude.{List, [], ◌∷◌}
+use Rattle.std.specs.Prelude.{Bool, true, false, List, [], ◌∷◌}
 use Rattle.xa_codes.specs.declared.code.Code.{Code}
 use Rattle.xa_codes.specs.declared.code.Code.TheVariants as code
 use Rattle.xa_tables.specs.declared.call.Call.{Call}
@@ -91,3 +91,9 @@ branch_rows S4 call.Rollback = one code.Ok S0
 branch_rows S5 call.Rollback = heuristic
 branch_rows S5 call.Forget = one code.Ok S0
 branch_rows _ _ = []
+
+-- a branch is in doubt: prepared, or decided by an operator
+abbrev pub is_in_doubt : BranchState → Bool
+is_in_doubt S3 = true
+is_in_doubt S5 = true
+is_in_doubt _ = false

@@ -1,5 +1,8 @@
 //! The states of a manager, of an association and of a branch.
 
+ghost use Rattle.std.specs.Prelude.{◌≡◌};
+ghost use Rattle.xa_tables.specs.Tables.{is_in_doubt};
+
 /// The state of a manager.
 #[derive(Clone, Copy, Debug, PartialEq, Eq)]
 pub enum InitState {
@@ -37,4 +40,14 @@ pub enum BranchState {
     S4,
     /// Decided by an operator, and not yet forgotten.
     S5,
+}
+
+impl BranchState {
+    /// Whether a branch in this state is in doubt: prepared, or decided by an operator. These are what a
+    /// recover lists.
+    pub fn is_in_doubt(self) -> bool
+        ensures { result ≡ is_in_doubt self }
+    {
+        matches!(self, BranchState::S3 | BranchState::S5)
+    }
 }

@@ -1,6 +1,6 @@
 use Rattle.std.proofs.Common.{rules, subst}
 use Rattle.key_tables.proofs.Lists.{first_and_rest}
-use Rattle.kv_locks.specs.declared.holders.Mode.TheVariants.{Exclusive}
+use Rattle.key_tables.specs.declared.holders.Mode.TheVariants.{Exclusive}
 use Rattle.kv_locks.specs.Locks.{Gives, Refuses}
 use Rattle.kv_core.proofs.Holding.{IsLocking, locking_goes_on, locking_is_over, never_held}
 use Rattle.kv_core.proofs.promises.lock.Goals as goal

@@ -1,6 +1,7 @@
 use Rattle.std.proofs.Common.{rules, ◌≡◌, Some, ap, sym, ◌∙◌, ◌++◌, ◌∷◌, []}
 use Rattle.std.specs.Map.{lookup}
-use Rattle.kv_locks.specs.Locks.{keys_in, same}
+use Rattle.key_tables.specs.Holders.{same}
+use Rattle.kv_locks.specs.Locks.{keys_in}
 use Rattle.kv_locks.proofs.Tables.{keeps_keys, key_listed}
 use Rattle.kv_locks.proofs.locks.add_key.Goals as goal
 

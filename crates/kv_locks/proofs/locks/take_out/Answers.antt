@@ -1,5 +1,5 @@
 use Rattle.std.proofs.Common.{rules, refl, ◌≡◌, Some, ap, sym, ◌∙◌}
-use Rattle.kv_locks.specs.Locks.{without}
+use Rattle.key_tables.specs.Holders.{without}
 use Rattle.key_tables.proofs.Tables.{becomes, becomes_idle, found, items_in, list_at_key}
 use Rattle.kv_locks.proofs.locks.take_out.Goals as goal
 

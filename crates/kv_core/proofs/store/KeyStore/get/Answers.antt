@@ -1,5 +1,5 @@
 use Rattle.std.proofs.Common.{rules, ◌≡◌, Some, None, subst, sym}
-use Rattle.kv_locks.specs.declared.holders.Mode.TheVariants.{Shared}
+use Rattle.key_tables.specs.declared.holders.Mode.TheVariants.{Shared}
 use Rattle.kv_locks.specs.Locks.{Gives}
 use Rattle.kv_core.specs.Stores.{IsTidy, KeySight}
 use Rattle.kv_core.specs.Works.{at_work, branch_refusal}

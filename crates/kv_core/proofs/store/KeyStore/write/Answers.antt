@@ -1,5 +1,5 @@
 use Rattle.std.proofs.Common.{rules, ◌≡◌, Some, None, option_map}
-use Rattle.kv_locks.specs.declared.holders.Mode.TheVariants.{Exclusive}
+use Rattle.key_tables.specs.declared.holders.Mode.TheVariants.{Exclusive}
 use Rattle.kv_locks.specs.Locks.{Takes}
 use Rattle.kv_core.specs.Stores.{KeySight}
 use Rattle.kv_core.specs.Works.{at_work, branch_refusal}

@@ -1,6 +1,7 @@
 use Rattle.std.proofs.Common.{rules, ◌≡◌, Some, None, subst}
 use Rattle.key_tables.specs.Tables.{Becomes, table_of}
-use Rattle.kv_locks.specs.Locks.{blocked_by, given, holders_of}
+use Rattle.key_tables.specs.Holders.{blocked_by, given}
+use Rattle.kv_locks.specs.Locks.{holders_of}
 use Rattle.key_tables.proofs.Tables.{becomes}
 use Rattle.kv_locks.proofs.Tables.{kept_given}
 use Rattle.kv_locks.proofs.locks.Locks.give.Goals as goal

@@ -1,6 +1,7 @@
 use Rattle.std.proofs.Common.{rules, ◌≡◌, ap, ◌∙◌}
 use Rattle.key_tables.specs.Tables.{table_of}
-use Rattle.kv_locks.specs.Locks.{holders_of, keeps_rule}
+use Rattle.key_tables.specs.Holders.{keeps_rule}
+use Rattle.kv_locks.specs.Locks.{holders_of}
 use Rattle.key_tables.proofs.Tables.{list_at_key}
 use Rattle.kv_locks.proofs.locks.Locks.holders.Goals as goal
 

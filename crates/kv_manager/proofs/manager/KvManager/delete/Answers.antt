@@ -1,5 +1,5 @@
 use Rattle.std.proofs.Common.{None}
-use Rattle.kv_locks.specs.declared.holders.Mode.TheVariants.{Exclusive}
+use Rattle.key_tables.specs.declared.holders.Mode.TheVariants.{Exclusive}
 use Rattle.kv_core.specs.Works.{IsRefused, Writes, work_refusal}
 use Rattle.kv_manager.specs.Sights.{KvSight}
 use Rattle.kv_manager.proofs.Keeping.{KeepsPromises, either_way, kept_by, refused_same, same_promises, wrote_promises}

@@ -2,13 +2,12 @@
 use Rattle.std.proofs.Common.{◌≡◌, Bool, true, false, not, ◌||◌, cond, None, List, [], ◌∷◌, ◌++◌, filter, refl, arith, rules, ◌⊎◌, inl, inr}
 use Rattle.std.proofs.lemmas.Grind.{common_steps}
 use Rattle.std.proofs.lemmas.List.Folds.{list_any-append}
-use Rattle.std.specs.Prelude.{length, ◌<◌}
 use Rattle.std.specs.List.{list_all}
 use Rattle.xa_xid.specs.declared.xid.Xid.{Xid}
-use Rattle.kv_locks.specs.declared.holders.Holder.{Holder}
-use Rattle.kv_locks.specs.declared.holders.Mode.{Mode}
-use Rattle.kv_locks.specs.declared.holders.Mode.TheVariants.{Shared, Exclusive}
-use Rattle.kv_locks.specs.Locks.{are_shared, blocked_by, given, holds, is_exclusive, keeps_rule, same, without}
+use Rattle.key_tables.specs.declared.holders.Holder.{Holder}
+use Rattle.key_tables.specs.declared.holders.Mode.{Mode}
+use Rattle.key_tables.specs.declared.holders.Mode.TheVariants.{Shared, Exclusive}
+use Rattle.key_tables.specs.Holders.{are_shared, blocked_by, given, holds, is_exclusive, keeps_rule, same, without}
 
 pub same_is : (a b : Xid) → same a b ≡ true → a ≡ b
 same_is a b h = search rules

@@ -2,13 +2,13 @@
 
 ghost use Rattle.std.specs.Prelude.{◌≡◌, find, IfOk};
 ghost use Rattle.std.specs.Option.{option_copied};
-ghost use Rattle.kv_locks.specs.Locks.{blocked_by, given, holds, is_exclusive, is_in_way, without};
+ghost use Rattle.key_tables.specs.Holders.{blocked_by, given, holds, is_exclusive, is_in_way, without};
 
 use std::alloc::{AllocError, Global};
 use xa_xid::Xid;
 
 /// How a branch holds a key.
-#[derive(Clone, Copy, Debug, PartialEq, Eq)]
+#[derive(Clone, Copy, PartialEq, Eq)]
 pub enum Mode {
     /// Beside other shared holders: for a read.
     Shared,
@@ -17,7 +17,7 @@ pub enum Mode {
 }
 
 /// A branch that holds a key.
-#[derive(Clone, Copy, Debug, PartialEq, Eq)]
+#[derive(Clone, Copy, PartialEq, Eq)]
 pub struct Holder {
     pub xid: Xid,
     pub mode: Mode,
@@ -47,8 +47,8 @@ fn find_in_way<'a>(holders: &'a [Holder], xid: &Xid, mode: Mode) -> Option<&'a H
     holders.iter().find(|holder| holder.is_in_way(xid, mode))
 }
 
-/// The first branch in the way of a branch's lock.
-pub(crate) fn blocked_by(holders: &[Holder], xid: &Xid, mode: Mode) -> Option<Xid>
+/// The first branch in the way of a branch's lock; None where nobody is.
+pub fn blocked_by(holders: &[Holder], xid: &Xid, mode: Mode) -> Option<Xid>
     ensures { result ≡ blocked_by holders.now xid.now mode }
 {
     match find_in_way(holders, xid, mode) {
@@ -58,14 +58,14 @@ pub(crate) fn blocked_by(holders: &[Holder], xid: &Xid, mode: Mode) -> Option<Xi
 }
 
 /// Whether a branch is among the holders.
-pub(crate) fn holds(holders: &[Holder], xid: &Xid) -> bool
+pub fn holds(holders: &[Holder], xid: &Xid) -> bool
     ensures { result ≡ holds holders.now xid.now }
 {
     holders.iter().any(|holder| holder.xid == *xid)
 }
 
-/// The holders once the branch has the key in this mode.
-pub(crate) fn given(
+/// The holders once the branch has the key in this mode: it goes last, but where it holds the key already.
+pub fn given(
     alloc: Global,
     holders: &[Holder],
     xid: &Xid,
@@ -84,8 +84,8 @@ pub(crate) fn given(
     Ok(list)
 }
 
-/// Takes a branch from the holders.
-pub(crate) fn remove(holders: &mut Vec<Holder>, xid: &Xid)
+/// Takes a branch from the holders. It takes no memory.
+pub fn remove(holders: &mut Vec<Holder>, xid: &Xid)
     ensures { holders.new.items ≡ without holders.old.items xid.now }
 {
     holders.retain(|holder| holder.xid != *xid);
