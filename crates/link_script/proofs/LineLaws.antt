@@ -4,10 +4,10 @@ use Rattle.std.specs.Prelude.{◌&&◌}
 use Rattle.std.specs.List.{list_all}
 use Rattle.std.specs.Fmt.{decimal}
 use Rattle.std.proofs.lemmas.Bool.{cases_eq}
-use Rattle.xa_xid.specs.Numerals.{number_at}
-use Rattle.xa_xid.specs.Words.{cut_at}
-use Rattle.xa_xid.proofs.Numerals.{number_takes, number_again}
-use Rattle.xa_xid.proofs.Cuts.{cut_takes, cut_again, some_is}
+use Rattle.spellings.specs.Numerals.{number_at}
+use Rattle.spellings.specs.Words.{cut_at}
+use Rattle.spellings.proofs.Numerals.{number_takes, number_again}
+use Rattle.spellings.proofs.Cuts.{cut_takes, cut_again, some_is}
 use Rattle.tree_model.specs.declared.names.ProcessId.{ProcessId}
 use Rattle.tree_model.specs.declared.names.Outcome.{Outcome}
 use Rattle.tree_model.specs.declared.names.Outcome.TheVariants.{Committed, Aborted}

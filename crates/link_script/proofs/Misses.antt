@@ -6,8 +6,8 @@ use Rattle.std.proofs.lemmas.Fmt.{decimal_by_steps}
 use Rattle.std.proofs.lemmas.Bool.{cases_eq, le-ltb}
 use Rattle.std.proofs.lemmas.Bool.Decides.{nat_tests}
 use Rattle.std.proofs.lemmas.List.Sums.{position_or_len_is}
-use Rattle.xa_xid.specs.Words.{cut_at}
-use Rattle.xa_xid.proofs.Cuts.{Without}
+use Rattle.spellings.specs.Words.{cut_at}
+use Rattle.spellings.proofs.Cuts.{Without}
 use Rattle.script_words.specs.Steps.{◌>>=◌}
 use Rattle.script_words.specs.Steps.{same}
 

@@ -15,8 +15,8 @@ use Rattle.std.proofs.lemmas.Str.{IsUtf8-drop, IsCharBoundary-after_ascii, IsCha
 use Rattle.std.proofs.lemmas.List.{get_or_at}
 use Rattle.std.proofs.lemmas.Slice.Eq.{bytes_eq-Decides}
 use Rattle.script_words.specs.Steps.{same}
-use Rattle.xa_xid.specs.Words.{cut_at}
-use Rattle.xa_xid.proofs.Cuts.{cut_takes, some_is, drop_past}
+use Rattle.spellings.specs.Words.{cut_at}
+use Rattle.spellings.proofs.Cuts.{cut_takes, some_is, drop_past}
 use Rattle.link_script.specs.Rules.{pieces, is_rule, last_rule, rule_or, around_rule}
 use Rattle.tree_model.specs.declared.trees.TreeEntry.{TreeEntry}
 use Rattle.link_script.specs.Documents.{IsTreeText}

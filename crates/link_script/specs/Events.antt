@@ -1,7 +1,7 @@
 -- Reading the line of an event from left to right.
 use Rattle.std.specs.Prelude.{ℕ, List, codes, Option, Some, None, if◌then◌else◌}
-use Rattle.xa_xid.specs.Numerals.{number_at}
-use Rattle.xa_xid.specs.Words.{cut_at}
+use Rattle.spellings.specs.Numerals.{number_at}
+use Rattle.spellings.specs.Words.{cut_at}
 use Rattle.tree_model.specs.declared.names.ProcessId.{ProcessId}
 use Rattle.tree_model.specs.declared.names.Presumption.TheVariants.{PresumeAbort, PresumeCommit}
 use Rattle.tree_model.specs.declared.events.Act.TheVariants.{Begin, Join, Work, Commit, Abort, Ask, Decide, Forget}

@@ -1,7 +1,7 @@
 -- Reading a name from left to right.
 use Rattle.std.specs.Prelude.{ℕ, ◌^◌, List, [], ◌∷◌, Option, Some, None, nat_lt, ◌==◌, if◌then◌else◌, option_map}
-use Rattle.xa_xid.specs.Numerals.{number_at}
-use Rattle.xa_xid.specs.Words.{cut_at}
+use Rattle.spellings.specs.Numerals.{number_at}
+use Rattle.spellings.specs.Words.{cut_at}
 use Rattle.script_words.specs.Steps.{◌>>=◌}
 use Rattle.tree_model.specs.declared.names.ProcessId.{ProcessId}
 use Rattle.tree_model.specs.declared.names.Presumption.{Presumption}

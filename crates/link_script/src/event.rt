@@ -14,10 +14,10 @@ ghost use Rattle.link_script.specs.Events.{
 
 use crate::names::{case_of, process_of, txn_of};
 use script_words::{Task, outcome_of, task_of};
+use spellings::numeral::number_of;
+use spellings::word::cut;
 use std::alloc::{AllocError, Global};
 use tree_model::{Act, Case, Event, Presumption, ProcessId};
-use xa_xid::numeral::number_of;
-use xa_xid::word::cut;
 
 /// The event that a line asks for, over a tree with this root; None where it is the line of no event.
 #[tactic(auto, unfolding(crate::specs::Events::event_at))]

@@ -9,9 +9,9 @@ ghost use Rattle.link_script.specs.Events.{event_at};
 
 use crate::event::event_of;
 use script_words::says_nothing;
+use spellings::word::cut;
 use std::alloc::{AllocError, AllocFailed, Global};
 use tree_model::{Event, ProcessId};
-use xa_xid::word::cut;
 
 /// Why lines could not be read.
 #[derive(Clone, Copy)]

@@ -3,9 +3,9 @@
 ghost use Rattle.std.specs.Prelude.{◌≡◌, ◌<◌, option_map};
 ghost use Rattle.link_script.specs.Names.{process_at, letter_at, txn_at, ticket_at, case_at, after_at};
 
+use spellings::numeral::number_of;
+use spellings::word::cut;
 use tree_model::{Case, Presumption, ProcessId, Ticket, Txn};
-use xa_xid::numeral::number_of;
-use xa_xid::word::cut;
 
 /// The process that a word names, by a number below 2^32.
 #[tactic(auto, unfolding(crate::specs::Names::process_at))]

@@ -3,10 +3,10 @@
 ghost use Rattle.std.specs.Prelude.{◌≡◌, ◌++◌, OnOk};
 ghost use Rattle.log_engine.specs.Lines.{branch_word, case_word, number_word, record_words, ticket_words, write_words, writes_words, bytes_word};
 
+use spellings::hexadecimal::Hexadecimal;
 use std::alloc::{AllocError, Global};
 use trace_lines::{kind_word, outcome_word, push, push_case, push_number, push_ticket};
 use tree_model::{Branch, Case, Record, Ticket, Write};
-use xa_xid::hexadecimal::Hexadecimal;
 
 /// A space and a number.
 fn push_number_word(out: &mut Vec<u8>, number: u64) -> Result<(), AllocError>

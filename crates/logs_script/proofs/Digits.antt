@@ -4,8 +4,8 @@ use Rattle.std.specs.List.{list_all}
 use Rattle.std.proofs.lemmas.Bool.{cases_Bool, and_parts, eqb-true}
 use Rattle.std.proofs.lemmas.Bool.Decides.{nat_tests}
 use Rattle.hex.specs.Hex.{decode_sized}
-use Rattle.xa_xid.specs.HexText.{Spells, IsHexadecimal, is_lower_digit}
-use Rattle.xa_xid.proofs.HexText.{spells_some, spelled_lower, spelled_even, decodes}
+use Rattle.spellings.specs.HexText.{Spells, IsHexadecimal, is_lower_digit}
+use Rattle.spellings.proofs.HexText.{spells_some, spelled_lower, spelled_even, decodes}
 use Rattle.logs_script.specs.Lines.{are_digits, bytes_at}
 
 pub none_empty : (w : List ℕ) → eqb (length w) 0 ≡ true → None ≡ bytes_at w

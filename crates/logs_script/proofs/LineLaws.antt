@@ -6,10 +6,10 @@ use Rattle.std.proofs.lemmas.List.Elements.{All-nil}
 use Rattle.std.proofs.lemmas.Bool.{and_parts, eqb-true}
 use Rattle.std.proofs.lemmas.Bool.Decides.{nat_tests}
 use Rattle.hex.specs.Hex.{encode_lower, decode_sized}
-use Rattle.xa_xid.specs.HexText.{Spells, is_lower_digit}
-use Rattle.xa_xid.specs.Words.{cut_at}
-use Rattle.xa_xid.proofs.HexText.{spells_some, spelled_lower, spelled_even, length-spelled, decodes, encode_nil}
-use Rattle.xa_xid.proofs.Cuts.{cut_takes, cut_again, some_is}
+use Rattle.spellings.specs.HexText.{Spells, is_lower_digit}
+use Rattle.spellings.specs.Words.{cut_at}
+use Rattle.spellings.proofs.HexText.{spells_some, spelled_lower, spelled_even, length-spelled, decodes, encode_nil}
+use Rattle.spellings.proofs.Cuts.{cut_takes, cut_again, some_is}
 use Rattle.tree_model.specs.declared.names.ProcessId.{ProcessId}
 use Rattle.link_script.specs.Names.{process_at}
 use Rattle.script_words.specs.Steps.{same}

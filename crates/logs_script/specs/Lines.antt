@@ -3,8 +3,8 @@ use Rattle.std.specs.Prelude.{ℕ, ◌<◌, ◌%◌, ◌/◌, ◌==◌, ◌&&◌
 use Rattle.std.specs.List.{All, list_all, flat_map}
 use Rattle.hex.specs.Hex.{encode_lower, decode_sized}
 use Rattle.hex.specs.declared.error.FromHexError.{FromHexError}
-use Rattle.xa_xid.specs.HexText.{is_lower_digit}
-use Rattle.xa_xid.specs.Words.{cut_at}
+use Rattle.spellings.specs.HexText.{is_lower_digit}
+use Rattle.spellings.specs.Words.{cut_at}
 use Rattle.tree_model.specs.declared.names.ProcessId.{ProcessId}
 use Rattle.trace_lines.specs.Trace.{line_text}
 use Rattle.script_words.specs.Steps.{◌>>=◌}

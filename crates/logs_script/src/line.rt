@@ -4,10 +4,10 @@ ghost use Rattle.std.specs.Prelude.{◌≡◌, IfOk};
 ghost use Rattle.logs_script.specs.Lines.{bytes_at, log_at};
 
 use link_script::process_of;
+use spellings::hexadecimal::{decode, is_hexadecimal};
+use spellings::word::cut;
 use std::alloc::{AllocError, Global};
 use tree_model::{Bytes, ProcessId, Sequence};
-use xa_xid::hexadecimal::{decode, is_hexadecimal};
-use xa_xid::word::cut;
 
 /// The bytes of a process's log.
 #[derive(Drop)]

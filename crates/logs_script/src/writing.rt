@@ -6,10 +6,10 @@ ghost use Rattle.logs_script.specs.Lines.{log_line, log_lines};
 ghost use Rattle.logs_script.specs.Trees.{head_lines, info_line, parent_line, process_table, tree_text, logs_text as text_of_logs};
 
 use crate::line::ProcessLog;
+use spellings::hexadecimal::Hexadecimal;
 use std::alloc::{AllocError, Global};
 use trace_lines::{push, push_number};
 use tree_model::{Bytes, Kind, ProcessId, TreeEntry};
-use xa_xid::hexadecimal::Hexadecimal;
 
 /// How a kind of process is written.
 fn kind_word(kind: Kind) -> &'static str

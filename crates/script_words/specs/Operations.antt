@@ -1,7 +1,7 @@
 -- Reading an operation on data from left to right.
 use Rattle.std.specs.Prelude.{ℕ, List, length, codes, Bool, ◌&&◌, not, nat_le, ◌==◌, Option, Some, None, if◌then◌else◌}
 use Rattle.std.specs.List.{list_all}
-use Rattle.xa_xid.specs.Words.{cut_at}
+use Rattle.spellings.specs.Words.{cut_at}
 use Rattle.tree_model.specs.declared.messages.Op.{Op}
 use Rattle.tree_model.specs.declared.messages.Op.TheVariants.{Put, Get, Delete}
 use Rattle.script_words.specs.declared.operation.Task.{Task}

@@ -15,9 +15,9 @@ ghost use Rattle.script_words.specs.Operations.{
   op_view,
 };
 
+use spellings::word::cut;
 use std::alloc::{AllocError, Global};
 use tree_model::{Bytes, Op};
-use xa_xid::word::cut;
 
 /// An operation on data whose key and value lie in the script.
 #[derive(Clone, Copy)]

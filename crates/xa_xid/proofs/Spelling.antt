@@ -13,14 +13,14 @@ use Rattle.std.proofs.lemmas.Str.Parse.{not_in_digits}
 use Rattle.hex.specs.Hex.{encode_lower}
 use Rattle.xa_xid.specs.declared.error.XidError.{XidError}
 use Rattle.xa_xid.specs.declared.error.XidError.TheVariants.{BadFormat, GtridLength, BqualLength, Truncated, Trailing, Syntax}
-use Rattle.xa_xid.specs.HexText.{is_lower_digit, IsHexadecimal, Spells}
-use Rattle.xa_xid.specs.Words.{cut_at}
+use Rattle.spellings.specs.HexText.{is_lower_digit, IsHexadecimal, Spells}
+use Rattle.spellings.specs.Words.{cut_at}
 use Rattle.xa_xid.specs.Xids.{XidParts, FitsParts, IsXid, xid_fault}
 use Rattle.xa_xid.specs.Text.{xid_text, ArePieces, IsTextFault}
-use Rattle.xa_xid.proofs.Cuts.{Without, cut_again, cut_takes, some_is}
-use Rattle.xa_xid.proofs.HexText.{spelled_lower, length-spelled, one_spelling}
+use Rattle.spellings.proofs.Cuts.{Without, cut_again, cut_takes, some_is}
+use Rattle.spellings.proofs.HexText.{spelled_lower, length-spelled, one_spelling}
 use Rattle.xa_xid.proofs.Reading.{parts}
-use Rattle.xa_xid.proofs.Numerals.{own}
+use Rattle.spellings.proofs.Numerals.{own}
 
 -- ---- no colon in numbers and in hexadecimal
 

@@ -3,7 +3,4 @@ pub mod Part
 pub mod Xids
 pub mod Digests
 pub mod Bytes
-pub mod Numerals
-pub mod HexText
-pub mod Words
 pub mod Text

@@ -4,7 +4,7 @@ use Rattle.std.specs.Fmt.{signed_decimal}
 use Rattle.hex.specs.Hex.{encode_lower}
 use Rattle.xa_xid.specs.declared.error.XidError.{XidError}
 use Rattle.xa_xid.specs.declared.error.XidError.TheVariants.{Syntax}
-use Rattle.xa_xid.specs.HexText.{Spells}
+use Rattle.spellings.specs.HexText.{Spells}
 use Rattle.xa_xid.specs.Xids.{XidParts, FitsParts, xid_fault}
 
 -- the text of an XID: its format in decimal, gtrid and bqual in hexadecimal, with colons between them

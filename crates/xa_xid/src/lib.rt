@@ -4,11 +4,8 @@
 mod bytes;
 pub mod digest;
 mod error;
-pub mod hexadecimal;
-pub mod numeral;
 mod part;
 mod text;
-pub mod word;
 mod xid;
 
 pub use error::XidError;

@@ -1,16 +1,16 @@
 //! XIDs in text.
 
 ghost use Rattle.std.specs.Prelude.{◌≡◌, ◌≤◌, IfOk, IfErr, IfSome, IfNone, length, string_bytes};
-ghost use Rattle.xa_xid.specs.HexText.{IsHexadecimal, Spells};
+ghost use Rattle.spellings.specs.HexText.{IsHexadecimal, Spells};
 ghost use Rattle.xa_xid.specs.Xids.{XidParts, IsXid, FitsParts};
 ghost use Rattle.xa_xid.specs.Text.{xid_text, ArePieces, IsTextFault};
 
 use crate::error::XidError;
-use crate::hexadecimal::{self, Hexadecimal, is_hexadecimal};
-use crate::numeral::integer_of;
 use crate::part::Part;
-use crate::word::cut;
 use crate::xid::{Xid, fault_of_xid};
+use spellings::hexadecimal::{self, Hexadecimal, is_hexadecimal};
+use spellings::numeral::integer_of;
+use spellings::word::cut;
 use std::alloc::{AllocError, Global};
 use std::fmt;
 

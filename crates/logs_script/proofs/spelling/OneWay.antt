@@ -1,6 +1,6 @@
 -- An input is read in one way, and one that is read has no fault.
 use Rattle.std.proofs.Common.{◌≡◌, ℕ, ◌+◌, pos, true, false, List, [], ◌∷◌, length, codes, Option, Some, None, Ok, Err, refl, sym, ap, subst, ◌∙◌}
-use Rattle.xa_xid.proofs.Cuts.{some_is}
+use Rattle.spellings.proofs.Cuts.{some_is}
 use Rattle.toml.specs.Data.{Data, string, integer, Items, no_items, item, Members, no_members, member, get}
 use Rattle.tree_model.specs.declared.names.ProcessId.{ProcessId}
 use Rattle.tree_model.specs.declared.names.Kind.{Kind}

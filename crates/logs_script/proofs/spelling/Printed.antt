@@ -8,7 +8,7 @@ use Rattle.std.proofs.lemmas.Str.{IsUtf8-from_ascii}
 use Rattle.std.specs.Char.{IsAsciiAlphabetic}
 use Rattle.std.specs.List.{AllByRecursion, list_all}
 use Rattle.std.specs.Str.Lines.{lines_of_parts, strip_carriage_return}
-use Rattle.xa_xid.specs.HexText.{is_lower_digit}
+use Rattle.spellings.specs.HexText.{is_lower_digit}
 use Rattle.trace_lines.specs.Trace.{lines_text}
 use Rattle.link_script.specs.Rules.{pieces, is_rule, rule_or, around_rule}
 

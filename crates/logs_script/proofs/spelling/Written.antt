@@ -3,8 +3,8 @@ use Rattle.std.proofs.Common.{◌≡◌, ℕ, ◌+◌, ◌<◌, false, List, [],
 use Rattle.std.proofs.lemmas.Grind.{flat_map-append}
 use Rattle.std.specs.List.{AllByRecursion}
 use Rattle.hex.specs.Hex.{encode_lower}
-use Rattle.xa_xid.specs.HexText.{Spells}
-use Rattle.xa_xid.proofs.HexText.{spelled_lower}
+use Rattle.spellings.specs.HexText.{Spells}
+use Rattle.spellings.proofs.HexText.{spelled_lower}
 use Rattle.tree_model.specs.declared.names.ProcessId.{ProcessId}
 use Rattle.tree_model.specs.declared.names.Kind.{Kind}
 use Rattle.tree_model.specs.declared.names.Kind.TheVariants.{Coordinator, Manager}

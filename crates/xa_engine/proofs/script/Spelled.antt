@@ -2,7 +2,7 @@
 use Rattle.std.proofs.Common.{◌≡◌, ℕ, Bool, List, Option, Some, None, sym, subst}
 use Rattle.std.specs.Prelude.{IsSomeAnd, IfNone}
 use Rattle.xa_codes.specs.FlagNames.{IsFlagText}
-use Rattle.xa_xid.specs.Words.{cut_at}
+use Rattle.spellings.specs.Words.{cut_at}
 use Rattle.xa_xid.specs.declared.xid.Xid.{Xid}
 use Rattle.xa_engine.specs.declared.script.request.Call.{Call}
 use Rattle.xa_engine.specs.declared.script.request.Call.TheVariants as call

@@ -3,9 +3,9 @@ use Rattle.std.specs.Prelude.{◌≡◌, ℕ, ◌<◌, ◌≤◌, ◌^◌, Bool,
 use Rattle.std.specs.Char.{IsAsciiAlphabetic}
 use Rattle.std.specs.List.{All}
 use Rattle.xa_codes.specs.FlagNames.{IsFlagText}
-use Rattle.xa_xid.specs.Numerals.{number_at}
+use Rattle.spellings.specs.Numerals.{number_at}
 use Rattle.xa_xid.specs.Text.{xid_text}
-use Rattle.xa_xid.specs.Words.{cut_at}
+use Rattle.spellings.specs.Words.{cut_at}
 use Rattle.xa_xid.specs.Xids.{IsXid}
 use Rattle.xa_xid.specs.declared.xid.Xid.{Xid}
 use Rattle.tree_model.specs.declared.messages.Op.{Op}

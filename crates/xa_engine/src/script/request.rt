@@ -12,11 +12,12 @@ ghost use Rattle.xa_engine.specs.declared.script.request.Request.{Request as Any
 ghost use Rattle.xa_engine.specs.script.Requests.{IsAlone, IsInfo, IsNumber, Spells, SpellsBranch, SpellsCall, SpellsDecision, SpellsOpen, SpellsRecover, SpellsTask, SpellsWork, three_at, word_at};
 
 use script_words::{Task, outcome_of, task_by};
+use spellings::numeral;
+use spellings::word::cut;
 use std::alloc::{AllocError, Global};
 use tree_model::{Op, Outcome};
 use xa_codes::Flags;
-use xa_xid::word::cut;
-use xa_xid::{Xid, numeral};
+use xa_xid::Xid;
 
 /// A function of the interface that is called on a branch.
 #[derive(Clone, Copy, PartialEq, Eq)]

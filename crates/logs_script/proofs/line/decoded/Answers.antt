@@ -1,6 +1,6 @@
 use Rattle.std.proofs.Common.{Some, sym, ap, ◌∙◌, arith, length, refl}
 use Rattle.std.proofs.lemmas.List.{take_at}
-use Rattle.xa_xid.proofs.HexText.{length-spelled}
+use Rattle.spellings.proofs.HexText.{length-spelled}
 use Rattle.logs_script.proofs.Digits.{none_empty, none_strange, some_bytes, half}
 use Rattle.logs_script.proofs.line.decoded.Goals as goal
 

@@ -1,5 +1,5 @@
 use Rattle.std.proofs.Common.{refl}
-use Rattle.xa_xid.proofs.HexText.{room}
+use Rattle.spellings.proofs.HexText.{room}
 use Rattle.xa_xid.proofs.text.part_of.Goals as goal
 
 pub decode-requires-clause-room : goal.decode-requires-clause-room

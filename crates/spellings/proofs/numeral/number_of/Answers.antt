@@ -1,7 +1,7 @@
 use Rattle.std.proofs.Common.{sym, ◌≡◌, true}
-use Rattle.xa_xid.specs.Numerals.{is_numeral}
-use Rattle.xa_xid.proofs.Numerals.{number_is, not_numeral, found_of, none_of}
-use Rattle.xa_xid.proofs.numeral.number_of.Goals as goal
+use Rattle.spellings.specs.Numerals.{is_numeral}
+use Rattle.spellings.proofs.Numerals.{number_is, not_numeral, found_of, none_of}
+use Rattle.spellings.proofs.numeral.number_of.Goals as goal
 
 pub returns-then-is_spelled-clause-value : goal.returns-then-is_spelled-clause-value
 returns-then-is_spelled-clause-value c =

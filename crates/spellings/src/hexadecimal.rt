@@ -2,7 +2,7 @@
 
 ghost use Rattle.std.specs.Prelude.{◌≡◌, ◌*◌, ◌↔◌, IsTrue, length};
 ghost use Rattle.std.specs.List.{list_all};
-ghost use Rattle.xa_xid.specs.HexText.{is_lower_digit, IsHexadecimal, Spells};
+ghost use Rattle.spellings.specs.HexText.{is_lower_digit, IsHexadecimal, Spells};
 
 use std::fmt;
 

@@ -1,9 +1,9 @@
 use Rattle.std.proofs.Common.{suc, sym, ◌∙◌, arith, lit<}
 use Rattle.std.proofs.lemmas.Bool.{ltb-true}
 use Rattle.std.proofs.lemmas.Str.Pattern.{strip_prefix_char}
-use Rattle.xa_xid.proofs.Numerals.{positive_only, negative_only, minus_first, one_number}
-use Rattle.xa_xid.proofs.numeral.integer_of.Goals as goal
-use Rattle.xa_xid.proofs.numeral.integer_of.Goals.{then-number-eq0, else-number-eq0}
+use Rattle.spellings.proofs.Numerals.{positive_only, negative_only, minus_first, one_number}
+use Rattle.spellings.proofs.numeral.integer_of.Goals as goal
+use Rattle.spellings.proofs.numeral.integer_of.Goals.{then-number-eq0, else-number-eq0}
 
 pub returns-in_err-number-in-None-clause-none : goal.returns-in_err-number-in-None-clause-none
 returns-in_err-number-in-None-clause-none c =

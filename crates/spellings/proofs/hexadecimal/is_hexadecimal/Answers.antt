@@ -1,9 +1,9 @@
 use Rattle.std.proofs.Common.{ap, ◌∙◌}
 use Rattle.std.proofs.lemmas.Bool.{eqb-true}
 use Rattle.std.specs.List.{list_all}
-use Rattle.xa_xid.specs.HexText.{is_lower_digit}
-use Rattle.xa_xid.proofs.HexText.{tells, spelled_even}
-use Rattle.xa_xid.proofs.hexadecimal.is_hexadecimal.Goals as goal
+use Rattle.spellings.specs.HexText.{is_lower_digit}
+use Rattle.spellings.proofs.HexText.{tells, spelled_even}
+use Rattle.spellings.proofs.hexadecimal.is_hexadecimal.Goals as goal
 
 pub returns-then-text-eq0 : goal.returns-then-text-eq0
 returns-then-text-eq0 c =

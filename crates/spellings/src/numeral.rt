@@ -6,7 +6,7 @@ ghost use Rattle.std.specs.Int.{w32};
 ghost use Rattle.std.specs.Int.RustNames.{FitsSigned};
 ghost use Rattle.std.specs.List.{list_all};
 ghost use Rattle.std.specs.Char.{is_ascii_digit};
-ghost use Rattle.xa_xid.specs.Numerals.{is_numeral, number_at};
+ghost use Rattle.spellings.specs.Numerals.{is_numeral, number_at};
 
 /// The number below 2^64 that a word spells in decimal: None where the word is no such number's spelling,
 /// as `07`, `+7`, an empty word or 18446744073709551616.

@@ -1,7 +1,7 @@
 use Rattle.std.proofs.Common.{rules, arith}
 use Rattle.std.proofs.Output.{has_written_append, has_written_of_eq}
-use Rattle.xa_xid.proofs.HexText.{encode_nil, written_more}
-use Rattle.xa_xid.proofs.hexadecimal.HexadecimalDisplay.fmt.Goals as goal
+use Rattle.spellings.proofs.HexText.{encode_nil, written_more}
+use Rattle.spellings.proofs.hexadecimal.HexadecimalDisplay.fmt.Goals as goal
 
 pub loop-byte-init : goal.loop-byte-init
 loop-byte-init g c = λ p. rw encode_nil (search rules)

@@ -1,7 +1,7 @@
 use Rattle.std.proofs.Common.{take}
 use Rattle.std.specs.Fmt.{HasWritten, IsPlainFormatter}
 use Rattle.hex.specs.Hex.{encode_lower}
-use Rattle.xa_xid.proofs.hexadecimal.HexadecimalDisplay.fmt.Given as goal
+use Rattle.spellings.proofs.hexadecimal.HexadecimalDisplay.fmt.Given as goal
 
 abbrev pub invariant-loop-byte : goal.invariant-loop-byte
 invariant-loop-byte g l =

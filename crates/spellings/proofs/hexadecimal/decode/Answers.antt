@@ -1,6 +1,6 @@
 use Rattle.std.proofs.Common.{refl}
-use Rattle.xa_xid.proofs.HexText.{decodes}
-use Rattle.xa_xid.proofs.hexadecimal.decode.Goals as goal
+use Rattle.spellings.proofs.HexText.{decodes}
+use Rattle.spellings.proofs.hexadecimal.decode.Goals as goal
 
 pub unwrap-requires : goal.unwrap-requires
 unwrap-requires c =

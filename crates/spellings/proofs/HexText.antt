@@ -10,7 +10,7 @@ use Rattle.std.proofs.lemmas.List.{take_more, get_or_past}
 use Rattle.std.proofs.lemmas.List.Elements.{All-cons, All-head, All-tail, All-nil}
 use Rattle.hex.specs.Hex.{IsBytes, encode_lower, encode_with, lower_digits, decode_pairs, decode_sized}
 use Rattle.hex.proofs.HexLemmas.{length-encode_with, IsDigits-lower_digits, decode_pairs-encode_with}
-use Rattle.xa_xid.specs.HexText.{is_lower_digit, IsHexadecimal, Spells}
+use Rattle.spellings.specs.HexText.{is_lower_digit, IsHexadecimal, Spells}
 
 -- ---- the sixteen digits
 

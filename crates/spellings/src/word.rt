@@ -1,7 +1,7 @@
 //! Words of a text.
 
 ghost use Rattle.std.specs.Prelude.{◌≡◌, ◌<◌, option_map};
-ghost use Rattle.xa_xid.specs.Words.{cut_at};
+ghost use Rattle.spellings.specs.Words.{cut_at};
 
 /// The parts of a text before and after the first such character: None where the text has none.
 pub fn cut(text: &str, at: char) -> Option<(&str, &str)>
