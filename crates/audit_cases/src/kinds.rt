@@ -7,7 +7,7 @@ ghost use Rattle.audit_cases.specs.Kinds.{decided_in, decision_in, kinds_after, 
 use tree_model::{Kind, Outcome, ProcessId, Record};
 
 /// How a case stands by its own records, as a line of an audit says it.
-#[derive(Clone, Copy, Debug, PartialEq, Eq)]
+#[derive(Clone, Copy, PartialEq, Eq)]
 pub enum Own {
     /// It committed.
     Commit,

@@ -9,7 +9,7 @@ use std::alloc::AllocError;
 /// A store in memory whose device fails once: at the call that comes behind so many others, counted over
 /// `append`, `force` and `replace`. A failed append leaves none of its bytes, a failed force the forced
 /// front as it was, and a failed replace the old bytes.
-#[derive(Debug, Drop)]
+#[derive(Drop)]
 pub struct FaultStore {
     store: MemoryStore,
     calls: u64,

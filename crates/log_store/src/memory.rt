@@ -7,7 +7,7 @@ use crate::store::{LogStore, StoreError};
 use std::alloc::{AllocError, Global};
 
 /// A store in memory: its device never fails.
-#[derive(Debug, Drop)]
+#[derive(Drop)]
 pub struct MemoryStore {
     bytes: Vec<u8>,
     forced: usize,

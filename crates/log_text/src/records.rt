@@ -11,7 +11,7 @@ use std::alloc::{AllocError, AllocFailed, Global};
 use tree_model::{Branch, Case, Kind, LogRecord, Outcome, ProcessId, Record};
 
 /// Why no record is read.
-#[derive(Clone, Copy, Debug, PartialEq, Eq)]
+#[derive(Clone, Copy, PartialEq, Eq)]
 pub enum ReadFault {
     /// There was no memory for the record.
     Memory,

@@ -22,7 +22,7 @@ use std::marker::Model;
 use tree_model::{Kind, LogRecord};
 
 /// Why a log did not do what it was asked.
-#[derive(Clone, Copy, Debug, PartialEq, Eq)]
+#[derive(Clone, Copy, PartialEq, Eq)]
 pub enum LogError {
     /// There was no memory; nothing changed.
     Memory,

@@ -5,7 +5,7 @@ ghost use Rattle.xa_codes.specs.Codes.{code_number, code_name};
 ghost use Rattle.xa_codes.specs.declared.code.Code.{Code as AnyCode};
 
 /// What a resource manager answers to a call.
-#[derive(Clone, Copy, Debug, PartialEq, Eq)]
+#[derive(Clone, Copy, PartialEq, Eq)]
 pub enum Code {
     /// The branch was rolled back, for no reason that is told.
     RbRollback,

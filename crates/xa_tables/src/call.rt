@@ -6,7 +6,7 @@ ghost use Rattle.xa_tables.specs.Calls.{call_of, legal};
 use xa_codes::{Code, Flags};
 
 /// A function of the interface, without its flags.
-#[derive(Clone, Copy, Debug, PartialEq, Eq)]
+#[derive(Clone, Copy, PartialEq, Eq)]
 pub enum Verb {
     Open,
     Close,
@@ -20,7 +20,7 @@ pub enum Verb {
 }
 
 /// A function of the interface with its flags. TMNOWAIT has no effect and is left out.
-#[derive(Clone, Copy, Debug, PartialEq, Eq)]
+#[derive(Clone, Copy, PartialEq, Eq)]
 pub enum Call {
     Open,
     Close,

@@ -4,7 +4,7 @@ ghost use Rattle.std.specs.Prelude.{◌≡◌};
 ghost use Rattle.xa_tables.specs.Tables.{is_in_doubt};
 
 /// The state of a manager.
-#[derive(Clone, Copy, Debug, PartialEq, Eq)]
+#[derive(Clone, Copy, PartialEq, Eq)]
 pub enum InitState {
     /// Not open.
     R0,
@@ -13,7 +13,7 @@ pub enum InitState {
 }
 
 /// The state of the association of a thread with a branch.
-#[derive(Clone, Copy, Debug, PartialEq, Eq)]
+#[derive(Clone, Copy, PartialEq, Eq)]
 pub enum AssocState {
     /// None.
     T0,
@@ -26,7 +26,7 @@ pub enum AssocState {
 }
 
 /// The state of a branch.
-#[derive(Clone, Copy, Debug, PartialEq, Eq)]
+#[derive(Clone, Copy, PartialEq, Eq)]
 pub enum BranchState {
     /// Unknown.
     S0,

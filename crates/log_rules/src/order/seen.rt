@@ -41,7 +41,7 @@ use tree_model::{Branch, Bytes, LogRecord, ProcessId, Record, Sequence, Write, W
 use xa_xid::Xid;
 
 /// What the last record of a branch that is open or heuristic leaves it as.
-#[derive(Clone, Copy, Debug, PartialEq, Eq)]
+#[derive(Clone, Copy, PartialEq, Eq)]
 pub enum Mark {
     /// It promised.
     Open,
