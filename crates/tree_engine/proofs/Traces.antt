@@ -6,8 +6,8 @@ use Rattle.tree_model.specs.declared.events.Entry.{Entry}
 use Rattle.trace_lines.specs.Trace.{entries_text, entry_text}
 use Rattle.tree_model.specs.declared.events.Reaction.{Reaction}
 use Rattle.tree_model.specs.declared.names.ProcessId.{ProcessId}
-use Rattle.world_journal.specs.Shown.{entry_part, shown_part}
-use Rattle.world_journal.specs.declared.shown.Shown.{Shown}
+use Rattle.short_steps.specs.Shown.{entry_part, shown_part}
+use Rattle.short_steps.specs.declared.shown.Shown.{Shown}
 use Rattle.tree_engine.specs.Trees.{AddsStep, part_text}
 
 -- the step at a place and those behind it

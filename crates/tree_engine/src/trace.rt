@@ -2,7 +2,7 @@
 
 ghost use Rattle.std.specs.Prelude.{◌≡◌, ◌+◌, ◌++◌, IfErr, IfOk, OnOk, length, slice_get, string_bytes};
 ghost use Rattle.trace_lines.specs.Trace.{entries_text};
-ghost use Rattle.world_journal.specs.Shown.{shown_part};
+ghost use Rattle.short_steps.specs.Shown.{shown_part};
 ghost use Rattle.tree_world.specs.Worlds.{state};
 ghost use Rattle.tree_engine.specs.Trees.{AddsStep, IsNumbered, ending, last_line, opened_text, opening_text, part_text, refused_text, trace_of};
 

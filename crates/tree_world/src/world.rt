@@ -6,7 +6,7 @@ ghost use Rattle.core_law.specs.worlds.Worlds.{Applies, Stops};
 ghost use Rattle.core_law.specs.worlds.Runs.{Leads, LeadsUntil};
 ghost use Rattle.core_law.specs.worlds.Ties.{FollowsBehindFaults, GoesOnBehindFaults};
 ghost use Rattle.core_law.specs.worlds.Sayings.{Agrees, AnswersTruly, Consents, IsByOperatorsAlone, KeepsMismatches, SaidBehindFaults};
-ghost use Rattle.world_journal.specs.Shown.{entry_part, shown_part};
+ghost use Rattle.short_steps.specs.Shown.{entry_part, shown_part};
 ghost use Rattle.tree_world.specs.Nodes.{SpellsLogBy, live_at, node_in};
 ghost use Rattle.tree_world.specs.Worlds.{logs_at, state};
 

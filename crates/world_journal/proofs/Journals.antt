@@ -12,13 +12,14 @@ use Rattle.tree_model.specs.declared.names.Txn.{Txn}
 use Rattle.tree_model.specs.declared.events.Told.{Told}
 use Rattle.tree_model.specs.Plays.{sent_as}
 use Rattle.core_law.specs.worlds.Worlds.{step_entry, undelivered}
-use Rattle.world_journal.specs.declared.short_step.Posted.{Posted}
-use Rattle.world_journal.specs.declared.short_step.ShortStep.{ShortStep}
-use Rattle.world_journal.specs.declared.short_step.Aside.{Aside}
-use Rattle.world_journal.specs.declared.short_step.Cause.{Cause}
-use Rattle.world_journal.specs.declared.short_step.Cause.TheVariants.{Act as ActCause, Message as MessageCause, Restart as RestartCause, Trim as TrimCause}
-use Rattle.world_journal.specs.Journals.{AreNamed, IsSent, IsWhole, Stock, act_by, aside_by, aside_in, asides_by, cause_by, entries_of, entry_by, entry_in, happening_in, last_messages, message_at, message_by, message_in, message_with, messages_of, named_by, names, reaction_by, somes, step_part}
-use Rattle.world_journal.specs.Shown.{entry_part}
+use Rattle.short_steps.specs.declared.short_step.Posted.{Posted}
+use Rattle.short_steps.specs.declared.short_step.ShortStep.{ShortStep}
+use Rattle.short_steps.specs.declared.short_step.Aside.{Aside}
+use Rattle.short_steps.specs.declared.short_step.Cause.{Cause}
+use Rattle.short_steps.specs.declared.short_step.Cause.TheVariants.{Act as ActCause, Message as MessageCause, Restart as RestartCause, Trim as TrimCause}
+use Rattle.short_steps.specs.Steps.{IsWhole, Stock, act_by, aside_by, aside_in, asides_by, cause_by, entries_of, entry_by, entry_in, happening_in, message_at, message_by, message_in, message_with, named_by, names, reaction_by, somes, step_part}
+use Rattle.world_journal.specs.Journals.{AreNamed, IsSent, last_messages, messages_of}
+use Rattle.short_steps.specs.Shown.{entry_part}
 
 -- the messages of a step that was just entered
 pub of_entered : (es : List ShortStep) (e : ShortStep) → last_messages (es ++ e ∷ []) ≡ e.messages
@@ -176,11 +177,6 @@ pub record Grows (s t : Stock) : Type 0 where
   pub asides : (k : ℕ) → Finds (slice_get s.asides k) (slice_get t.asides k)
   pub steps : (k n : ℕ) → Finds (message_in (slice_get s.steps k) n) (message_in (slice_get t.steps k) n)
   pub posted : (k : ℕ) → Finds (slice_get s.posted k) (slice_get t.posted k)
-
--- the name of a message, by its number
-pub place_of_name : (ps : List Posted) (k : ℕ) → 0 < k → named_by ps k ≡ slice_get ps (k - 1)
-place_of_name ps zero h = absurd (omega arith)
-place_of_name ps (suc k) h = let place : suc k - 1 ≡ k = omega arith in rw place refl
 
 finds_name : (s t : Stock) → Grows s t → (k : ℕ) → Finds (named_by s.posted k) (named_by t.posted k)
 finds_name s t g zero p is = is

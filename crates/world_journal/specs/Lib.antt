@@ -1,2 +1,1 @@
 pub mod Journals
-pub mod Shown

@@ -6,14 +6,14 @@ ghost use Rattle.std.specs.Vec.{vec_capacity, vec_len};
 ghost use Rattle.tree_model.specs.declared.events.Reaction.{Reaction as AnyReaction};
 ghost use Rattle.tree_model.specs.Plays.{sent_as};
 ghost use Rattle.core_law.specs.worlds.Worlds.{least_open as least_open_in, step_entry, undelivered};
-ghost use Rattle.world_journal.specs.Journals.{Enters, IsReady, IsSent, Keeps, last_messages as last_messages_of, marked_by, names, taken_up};
-ghost use Rattle.world_journal.specs.Shown.{entry_part, shown_part};
+ghost use Rattle.short_steps.specs.Steps.{names};
+ghost use Rattle.world_journal.specs.Journals.{Enters, IsReady, IsSent, Keeps, last_messages as last_messages_of, marked_by, taken_up};
+ghost use Rattle.short_steps.specs.Shown.{entry_part, shown_part};
 
 use crate::marks::Marks;
-use crate::short_step::{
-    Aside, Posted, ShortStep, copy_to, entry_of, keep_act, keep_aside, message_of, shown_of,
+use short_steps::{
+    Aside, Posted, ShortStep, Shown, copy_to, entry_of, keep_act, keep_aside, message_of, shown_of,
 };
-use crate::shown::Shown;
 use std::alloc::{AllocError, Global};
 use std::marker::Model;
 use tree_model::{Act, Entry, Envelope, Happening, Input, ProcessId, Reaction, StepError};
@@ -39,7 +39,8 @@ impl Model for Journal {
     ghost use Rattle.std.specs.Prelude.{◌++◌, ◌-◌, length};
     ghost use Rattle.std.specs.Vec.{vec_capacity};
     ghost use Rattle.core_law.specs.worlds.Worlds.{undelivered};
-    ghost use Rattle.world_journal.specs.Journals.{AreNamed, IsWhole, JournalState, entries_of, messages_of, unposted};
+    ghost use Rattle.short_steps.specs.Steps.{IsWhole, entries_of};
+    ghost use Rattle.world_journal.specs.Journals.{AreNamed, JournalState, messages_of, unposted};
 
     ghost Value = { JournalState };
 

@@ -4,8 +4,6 @@
 
 mod journal;
 mod marks;
-mod short_step;
-mod shown;
 
 pub use journal::Journal;
-pub use shown::Shown;
+pub use short_steps::Shown;

@@ -1,6 +1,6 @@
 use Rattle.std.proofs.Common.{◌≡◌, ◌+◌, ◌++◌}
 use Rattle.std.specs.Vec.{vec_capacity, vec_len}
-use Rattle.world_journal.specs.Journals.{names}
+use Rattle.short_steps.specs.Steps.{names}
 use Rattle.world_journal.proofs.journal.name_all.Given as goal
 
 abbrev pub invariant-loop-nth : goal.invariant-loop-nth

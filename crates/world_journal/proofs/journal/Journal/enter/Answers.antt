@@ -1,7 +1,8 @@
 use Rattle.std.proofs.Common.{◌∙◌, ap, [], ◌∷◌, ◌++◌, rules}
 use Rattle.core_law.specs.worlds.Worlds.{step_entry}
-use Rattle.world_journal.specs.declared.short_step.ShortStep.{ShortStep}
-use Rattle.world_journal.specs.Journals.{JournalState, Stock, aside_of}
+use Rattle.short_steps.specs.declared.short_step.ShortStep.{ShortStep}
+use Rattle.short_steps.specs.Steps.{Stock, aside_of}
+use Rattle.world_journal.specs.Journals.{JournalState}
 use Rattle.world_journal.proofs.Journals.{entered, messages_more, named_behind, of_entered}
 use Rattle.world_journal.proofs.journal.Journal.enter.Goals as goal
 

@@ -1,7 +1,8 @@
 use Rattle.std.proofs.Common.{◌≡◌, ◌∙◌, ap, sym, subst, IfOk, rules}
 use Rattle.std.proofs.lemmas.Option.{slice_get_past, slice_get_read}
 use Rattle.std.specs.Prelude.{slice_get}
-use Rattle.world_journal.specs.Journals.{JournalState, Stock, entry_in}
+use Rattle.short_steps.specs.Steps.{Stock, entry_in}
+use Rattle.world_journal.specs.Journals.{JournalState}
 use Rattle.world_journal.proofs.Journals.{entry_found, entry_past}
 use Rattle.world_journal.proofs.journal.Journal.entry.Goals as goal
 

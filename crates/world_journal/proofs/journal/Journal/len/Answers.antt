@@ -1,5 +1,6 @@
 use Rattle.std.proofs.Common.{◌≡◌, ◌∙◌, ap, sym, length, rules}
-use Rattle.world_journal.specs.Journals.{JournalState, Stock}
+use Rattle.short_steps.specs.Steps.{Stock}
+use Rattle.world_journal.specs.Journals.{JournalState}
 use Rattle.world_journal.proofs.Journals.{as_many}
 use Rattle.world_journal.proofs.journal.Journal.len.Goals as goal
 

@@ -1,6 +1,7 @@
 use Rattle.std.proofs.Common.{◌≡◌, ◌∙◌, ap, rules}
 use Rattle.tree_model.specs.Plays.{sent_as}
-use Rattle.world_journal.specs.Journals.{JournalState, message_by, messages_of}
+use Rattle.short_steps.specs.Steps.{message_by}
+use Rattle.world_journal.specs.Journals.{JournalState, messages_of}
 use Rattle.world_journal.proofs.Journals.{by_name}
 use Rattle.world_journal.proofs.journal.Journal.message.Goals as goal
 

@@ -1,5 +1,6 @@
 use Rattle.std.proofs.Common.{◌∙◌, ap, length, rules}
-use Rattle.world_journal.specs.Journals.{JournalState, Stock, names}
+use Rattle.short_steps.specs.Steps.{Stock, names}
+use Rattle.world_journal.specs.Journals.{JournalState}
 use Rattle.world_journal.proofs.Journals.{entries_posted, posts_as, unmarked}
 use Rattle.world_journal.proofs.journal.Journal.post.Goals as goal
 

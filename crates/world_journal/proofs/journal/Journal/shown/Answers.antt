@@ -1,8 +1,9 @@
 use Rattle.std.proofs.Common.{◌∙◌, ap, sym, rules}
 use Rattle.std.proofs.lemmas.Option.{slice_get_past, slice_get_read}
 use Rattle.std.specs.Prelude.{option_map, slice_get}
-use Rattle.world_journal.specs.Journals.{JournalState, Stock, aside_in, step_part}
-use Rattle.world_journal.specs.Shown.{entry_part}
+use Rattle.short_steps.specs.Steps.{Stock, aside_in, step_part}
+use Rattle.world_journal.specs.Journals.{JournalState}
+use Rattle.short_steps.specs.Shown.{entry_part}
 use Rattle.world_journal.proofs.Journals.{entry_past, part_found}
 use Rattle.world_journal.proofs.journal.Journal.shown.Goals as goal
 

@@ -3,8 +3,8 @@
 ghost use Rattle.std.specs.Prelude.{◌≡◌, ◌++◌, ◌<◌, IfOk, OnOk, length, option_map, slice_get};
 ghost use Rattle.std.specs.Option.{option_copied};
 ghost use Rattle.std.specs.Vec.{vec_capacity, vec_len};
-ghost use Rattle.world_journal.specs.Journals.{Stock, act_by, aside_by, aside_in, asides_by, cause_by, entry_in, happening_in, is_bare as is_bare_of, message_at as message_named, message_by, named_by, reaction_by, step_part};
-ghost use Rattle.world_journal.specs.Shown.{shown_part};
+ghost use Rattle.short_steps.specs.Steps.{Stock, act_by, aside_by, aside_in, asides_by, cause_by, entry_in, happening_in, is_bare as is_bare_of, message_at as message_named, message_by, named_by, reaction_by, step_part};
+ghost use Rattle.short_steps.specs.Shown.{shown_part};
 
 use crate::shown::Shown;
 use std::alloc::{AllocError, Global};
@@ -13,42 +13,52 @@ use tree_model::{
     Told, Txn,
 };
 
-/// Where a message stands: in the reaction of which step, and which of its messages it is, both from 0.
+/// The name of a message: where it stands.
 #[derive(Clone, Copy)]
-pub(crate) struct Posted {
-    pub(crate) entry: usize,
-    pub(crate) nth: usize,
+pub struct Posted {
+    /// The place of the step that sent it, from 0.
+    pub entry: usize,
+    /// Which of the step's messages it is, from 0.
+    pub nth: usize,
 }
 
-/// Why a step was made.
+/// Why a step was made: what happened, where an act and a message are named and not held.
 #[derive(Clone, Copy)]
-pub(crate) enum Cause {
-    /// The act at this place of the journal's acts.
+pub enum Cause {
+    /// The act at this place of the journal's acts, from 0.
     Act(usize),
-    /// The message with this number.
+    /// The message with this number, from 1.
     Message(u64),
     /// A restart that kept so many records behind the forced front.
     Restart(u64),
+    /// A trim of the log.
     Trim,
 }
 
-/// What few reactions have.
+/// What few reactions have, so that it stands apart from the steps.
 #[derive(Clone, Copy)]
-pub(crate) struct Aside {
-    pub(crate) begun: Option<Txn>,
-    pub(crate) told: Option<Told>,
-    pub(crate) kept: Option<u64>,
+pub struct Aside {
+    /// The transaction that was begun, if one was.
+    pub begun: Option<Txn>,
+    /// What was told to the application, if anything was.
+    pub told: Option<Told>,
+    /// How many records a trim kept, if it was one.
+    pub kept: Option<u64>,
 }
 
 /// A step with its reaction. It has the messages that it sent, and the number of the one that it handled.
 #[derive(Drop)]
-pub(crate) struct ShortStep {
-    pub(crate) process: ProcessId,
-    pub(crate) cause: Cause,
-    pub(crate) written: Sequence<Logged>,
-    pub(crate) messages: Envelopes,
-    /// The place of what else its reaction has; None, where it has nothing else.
-    pub(crate) aside: Option<usize>,
+pub struct ShortStep {
+    /// The process that made it.
+    pub process: ProcessId,
+    /// Why it was made.
+    pub cause: Cause,
+    /// The records that it wrote, in order.
+    pub written: Sequence<Logged>,
+    /// The messages that it sent, in order.
+    pub messages: Envelopes,
+    /// The place of what else its reaction has, from 0; None, where it has nothing else.
+    pub aside: Option<usize>,
 }
 
 /// The name at this place.
@@ -79,8 +89,9 @@ fn message_at(steps: &[ShortStep], posted: Posted) -> Option<&Envelope>
     }
 }
 
-/// The message with this number, where messages have these names.
-pub(crate) fn message_of<'a>(
+/// The message with this number, from 1, where messages have these names; None for 0, for a number behind
+/// the last name, and where no message has the name.
+pub fn message_of<'a>(
     steps: &'a [ShortStep],
     posted: &[Posted],
     number: u64,
@@ -144,8 +155,8 @@ fn copied_messages(alloc: Global, messages: &[Envelope]) -> Result<Envelopes, Al
     Ok(Envelopes::from_vec(copy))
 }
 
-/// Adds copies of these messages.
-pub(crate) fn copy_to(
+/// Adds copies of these messages. Where memory is refused, some may have been added.
+pub fn copy_to(
     alloc: Global,
     sent: &mut Vec<Envelope>,
     messages: &[Envelope],
@@ -171,8 +182,9 @@ fn reaction_of(alloc: Global, step: &ShortStep, aside: Aside) -> Result<Reaction
     })
 }
 
-/// A step with its reaction, made anew; None, where what it names is not there.
-pub(crate) fn entry_of(
+/// A step with its reaction, made anew from what the journal keeps; None, where what it names is not there.
+/// The only error is that memory is refused.
+pub fn entry_of(
     alloc: Global,
     acts: &[Act],
     asides: &[Aside],
@@ -200,8 +212,8 @@ pub(crate) fn entry_of(
     }))
 }
 
-/// What a step shows; None, where what its reaction has besides is not there.
-pub(crate) fn shown_of<'a>(asides: &[Aside], step: &'a ShortStep) -> Option<Shown<'a>>
+/// What a step shows, lent; None, where what its reaction has besides is not there.
+pub fn shown_of<'a>(asides: &[Aside], step: &'a ShortStep) -> Option<Shown<'a>>
     ensures { option_map shown_part result ≡ option_map (step_part step.now)
         (aside_in asides.now step.now.aside) }
 {
@@ -216,8 +228,8 @@ pub(crate) fn shown_of<'a>(asides: &[Aside], step: &'a ShortStep) -> Option<Show
     })
 }
 
-/// Keeps an act, where it was one and there is room: the cause of what happened.
-pub(crate) fn keep_act(acts: &mut Vec<Act>, happening: Happening) -> Cause
+/// Keeps an act, where it was one: the cause of what happened. There has to be room for an act.
+pub fn keep_act(acts: &mut Vec<Act>, happening: Happening) -> Cause
     requires { vec_len acts.old < vec_capacity acts.old }
     ensures cause { result ≡ cause_by (length acts.old.items) happening }
     ensures acts { acts.new.items ≡ acts.old.items ++ act_by happening }
@@ -241,8 +253,9 @@ fn is_bare(aside: &Aside) -> bool
     aside.begun.is_none() && aside.told.is_none() && aside.kept.is_none()
 }
 
-/// Keeps what few reactions have, where it is there and there is room: its place.
-pub(crate) fn keep_aside(asides: &mut Vec<Aside>, aside: Aside) -> Option<usize>
+/// Keeps what few reactions have, where any of it is there: its place, or None. There has to be room for
+/// it.
+pub fn keep_aside(asides: &mut Vec<Aside>, aside: Aside) -> Option<usize>
     requires { vec_len asides.old < vec_capacity asides.old }
     ensures place { result ≡ aside_by (length asides.old.items) aside }
     ensures asides { asides.new.items ≡ asides.old.items ++ asides_by aside }

@@ -2,7 +2,7 @@
 use Rattle.tree_model.specs.declared.events.Entry.{Entry}
 use Rattle.tree_model.specs.declared.events.Reaction.{Reaction}
 use Rattle.tree_model.specs.declared.names.ProcessId.{ProcessId}
-use Rattle.world_journal.specs.declared.shown.Shown.{Shown}
+use Rattle.short_steps.specs.declared.shown.Shown.{Shown}
 
 -- the process and the reaction of an entry
 abbrev pub entry_part : Entry → ProcessId × Reaction

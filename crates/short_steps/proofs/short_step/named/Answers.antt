@@ -1,6 +1,6 @@
 use Rattle.std.proofs.Common.{◌∙◌, sym, arith}
-use Rattle.world_journal.proofs.Journals.{place_of_name}
-use Rattle.world_journal.proofs.short_step.named.Goals as goal
+use Rattle.short_steps.proofs.Steps.{place_of_name}
+use Rattle.short_steps.proofs.short_step.named.Goals as goal
 
 pub returns-else-number-eq0 : goal.returns-else-number-eq0
 returns-else-number-eq0 c =
