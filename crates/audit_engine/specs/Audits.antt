@@ -1,18 +1,17 @@
 -- What is written of an audit.
-use Rattle.std.specs.Prelude.{◌≡◌, ℕ, nat_eq, true, false, if◌then◌else◌, List, ◌++◌, Some, None, ⊤}
+use Rattle.std.specs.Prelude.{◌≡◌, ℕ, nat_eq, true, false, if◌then◌else◌, List, ◌++◌, None, ⊤}
 use Rattle.std.specs.List.{flat_map}
-use Rattle.tree_model.specs.declared.names.ProcessId.{ProcessId}
 use Rattle.tree_model.specs.declared.trees.TreeEntry.{TreeEntry}
-use Rattle.link_script.specs.declared.script.ScriptFault.{ScriptFault}
 use Rattle.logs_script.specs.declared.line.ProcessLog.{ProcessLog}
-use Rattle.logs_script.specs.Logs.{IsLogsFault, IsLogsText}
-use Rattle.logs_script.specs.Faults.{damage_text, fault_text, first_damage}
+use Rattle.logs_script.specs.Logs.{IsLogsText}
+use Rattle.logs_script.specs.Faults.{first_damage}
 use Rattle.tree_headline.specs.auditor.Audits.{Logs}
 use Rattle.tree_audit.specs.Reports.{kept_lists, lines_of, mismatches_in}
 use Rattle.tree_audit.specs.Truths.{AreTrueOfRuns}
 use Rattle.tree_audit.specs.declared.report.Line.{Line}
 use Rattle.audit_engine.specs.Explanations.{explained_line}
 use Rattle.audit_engine.specs.Lines.{count_text, lines_text}
+use Rattle.audit_engine.specs.Refusals.{RefusesInput, TellsDamage}
 use Rattle.audit_engine.specs.declared.detail.Detail.{Detail}
 use Rattle.audit_engine.specs.declared.detail.Detail.TheVariants as detail
 use Rattle.audit_engine.specs.declared.ending.Ending.{Ending}
@@ -46,11 +45,6 @@ pub record Reports (d : Detail) (tree : List TreeEntry) (logs : List ProcessLog)
   pub sound : first_damage tree logs ≡ None
   pub report : text ≡ detailed_text d tree (kept_lists tree logs) (audit_lines tree logs)
 
--- the text is the line of the first log that is damaged
-abbrev pub TellsDamage : List TreeEntry → List ProcessLog → List ℕ → Type 0
-TellsDamage tree logs text =
-    (q : ProcessId) × (place : ℕ) × (first_damage tree logs ≡ Some (q, place)) × (text ≡ damage_text q place)
-
 -- what is written of logs that were read, by how the run ends
 abbrev pub IsAudited : Detail → Ending → List TreeEntry → List ProcessLog → List ℕ → Type 0
 IsAudited d ending.Agrees tree logs text =
@@ -65,12 +59,6 @@ pub record AuditsLogs (d : Detail) (e : Ending) (input text : List ℕ) : Type 0
   pub logs : List ProcessLog
   pub says : IsLogsText input tree logs
   pub audits : IsAudited d e tree logs text
-
--- the text is the line of the fault that is there
-pub record RefusesInput (input text : List ℕ) : Type 0 where
-  pub fault : ScriptFault
-  pub there : IsLogsFault input fault
-  pub line : text ≡ fault_text fault
 
 -- a damaged log is told, or the input is refused
 pub data IsRefusal (d : Detail) (input text : List ℕ) : Type 0 where

@@ -11,9 +11,8 @@ mod streams;
 mod worlds;
 
 use crate::edges::holds;
-use audit_engine::{Detail, run_audit};
+use audit_engine::{Detail, run_audit, run_log};
 use crash_engine::run_crash;
-use log_engine::run_log;
 use std::alloc::Global;
 use std::{fs, io};
 use tree_engine::{Output, run_tree};

@@ -2,7 +2,7 @@
 
 use crate::fakes::{Fails, Full};
 use crate::scripts::FLAT_PA_COMMIT;
-use log_engine::run_log;
+use audit_engine::run_log;
 use report_io::Failure;
 use std::alloc::Global;
 use std::io::{Read, Write};

@@ -40,7 +40,8 @@ use Rattle.tree_audit.specs.Reports.{entry_kind, kept_lists, mismatches_in, whol
 use Rattle.tree_audit.specs.Truths.{AreKeptBehind, AreTrue}
 use Rattle.tree_audit.proofs.TreePlaces.{listed_entry, named_so, not_found, role_if}
 use Rattle.tree_audit.proofs.Truths.{true_of_runs}
-use Rattle.audit_engine.specs.Audits.{AuditsLogs, IsAudited, IsAuditReport, OfInput, OfLog, Reports, TellsDamage, audit_lines, ending_by}
+use Rattle.audit_engine.specs.Audits.{AuditsLogs, IsAudited, IsAuditReport, OfInput, OfLog, Reports, audit_lines, ending_by}
+use Rattle.audit_engine.specs.Refusals.{TellsDamage}
 use Rattle.audit_engine.specs.declared.detail.Detail.{Detail}
 use Rattle.audit_engine.specs.declared.ending.Ending.{Ending}
 use Rattle.audit_engine.specs.declared.ending.Ending.TheVariants as ending

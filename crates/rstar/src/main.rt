@@ -4,11 +4,10 @@
 
 mod law;
 
-use audit_engine::{Detail, run_audit};
+use audit_engine::{Detail, run_audit, run_log};
 use clap::error::ErrorKind;
 use clap::{Arg, ArgAction, ArgMatches, Command, Error};
 use crash_engine::run_crash;
-use log_engine::run_log;
 use std::alloc::{AllocError, Global};
 use std::io;
 use std::process::ExitCode;

@@ -1,5 +1,4 @@
 //! The engine of `rstar log`: what the logs of a tree hold, one record a line.
-#![tactic(auto)]
 
 mod engine;
 mod lines;

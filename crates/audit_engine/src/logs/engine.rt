@@ -2,13 +2,13 @@
 
 ghost use Rattle.std.specs.Prelude.{◌≡◌, ◌++◌, ℕ, List, IfOk, IfErr, OnOk};
 ghost use Rattle.std.specs.Io.KnownBytes.{Appends, Keeps};
-ghost use Rattle.log_engine.specs.Reports.{IsLogReport, IsShown, heading_text, held_text, placed_text, records_text, torn_text};
+ghost use Rattle.audit_engine.specs.logs.Reports.{IsLogReport, IsShown, heading_text, held_text, placed_text, records_text, torn_text};
 ghost use Rattle.logs_script.specs.Places.{placed_in};
 ghost use Rattle.rec_log.specs.Openings.{IsFound};
 ghost use Rattle.report_io.specs.Streams.{IsInput, WritesFront};
 ghost use Rattle.report_io.specs.declared.status.Status.{Status as AnyStatus};
 
-use crate::lines::push_words;
+use crate::logs::lines::push_words;
 use link_script::ScriptError;
 use log_text::{HEADER, ReadFault, first_frame, read_record};
 use logs_script::{ProcessLog, bytes_of, damaged, read_logs, refusal};

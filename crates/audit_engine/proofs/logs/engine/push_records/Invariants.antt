@@ -1,7 +1,7 @@
 use Rattle.std.proofs.Common.{◌≡◌, ◌≤◌, ◌+◌, ◌-◌, ◌++◌, length}
 use Rattle.logs_script.specs.Places.{placed_in}
-use Rattle.log_engine.specs.Reports.{records_text}
-use Rattle.log_engine.proofs.engine.push_records.Given as goal
+use Rattle.audit_engine.specs.logs.Reports.{records_text}
+use Rattle.audit_engine.proofs.logs.engine.push_records.Given as goal
 
 abbrev pub invariant-loop-frame_kind : goal.invariant-loop-frame_kind
 invariant-loop-frame_kind l =

@@ -1,7 +1,7 @@
 //! The line of a record.
 
 ghost use Rattle.std.specs.Prelude.{◌≡◌, ◌++◌, OnOk};
-ghost use Rattle.log_engine.specs.Lines.{branch_word, case_word, number_word, record_words, ticket_words, write_words, writes_words, bytes_word};
+ghost use Rattle.audit_engine.specs.logs.Lines.{branch_word, case_word, number_word, record_words, ticket_words, write_words, writes_words, bytes_word};
 
 use spellings::hexadecimal::Hexadecimal;
 use std::alloc::{AllocError, Global};

@@ -13,7 +13,7 @@ use Rattle.rec_log.specs.Openings.{IsFound, IsNoLog}
 use Rattle.rec_log.specs.declared.opening.OpenError.{OpenError}
 use Rattle.rec_log.specs.declared.opening.OpenError.TheVariants.{Memory, Device, Damaged as DamagedError}
 use Rattle.logs_script.specs.Places.{Placed, placed_records}
-use Rattle.log_engine.specs.Reports.{heading_text, held_text, records_text, shown_text, tail_text, torn_text}
+use Rattle.audit_engine.specs.logs.Reports.{heading_text, held_text, records_text, shown_text, tail_text, torn_text}
 use Rattle.logs_script.specs.Faults.{damage_or, first_damage}
 use Rattle.logs_script.proofs.PlaceLaws.{places_tell}
 

@@ -1,5 +1,5 @@
 -- What is written of a tree and its logs.
-use Rattle.std.specs.Prelude.{◌≡◌, ℕ, ◌==◌, if◌then◌else◌, List, [], ◌++◌, codes, Some, None}
+use Rattle.std.specs.Prelude.{◌≡◌, ℕ, ◌==◌, if◌then◌else◌, List, [], ◌++◌, codes, None}
 use Rattle.std.specs.List.{flat_map}
 use Rattle.std.specs.Fmt.{decimal}
 use Rattle.tree_model.specs.declared.names.ProcessId.{ProcessId}
@@ -8,14 +8,14 @@ use Rattle.tree_model.specs.declared.records.Record.{Record}
 use Rattle.tree_model.specs.declared.trees.TreeEntry.{TreeEntry}
 use Rattle.tree_model.specs.Records.{kind_of}
 use Rattle.tree_model.specs.Texts.{kind_word}
-use Rattle.link_script.specs.declared.script.ScriptFault.{ScriptFault}
 use Rattle.logs_script.specs.declared.line.ProcessLog.{ProcessLog}
-use Rattle.logs_script.specs.Logs.{IsLogsFault, IsLogsText, bytes_of}
+use Rattle.logs_script.specs.Logs.{IsLogsText, bytes_of}
 use Rattle.log_rules.specs.order.Logs.{LogReading, Whole, Damaged, read_log}
 use Rattle.report_io.specs.declared.status.Status.{Status}
 use Rattle.report_io.specs.declared.status.Status.TheVariants.{Ended, Refused, Stopped}
-use Rattle.log_engine.specs.Lines.{record_words}
-use Rattle.logs_script.specs.Faults.{damage_text, fault_text, first_damage}
+use Rattle.audit_engine.specs.Refusals.{RefusesInput, TellsDamage}
+use Rattle.audit_engine.specs.logs.Lines.{record_words}
+use Rattle.logs_script.specs.Faults.{first_damage}
 use Rattle.logs_script.specs.Places.{Placed, placed_records}
 
 -- the line that comes before the records of a process
@@ -50,8 +50,7 @@ shown_text es logs = flat_map (λ e. held_text e.id e.kind (bytes_of logs e.id))
 -- what is written of logs that were read, by whether one is damaged
 abbrev pub IsShown : Status → List TreeEntry → List ProcessLog → List ℕ → Type 0
 IsShown Ended es logs text = (first_damage es logs ≡ None) × (text ≡ shown_text es logs)
-IsShown Refused es logs text = (q : ProcessId) × (place : ℕ) × (first_damage es logs ≡ Some (q, place))
-    × (text ≡ damage_text q place)
+IsShown Refused es logs text = TellsDamage es logs text
 IsShown Stopped es logs text = ⊥
 
 -- the text is that of the tree and the logs that the input says
@@ -61,19 +60,13 @@ pub record ShowsLogs (status : Status) (input text : List ℕ) : Type 0 where
   pub says : IsLogsText input tree logs
   pub shows : IsShown status tree logs text
 
--- the text is the line of the fault that is there
-pub record RefusesInput (input text : List ℕ) : Type 0 where
-  pub fault : ScriptFault
-  pub there : IsLogsFault input fault
-  pub line : text ≡ fault_text fault
-
 -- a damaged log is shown, or the input is refused
-pub data IsRefusal (input text : List ℕ) : Type 0 where
-  OfLog : ShowsLogs Refused input text → IsRefusal input text
-  OfInput : RefusesInput input text → IsRefusal input text
+pub data IsLogRefusal (input text : List ℕ) : Type 0 where
+  OfLog : ShowsLogs Refused input text → IsLogRefusal input text
+  OfInput : RefusesInput input text → IsLogRefusal input text
 
 -- what is written of an input, by how the run ends
 abbrev pub IsLogReport : Status → List ℕ → List ℕ → Type 0
 IsLogReport Ended input text = ShowsLogs Ended input text
-IsLogReport Refused input text = IsRefusal input text
+IsLogReport Refused input text = IsLogRefusal input text
 IsLogReport Stopped input text = ⊥

@@ -1,9 +1,9 @@
 use Rattle.std.proofs.Common.{◌≡◌, ◌∙◌, ◌++◌, ◌+◌, ◌-◌, ap, sym, arith, length}
 use Rattle.logs_script.specs.Places.{placed_in}
-use Rattle.log_engine.specs.Reports.{records_text}
-use Rattle.log_engine.proofs.Texts.{text_ends, text_goes_on}
+use Rattle.audit_engine.specs.logs.Reports.{records_text}
+use Rattle.audit_engine.proofs.logs.Texts.{text_ends, text_goes_on}
 use Rattle.logs_script.proofs.PlaceLaws.{frame_size, goes_on, no_frame, stops}
-use Rattle.log_engine.proofs.engine.push_records.Goals as goal
+use Rattle.audit_engine.proofs.logs.engine.push_records.Goals as goal
 
 pub returns-in-Err-Malformed : goal.returns-in-Err-Malformed
 returns-in-Err-Malformed c =

@@ -1,10 +1,10 @@
 use Rattle.std.proofs.Common.{◌∷◌, ◌∙◌, ◌++◌, ◌+◌, ap, sym, arith, drop, append-nil}
 use Rattle.std.proofs.lemmas.List.{at_drop_more, drop_all}
 use Rattle.log_rules.specs.order.Logs.{read_log}
-use Rattle.log_engine.specs.Reports.{held_text, shown_text}
+use Rattle.audit_engine.specs.logs.Reports.{held_text, shown_text}
 use Rattle.logs_script.specs.Faults.{damage_text, first_damage}
-use Rattle.log_engine.proofs.Shown.{damaged_here, no_log, none_damaged, shown_none, sound_found, sound_more, text_more}
-use Rattle.log_engine.proofs.engine.shown.Goals as goal
+use Rattle.audit_engine.proofs.logs.Shown.{damaged_here, no_log, none_damaged, shown_none, sound_found, sound_more, text_more}
+use Rattle.audit_engine.proofs.logs.engine.shown.Goals as goal
 
 pub returns : goal.returns
 returns c =

@@ -1,7 +1,7 @@
 use Rattle.std.proofs.Common.{◌≡◌, ◌++◌, drop}
-use Rattle.log_engine.specs.Reports.{shown_text}
+use Rattle.audit_engine.specs.logs.Reports.{shown_text}
 use Rattle.logs_script.specs.Faults.{first_damage}
-use Rattle.log_engine.proofs.engine.shown.Given as goal
+use Rattle.audit_engine.proofs.logs.engine.shown.Given as goal
 
 abbrev pub invariant-loop-entry : goal.invariant-loop-entry
 invariant-loop-entry l =
