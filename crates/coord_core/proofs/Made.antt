@@ -31,10 +31,10 @@ use Rattle.core_model.specs.Makes.{BreaksIn, Makes, NotMade, OpensCase, retired_
 use Rattle.core_model.proofs.Alike.{same_view}
 use Rattle.coord_table.specs.declared.held.Held.{Held}
 use Rattle.coord_table.specs.Cases.{Begins, FitsGiven, Gives, Slots, held_view, ticket_in, view_in}
-use Rattle.coord_rows.specs.declared.seat.Seat.{Seat}
-use Rattle.coord_rows.specs.declared.effect.Framed.{Framed}
-use Rattle.coord_rows.specs.declared.effect.RowEffect.{RowEffect}
-use Rattle.coord_rows.specs.Rows.{AreFramed, Does, seat, written_of}
+use Rattle.coord_effects.specs.declared.seat.Seat.{Seat}
+use Rattle.coord_effects.specs.declared.effect.Framed.{Framed}
+use Rattle.coord_effects.specs.declared.effect.RowEffect.{RowEffect}
+use Rattle.coord_effects.specs.Rows.{AreFramed, Does, seat, written_of}
 use Rattle.coord_table.specs.declared.asked.Asked.{Asked}
 use Rattle.coord_table.specs.declared.asked.Asked.TheVariants.{Join, Work, Commit, AbortActive, AbortCollecting, Ask, Joined, Vote, Ack, Inquire, Prepare, Commits, Aborts}
 use Rattle.coord_table.specs.Asks.{asked_row, is_for_any, is_retiring}

@@ -12,8 +12,8 @@ use Rattle.rec_log.specs.Sights.{LogState}
 use Rattle.core_model.specs.States.{CoreState, SameCore, wrote}
 use Rattle.core_model.specs.Turns.{Turn as CoreTurn, reacted}
 use Rattle.core_model.specs.Makes.{BreaksIn, Moves}
-use Rattle.coord_rows.specs.declared.effect.Framed.{Framed}
-use Rattle.coord_rows.specs.Rows.{written_of}
+use Rattle.coord_effects.specs.declared.effect.Framed.{Framed}
+use Rattle.coord_effects.specs.Rows.{written_of}
 
 -- the turn of the input was made, and this is the reaction to show
 pub record Turned (old new : CoreState) (i : Input) (turn : CoreTurn) (reaction : Reaction) : Type 0 where

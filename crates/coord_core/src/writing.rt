@@ -5,7 +5,7 @@ ghost use Rattle.tree_model.specs.declared.names.Kind.TheVariants as kind;
 ghost use Rattle.tree_model.specs.declared.names.ProcessId.{ProcessId as AnyProcess};
 ghost use Rattle.rec_log.specs.Sights.{Breaks};
 ghost use Rattle.core_log.specs.Writes.{HasRoom};
-ghost use Rattle.coord_rows.specs.Rows.{AreFramed};
+ghost use Rattle.coord_effects.specs.Rows.{AreFramed};
 ghost use Rattle.coord_core.specs.Turned.{WritesDown, framed_of};
 
 use coord_rows::Framed;

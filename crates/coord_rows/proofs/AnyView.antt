@@ -3,9 +3,9 @@ use Rattle.std.proofs.Common.{◌≡◌, Result, Ok, Err, IfOk, subst, sym}
 use Rattle.std.specs.declared.alloc.AllocError.{AllocError}
 use Rattle.tree_model.specs.Standings.{CoordinatorView}
 use Rattle.tree_model.specs.CoordinatorRows.{Row}
-use Rattle.coord_rows.specs.declared.seat.Seat.{Seat}
-use Rattle.coord_rows.specs.declared.effect.RowEffect.{RowEffect}
-use Rattle.coord_rows.specs.Rows.{Does}
+use Rattle.coord_effects.specs.declared.seat.Seat.{Seat}
+use Rattle.coord_effects.specs.declared.effect.RowEffect.{RowEffect}
+use Rattle.coord_effects.specs.Rows.{Does}
 
 -- what does a row whatever the view, does it in this view
 pub at_view : (s : Seat) (row : CoordinatorView → Row) (met : Row) (v : CoordinatorView)

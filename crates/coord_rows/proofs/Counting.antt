@@ -12,10 +12,10 @@ use Rattle.tree_model.specs.CoordinatorRows.{Row, collecting_after, collecting_v
 use Rattle.tree_model.specs.SameViews.{SameRow, SameView}
 use Rattle.tree_model.proofs.NameTests.{ticket_tells}
 use Rattle.core_model.proofs.Alike.{collecting_after-same, has_voted-so, row_effect-same}
-use Rattle.coord_rows.specs.declared.effect.RowEffect.{RowEffect}
-use Rattle.coord_rows.specs.declared.seat.Seat.{Seat}
+use Rattle.coord_effects.specs.declared.effect.RowEffect.{RowEffect}
+use Rattle.coord_effects.specs.declared.seat.Seat.{Seat}
 use Rattle.coord_case.specs.Lives.{Uncounts}
-use Rattle.coord_rows.specs.Rows.{Does, seat}
+use Rattle.coord_effects.specs.Rows.{Does, seat}
 use Rattle.coord_case.proofs.Children.{voted_so-push}
 
 so_few : (y n r : Bool) → (y || (n || r)) ≡ false → (y ≡ false) × (n ≡ false) × (r ≡ false)

@@ -11,11 +11,10 @@ ghost use Rattle.tree_model.specs.CoordinatorRows.{
   active_work as work_row,
 };
 ghost use Rattle.tree_model.specs.SameViews.{SameView};
-ghost use Rattle.coord_rows.specs.Rows.{Does, seat as seat_meant};
+ghost use Rattle.coord_effects.specs.Rows.{Does, seat as seat_meant};
 
-use crate::effect::{RowEffect, Written};
-use crate::seat::{Seat, acknowledge_abort, one_message, tell_each, up};
 use coord_case::Live;
+use coord_effects::{RowEffect, Seat, Written, acknowledge_abort, one_message, tell_each, up};
 use std::alloc::{AllocError, Global};
 use tree_model::{
     Conclusion, Message, Op, Outcome, Presumption, ProcessId, Record, Sequence, Ticket,

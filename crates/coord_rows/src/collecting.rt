@@ -13,12 +13,13 @@ ghost use Rattle.tree_model.specs.CoordinatorRows.{
   root_commits as commits_row,
 };
 ghost use Rattle.tree_model.specs.SameViews.{SameView};
-ghost use Rattle.coord_rows.specs.Rows.{Does, reason as reason_meant, seat as seat_meant};
+ghost use Rattle.coord_effects.specs.Rows.{Does, reason as reason_meant, seat as seat_meant};
 
-use crate::deciding::{decides_owed, forgets_behind};
-use crate::effect::{RowEffect, Written};
-use crate::seat::{Reason, Seat, heard_above, none_of, tell_each, up};
 use coord_case::Live;
+use coord_effects::{
+    Reason, RowEffect, Seat, Written, decides_owed, forgets_behind, heard_above, none_of,
+    tell_each, up,
+};
 use std::alloc::{AllocError, Global};
 use tree_model::{Conclusion, Message, Outcome, Presumption, Record, Sequence, Ticket, Told, Vote};
 

@@ -14,12 +14,13 @@ ghost use Rattle.tree_model.specs.CoordinatorRows.{
   unknown_prepare as prepare_row,
 };
 ghost use Rattle.tree_model.specs.SameViews.{SameView};
-ghost use Rattle.coord_rows.specs.Rows.{Does, seat as seat_meant};
+ghost use Rattle.coord_effects.specs.Rows.{Does, seat as seat_meant};
 
-use crate::deciding::forgets_behind;
-use crate::effect::{RowEffect, Written};
-use crate::seat::{Seat, acknowledge_abort, acknowledge_commit, outcome_message, up};
 use coord_case::Live;
+use coord_effects::{
+    RowEffect, Seat, Written, acknowledge_abort, acknowledge_commit, forgets_behind,
+    outcome_message, up,
+};
 use inquire_core::presumed;
 use std::alloc::{AllocError, Global};
 use tree_model::{Message, Outcome, Record, Sequence, Ticket};

@@ -27,26 +27,24 @@
 //! | none | PREPARE, COMMIT, ABORT, INQUIRE | `unknown_prepare`, `unknown_commit`, `unknown_abort`, `unknown_inquiry` |
 //!
 //! A case that aborted without anybody left to acknowledge, or that ended, is gone: it is Unknown.
+//!
+//! What a row makes, and the rows of a case in doubt (Prepared), stand in `coord_effects`; what the crates above
+//! take of it is passed on from here.
 #![tactic(auto)]
 
 mod active;
 mod collecting;
 mod decided;
-mod deciding;
-mod effect;
 mod outcomes;
-mod prepared;
-mod resuming;
-mod seat;
 
 pub use active::{active_abort, active_commit, active_join, active_joined, active_work};
 pub use collecting::{collecting_abort, collecting_vote};
+pub use coord_effects::{
+    Framed, Reason, RowEffect, Seat, prepared_abort, prepared_ask, prepared_commit,
+    prepared_prepare, resume,
+};
 pub use decided::{
     aborting_abort, aborting_prepare, committing_commit, decided_ack, decided_inquiry,
     unknown_abort, unknown_commit, unknown_inquiry, unknown_prepare,
 };
-pub use effect::{Framed, RowEffect};
 pub use outcomes::{on_abort, on_commit};
-pub use prepared::{prepared_abort, prepared_ask, prepared_commit, prepared_prepare};
-pub use resuming::resume;
-pub use seat::{Reason, Seat};

@@ -3,15 +3,13 @@
 
 ghost use Rattle.std.specs.Prelude.{◌≡◌, IfOk, OnErr};
 ghost use Rattle.tree_model.specs.CoordinatorRows.{on_abort as abort_row, on_commit as commit_row};
-ghost use Rattle.coord_rows.specs.Rows.{Does, seat as seat_meant};
+ghost use Rattle.coord_effects.specs.Rows.{Does, seat as seat_meant};
 
 use crate::active::active_abort;
 use crate::collecting::collecting_abort;
 use crate::decided::{aborting_abort, committing_commit, unknown_abort, unknown_commit};
-use crate::effect::RowEffect;
-use crate::prepared::{prepared_abort, prepared_commit};
-use crate::seat::{Reason, Seat};
 use coord_case::Live;
+use coord_effects::{Reason, RowEffect, Seat, prepared_abort, prepared_commit};
 use std::alloc::{AllocError, Global};
 use tree_model::Standing;
 

@@ -10,9 +10,9 @@ use Rattle.coord_table.specs.declared.held.Held.{Held}
 use Rattle.coord_table.specs.Cases.{FitsGiven, Slots, held_view, live_at, live_of, view_in}
 use Rattle.coord_table.specs.Lends.{with_live}
 use Rattle.coord_table.proofs.Changing.{Relives-with_live}
-use Rattle.coord_rows.specs.declared.seat.Seat.{Seat}
-use Rattle.coord_rows.specs.declared.effect.RowEffect.{RowEffect}
-use Rattle.coord_rows.specs.Rows.{Does, seat}
+use Rattle.coord_effects.specs.declared.seat.Seat.{Seat}
+use Rattle.coord_effects.specs.declared.effect.RowEffect.{RowEffect}
+use Rattle.coord_effects.specs.Rows.{Does, seat}
 use Rattle.coord_table.specs.declared.asked.Asked.{Asked}
 use Rattle.coord_table.specs.Asks.{asked_row}
 use Rattle.coord_table.specs.Takes.{IsAt, SameCases, TakesLive}

@@ -16,8 +16,8 @@ use Rattle.tree_model.specs.Standings.{CoordinatorView, known_view, unknown_view
 use Rattle.tree_model.proofs.Equality.{case_equality}
 use Rattle.tree_model.proofs.NameTests.{case_tells}
 use Rattle.live_table.specs.Tables.{entry_at, live_value}
-use Rattle.coord_rows.specs.declared.seat.Seat.{Seat}
-use Rattle.coord_rows.specs.Rows.{seat}
+use Rattle.coord_effects.specs.declared.seat.Seat.{Seat}
+use Rattle.coord_effects.specs.Rows.{seat}
 use Rattle.coord_table.specs.declared.held.Held.{Held}
 use Rattle.coord_table.specs.Cases.{Restores, Slots, held_view, ticket_in, view_in}
 use Rattle.inquire_core.specs.Summaries.{Summary, restored_view, standing_of, view_of}

@@ -12,9 +12,9 @@ use Rattle.live_table.proofs.Writes.{live_found, same_case-itself}
 use Rattle.core_model.proofs.Alike.{same_view}
 use Rattle.coord_table.specs.declared.held.Held.{Held}
 use Rattle.coord_table.specs.Cases.{Ends, Relives, Retires, Slots, is_for, live_at, live_of, ticket_in, view_in}
-use Rattle.coord_rows.specs.declared.seat.Seat.{Seat}
-use Rattle.coord_rows.specs.declared.effect.RowEffect.{RowEffect}
-use Rattle.coord_rows.specs.Rows.{Does, seat}
+use Rattle.coord_effects.specs.declared.seat.Seat.{Seat}
+use Rattle.coord_effects.specs.declared.effect.RowEffect.{RowEffect}
+use Rattle.coord_effects.specs.Rows.{Does, seat}
 use Rattle.coord_table.specs.declared.asked.Asked.{Asked}
 use Rattle.coord_table.specs.Asks.{asked_row, is_of_root, is_retiring}
 use Rattle.coord_table.specs.Takes.{GivenAreActive, LetsGo, RetiresIf, SameCases, TakesLive, TakesRowOf, retired_if}

@@ -21,8 +21,8 @@ use Rattle.live_table.specs.Tables.{entry_at, live_value}
 use Rattle.log_text.specs.Made.{frame_record}
 use Rattle.rec_log.specs.Sights.{AreRecords}
 use Rattle.core_model.specs.Restarting.{recorded_view_at, reopening}
-use Rattle.coord_rows.specs.declared.seat.Seat.{Seat}
-use Rattle.coord_rows.specs.Rows.{seat}
+use Rattle.coord_effects.specs.declared.seat.Seat.{Seat}
+use Rattle.coord_effects.specs.Rows.{seat}
 use Rattle.coord_table.specs.declared.held.Held.{Held}
 use Rattle.coord_table.specs.Cases.{Slots, ticket_in, view_in}
 use Rattle.inquire_core.specs.Summaries.{Summary, view_of}

@@ -9,9 +9,9 @@ use Rattle.tree_model.specs.SameViews.{SameView}
 use Rattle.live_table.specs.Tables.{AreApart, case_of, entry_at, live_value}
 use Rattle.coord_table.specs.declared.held.Held.{Held}
 use Rattle.coord_table.specs.Cases.{Ends, FitsGiven, Relives, Retires, Slots, is_for, live_at, ticket_in, view_in}
-use Rattle.coord_rows.specs.declared.seat.Seat.{Seat}
-use Rattle.coord_rows.specs.declared.effect.RowEffect.{RowEffect}
-use Rattle.coord_rows.specs.Rows.{Does, seat}
+use Rattle.coord_effects.specs.declared.seat.Seat.{Seat}
+use Rattle.coord_effects.specs.declared.effect.RowEffect.{RowEffect}
+use Rattle.coord_effects.specs.Rows.{Does, seat}
 use Rattle.coord_table.specs.declared.asked.Asked.{Asked}
 use Rattle.coord_table.specs.Asks.{asked_row, is_retiring}
 

@@ -11,7 +11,7 @@ ghost use Rattle.tree_model.specs.CoordinatorRows.{
 };
 ghost use Rattle.tree_model.specs.Standings.{unknown_view};
 ghost use Rattle.tree_model.specs.SameViews.{SameView};
-ghost use Rattle.coord_rows.specs.Rows.{Does, seat as seat_meant};
+ghost use Rattle.coord_effects.specs.Rows.{Does, seat as seat_meant};
 ghost use Rattle.coord_table.specs.Asks.{Accepts, asked_row, is_for_any};
 
 use crate::asked::Asked;

@@ -1,7 +1,7 @@
 use Rattle.std.proofs.Common.{rules}
 use Rattle.log_text.specs.Made.{frame_record}
 use Rattle.core_log.proofs.Fitting.{room_for}
-use Rattle.coord_rows.specs.Rows.{IsFramed}
+use Rattle.coord_effects.specs.Rows.{IsFramed}
 use Rattle.coord_core.proofs.writing.write_down.Goals as goal
 
 pub write-requires-clause-room : goal.write-requires-clause-room

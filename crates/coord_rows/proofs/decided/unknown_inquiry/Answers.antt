@@ -1,7 +1,7 @@
 use Rattle.std.proofs.Common.{IfOk, subst}
 use Rattle.tree_model.specs.Standings.{CoordinatorView}
 use Rattle.tree_model.specs.CoordinatorRows.{decided_inquiry}
-use Rattle.coord_rows.specs.Rows.{Does, seat}
+use Rattle.coord_effects.specs.Rows.{Does, seat}
 use Rattle.coord_rows.proofs.decided.unknown_inquiry.Goals as goal
 
 pub returns : goal.returns

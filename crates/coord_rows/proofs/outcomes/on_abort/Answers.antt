@@ -1,7 +1,7 @@
 use Rattle.std.proofs.Common.{rules, ◌≡◌, ap}
 use Rattle.tree_model.specs.declared.standings.Standing.TheVariants.{Aborting, Unknown}
 use Rattle.tree_model.specs.CoordinatorRows.{aborting_abort, on_abort, unknown_abort}
-use Rattle.coord_rows.specs.Rows.{seat}
+use Rattle.coord_effects.specs.Rows.{seat}
 use Rattle.coord_rows.proofs.AnyView.{at_view}
 use Rattle.coord_rows.proofs.outcomes.on_abort.Goals as goal
 

@@ -1,7 +1,7 @@
 use Rattle.std.proofs.Common.{rules, ◌≡◌, ap}
 use Rattle.tree_model.specs.declared.standings.Standing.TheVariants.{Committing}
 use Rattle.tree_model.specs.CoordinatorRows.{committing_commit, on_commit}
-use Rattle.coord_rows.specs.Rows.{seat}
+use Rattle.coord_effects.specs.Rows.{seat}
 use Rattle.coord_rows.proofs.AnyView.{at_view}
 use Rattle.coord_rows.proofs.outcomes.on_commit.Goals as goal
 

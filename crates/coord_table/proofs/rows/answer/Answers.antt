@@ -1,7 +1,7 @@
 use Rattle.std.proofs.Common.{rules, ◌≡◌, ap}
 use Rattle.tree_model.specs.Standings.{unknown_view}
 use Rattle.tree_model.specs.CoordinatorRows.{unknown_abort, unknown_commit, unknown_prepare}
-use Rattle.coord_rows.specs.Rows.{seat}
+use Rattle.coord_effects.specs.Rows.{seat}
 use Rattle.coord_table.specs.declared.asked.Asked.{Asked}
 use Rattle.coord_table.specs.declared.asked.Asked.TheVariants.{Aborts, Commits, Prepare}
 use Rattle.coord_table.specs.Asks.{asked_row}

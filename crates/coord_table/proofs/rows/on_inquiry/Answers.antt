@@ -1,6 +1,6 @@
 use Rattle.std.proofs.Common.{rules, ◌≡◌, ◌∙◌, Some, None, ap, subst, sym}
 use Rattle.tree_model.specs.CoordinatorRows.{decided_inquiry}
-use Rattle.coord_rows.specs.Rows.{Does, seat}
+use Rattle.coord_effects.specs.Rows.{Does, seat}
 use Rattle.coord_rows.proofs.AnyView.{at_view}
 use Rattle.inquire_core.proofs.Inquiries.{answers_are}
 use Rattle.inquire_core.specs.Answers.{answer_of, answers_by}

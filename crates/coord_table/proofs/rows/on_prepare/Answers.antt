@@ -1,7 +1,7 @@
 use Rattle.std.proofs.Common.{rules, ◌≡◌, ap}
 use Rattle.tree_model.specs.declared.standings.Standing.TheVariants.{Aborting, Unknown}
 use Rattle.tree_model.specs.CoordinatorRows.{aborting_prepare, on_prepare, unknown_prepare}
-use Rattle.coord_rows.specs.Rows.{seat}
+use Rattle.coord_effects.specs.Rows.{seat}
 use Rattle.coord_rows.proofs.AnyView.{at_view}
 use Rattle.coord_table.proofs.rows.on_prepare.Goals as goal
 

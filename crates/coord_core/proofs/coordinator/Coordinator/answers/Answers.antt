@@ -1,6 +1,6 @@
 use Rattle.std.proofs.Common.{rules, ◌≡◌, subst}
 use Rattle.tree_model.specs.Standings.{unknown_view}
-use Rattle.coord_rows.specs.Rows.{Does, seat}
+use Rattle.coord_effects.specs.Rows.{Does, seat}
 use Rattle.coord_table.specs.Asks.{asked_row}
 use Rattle.coord_core.proofs.Made.{answered_turn, seat_for}
 use Rattle.coord_core.proofs.coordinator.Coordinator.answers.Goals as goal

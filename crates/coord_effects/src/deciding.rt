@@ -3,7 +3,7 @@
 ghost use Rattle.std.specs.Prelude.{◌≡◌, true, IfOk, OnErr, OnOk};
 ghost use Rattle.tree_model.specs.CoordinatorRows.{awaits as awaits_view};
 ghost use Rattle.tree_model.specs.Standings.{unknown_view};
-ghost use Rattle.coord_rows.specs.Rows.{ShowsRecord, decision as decision_of, waits as waits_for};
+ghost use Rattle.coord_effects.specs.Rows.{ShowsRecord, decision as decision_of, waits as waits_for};
 
 use crate::effect::{RowEffect, Written};
 use crate::seat::Seat;
@@ -47,7 +47,7 @@ fn waits(outcome: Outcome) -> Standing
 
 /// A decision that each of these owes an acknowledgement of: its record is forced and names them, and the
 /// case waits for them, or is forgotten where there are none. Memory: nothing changed.
-pub(crate) fn decides_owed(
+pub fn decides_owed(
     alloc: Global,
     seat: Seat,
     outcome: Outcome,
@@ -69,7 +69,7 @@ pub(crate) fn decides_owed(
 }
 
 /// A record behind which nobody owes anything: the case is forgotten. Memory: nothing changed.
-pub(crate) fn forgets_behind(
+pub fn forgets_behind(
     alloc: Global,
     seat: Seat,
     written: Written,

@@ -1,6 +1,6 @@
 use Rattle.std.proofs.Common.{rules}
 use Rattle.tree_model.specs.Standings.{unknown_view}
-use Rattle.coord_rows.proofs.prepared.prepared_commit.Goals as goal
+use Rattle.coord_effects.proofs.prepared.prepared_commit.Goals as goal
 
 pub returns-in-PresumeAbort-clause-ok : goal.returns-in-PresumeAbort-clause-ok
 returns-in-PresumeAbort-clause-ok c = let heard = c.in_ok-messages.ensures unknown_view in search rules

@@ -8,7 +8,7 @@ ghost use Rattle.tree_model.specs.CoordinatorRows.{
   prepared_prepare as prepare_row,
 };
 ghost use Rattle.tree_model.specs.SameViews.{SameView};
-ghost use Rattle.coord_rows.specs.Rows.{Does, seat as seat_meant};
+ghost use Rattle.coord_effects.specs.Rows.{Does, seat as seat_meant};
 
 use crate::deciding::{decides_owed, forgets_behind};
 use crate::effect::{RowEffect, Written};

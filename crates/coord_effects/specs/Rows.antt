@@ -20,12 +20,12 @@ use Rattle.tree_model.specs.Reactions.{row_effect}
 use Rattle.tree_model.specs.SameViews.{SameView}
 use Rattle.log_text.specs.Made.{frame_record}
 use Rattle.rec_log.specs.Sights.{IsRecord}
-use Rattle.coord_rows.specs.declared.seat.Seat.{Seat}
-use Rattle.coord_rows.specs.declared.seat.Reason.{Reason}
-use Rattle.coord_rows.specs.declared.seat.Reason.TheVariants.{Vote, Act, Abort}
-use Rattle.coord_rows.specs.declared.effect.Framed.{Framed}
-use Rattle.coord_rows.specs.declared.effect.Written.{Written}
-use Rattle.coord_rows.specs.declared.effect.RowEffect.{RowEffect}
+use Rattle.coord_effects.specs.declared.seat.Seat.{Seat}
+use Rattle.coord_effects.specs.declared.seat.Reason.{Reason}
+use Rattle.coord_effects.specs.declared.seat.Reason.TheVariants.{Vote, Act, Abort}
+use Rattle.coord_effects.specs.declared.effect.Framed.{Framed}
+use Rattle.coord_effects.specs.declared.effect.Written.{Written}
+use Rattle.coord_effects.specs.declared.effect.RowEffect.{RowEffect}
 
 -- the coordinator in one of its cases
 abbrev pub seat : Seat → CaseSeat

@@ -3,7 +3,7 @@
 ghost use Rattle.std.specs.Prelude.{◌≡◌, ◌++◌, OnOk};
 ghost use Rattle.tree_model.specs.CoordinatorRows.{up as up_of};
 ghost use Rattle.tree_model.specs.Restarts.{resumes_by};
-ghost use Rattle.coord_rows.specs.Rows.{seat as seat_meant};
+ghost use Rattle.coord_effects.specs.Rows.{seat as seat_meant};
 
 use crate::seat::{Seat, tell_each};
 use coord_case::Live;

@@ -1,7 +1,7 @@
 use Rattle.std.proofs.Common.{◌≡◌, ◌++◌, map, take}
 use Rattle.tree_model.specs.CoordinatorRows.{tells_outcome, to_child}
-use Rattle.coord_rows.specs.Rows.{seat as seat_meant}
-use Rattle.coord_rows.proofs.seat.tell_each.Given as goal
+use Rattle.coord_effects.specs.Rows.{seat as seat_meant}
+use Rattle.coord_effects.proofs.seat.tell_each.Given as goal
 
 abbrev pub invariant-loop-ticket : goal.invariant-loop-ticket
 invariant-loop-ticket l = l.messages ≡ l.fn.messages

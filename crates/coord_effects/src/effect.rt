@@ -2,7 +2,7 @@
 
 ghost use Rattle.std.specs.Prelude.{◌≡◌, [], false, true, IfOk};
 ghost use Rattle.tree_model.specs.Nodes.{logged_of};
-ghost use Rattle.coord_rows.specs.Rows.{Frames, Shows, ShowsRecord, meant};
+ghost use Rattle.coord_effects.specs.Rows.{Frames, Shows, ShowsRecord, meant};
 
 use crate::seat::Seat;
 use core_log::coordinator_frame;
@@ -19,14 +19,14 @@ pub struct Framed {
 
 /// A record that a row writes, and whether it is forced.
 #[derive(Drop)]
-pub(crate) struct Written {
+pub struct Written {
     pub entry: Record,
     pub forced: bool,
 }
 
 impl Written {
     /// A record that is forced.
-    pub(crate) fn forced(entry: Record) -> Written
+    pub fn forced(entry: Record) -> Written
         ensures { result ≡ record { entry = entry; forced = true } }
     {
         Written {
@@ -36,7 +36,7 @@ impl Written {
     }
 
     /// A record that may be lost.
-    pub(crate) fn plain(entry: Record) -> Written
+    pub fn plain(entry: Record) -> Written
         ensures { result ≡ record { entry = entry; forced = false } }
     {
         Written {
@@ -108,7 +108,7 @@ impl RowEffect {
 
     /// A record is written, this is told, and these messages go out. A record that no log can hold is
     /// refused as for want of memory.
-    pub(crate) fn writes(
+    pub fn writes(
         alloc: Global,
         seat: Seat,
         written: Written,

@@ -5,7 +5,7 @@ ghost use Rattle.tree_model.specs.CoordinatorRows.{abort_heard_above, acknowledg
 ghost use Rattle.tree_model.specs.Reactions.{told_of};
 ghost use Rattle.tree_model.specs.Standings.{CoordinatorView};
 ghost use Rattle.tree_model.specs.Records.{none_of as is_none_of};
-ghost use Rattle.coord_rows.specs.Rows.{reason as reason_meant, seat as seat_meant};
+ghost use Rattle.coord_effects.specs.Rows.{reason as reason_meant, seat as seat_meant};
 
 use std::alloc::{AllocError, Global};
 use tree_model::{
@@ -31,7 +31,7 @@ pub enum Reason {
 
 impl Seat {
     /// The child's case of the transaction.
-    pub(crate) fn child_case(self, ticket: Ticket) -> Case
+    pub fn child_case(self, ticket: Ticket) -> Case
         ensures { result ≡ record { txn = self.case.txn; ticket = Some ticket } }
     {
         Case {
@@ -41,7 +41,7 @@ impl Seat {
     }
 
     /// What is told of the end of the transaction: the root tells its application, others tell nothing.
-    pub(crate) fn told(self, conclusion: Conclusion) -> Option<Told>
+    pub fn told(self, conclusion: Conclusion) -> Option<Told>
         ensures { result ≡ told_of self.case.txn (tells (seat_meant self) conclusion) }
     {
         match self.parent {
@@ -55,7 +55,7 @@ impl Seat {
 }
 
 /// The message to the parent, where there is one.
-pub(crate) fn up(alloc: Global, seat: Seat, message: Message) -> Result<Envelopes, AllocError>
+pub fn up(alloc: Global, seat: Seat, message: Message) -> Result<Envelopes, AllocError>
     ensures { IfOk result (λ messages. messages ≡ up_of (seat_meant seat) message) }
 {
     match seat.parent {
@@ -65,7 +65,7 @@ pub(crate) fn up(alloc: Global, seat: Seat, message: Message) -> Result<Envelope
 }
 
 /// One message.
-pub(crate) fn one_message(
+pub fn one_message(
     alloc: Global,
     from: ProcessId,
     to: ProcessId,
@@ -79,7 +79,7 @@ pub(crate) fn one_message(
 }
 
 /// An abort under Presumed Commit is acknowledged; under Presumed Abort nothing is said.
-pub(crate) fn acknowledge_abort(alloc: Global, seat: Seat) -> Result<Envelopes, AllocError>
+pub fn acknowledge_abort(alloc: Global, seat: Seat) -> Result<Envelopes, AllocError>
     ensures { IfOk result (λ messages. messages
         ≡ acknowledges_abort (seat_meant seat) seat.case.txn.presumption) }
 {
@@ -90,7 +90,7 @@ pub(crate) fn acknowledge_abort(alloc: Global, seat: Seat) -> Result<Envelopes, 
 }
 
 /// A commit under Presumed Abort is acknowledged; under Presumed Commit nothing is said.
-pub(crate) fn acknowledge_commit(alloc: Global, seat: Seat) -> Result<Envelopes, AllocError>
+pub fn acknowledge_commit(alloc: Global, seat: Seat) -> Result<Envelopes, AllocError>
     ensures { IfOk result (λ messages. (view : CoordinatorView) → messages
         ≡ (unknown_commit (seat_meant seat) view).messages) }
 {
@@ -101,11 +101,7 @@ pub(crate) fn acknowledge_commit(alloc: Global, seat: Seat) -> Result<Envelopes,
 }
 
 /// What the parent hears of an abort.
-pub(crate) fn heard_above(
-    alloc: Global,
-    seat: Seat,
-    reason: Reason,
-) -> Result<Envelopes, AllocError>
+pub fn heard_above(alloc: Global, seat: Seat, reason: Reason) -> Result<Envelopes, AllocError>
     ensures { IfOk result (λ messages. messages ≡ abort_heard_above (seat_meant seat) (reason_meant reason)) }
 {
     match reason {
@@ -116,7 +112,7 @@ pub(crate) fn heard_above(
 }
 
 /// The outcome to the ticket's child.
-pub(crate) fn outcome_message(seat: Seat, outcome: Outcome, ticket: Ticket) -> Envelope
+pub fn outcome_message(seat: Seat, outcome: Outcome, ticket: Ticket) -> Envelope
     ensures { result ≡ to_child (seat_meant seat) (tells_outcome outcome) ticket }
 {
     let case = seat.child_case(ticket);
@@ -131,7 +127,7 @@ pub(crate) fn outcome_message(seat: Seat, outcome: Outcome, ticket: Ticket) -> E
 }
 
 /// Behind these messages the outcome to each of the children.
-pub(crate) fn tell_each(
+pub fn tell_each(
     messages: &mut Envelopes,
     seat: Seat,
     outcome: Outcome,
@@ -148,7 +144,7 @@ pub(crate) fn tell_each(
 
 /// Whether there is no ticket.
 #[tactic(auto, unfolding(tree_model::specs::Records::none_of))]
-pub(crate) fn none_of(tickets: &[Ticket]) -> bool
+pub fn none_of(tickets: &[Ticket]) -> bool
     ensures { result ≡ is_none_of tickets.now }
 {
     match tickets {
