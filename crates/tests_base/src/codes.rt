@@ -13,22 +13,16 @@ fn codes(rt: HostRuntime) {
         (Code::Outside, -9, "XAER_OUTSIDE"),
     ] {
         assert_eq!(rt; code.number(), number);
-        assert_eq!(rt; Code::from_number(number), Some(code));
+        assert!(rt; Code::from_number(number) == Some(code));
         assert_eq!(rt; code.name(), name);
     }
-    assert_eq!(rt; Code::from_number(-1), None);
+    assert!(rt; Code::from_number(-1).is_none());
     assert!(rt; Code::RbProto.is_rollback());
     assert!(rt; Code::HeurHaz.is_heuristic());
 }
 
 #[test]
 fn flags(rt: HostRuntime) {
-    assert_eq!(rt;
-        Flags::parse("TMSUSPEND+TMMIGRATE"),
-        Some(Flags(0x0210_0000))
-    );
-    assert_eq!(rt;
-        Flags::parse("TMUSEASYNC+TMASYNC"),
-        Some(Flags(0x8000_0004))
-    );
+    assert!(rt; Flags::parse("TMSUSPEND+TMMIGRATE") == Some(Flags(0x0210_0000)));
+    assert!(rt; Flags::parse("TMUSEASYNC+TMASYNC") == Some(Flags(0x8000_0004)));
 }
