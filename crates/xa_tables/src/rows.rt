@@ -21,10 +21,8 @@ pub fn next_init(from: InitState, call: Call) -> &'static [(Code, InitState)]
         };
     }
     table! {
-        R0, Open => (Ok, R1);
-        R1, Open => (Ok, R1);
-        R1, Close => (Ok, R0);
-        R0, Close => (Ok, R0);
+        R0 | R1, Open => (Ok, R1);
+        R0 | R1, Close => (Ok, R0);
     }
 }
 
@@ -42,8 +40,7 @@ pub fn next_assoc(from: AssocState, call: Call) -> &'static [(Code, AssocState)]
         };
     }
     table! {
-        T0, Start => (Ok, T1);
-        T0, StartJoin => (Ok, T1);
+        T0, Start | StartJoin => (Ok, T1);
         T2 | M, StartResume => (Ok, T1), (RbRollback, T0);
         T1, EndSuspend => (Ok, T2), (RbRollback, T0);
         T1, EndMigrate => (Ok, M), (NoMigrate, T2), (RbRollback, T0);
@@ -68,18 +65,16 @@ pub fn next_branch(from: BranchState, call: Call) -> &'static [(Code, BranchStat
     table! {
         S0, Start => (Ok, S1);
         S1 | S2, StartJoin | StartResume => (Ok, S1);
-        S4, StartResume => (RbRollback, S4);
         S1 | S2, EndSuspend | EndSuccess => (Ok, S1), (Ok, S2);
         S1 | S2, EndMigrate => (Ok, S1), (Ok, S2), (NoMigrate, S1), (NoMigrate, S2);
         S1 | S2, EndFail => (RbRollback, S4);
-        S4, EndSuspend | EndMigrate | EndSuccess | EndFail => (RbRollback, S4);
+        S4, StartResume | EndSuspend | EndMigrate | EndSuccess | EndFail => (RbRollback, S4);
         S2, Prepare => (Ok, S3), (RdOnly, S0), (RbRollback, S0), (RbCommFail, S0),
             (RbDeadlock, S0), (RbIntegrity, S0), (RbOther, S0), (RbProto, S0), (RbTimeout, S0), (RbTransient, S0);
         S3, Commit => (Ok, S0), (HeurHaz, S5), (HeurCom, S5), (HeurRb, S5), (HeurMix, S5);
-        S5, Commit => (HeurHaz, S5), (HeurCom, S5), (HeurRb, S5), (HeurMix, S5);
+        S5, Commit | Rollback => (HeurHaz, S5), (HeurCom, S5), (HeurRb, S5), (HeurMix, S5);
         S2, CommitOnePhase => (Ok, S0);
         S2 | S3 | S4, Rollback => (Ok, S0);
-        S5, Rollback => (HeurHaz, S5), (HeurCom, S5), (HeurRb, S5), (HeurMix, S5);
         S5, Forget => (Ok, S0);
     }
 }
