@@ -1,4 +1,5 @@
 pub mod KindLaws
 pub mod NoteLaws
+pub mod OrderLaws
 pub mod FirstLaws
 mod SayingLaws

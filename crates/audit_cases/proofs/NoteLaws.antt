@@ -11,10 +11,10 @@ use Rattle.tree_model.specs.declared.records.Record.TheVariants.{Opened, Collect
 use Rattle.tree_model.specs.Names.{same_case}
 use Rattle.tree_model.specs.Records.{cases_in, named_by, named_in, record_case}
 use Rattle.tree_headline.specs.auditor.Audits.{since_promise}
-use Rattle.inquire_core.proofs.CaseTables.{IsSaying, next_table, one_then, same_table}
+use Rattle.inquire_core.proofs.CaseTables.{IsSaying, next_table, one_then, said, same_table}
 use Rattle.inquire_core.proofs.Summaries.{is_of}
 use Rattle.audit_cases.specs.Kinds.{kinds_after, kinds_of}
-use Rattle.audit_cases.specs.Notes.{no_note, note_after, note_of, noted, noted_by, notes_of, tickets_in}
+use Rattle.audit_cases.specs.Notes.{log_notes_of, no_note, no_notes, note_after, note_in, note_of, noted, noted_by, notes_of, promised_by, promised_in, tickets_in}
 use Rattle.audit_cases.proofs.KindLaws.{kinds_behind, no_kinds_of}
 
 -- One more record.
@@ -88,25 +88,61 @@ note_nothing c = λ i. record { kinds = no_kinds_of c i; named = [] }
 says : IsSaying no_note note_after note_of
 says = record { nothing = note_nothing; more = note_more }
 
-table_more : (rs : List Record) (r : Record) (o : Option Case) → record_case r ≡ o
-    → noted_by (notes_of rs) r o ≡ notes_of (rs ++ r ∷ [])
-table_more rs r None is = same_table no_note note_after note_of says rs r is
-table_more rs r (Some d) is = next_table no_note note_after note_of says rs r d is
+-- what is noted of a case is what the records say of it
+pub note_is : (rs : List Record) (c : Case) → note_in (notes_of rs) c ≡ note_of rs c
+note_is rs c = said no_note note_after note_of says rs c
 
-noted_more : (rs : List Record) (r : Record) → noted (notes_of rs) r ≡ notes_of (rs ++ r ∷ [])
-noted_more rs r = table_more rs r (record_case r) refl
+-- a record of no case is no case's Prepared
+none_promised : (r : Record) → record_case r ≡ None → promised_in r ≡ []
+none_promised (Prepared (CaseBranch c) ws) h = absurd (cc)
+none_promised (Prepared (Foreign x) ws) h = refl
+none_promised (Opened n) h = refl
+none_promised (Base n) h = refl
+none_promised (Pair k v) h = refl
+none_promised (Collecting c ts) h = refl
+none_promised (Prepare c ts) h = refl
+none_promised (Commit c ts) h = refl
+none_promised (Abort c ts) h = refl
+none_promised (End c) h = refl
+none_promised (Committed b) h = refl
+none_promised (RolledBack b) h = refl
+none_promised (Direct b ws) h = refl
+none_promised (HeurCommit b) h = refl
+none_promised (HeurRollback b) h = refl
+none_promised (Told b o) h = refl
+none_promised (Forgot b) h = refl
+
+promised_more : (rs : List Record) (r : Record) → promised_by rs ++ promised_in r ≡ promised_by (rs ++ r ∷ [])
+promised_more rs r =
+    sym (flat_map-append promised_in rs (r ∷ [])
+    ∙ ap (λ cs. promised_by rs ++ cs) (append-nil (promised_in r)))
+
+notes_more : (rs : List Record) (r : Record) (o : Option Case) → record_case r ≡ o
+    → noted_by (log_notes_of rs) r o ≡ log_notes_of (rs ++ r ∷ [])
+notes_more rs r None is = λ i. record {
+  table = same_table no_note note_after note_of says rs r is i;
+  promised = (sym (append-nil (promised_by rs)) ∙ ap (λ cs. promised_by rs ++ cs) (sym (none_promised r is))
+      ∙ promised_more rs r) i;
+}
+notes_more rs r (Some d) is = λ i. record {
+  table = next_table no_note note_after note_of says rs r d is i;
+  promised = promised_more rs r i;
+}
+
+noted_more : (rs : List Record) (r : Record) → noted (log_notes_of rs) r ≡ log_notes_of (rs ++ r ∷ [])
+noted_more rs r = notes_more rs r (record_case r) refl
 
 -- what is noted behind more records
-pub noted_from : (done rest : List Record) → fold noted (notes_of done) rest ≡ notes_of (done ++ rest)
-noted_from done [] = ap notes_of (sym (append-nil done))
+pub noted_from : (done rest : List Record) → fold noted (log_notes_of done) rest ≡ log_notes_of (done ++ rest)
+noted_from done [] = ap log_notes_of (sym (append-nil done))
 noted_from done (r ∷ rest) =
     ap (λ s. fold noted s rest) (noted_more done r) ∙ noted_from (done ++ r ∷ []) rest
-    ∙ ap notes_of (one_then done r rest)
+    ∙ ap log_notes_of (one_then done r rest)
 
-nothing_is : [] ≡ notes_of []
+nothing_is : no_notes ≡ log_notes_of []
 unfolding cases_in
 nothing_is = refl
 
 -- what is noted of records, one after another, is what they say
-pub noted_all : (rs : List Record) → fold noted [] rs ≡ notes_of rs
+pub noted_all : (rs : List Record) → fold noted no_notes rs ≡ log_notes_of rs
 noted_all rs = ap (λ s. fold noted s rs) nothing_is ∙ noted_from [] rs

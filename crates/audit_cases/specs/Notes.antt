@@ -1,16 +1,18 @@
 -- What the records of a log say of each case to an audit, noted record by record.
-use Rattle.std.specs.Prelude.{◌≡◌, ⊤, Bool, true, false, Option, Some, None, unwrap_or, List, [], ◌++◌, map}
+use Rattle.std.specs.Prelude.{◌≡◌, ⊤, Bool, true, false, if◌then◌else◌, Option, Some, None, unwrap_or, List, [], ◌∷◌, ◌++◌, map}
+use Rattle.std.specs.List.{flat_map}
 use Rattle.std.specs.Map.{lookup}
 use Rattle.indexmap.specs.IndexMap.{insert_entry}
 use Rattle.tree_model.specs.declared.names.Case.{Case}
 use Rattle.tree_model.specs.declared.names.Kind.{Kind}
 use Rattle.tree_model.specs.declared.names.Kind.TheVariants.{Coordinator, Manager}
 use Rattle.tree_model.specs.declared.names.Ticket.{Ticket}
+use Rattle.tree_model.specs.declared.records.Branch.TheVariants.{Case as CaseBranch}
 use Rattle.tree_model.specs.declared.records.Record.{Record}
-use Rattle.tree_model.specs.declared.records.Record.TheVariants.{Collecting, Prepare, Commit, Abort, End}
+use Rattle.tree_model.specs.declared.records.Record.TheVariants.{Collecting, Prepare, Commit, Abort, End, Prepared}
 use Rattle.tree_model.specs.declared.trees.TreeEntry.{TreeEntry}
-use Rattle.tree_model.specs.Nodes.{Place, role_by}
-use Rattle.tree_model.specs.Records.{cases_in, named_by, record_case}
+use Rattle.tree_model.specs.Nodes.{Place, Role, AtLeaf, role_by}
+use Rattle.tree_model.specs.Records.{cases_in, has_case, named_by, record_case}
 use Rattle.tree_headline.specs.auditor.Audits.{since_promise}
 use Rattle.inquire_core.specs.Readings.{same}
 use Rattle.audit_cases.specs.declared.kinds.Kinds.{Kinds}
@@ -63,11 +65,46 @@ tickets_in _ = []
 abbrev pub note_after : CaseNote → Record → CaseNote
 note_after n r = record { kinds = kinds_after n.kinds r; named = n.named ++ tickets_in r }
 
+-- The order.
+
+-- the case of a Prepared
+abbrev pub promised_in : Record → List Case
+promised_in (Prepared (CaseBranch c) ws) = c ∷ []
+promised_in _ = []
+
+-- the cases of these records' Prepared, one after another
+abbrev pub promised_by : List Record → List Case
+promised_by rs = flat_map promised_in rs
+
+-- these cases, each once, at its last place
+abbrev pub last_places : List Case → List Case
+last_places [] = []
+last_places (c ∷ cs) = if has_case cs c then last_places cs else c ∷ last_places cs
+
+-- a process's cases in the order in which an audit lists them, by those in order of their first records and
+-- those of its Prepared: a manager's stand where they are read from, at their last Prepared
+abbrev pub listed_by : Role → List Case → List Case → List Case
+listed_by (AtLeaf p) recorded promised = last_places promised
+listed_by _ recorded promised = recorded
+
+-- the cases of these records in the order in which an audit lists them
+abbrev pub listed_cases : Role → List Record → List Case
+listed_cases role rs = listed_by role (cases_in rs) (promised_by rs)
+
 -- The pass.
 
 -- for each case, in order of the first records, what is noted of it
 abbrev pub Table : Type 0
 Table = List (Case × CaseNote)
+
+-- what is noted of a process: its cases, and those of its Prepared, one after another
+pub record LogNotes : Type 0 where
+  pub table : Table
+  pub promised : List Case
+
+-- nothing is noted
+abbrev pub no_notes : LogNotes
+no_notes = record { table = []; promised = [] }
 
 -- what is noted of a case
 abbrev pub note_in : Table → Case → CaseNote
@@ -77,15 +114,23 @@ note_in t c = unwrap_or (lookup (same c) t) no_note
 abbrev pub noted_of : Table → Case → Record → Table
 noted_of t c r = insert_entry same t c (note_after (note_in t c) r)
 
--- the table behind one more record, of this case if it is of any
-abbrev pub noted_by : Table → Record → Option Case → Table
-noted_by t r None = t
-noted_by t r (Some c) = noted_of t c r
+-- what is noted behind one more record, of this case if it is of any
+abbrev pub noted_by : LogNotes → Record → Option Case → LogNotes
+noted_by n r None = n
+noted_by n r (Some c) = record { table = noted_of n.table c r; promised = n.promised ++ promised_in r }
 
--- the table behind one more record
-abbrev pub noted : Table → Record → Table
-noted t r = noted_by t r (record_case r)
+-- what is noted behind one more record
+abbrev pub noted : LogNotes → Record → LogNotes
+noted n r = noted_by n r (record_case r)
 
--- what all these records say
+-- what all these records say of the cases
 abbrev pub notes_of : List Record → Table
 notes_of rs = map (λ c. (c, note_of rs c)) (cases_in rs)
+
+-- what is noted of all these records
+abbrev pub log_notes_of : List Record → LogNotes
+log_notes_of rs = record { table = notes_of rs; promised = promised_by rs }
+
+-- the cases of which this is noted, in the order in which an audit lists them
+abbrev pub listed_in : Role → LogNotes → List Case
+listed_in role n = listed_by role (map (λ e. e.0) n.table) n.promised

@@ -1,15 +1,19 @@
 //! One pass over the records of a log.
 
-ghost use Rattle.std.specs.Prelude.{◌≡◌, ◌++◌, [], OnOk, fold};
+ghost use Rattle.std.specs.Prelude.{◌≡◌, ◌++◌, [], IfOk, OnOk, fold, map};
+ghost use Rattle.std.specs.Map.{lookup};
+ghost use Rattle.std.specs.Option.{option_copied};
 ghost use Rattle.tree_model.specs.LogNames.{is_own as is_own_of, own_by};
+ghost use Rattle.tree_model.specs.Nodes.{role_by};
 ghost use Rattle.tree_model.specs.Records.{record_case};
-ghost use Rattle.audit_cases.specs.Notes.{IsRecordAt, no_note, note_after, noted, noted_of, place_at, tickets_in};
+ghost use Rattle.inquire_core.specs.Readings.{same};
+ghost use Rattle.audit_cases.specs.Notes.{IsRecordAt, last_places as last_places_of, listed_in, no_note, no_notes, note_after, noted, noted_of, place_at, promised_in, tickets_in};
 
 use crate::kinds::Kinds;
-use indexmap::IndexMap;
+use indexmap::{IndexMap, IndexSet};
 use std::alloc::{AllocError, Global};
 use std::marker::Model;
-use tree_model::{Case, LogRecord, ProcessId, Record, Ticket, Tree, TreeEntry};
+use tree_model::{Branch, Case, Kind, LogRecord, ProcessId, Record, Ticket, Tree, TreeEntry};
 
 /// What is noted of a case: which records it has, and the tickets that they name.
 #[derive(Drop)]
@@ -26,19 +30,21 @@ impl Model for Noted {
     ghost view = { λ n. record { kinds = n.kinds; named = n.named.items } };
 }
 
-/// What is noted of each case of a process, in order of the first records.
+/// What is noted of each case of a process, in order of the first records, and the cases of its Prepared, one
+/// after another.
 #[derive(Drop)]
 pub struct Notes {
     alloc: Global,
     cases: IndexMap<Case, Noted>,
+    promised: Vec<Case>,
 }
 
 impl Model for Notes {
-    ghost use Rattle.audit_cases.specs.Notes.{Table};
+    ghost use Rattle.audit_cases.specs.Notes.{LogNotes};
 
-    ghost Value = { Table };
+    ghost Value = { LogNotes };
 
-    ghost view = { λ n. n.cases.entries };
+    ghost view = { λ n. record { table = n.cases.entries; promised = n.promised.items } };
 }
 
 /// The tickets that a record names.
@@ -120,14 +126,55 @@ fn note_of(
     Ok(())
 }
 
+/// One record more: a Prepared promises its case.
+fn note_promise(promised: &mut Vec<Case>, record: &Record) -> Result<(), AllocError>
+    ensures { OnOk result (promised.new.items ≡ promised.old.items ++ promised_in record.now) }
+{
+    match record {
+        Record::Prepared(Branch::Case(case), _) => {
+            promised.push(*case)?;
+            Ok(())
+        }
+        _ => Ok(()),
+    }
+}
+
+/// These cases, each once, at its last place. It goes through them once.
+fn last_places(alloc: Global, cases: &[Case]) -> Result<Vec<Case>, AllocError>
+    ensures { IfOk result (λ listed. listed.items ≡ last_places_of cases.now) }
+{
+    let mut seen = IndexSet::new(alloc);
+    let mut listed = Vec::new(alloc);
+    for index in (0..cases.len()).rev() {
+        let case = cases[index];
+        if seen.insert(case)? {
+            listed.push(case)?;
+        }
+    }
+    listed.reverse();
+    Ok(listed)
+}
+
+/// These cases, as a list made anew.
+fn cases_of(alloc: Global, cases: &IndexMap<Case, Noted>) -> Result<Vec<Case>, AllocError>
+    ensures { IfOk result (λ listed. listed.items ≡ map (λ e. e.0) cases.now.entries) }
+{
+    let mut listed = Vec::new(alloc);
+    for (case, _) in cases {
+        listed.push(*case)?;
+    }
+    Ok(listed)
+}
+
 impl Notes {
     /// No records. It takes no memory.
     pub fn new(alloc: Global) -> Notes
-        ensures { result ≡ [] }
+        ensures { result ≡ no_notes }
     {
         Notes {
             alloc,
             cases: IndexMap::new(alloc),
+            promised: Vec::new(alloc),
         }
     }
 
@@ -149,7 +196,8 @@ impl Notes {
                 if !is_own(tree, entry, record.parent, &case) {
                     return Ok(());
                 }
-                note_of(self.alloc, &mut self.cases, case, &record.entry)
+                note_of(self.alloc, &mut self.cases, case, &record.entry)?;
+                note_promise(&mut self.promised, &record.entry)
             }
             None => Ok(()),
         }
@@ -157,8 +205,26 @@ impl Notes {
 
     /// What is noted of each case, in order of the first records.
     pub fn cases(&self) -> &IndexMap<Case, Noted>
-        ensures { result.now.entries ≡ self.now }
+        ensures { result.now.entries ≡ self.now.table }
     {
         &self.cases
+    }
+
+    /// What is noted of a case, if there is a record of it.
+    pub fn of(&self, case: &Case) -> Option<&Noted>
+        ensures { option_copied result ≡ lookup (same case.now) self.now.table }
+    {
+        self.cases.get(case)
+    }
+
+    /// The cases of a process of this kind with this parent in the order in which an audit lists them: a
+    /// manager's by their last Prepared, a coordinator's by their first records. It goes through them once.
+    pub fn listed(&self, kind: Kind, parent: Option<ProcessId>) -> Result<Vec<Case>, AllocError>
+        ensures { IfOk result (λ listed. listed.items ≡ listed_in (role_by kind parent) self.now) }
+    {
+        match (kind, parent) {
+            (Kind::Manager, Some(_)) => last_places(self.alloc, &self.promised),
+            _ => cases_of(self.alloc, &self.cases),
+        }
     }
 }

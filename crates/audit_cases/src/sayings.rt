@@ -43,7 +43,7 @@ pub fn outcome_of(above: Option<&Sayings>, case: &Case, note: &Noted) -> Outcome
 impl Sayings {
     /// What is said by these notes, one case after another.
     fn passing(alloc: Global, above: Option<&Sayings>, notes: &Notes) -> Result<Sayings, AllocError>
-        ensures { IfOk result (λ s. s ≡ sayings_of (option_copied above.entry) notes.now) }
+        ensures { IfOk result (λ s. s ≡ sayings_of (option_copied above.entry) notes.now.table) }
     {
         let mut outcomes = Firsts::new(alloc);
         for (case, note) in notes.cases() {
@@ -55,7 +55,7 @@ impl Sayings {
     /// What a process says that knows this of its cases, where this is said of them above it. It goes
     /// through them once.
     pub fn of(alloc: Global, above: Option<&Sayings>, notes: &Notes) -> Result<Sayings, AllocError>
-        ensures { IfOk result (λ s. AreSaid (option_copied above.entry) notes.now s) }
+        ensures { IfOk result (λ s. AreSaid (option_copied above.entry) notes.now.table s) }
     {
         Sayings::passing(alloc, above, notes)
     }

@@ -10,7 +10,7 @@ use Rattle.tree_model.specs.Names.{process_of, same_process}
 use Rattle.tree_model.specs.Nodes.{is_listed}
 use Rattle.tree_model.specs.Trees.{IsTree, entry_parent, parent_of}
 use Rattle.tree_headline.specs.auditor.Audits.{Logs}
-use Rattle.audit_cases.specs.Notes.{Table, notes_of}
+use Rattle.audit_cases.specs.Notes.{LogNotes, log_notes_of, notes_of}
 use Rattle.tree_audit.specs.Tables.{AreNotes, TreeTables, same_id}
 use Rattle.tree_audit.proofs.Passes.{apart_of, listed_more, lookup_inserted, same_is, same_self}
 use Rattle.tree_audit.proofs.TreePlaces.{is_one, parent_listed, true_not_false}
@@ -34,8 +34,8 @@ pub none_named : (tree : List TreeEntry) (ts : TreeTables) (ns : TreeFounds) →
 unfolding NamedTo is_listed
 none_named tree ts ns = λ logs notes q h listed. absurd (true_not_false (sym h))
 
-some_table : (a b : Table) → Some a ≡ Some b → a ≡ b
-some_table a b e = cc
+some_notes : (a b : LogNotes) → Some a ≡ Some b → a ≡ b
+some_notes a b e = cc
 
 named_more : (tree : List TreeEntry) (ts : TreeTables) (es : List TreeEntry)
     (e : TreeEntry) (old new : TreeFounds)
@@ -52,23 +52,23 @@ named_more tree ts es e old new adds before =
         (λ one. true_not_false (sym (same_self q) ∙ ap (same_id q) (sym (is_one e.id q one)) ∙ apart)))
 
     by_table : (logs : Logs) → AreNotes tree logs ts → (q : ProcessId) → is_listed (es ++ e ∷ []) q ≡ true
-        → is_listed tree q ≡ true → (b : Bool) → same_id q e.id ≡ b → (a : Option Table)
+        → is_listed tree q ≡ true → (b : Bool) → same_id q e.id ≡ b → (a : Option LogNotes)
         → lookup (same_id e.id) ts ≡ a
         → Adds a e.id old new → FindsAt logs q new
     by_table logs notes q h listed true here None is added =
         absurd (nothing (sym is ∙ ap (λ p. lookup (same_id p) ts)
         (sym (same_is q e.id here)) ∙ notes.tables q listed))
       where
-        nothing : {t : Table} → None ≡ Some t → ⊥
+        nothing : {n : LogNotes} → None ≡ Some n → ⊥
         nothing e = cc
     by_table logs notes q h listed true here (Some t) is added =
-        let own : t ≡ notes_of (logs q) =
-        some_table t (notes_of (logs q))
+        let own : t ≡ log_notes_of (logs q) =
+        some_notes t (log_notes_of (logs q))
         (sym is ∙ ap (λ p. lookup (same_id p) ts) (sym (same_is q e.id here)) ∙ notes.tables q listed) in (
           added.0,
           ap (lookup (same_id q)) added.2 ∙ lookup_inserted old e.id q added.0
               ∙ ap (λ b. if b then Some added.0 else lookup (same_id q) old) here,
-          subst (λ u. AreNamed u added.0) own added.1,
+          subst (λ n. AreNamed n.table added.0) own added.1,
         )
     by_table logs notes q h listed false apart None is added =
         subst (FindsAt logs q) (sym added) (before logs notes q (earlier q h apart) listed)

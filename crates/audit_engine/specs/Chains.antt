@@ -11,7 +11,7 @@ use Rattle.tree_model.specs.Names.{process_of}
 use Rattle.tree_model.specs.Nodes.{is_listed}
 use Rattle.tree_model.specs.Trees.{parent_of}
 use Rattle.tree_headline.specs.auditor.Audits.{Logs}
-use Rattle.audit_cases.specs.Notes.{Table, notes_of}
+use Rattle.audit_cases.specs.Notes.{LogNotes, notes_of}
 use Rattle.tree_audit.specs.Tables.{same_id}
 use Rattle.audit_engine.specs.declared.steps.Deed.{Deed}
 use Rattle.audit_engine.specs.declared.steps.Deed.TheVariants.{Ask, Restart}
@@ -93,9 +93,9 @@ AreNamings tree logs ns = (q : ProcessId) → is_listed tree q ≡ true
     → (s : Founds) × (lookup (same_id q) ns ≡ Some s) × AreNamed (notes_of (logs q)) s
 
 -- behind what processes find this one finds what it does by what is noted of it, if anything is
-abbrev pub Adds : Option Table → ProcessId → TreeFounds → TreeFounds → Type 0
+abbrev pub Adds : Option LogNotes → ProcessId → TreeFounds → TreeFounds → Type 0
 Adds None q old new = new ≡ old
-Adds (Some t) q old new = (s : Founds) × AreNamed t s × (new ≡ insert_entry same_id old q s)
+Adds (Some n) q old new = (s : Founds) × AreNamed n.table s × (new ≡ insert_entry same_id old q s)
 
 -- what is found of a case among what a process finds, if there is that
 abbrev pub found_by_table : Option Founds → Case → Found

@@ -46,7 +46,7 @@ impl Model for Namings {
 impl Namings {
     /// What these notes name, one case after another.
     fn passing(alloc: Global, notes: &Notes) -> Result<Namings, AllocError>
-        ensures { IfOk result (λ s. s ≡ namings_of notes.now) }
+        ensures { IfOk result (λ s. s ≡ namings_of notes.now.table) }
     {
         let mut found = Firsts::new(alloc);
         for (case, note) in notes.cases() {
@@ -57,7 +57,7 @@ impl Namings {
 
     /// What a process names of which this is noted. It goes through its cases once.
     pub fn of(alloc: Global, notes: &Notes) -> Result<Namings, AllocError>
-        ensures { IfOk result (λ s. AreNamed notes.now s) }
+        ensures { IfOk result (λ s. AreNamed notes.now.table s) }
     {
         Namings::passing(alloc, notes)
     }

@@ -7,12 +7,12 @@ use Rattle.indexmap.specs.IndexMap.{insert_entry}
 use Rattle.tree_model.specs.declared.names.ProcessId.{ProcessId}
 use Rattle.tree_model.specs.declared.trees.TreeEntry.{TreeEntry}
 use Rattle.tree_model.specs.Names.{same_process}
-use Rattle.tree_model.specs.Nodes.{is_listed}
+use Rattle.tree_model.specs.Nodes.{AtRoot, is_listed}
 use Rattle.tree_model.specs.Records.{cases_in}
 use Rattle.tree_model.specs.Trees.{IsTree, entry_parent, has_unknown_parent, is_unlisted, level_within, levels_above, one_more, parent_of}
 use Rattle.tree_nodes.proofs.Levels.{climbs}
 use Rattle.tree_headline.specs.auditor.Audits.{Logs, is_case_at}
-use Rattle.audit_cases.specs.Notes.{Table, notes_of}
+use Rattle.audit_cases.specs.Notes.{LogNotes, log_notes_of}
 use Rattle.audit_cases.specs.Sayings.{AreSaid, Outcomes}
 use Rattle.tree_audit.specs.Tables.{Adds, AllTrue, AreNotes, SaidFor, Says, SaysAbove, SaysTruly, StillSaid, TreeOutcomes, TreeTables, above_of, has_above, has_said, same_id}
 use Rattle.tree_audit.proofs.Outcomes.{IsAbove, says_truly}
@@ -73,22 +73,22 @@ parent_is tree q e found = ap entry_parent found
 -- what a process says behind its parent is true
 says_here : (tree : List TreeEntry) → IsTree tree → (ts : TreeTables) (logs : Logs) → AreNotes tree logs ts
     → (q : ProcessId) → is_listed tree q ≡ true → (o : Option ProcessId) → parent_of tree q ≡ o
-    → (above : Option Outcomes) → IsAbove tree logs o above → (t : Table) → lookup (same_id q) ts ≡ Some t
-    → (s : Outcomes) → AreSaid above t s → SaysTruly tree logs q s
+    → (above : Option Outcomes) → IsAbove tree logs o above → (t : LogNotes) → lookup (same_id q) ts ≡ Some t
+    → (s : Outcomes) → AreSaid above t.table s → SaysTruly tree logs q s
 says_here tree is_tree ts logs notes q listed o up above said t own s are =
     let found = listed_entry tree q listed in
     let here : found.0.id ≡ q = named_so tree q found.0 found.1 in
     let at : IsFound tree found.0 = subst (λ p. find (λ x. same_process x.id p) tree
     ≡ Some found.0) (sym here) found.1 in
     let same_up : o ≡ found.0.parent = sym up ∙ parent_is tree q found.0 found.1 in
-    let table : t ≡ notes_of (logs found.0.id) =
-    some_one t (notes_of (logs q)) (sym own ∙ notes.tables q listed)
-    ∙ ap (λ p. notes_of (logs p)) (sym here) in
+    let table : t ≡ log_notes_of (logs found.0.id) =
+    some_one t (log_notes_of (logs q)) (sym own ∙ notes.tables q listed)
+    ∙ ap (λ p. log_notes_of (logs p)) (sym here) in
     subst (λ p. SaysTruly tree logs p s) here
     (says_truly tree is_tree logs found.0 at above (subst (λ a. IsAbove tree logs a above) same_up said)
     (subst (λ p. EachCase (λ c. is_case_at tree p c ≡ true) (cases_in (logs p))) (sym here)
-    (each_if (is_case_at tree q) (cases_in (logs q)) (notes.own q listed)))
-    s (subst (λ a. AreSaid above a s) table are))
+    (each_if (is_case_at tree q) (cases_in (logs q)) (notes.own q listed AtRoot)))
+    s (subst (λ a. AreSaid above a.table s) table are))
 
 -- A process.
 
@@ -112,16 +112,16 @@ module _ (tree : List TreeEntry) (t : IsTree tree) (ts : TreeTables) (q : Proces
     → is_none (level_within steps tree q) ≡ false → AllTrue tree logs old → AllTrue tree logs mid)
     (above : (logs : Logs) → AreNotes tree logs ts → is_listed tree q ≡ true
     → is_none (level_within steps tree q) ≡ false → has_above mid o ≡ true) where
-  adds_so : (a : Option Table) → lookup (same_id q) ts ≡ a → Adds (above_of mid o) a q mid new
+  adds_so : (a : Option LogNotes) → lookup (same_id q) ts ≡ a → Adds (above_of mid o) a q mid new
       → Says tree ts q steps old new
   adds_so None is adds = record {
     still = λ p h. ap (λ said. has_said said p) adds ∙ still p h;
     truly = λ logs notes listed level all. subst (AllTrue tree logs) (sym adds)
         (truly logs notes listed level all);
-    said = λ logs notes listed level. absurd (nothing (notes_of (logs q)) (sym is ∙ notes.tables q listed));
+    said = λ logs notes listed level. absurd (nothing (log_notes_of (logs q)) (sym is ∙ notes.tables q listed));
   }
     where
-      nothing : (a : Table) → None ≡ Some a → ⊥
+      nothing : (a : LogNotes) → None ≡ Some a → ⊥
       nothing a h = absurd (cc)
   adds_so (Some own) is adds = record {
     still = λ p h. ap (λ said. has_said said p) adds.2 ∙ insert_still mid q adds.0 old still p h;

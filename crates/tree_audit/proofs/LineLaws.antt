@@ -4,17 +4,18 @@ use Rattle.std.specs.List.{flat_map, list_all}
 use Rattle.tree_model.specs.declared.names.Case.{Case}
 use Rattle.tree_model.specs.declared.records.Record.{Record}
 use Rattle.tree_model.specs.declared.trees.TreeEntry.{TreeEntry}
-use Rattle.tree_model.specs.Nodes.{is_listed, role_by, role_of}
+use Rattle.tree_model.specs.Nodes.{Role, is_listed, role_by, role_of}
 use Rattle.tree_model.specs.Records.{cases_in, has, is_decided}
 use Rattle.tree_model.specs.Trees.{IsTree}
 use Rattle.tree_headline.specs.auditor.Audits.{Logs, audited, has_line, has_line_in, is_case_at, own_decision, since_promise}
 use Rattle.audit_cases.specs.Kinds.{decided_in, kinds_of, line_in, own_of}
-use Rattle.audit_cases.specs.Notes.{CaseNote, note_of}
+use Rattle.audit_cases.specs.Notes.{CaseNote, listed_by, listed_cases, listed_in, log_notes_of, note_of, notes_of, promised_by}
 use Rattle.audit_cases.specs.Sayings.{Outcomes, outcome_in}
 use Rattle.audit_cases.proofs.KindLaws.{decided_is, decision_is, line_is, own_is}
+use Rattle.audit_cases.proofs.NoteLaws.{note_is}
 use Rattle.tree_audit.specs.declared.report.Line.{Line}
 use Rattle.tree_audit.specs.Reports.{line_of, lines_at, lines_of, other}
-use Rattle.tree_audit.specs.Tables.{AllTrue, AreNotes, SaidFor, TreeOutcomes, TreeTables, above_of, all_lines, entry_lines, has_above, line_by, lines_in, table_or}
+use Rattle.tree_audit.specs.Tables.{AllTrue, AreNotes, SaidFor, TreeOutcomes, TreeTables, above_of, all_lines, entry_lines, has_above, line_by, line_if, lines_by, lines_in, notes_or}
 use Rattle.tree_audit.proofs.Climbs.{above_is}
 use Rattle.tree_audit.proofs.Outcomes.{case_at, outcome_is}
 use Rattle.tree_audit.proofs.OwnCases.{EachCase, each_if}
@@ -72,30 +73,36 @@ module _ (tree : List TreeEntry) (logs : Logs) (e : TreeEntry)
       && has_line_in (role_of tree q) c (since_promise c (logs q)))) (sym here)
 
   cases_lines : (cs : List Case) → EachCase (λ c. is_case_at tree e.id c ≡ true) cs
-      → lines_in (role_by e.kind e.parent) above (map (λ c. (c, note_of (logs e.id) c)) cs)
+      → lines_by (role_by e.kind e.parent) above (notes_of (logs e.id)) cs
       ≡ map (line_of tree logs) (filter (has_line tree logs) cs)
   unfolding EachCase
   cases_lines [] own = refl
   cases_lines (c ∷ cs) own =
-      by_test (line_in (role_by e.kind e.parent)
+      ap (λ n. line_if (role_by e.kind e.parent) above c n
+      ++ lines_by (role_by e.kind e.parent) above (notes_of (logs e.id)) cs) (note_is (logs e.id) c)
+      ∙ by_test (line_in (role_by e.kind e.parent)
       (kinds_of c (since_promise c (logs e.id)))) (cases_lines cs own.1)
       ∙ ap (λ b. map (line_of tree logs) (if b then c
       ∷ filter (has_line tree logs) cs else filter (has_line tree logs) cs))
       (shown_is c own.0)
     where
-      by_test : (b : Bool) → lines_in (role_by e.kind e.parent) above
-          (map (λ d. (d, note_of (logs e.id) d)) cs)
+      by_test : (b : Bool) → lines_by (role_by e.kind e.parent) above (notes_of (logs e.id)) cs
           ≡ map (line_of tree logs) (filter (has_line tree logs) cs)
-          → map (λ (x : Case × CaseNote). line_by above x.0 x.1)
-          (if b then (c, note_of (logs e.id) c)
-          ∷ filter (λ (x : Case × CaseNote). line_in (role_by e.kind e.parent) x.1.kinds)
-          (map (λ d. (d, note_of (logs e.id) d)) cs)
-          else filter (λ (x : Case × CaseNote). line_in (role_by e.kind e.parent) x.1.kinds)
-          (map (λ d. (d, note_of (logs e.id) d)) cs))
+          → (if b then line_by above c (note_of (logs e.id) c) ∷ [] else [])
+          ++ lines_by (role_by e.kind e.parent) above (notes_of (logs e.id)) cs
           ≡ map (line_of tree logs) (if b then c
           ∷ filter (has_line tree logs) cs else filter (has_line tree logs) cs)
       by_test true rest = λ i. line_is_that c own.0 i ∷ rest i
       by_test false rest = rest
+
+-- the cases that are noted are those of the records, in the same order
+named_cases : (f : Case → CaseNote) (cs : List Case)
+    → map (λ (x : Case × CaseNote). x.0) (map (λ c. (c, f c)) cs) ≡ cs
+named_cases f [] = refl
+named_cases f (c ∷ cs) = ap (λ ds. c ∷ ds) (named_cases f cs)
+
+listed_is : (role : Role) (rs : List Record) → listed_in role (log_notes_of rs) ≡ listed_cases role rs
+listed_is role rs = ap (λ cs. listed_by role cs (promised_by rs)) (named_cases (note_of rs) (cases_in rs))
 
 -- The lines of all processes.
 
@@ -108,10 +115,16 @@ module _ (tree : List TreeEntry) (t : IsTree tree) (logs : Logs) (ts : TreeTable
       let listed = listed_if tree e.id e found in
       let above = above_is tree logs said e.parent truly has in
       ap (λ a. lines_in (role_by e.kind e.parent) (above_of said e.parent)
-      (table_or a)) (notes.tables e.id listed)
+      (notes_or a)) (notes.tables e.id listed)
+      ∙ ap (lines_by (role_by e.kind e.parent) (above_of said e.parent) (notes_of (logs e.id)))
+      (listed_is (role_by e.kind e.parent) (logs e.id))
       ∙ cases_lines tree logs e found (above_of said e.parent)
       (λ c own. outcome_is tree t logs e found (above_of said e.parent) above c own)
-      (cases_in (logs e.id)) (each_if (is_case_at tree e.id) (cases_in (logs e.id)) (notes.own e.id listed))
+      (listed_cases (role_by e.kind e.parent) (logs e.id))
+      (each_if (is_case_at tree e.id) (listed_cases (role_by e.kind e.parent) (logs e.id))
+      (notes.own e.id listed (role_by e.kind e.parent)))
+      ∙ ap (λ r. map (line_of tree logs) (filter (has_line tree logs) (listed_cases r (logs e.id))))
+      (sym (role_if tree e.id e found))
 
   entries_are : (es : List TreeEntry) → Each (IsFound tree) es
       → list_all (λ e. has_above said e.parent) es ≡ true

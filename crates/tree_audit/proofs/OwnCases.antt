@@ -18,7 +18,7 @@ use Rattle.tree_model.specs.Nodes.{Role, AtRoot, Below, AtLeaf, is_listed, role_
 use Rattle.tree_model.specs.Records.{cases_in, has_case, record_case, with_case, with_record}
 use Rattle.tree_model.specs.Trees.{IsTree, root_of}
 use Rattle.tree_headline.specs.auditor.Audits.{has_place, is_case_at, is_root_role}
-use Rattle.audit_cases.specs.Notes.{IsRecordAt, is_coordinators, place_at}
+use Rattle.audit_cases.specs.Notes.{IsRecordAt, is_coordinators, last_places, listed_cases, place_at, promised_by, promised_in}
 use Rattle.tree_audit.proofs.RecordsAt.{AllAt}
 use Rattle.tree_audit.proofs.TreePlaces.{IsFound, is_one, role_if, root_on_top}
 
@@ -83,6 +83,54 @@ cases_from P (r ∷ rs) cs of h = cases_from P rs (with_record cs r) of.1 (one_m
 cases_so : (P : Case → Type 0) (rs : List Record) → EachOf P rs → EachCase P (cases_in rs)
 unfolding EachCase cases_in
 cases_so P rs of = cases_from P rs [] of tt
+
+one_promised : (P : Case → Type 0) (r : Record) → ((c : Case) → record_case r ≡ Some c → P c)
+    → EachCase P (promised_in r)
+unfolding EachCase
+one_promised P (Prepared (CaseBranch c) ws) of = (of c refl, tt)
+one_promised P (Prepared (Foreign x) ws) of = tt
+one_promised P (Committed b) of = tt
+one_promised P (RolledBack b) of = tt
+one_promised P (Direct b ws) of = tt
+one_promised P (HeurCommit b) of = tt
+one_promised P (HeurRollback b) of = tt
+one_promised P (Told b o) of = tt
+one_promised P (Forgot b) of = tt
+one_promised P (Opened n) of = tt
+one_promised P (Base n) of = tt
+one_promised P (Pair k v) of = tt
+one_promised P (Collecting c ts) of = tt
+one_promised P (Prepare c ts) of = tt
+one_promised P (Commit c ts) of = tt
+one_promised P (Abort c ts) of = tt
+one_promised P (End c) of = tt
+
+all_both : (P : Case → Type 0) (cs ds : List Case) → EachCase P cs → EachCase P ds → EachCase P (cs ++ ds)
+unfolding EachCase
+all_both P [] ds h k = k
+all_both P (c ∷ cs) ds h k = (h.0, all_both P cs ds h.1 k)
+
+promised_so : (P : Case → Type 0) (rs : List Record) → EachOf P rs → EachCase P (promised_by rs)
+unfolding EachOf EachCase
+promised_so P [] of = tt
+promised_so P (r ∷ rs) of =
+    all_both P (promised_in r) (promised_by rs) (one_promised P r of.0) (promised_so P rs of.1)
+
+last_so : (P : Case → Type 0) (cs : List Case) → EachCase P cs → EachCase P (last_places cs)
+unfolding EachCase
+last_so P [] h = tt
+last_so P (c ∷ cs) h = by_test (last_so P cs h.1) (has_case cs c)
+  where
+    by_test : EachCase P (last_places cs) → (b : Bool)
+        → EachCase P (if b then last_places cs else c ∷ last_places cs)
+    by_test rest true = rest
+    by_test rest false = (h.0, rest)
+
+listed_so : (P : Case → Type 0) (role : Role) (rs : List Record) → EachOf P rs
+    → EachCase P (listed_cases role rs)
+listed_so P AtRoot rs of = cases_so P rs of
+listed_so P (Below p) rs of = cases_so P rs of
+listed_so P (AtLeaf p) rs of = last_so P (promised_by rs) (promised_so P rs of)
 
 -- a manager's record under a foreign name is of no case
 foreign_none : (x : XidParts) (r : Record) → is_coordinators r ≡ false
@@ -177,8 +225,8 @@ module _ (tree : List TreeEntry) (t : IsTree tree) (e : TreeEntry) (found : IsFo
       (own_of l at.0 (record_case l.entry) refl) (all_of ls at.1)
 
   -- the cases of the records that a process reads in its log are its own
-  pub own_cases : (ls : List LogRecord) → AllAt e.kind ls
-      → list_all (is_case_at tree e.id) (cases_in (own_records (place_at tree e) ls)) ≡ true
-  own_cases ls at =
-      all_if (is_case_at tree e.id) (cases_in (own_records (place_at tree e) ls))
-      (cases_so (λ c. is_case_at tree e.id c ≡ true) (own_records (place_at tree e) ls) (all_of ls at))
+  pub own_cases : (ls : List LogRecord) → AllAt e.kind ls → (role : Role)
+      → list_all (is_case_at tree e.id) (listed_cases role (own_records (place_at tree e) ls)) ≡ true
+  own_cases ls at role =
+      all_if (is_case_at tree e.id) (listed_cases role (own_records (place_at tree e) ls))
+      (listed_so (λ c. is_case_at tree e.id c ≡ true) role (own_records (place_at tree e) ls) (all_of ls at))

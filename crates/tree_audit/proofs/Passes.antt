@@ -11,8 +11,8 @@ use Rattle.tree_model.specs.declared.records.LogRecord.{LogRecord}
 use Rattle.tree_model.specs.declared.trees.TreeEntry.{TreeEntry}
 use Rattle.tree_model.specs.LogNames.{own_by, own_records}
 use Rattle.tree_model.specs.Names.{same_process}
-use Rattle.tree_model.specs.Nodes.{is_listed, place_of}
-use Rattle.tree_model.specs.Records.{cases_in, record_case}
+use Rattle.tree_model.specs.Nodes.{Role, is_listed, place_of}
+use Rattle.tree_model.specs.Records.{record_case}
 use Rattle.tree_model.specs.Trees.{IsTree}
 use Rattle.tree_model.specs.contracts.names.ProcessIdPartialEq.TheImpl as processes
 use Rattle.log_rules.specs.order.Logs.{LogReading, Whole, Damaged, read_log}
@@ -27,12 +27,12 @@ use Rattle.rec_log.specs.declared.opening.Found.TheVariants.{Empty, Sound}
 use Rattle.rec_log.specs.declared.opening.OpenError.{OpenError}
 use Rattle.rec_log.specs.declared.opening.OpenError.TheVariants.{Memory, Device, Damaged as DamagedError}
 use Rattle.tree_headline.specs.auditor.Audits.{is_case_at}
-use Rattle.audit_cases.specs.Notes.{Table, noted, notes_of, place_at}
+use Rattle.audit_cases.specs.Notes.{LogNotes, listed_cases, log_notes_of, no_notes, noted, place_at}
 use Rattle.audit_cases.proofs.NoteLaws.{noted_all}
 use Rattle.tree_audit.specs.declared.report.AuditError.{AuditError}
 use Rattle.tree_audit.specs.declared.report.AuditError.TheVariants as error
 use Rattle.tree_audit.specs.Reports.{IsNoReport, entry_kind, kept_lists, whole_records}
-use Rattle.tree_audit.specs.Tables.{AreNotes, IsDamage, NotesLog, TreeTables, frames_table, same_id}
+use Rattle.tree_audit.specs.Tables.{AreNotes, IsDamage, NotesLog, TreeTables, frames_notes, same_id}
 use Rattle.tree_audit.proofs.OwnCases.{own_cases}
 use Rattle.tree_audit.proofs.RecordsAt.{AllAt, all_at}
 use Rattle.tree_audit.proofs.TreePlaces.{Each, IsFound, each_at, each_found, is_one, itself, listed_entry, named_so, role_if, true_not_false}
@@ -42,13 +42,13 @@ use Rattle.tree_audit.proofs.TreePlaces.{Each, IsFound, each_at, each_found, is_
 abbrev reads : List Placed → List LogRecord
 reads xs = map (λ x. x.read) xs
 
-pub noted_ends : (tree : List TreeEntry) (e : TreeEntry) (t total : Table) (xs : List Placed) → xs ≡ []
+pub noted_ends : (tree : List TreeEntry) (e : TreeEntry) (t total : LogNotes) (xs : List Placed) → xs ≡ []
     → fold noted t (own_records (place_at tree e) (reads xs)) ≡ total → t ≡ total
 unfolding own_records
 noted_ends tree e t total xs is h =
     ap (λ ys. fold noted t (own_records (place_at tree e) (reads ys))) (sym is) ∙ h
 
-pub noted_goes_on : (tree : List TreeEntry) (e : TreeEntry) (t new total : Table) (at : ℕ) (l : LogRecord)
+pub noted_goes_on : (tree : List TreeEntry) (e : TreeEntry) (t new total : LogNotes) (at : ℕ) (l : LogRecord)
     (xs more : List Placed) → new ≡ fold noted t (own_by (place_at tree e) l (record_case l.entry))
     → xs ≡ placed at l ∷ more → fold noted t (own_records (place_at tree e) (reads xs)) ≡ total
     → fold noted new (own_records (place_at tree e) (reads more)) ≡ total
@@ -59,33 +59,33 @@ noted_goes_on tree e t new total at l xs more n is h =
     (flat_map (λ m. own_by (place_at tree e) m (record_case m.entry)) (reads more)))
     ∙ sym (ap (λ ys. fold noted t (own_records (place_at tree e) (reads ys))) is) ∙ h
 
-pub is_frames_table : (tree : List TreeEntry) (e : TreeEntry) (frames : List ℕ)
-    → fold noted [] (own_records (place_at tree e) (reads (placed_in e.kind 5 0 frames)))
-    ≡ frames_table tree e frames
-unfolding frames_table
-is_frames_table tree e frames = refl
+pub is_frames_notes : (tree : List TreeEntry) (e : TreeEntry) (frames : List ℕ)
+    → fold noted no_notes (own_records (place_at tree e) (reads (placed_in e.kind 5 0 frames)))
+    ≡ frames_notes tree e frames
+unfolding frames_notes
+is_frames_notes tree e frames = refl
 
 -- A log.
 
 pub empty_notes : (tree : List TreeEntry) (e : TreeEntry) (bytes : List ℕ) (found : Found)
     → IsLogFound e.kind bytes found
-    → found ≡ Empty → NotesLog tree e bytes []
+    → found ≡ Empty → NotesLog tree e bytes no_notes
 unfolding own_records
 empty_notes tree e bytes Empty h is = record { records = []; torn = 0; read = h; notes = noted_all [] }
 empty_notes tree e bytes (Sound torn) h is = absurd (cc)
 
 pub sound_notes : (tree : List TreeEntry) (e : TreeEntry) (bytes : List ℕ)
-    (found : Found) (torn : ℕ) (t : Table)
-    → IsLogFound e.kind bytes found → found ≡ Sound torn → t ≡ frames_table tree e (drop 5 bytes)
+    (found : Found) (torn : ℕ) (t : LogNotes)
+    → IsLogFound e.kind bytes found → found ≡ Sound torn → t ≡ frames_notes tree e (drop 5 bytes)
     → NotesLog tree e bytes t
-unfolding frames_table
+unfolding frames_notes
 sound_notes tree e bytes Empty torn t h is table = absurd (cc)
 sound_notes tree e bytes (Sound size) torn t h is table = record {
   records = _;
   torn = size;
   read = h.3 ∙ h.2.read;
   notes = table
-      ∙ ap (λ ls. fold noted [] (own_records (place_at tree e) ls))
+      ∙ ap (λ ls. fold noted no_notes (own_records (place_at tree e) ls))
       (places_tell e.kind bytes _ size (h.3 ∙ h.2.read))
       ∙ noted_all _;
 }
@@ -137,23 +137,23 @@ whole_at p bytes (Damaged place) is = tt
 
 -- the cases of what a process keeps are its own
 pub kept_own : (tree : List TreeEntry) (logs : List ProcessLog) → IsTree tree
-    → (q : ProcessId) → is_listed tree q ≡ true
-    → list_all (is_case_at tree q) (cases_in (kept_lists tree logs q)) ≡ true
+    → (q : ProcessId) → is_listed tree q ≡ true → (role : Role)
+    → list_all (is_case_at tree q) (listed_cases role (kept_lists tree logs q)) ≡ true
 unfolding kept_lists
-kept_own tree logs t q listed =
+kept_own tree logs t q listed role =
     let found = listed_entry tree q listed in
     let here : found.0.id ≡ q = named_so tree q found.0 found.1 in
     let at : IsFound tree found.0 = subst (λ p. find (λ x. same_process x.id p) tree
     ≡ Some found.0) (sym here) found.1 in
-    subst (λ p. list_all (is_case_at tree p) (cases_in (kept_lists tree logs p)) ≡ true) here
-    (ap (λ rs. list_all (is_case_at tree found.0.id) (cases_in rs))
+    subst (λ p. list_all (is_case_at tree p) (listed_cases role (kept_lists tree logs p)) ≡ true) here
+    (ap (λ rs. list_all (is_case_at tree found.0.id) (listed_cases role rs))
     (ap (λ o. own_records (place_of tree found.0.id)
     (whole_records (read_log (entry_kind o) (bytes_of logs found.0.id)))) at
     ∙ ap (λ r. own_records (record { me = found.0.id; role = r; tree = tree })
     (whole_records (read_log found.0.kind (bytes_of logs found.0.id)))) (role_if tree found.0.id found.0 at))
     ∙ own_cases tree t found.0 at (whole_records (read_log found.0.kind (bytes_of logs found.0.id)))
     (whole_at found.0.kind (bytes_of logs found.0.id)
-    (read_log found.0.kind (bytes_of logs found.0.id)) refl))
+    (read_log found.0.kind (bytes_of logs found.0.id)) refl) role)
 
 -- Maps of processes.
 
@@ -208,7 +208,7 @@ apart_of false n = refl
 -- what is noted of the processes of these entries
 unfoldable pub NotedTo : List TreeEntry → List ProcessLog → List TreeEntry → TreeTables → Type 0
 NotedTo tree logs es ts =
-    (q : ProcessId) → is_listed es q ≡ true → lookup (same_id q) ts ≡ Some (notes_of (kept_lists tree logs q))
+    (q : ProcessId) → is_listed es q ≡ true → lookup (same_id q) ts ≡ Some (log_notes_of (kept_lists tree logs q))
 
 pub none_noted : (tree : List TreeEntry) (logs : List ProcessLog) (ts : TreeTables) → NotedTo tree logs [] ts
 unfolding NotedTo is_listed
@@ -229,7 +229,7 @@ listed_more (x ∷ es) e q h apart = by_first (same_process x.id q) h (λ k. lis
 
 pub noted_more : (tree : List TreeEntry) (logs : List ProcessLog) (es : List TreeEntry)
     (ts new : TreeTables) (e : TreeEntry)
-    (t : Table) → IsFound tree e → NotesLog tree e (bytes_of logs e.id) t
+    (t : LogNotes) → IsFound tree e → NotesLog tree e (bytes_of logs e.id) t
     → new ≡ insert_entry same_id ts e.id t
     → NotedTo tree logs es ts → NotedTo tree logs (es ++ e ∷ []) new
 unfolding NotedTo
@@ -237,11 +237,11 @@ noted_more tree logs es ts new e t found notes is before = λ q h.
     ap (lookup (same_id q)) is ∙ lookup_inserted ts e.id q t ∙ by_name q h (same_id q e.id) refl
   where
     by_name : (q : ProcessId) → is_listed (es ++ e ∷ []) q ≡ true → (b : Bool) → same_id q e.id ≡ b
-        → (if b then Some t else lookup (same_id q) ts) ≡ Some (notes_of (kept_lists tree logs q))
+        → (if b then Some t else lookup (same_id q) ts) ≡ Some (log_notes_of (kept_lists tree logs q))
     by_name q h true here =
         ap Some
-        (notes.notes ∙ ap notes_of (sym (kept_is tree logs e notes.records notes.torn found notes.read)))
-        ∙ ap (λ p. Some (notes_of (kept_lists tree logs p))) (sym (same_is q e.id here))
+        (notes.notes ∙ ap log_notes_of (sym (kept_is tree logs e notes.records notes.torn found notes.read)))
+        ∙ ap (λ p. Some (log_notes_of (kept_lists tree logs p))) (sym (same_is q e.id here))
     by_name q h false apart =
         before q (listed_more es e q h
         (apart_of (same_process e.id q)
@@ -250,7 +250,7 @@ noted_more tree logs es ts new e t found notes is before = λ q h.
 -- the next process
 pub noted_next : (tree : List TreeEntry) (logs : List ProcessLog) → IsTree tree
     → (es : List TreeEntry) (i : ℕ)
-    (ts new : TreeTables) (e : TreeEntry) (t : Table) → es ≡ tree → i < length es → e ≡ get_or es i e
+    (ts new : TreeTables) (e : TreeEntry) (t : LogNotes) → es ≡ tree → i < length es → e ≡ get_or es i e
     → NotesLog tree e (bytes_of logs e.id) t → new ≡ insert_entry same_id ts e.id t
     → NotedTo tree logs (take i es) ts
     → NotedTo tree logs (take (i + 1) es) new

@@ -7,7 +7,7 @@ use Rattle.tree_model.specs.declared.names.Outcome.TheVariants.{Committed, Abort
 use Rattle.tree_model.specs.declared.records.Record.{Record}
 use Rattle.tree_model.specs.declared.trees.TreeEntry.{TreeEntry}
 use Rattle.tree_model.specs.Names.{process_of, same_case}
-use Rattle.tree_model.specs.Nodes.{is_listed}
+use Rattle.tree_model.specs.Nodes.{Role, AtRoot, Below, AtLeaf, is_listed, role_of}
 use Rattle.tree_model.specs.Outcomes.{outcome_of}
 use Rattle.tree_model.specs.Records.{cases_in, has, has_case, is_decided, is_prepared}
 use Rattle.tree_model.specs.Trees.{IsTree}
@@ -16,9 +16,11 @@ use Rattle.tree_nodes.specs.WorldHolds.{is_record_of}
 use Rattle.tree_nodes.proofs.RootLogs.{recorded_case}
 use Rattle.tree_nodes.proofs.Tests.{both, case_is, either, has-cons, right}
 use Rattle.tree_nodes.proofs.Worlds.{has_other}
-use Rattle.tree_headline.specs.auditor.Audits.{AuditsAreTrue, Logs, ShowsMismatch, audited, has_line, is_case_at, logs_of_world, since_promise}
+use Rattle.tree_headline.specs.auditor.Audits.{AuditsAreTrue, Logs, ShowsMismatch, audited, has_line, has_line_in, is_case_at, logs_of_world, since_promise}
 use Rattle.tree_headline.proofs.auditor.Audit.{audits_are_true}
 use Rattle.tree_headline.proofs.runs.Headline.{the_world_holds}
+use Rattle.audit_cases.specs.Notes.{listed_cases, promised_by}
+use Rattle.audit_cases.proofs.OrderLaws.{has_last, promised_has}
 use Rattle.logs_script.specs.declared.line.ProcessLog.{ProcessLog}
 use Rattle.tree_audit.specs.declared.report.Line.{Line}
 use Rattle.tree_audit.specs.Reports.{kept_lists, line_of, lines_at, lines_of, other}
@@ -64,6 +66,15 @@ since_stands c q (r ∷ rs) h = by_test (has (is_prepared c) rs) h (since_stands
     by_test true since stand = has-cons q r rs ∙ right (q r) (has q rs) (stand since)
     by_test false all stand = all
 
+-- a case that has a line is among those that an audit lists
+listed_has : (role : Role) (c : Case) (rs : List Record) → has_line_in role c (since_promise c rs) ≡ true
+    → has_case (cases_in rs) c ≡ true → has_case (listed_cases role rs) c ≡ true
+listed_has AtRoot c rs shown recorded = recorded
+listed_has (Below p) c rs shown recorded = recorded
+listed_has (AtLeaf p) c rs shown recorded =
+    has_last (promised_by rs) c ∙ promised_has c rs
+    ∙ since_stands c (is_prepared c) rs (both (has (is_prepared c) (since_promise c rs)) _ shown).0
+
 -- Lines.
 
 -- a line of a case that has one
@@ -78,22 +89,26 @@ module _ (tree : List TreeEntry) (logs : Logs) where
   of_case l at =
       let part = element_part (λ (e : TreeEntry). lines_at tree logs e.id) l tree at in
       let made = element_made (line_of tree logs) l _ part.within in
-      let kept = element_kept (has_line tree logs) made.from (cases_in (logs part.of.id)) made.listed in
+      let kept = element_kept (has_line tree logs) made.from (listed_cases (role_of tree part.of.id) (logs part.of.id))
+      made.listed in
       record { of = made.from; has = kept.passes; is = made.is }
 
   case_of : (c : Case) → has_line tree logs c ≡ true → has_case (cases_in (logs (process_of c))) c ≡ true
       → Contains (lines_of tree logs) (line_of tree logs c)
   unfolding lines_of
   case_of c has recorded =
-      let listed = (both (is_listed tree (process_of c)) _ has).0 in
+      let parts = both (is_listed tree (process_of c)) _ has in
+      let listed = parts.0 in
+      let shown = (both (is_case_at tree (process_of c) c) _ parts.1).1 in
       let found = listed_entry tree (process_of c) listed in
       let here = named_so tree (process_of c) found.0 found.1 in
       part_element (λ (e : TreeEntry). lines_at tree logs e.id) found.0 (line_of tree logs c) tree
       (element_found _ found.0 tree found.1)
       (subst (λ q. Contains (lines_at tree logs q) (line_of tree logs c)) (sym here)
       (made_element (line_of tree logs) c _
-      (kept_element (has_line tree logs) c (cases_in (logs (process_of c)))
-      (listed_case (cases_in (logs (process_of c))) c recorded) has)))
+      (kept_element (has_line tree logs) c (listed_cases (role_of tree (process_of c)) (logs (process_of c)))
+      (listed_case (listed_cases (role_of tree (process_of c)) (logs (process_of c))) c
+      (listed_has (role_of tree (process_of c)) c (logs (process_of c)) shown recorded)) has)))
 
   shows_some : (c : Case) → has_line tree logs c ≡ true → (line_of tree logs c).mismatch ≡ true
       → ShowsMismatch tree logs c (other (audited tree logs c))

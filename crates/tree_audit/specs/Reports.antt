@@ -11,14 +11,15 @@ use Rattle.tree_model.specs.declared.records.LogRecord.{LogRecord}
 use Rattle.tree_model.specs.declared.trees.TreeEntry.{TreeEntry}
 use Rattle.tree_model.specs.LogNames.{own_records}
 use Rattle.tree_model.specs.Names.{process_of, same_process}
-use Rattle.tree_model.specs.Nodes.{place_of}
-use Rattle.tree_model.specs.Records.{cases_in, has, is_decided}
+use Rattle.tree_model.specs.Nodes.{place_of, role_of}
+use Rattle.tree_model.specs.Records.{has, is_decided}
 use Rattle.log_rules.specs.order.Logs.{LogReading, Whole, Damaged, read_log}
 use Rattle.logs_script.specs.Faults.{first_damage}
 use Rattle.logs_script.specs.declared.line.ProcessLog.{ProcessLog}
 use Rattle.logs_script.specs.Logs.{bytes_of}
 use Rattle.tree_headline.specs.auditor.Audits.{Logs, ShowsMismatch, audited, has_line, own_decision, since_promise}
 use Rattle.audit_cases.specs.Kinds.{own_of}
+use Rattle.audit_cases.specs.Notes.{listed_cases}
 use Rattle.tree_audit.specs.declared.report.AuditError.{AuditError}
 use Rattle.tree_audit.specs.declared.report.AuditError.TheVariants as error
 use Rattle.tree_audit.specs.declared.report.Line.{Line}
@@ -67,9 +68,10 @@ line_of tree logs c = record {
   mismatch = is_against tree logs c (audited tree logs c);
 }
 
--- the lines of a process's cases, in order of their first records
+-- the lines of a process's cases, in order of the first records that are read of them
 abbrev pub lines_at : List TreeEntry → Logs → ProcessId → List Line
-lines_at tree logs q = map (line_of tree logs) (filter (has_line tree logs) (cases_in (logs q)))
+lines_at tree logs q =
+    map (line_of tree logs) (filter (has_line tree logs) (listed_cases (role_of tree q) (logs q)))
 
 -- the lines of all processes, in the order of the tree
 unfoldable pub lines_of : List TreeEntry → Logs → List Line

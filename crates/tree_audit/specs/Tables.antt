@@ -1,6 +1,6 @@
 -- What is kept while an audit goes on: of each process what its log says, and of each parent what it says of
 -- its children's cases.
-use Rattle.std.specs.Prelude.{◌≡◌, ⊤, ℕ, Bool, true, false, is_none, is_some, Option, Some, None, option_map, List, [], map, filter, fold}
+use Rattle.std.specs.Prelude.{◌≡◌, ⊤, ℕ, Bool, true, false, if◌then◌else◌, is_none, is_some, Option, Some, None, option_map, List, [], ◌∷◌, map, fold}
 use Rattle.std.specs.List.{flat_map, list_all}
 use Rattle.std.specs.Map.{lookup}
 use Rattle.indexmap.specs.IndexMap.{insert_entry}
@@ -14,14 +14,13 @@ use Rattle.tree_model.specs.contracts.names.ProcessIdPartialEq.TheImpl as proces
 use Rattle.tree_model.specs.LogNames.{own_records}
 use Rattle.tree_model.specs.Names.{child_case}
 use Rattle.tree_model.specs.Nodes.{Role, is_listed, role_by}
-use Rattle.tree_model.specs.Records.{cases_in}
 use Rattle.tree_model.specs.Trees.{is_unlisted, level_within}
 use Rattle.log_rules.specs.order.Logs.{Whole, Damaged, read_log}
 use Rattle.logs_script.specs.Places.{placed_in}
 use Rattle.tree_headline.specs.auditor.Audits.{Logs, audited, is_case_at, naming_case}
 use Rattle.audit_cases.specs.Kinds.{decided_in, decision_in, line_in, own_in}
 use Rattle.inquire_core.specs.Readings.{same}
-use Rattle.audit_cases.specs.Notes.{CaseNote, Table, noted, notes_of, place_at}
+use Rattle.audit_cases.specs.Notes.{CaseNote, LogNotes, Table, listed_cases, listed_in, log_notes_of, no_notes, note_in, noted, place_at}
 use Rattle.audit_cases.specs.Sayings.{AreSaid, Outcomes, outcome_in}
 use Rattle.tree_audit.specs.declared.report.AuditError.{AuditError}
 use Rattle.tree_audit.specs.declared.report.AuditError.TheVariants as error
@@ -35,16 +34,16 @@ same_id = processes.ghosts.eq
 -- What the logs say.
 
 -- what frames say of the cases of a process, record by record
-unfoldable pub frames_table : List TreeEntry → TreeEntry → List ℕ → Table
-frames_table tree e frames =
-    fold noted [] (own_records (place_at tree e) (map (λ x. x.read) (placed_in e.kind 5 0 frames)))
+unfoldable pub frames_notes : List TreeEntry → TreeEntry → List ℕ → LogNotes
+frames_notes tree e frames =
+    fold noted no_notes (own_records (place_at tree e) (map (λ x. x.read) (placed_in e.kind 5 0 frames)))
 
 -- the bytes are a sound log, and this is what its records say of the process's cases
-pub record NotesLog (tree : List TreeEntry) (e : TreeEntry) (bytes : List ℕ) (t : Table) : Type 0 where
+pub record NotesLog (tree : List TreeEntry) (e : TreeEntry) (bytes : List ℕ) (n : LogNotes) : Type 0 where
   pub records : List LogRecord
   pub torn : ℕ
   pub read : read_log e.kind bytes ≡ Whole records torn
-  pub notes : t ≡ notes_of (own_records (place_at tree e) records)
+  pub notes : n ≡ log_notes_of (own_records (place_at tree e) records)
 
 -- memory was refused, or the bytes are the process's log and damaged at this place
 abbrev pub IsDamage : TreeEntry → List ℕ → AuditError → Type 0
@@ -53,18 +52,18 @@ IsDamage e bytes (error.Damaged q place) = (q ≡ e.id) × (read_log e.kind byte
 
 -- what is said of each process's cases
 abbrev pub TreeTables : Type 0
-TreeTables = List (ProcessId × Table)
+TreeTables = List (ProcessId × LogNotes)
 
 -- what is said of the cases of this process; nothing, where there is no such process
-abbrev pub table_or : Option Table → Table
-table_or None = []
-table_or (Some t) = t
+abbrev pub notes_or : Option LogNotes → LogNotes
+notes_or None = no_notes
+notes_or (Some n) = n
 
--- this is what the kept lists say of each listed process's cases, and these are its own
+-- this is what the kept lists say of each listed process's cases, and these are its own, in whatever role
 pub record AreNotes (tree : List TreeEntry) (logs : Logs) (ts : TreeTables) : Type 0 where
-  pub tables : (q : ProcessId) → is_listed tree q ≡ true → lookup (same_id q) ts ≡ Some (notes_of (logs q))
-  pub own : (q : ProcessId) → is_listed tree q ≡ true
-      → list_all (is_case_at tree q) (cases_in (logs q)) ≡ true
+  pub tables : (q : ProcessId) → is_listed tree q ≡ true → lookup (same_id q) ts ≡ Some (log_notes_of (logs q))
+  pub own : (q : ProcessId) → is_listed tree q ≡ true → (role : Role)
+      → list_all (is_case_at tree q) (listed_cases role (logs q)) ≡ true
 
 -- What the parents say.
 
@@ -102,9 +101,10 @@ abbrev pub StillSaid : TreeOutcomes → TreeOutcomes → Type 0
 StillSaid old new = (p : ProcessId) → has_said old p ≡ true → has_said new p ≡ true
 
 -- behind what processes said, this one says what it does by its notes, if it has any
-abbrev pub Adds : Option Outcomes → Option Table → ProcessId → TreeOutcomes → TreeOutcomes → Type 0
+abbrev pub Adds : Option Outcomes → Option LogNotes → ProcessId → TreeOutcomes → TreeOutcomes → Type 0
 Adds above None q old new = new ≡ old
-Adds above (Some t) q old new = (s : Outcomes) × AreSaid above t s × (new ≡ insert_entry same_id old q s)
+Adds above (Some n) q old new =
+    (s : Outcomes) × AreSaid above n.table s × (new ≡ insert_entry same_id old q s)
 
 -- a listed process has now said what it does, where a climb from it ends within so many steps; and all of
 -- that is true
@@ -142,14 +142,22 @@ line_by above c n = record {
   mismatch = decided_in n.kinds (other (outcome_in above c n));
 }
 
+-- the line of a case of which this is noted, if it has one
+abbrev pub line_if : Role → Option Outcomes → Case → CaseNote → List Line
+line_if role above c n = if line_in role n.kinds then line_by above c n ∷ [] else []
+
+-- the lines of these cases
+abbrev pub lines_by : Role → Option Outcomes → Table → List Case → List Line
+lines_by role above t cs = flat_map (λ c. line_if role above c (note_in t c)) cs
+
 -- the lines of the cases of a process with this role
-abbrev pub lines_in : Role → Option Outcomes → Table → List Line
-lines_in role above t = map (λ e. line_by above e.0 e.1) (filter (λ e. line_in role e.1.kinds) t)
+abbrev pub lines_in : Role → Option Outcomes → LogNotes → List Line
+lines_in role above n = lines_by role above n.table (listed_in role n)
 
 -- the lines of the process of an entry
 abbrev pub entry_lines : TreeTables → TreeOutcomes → TreeEntry → List Line
 entry_lines ts said e =
-    lines_in (role_by e.kind e.parent) (above_of said e.parent) (table_or (lookup (same_id e.id) ts))
+    lines_in (role_by e.kind e.parent) (above_of said e.parent) (notes_or (lookup (same_id e.id) ts))
 
 -- the lines of the processes of these entries
 unfoldable pub all_lines : TreeTables → TreeOutcomes → List TreeEntry → List Line

@@ -6,7 +6,7 @@ ghost use Rattle.tree_model.specs.Trees.{IsTree};
 ghost use Rattle.tree_audit.specs.Reports.{IsNoReport, IsReport, lines_of as lines_in_logs, mismatches_in, other as other_of};
 ghost use Rattle.tree_audit.specs.Truths.{AreTrueOfRuns};
 ghost use Rattle.tree_headline.specs.auditor.Audits.{Logs};
-ghost use Rattle.tree_audit.specs.Tables.{AreNotes, all_lines, entry_lines, line_by, lines_in};
+ghost use Rattle.tree_audit.specs.Tables.{AreNotes, all_lines, entry_lines, line_by, line_if, lines_in};
 ghost use Rattle.tree_model.specs.Nodes.{role_by};
 
 use crate::logs::{TreeNotes, all_notes};
@@ -42,6 +42,24 @@ fn line_of(above: Option<&Sayings>, case: &Case, note: &Noted) -> Line
     }
 }
 
+/// The line of a case of which this is noted, where this is said above, if it has one.
+fn push_case(
+    lines: &mut Vec<Line>,
+    entry: &TreeEntry,
+    above: Option<&Sayings>,
+    case: &Case,
+    note: &Noted,
+) -> Result<(), AllocError>
+    ensures { OnOk result (lines.new.items
+        ≡ lines.old.items ++ line_if (role_by entry.now.kind entry.now.parent)
+        (option_copied above.entry) case.now note.now) }
+{
+    if note.kinds().has_line(entry.kind, entry.parent) {
+        lines.push(line_of(above, case, note))?;
+    }
+    Ok(())
+}
+
 /// The lines of the cases of a process of which this is noted, where this is said above them.
 fn push_cases(
     lines: &mut Vec<Line>,
@@ -53,9 +71,10 @@ fn push_cases(
         ≡ lines.old.items ++ lines_in (role_by entry.now.kind entry.now.parent)
         (option_copied above.entry) own.now) }
 {
-    for (case, note) in own.cases() {
-        if note.kinds().has_line(entry.kind, entry.parent) {
-            lines.push(line_of(above, case, note))?;
+    let listed = own.listed(entry.kind, entry.parent)?;
+    for case in &listed {
+        if let Some(note) = own.of(case) {
+            push_case(lines, entry, above, case, note)?;
         }
     }
     Ok(())
@@ -115,7 +134,7 @@ pub fn audit_notes(alloc: Global, tree: &Tree, notes: &TreeNotes) -> Result<Repo
 }
 
 /// Audits the logs of a tree: a line for each case that is still told of, in the order of the tree and of
-/// first records, with how it stands by its own process's records and how its transaction ends. The outcome
+/// the first records that are read, with how it stands by its own process's records and how its transaction ends. The outcome
 /// is the case's own decision or what it was told; else, at the root, abort; else that of the parent's first
 /// case of the transaction that names its ticket; else what is presumed. Cases that are not their process's
 /// own in this tree are left out. Each log is gone through once.

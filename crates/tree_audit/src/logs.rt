@@ -5,7 +5,7 @@ ghost use Rattle.indexmap.specs.IndexMap.{insert_entry};
 ghost use Rattle.logs_script.specs.Faults.{first_damage};
 ghost use Rattle.tree_model.specs.Trees.{IsTree};
 ghost use Rattle.tree_audit.specs.Reports.{IsNoReport, kept_lists};
-ghost use Rattle.tree_audit.specs.Tables.{AreNotes, IsDamage, NotesLog, frames_table, same_id};
+ghost use Rattle.tree_audit.specs.Tables.{AreNotes, IsDamage, NotesLog, frames_notes, same_id};
 
 use crate::report::AuditError;
 use audit_cases::Notes;
@@ -21,7 +21,7 @@ pub type TreeNotes = IndexMap<ProcessId, Notes>;
 
 /// What the frames behind a header say of the process's cases, up to the first that is no record.
 fn noted(alloc: Global, tree: &Tree, entry: &TreeEntry, frames: &[u8]) -> Result<Notes, AllocError>
-    ensures { IfOk result (λ notes. notes ≡ frames_table tree.now entry.now frames.now) }
+    ensures { IfOk result (λ notes. notes ≡ frames_notes tree.now entry.now frames.now) }
 {
     let mut notes = Notes::new(alloc);
     let mut rest = frames;

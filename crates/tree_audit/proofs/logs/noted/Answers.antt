@@ -3,7 +3,7 @@ use Rattle.tree_model.specs.LogNames.{own_records}
 use Rattle.logs_script.specs.Places.{placed_in}
 use Rattle.logs_script.proofs.PlaceLaws.{frame_size, goes_on, no_frame, stops}
 use Rattle.audit_cases.specs.Notes.{noted as noted_by_record, place_at}
-use Rattle.tree_audit.proofs.Passes.{is_frames_table, noted_ends, noted_goes_on}
+use Rattle.tree_audit.proofs.Passes.{is_frames_notes, noted_ends, noted_goes_on}
 use Rattle.tree_audit.proofs.RecordsAt.{record_at}
 use Rattle.tree_audit.proofs.logs.noted.Goals as goal
 
@@ -17,7 +17,7 @@ returns-in-Err-Malformed c =
     (stops c.args.entry.now.kind _ c.loop-kind.rest.now _ (sym c.in-Some.ensures)
     (c.in-Err-Malformed.ensures.err c.in-Err-Malformed.field-0-is))
     c.loop-kind.invariant.0
-    ∙ is_frames_table c.args.tree.now c.args.entry.now c.args.frames.now
+    ∙ is_frames_notes c.args.tree.now c.args.entry.now c.args.frames.now
 
 pub loop-kind-preserved : goal.loop-kind-preserved
 loop-kind-preserved c =
@@ -42,4 +42,4 @@ returns c =
     noted_ends c.args.tree.now c.args.entry.now c.loop-kind.notes _ _
     (no_frame c.args.entry.now.kind _ c.loop-kind.rest.now (sym c.in_default.ensures))
     c.loop-kind.invariant.0
-    ∙ is_frames_table c.args.tree.now c.args.entry.now c.args.frames.now
+    ∙ is_frames_notes c.args.tree.now c.args.entry.now c.args.frames.now

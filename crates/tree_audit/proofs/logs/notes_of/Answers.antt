@@ -1,5 +1,5 @@
 use Rattle.std.proofs.Common.{◌∙◌, ap, subst, sym}
-use Rattle.tree_audit.specs.Tables.{NotesLog, frames_table}
+use Rattle.tree_audit.specs.Tables.{NotesLog, frames_notes}
 use Rattle.tree_audit.proofs.Passes.{empty_notes, sound_notes}
 use Rattle.tree_audit.proofs.logs.notes_of.Goals as goal
 
@@ -15,5 +15,5 @@ returns-in_ok-noted-in-Ok-Sound-clause-ok c =
     sound_notes c.args.tree.now c.args.entry.now c.args.bytes.now
     c.in-Ok-Sound.field-0 c.in-Ok-Sound.field-0-0
     c.in_ok-noted-in-Ok-Sound.field-0 c.in-Ok-Sound.ensures.ok c.in-Ok-Sound.field-0-is
-    (c.in_ok-noted-in-Ok-Sound.ensures ∙ ap (frames_table c.args.tree.now
+    (c.in_ok-noted-in-Ok-Sound.ensures ∙ ap (frames_notes c.args.tree.now
     c.args.entry.now) c.split_at.ensures.back)

@@ -3,4 +3,4 @@ use Rattle.audit_cases.proofs.SayingLaws.{all_said}
 use Rattle.audit_cases.proofs.sayings.Sayings.of.Goals as goal
 
 pub returns : goal.returns
-returns c = all_said (option_copied c.args.above) c.args.notes.now c.passing.result c.passing.ensures
+returns c = all_said (option_copied c.args.above) c.args.notes.now.table c.passing.result c.passing.ensures

@@ -7,4 +7,4 @@ use Rattle.audit_cases.proofs.sayings.Sayings.passing.Given as goal
 abbrev pub invariant-loop-case : goal.invariant-loop-case
 invariant-loop-case l =
     fold (with_entry (λ e. outcome_in (option_copied l.fn.above) e.0 e.1)) l.outcomes l.case-iterator
-    ≡ sayings_of (option_copied l.fn.above) l.fn.notes
+    ≡ sayings_of (option_copied l.fn.above) l.fn.notes.table
