@@ -11,8 +11,8 @@ use log_store::LogStore;
 use tree_model::{Act, Case, Input, Op, Presumption, ProcessId, Reaction, StepError, Txn};
 
 impl<L: LogStore> Coordinator<L> {
-    /// Begins a transaction; the reaction names it. NoSuch: this is not the root. Failed, Memory: nothing
-    /// changed.
+    /// Begins a transaction; the reaction names it. Failed: the device failed before. NoSuch: this is not the
+    /// root. Memory. Nothing changed.
     pub fn begin(&mut self, presumption: Presumption) -> Result<Reaction, StepError>
         requires { HasNumbers (state self.old) }
         ensures ok { IfOk result (Makes (state self.old) (state self.new) no_data

@@ -176,7 +176,8 @@ impl<L: LogStore> KvManager<L> {
         self.store.get(thread, key)
     }
 
-    /// Opens the manager, which migrates associations or not. RmFail: it has failed.
+    /// Opens the manager, which migrates associations or not. RmFail: it has failed. Inval, Async: the flags.
+    /// A refusal changes nothing.
     pub fn open(&mut self, flags: Flags, migrates: bool) -> Code
         ensures { Calls self.old self.new (result ≡ Code.RmFail)
             (λ before behind. MovesTables before behind (λ old new. Opens old new flags.0 migrates result)) }
@@ -214,7 +215,8 @@ impl<L: LogStore> KvManager<L> {
         self.store.delete(thread, key)
     }
 
-    /// Closes the manager. RmFail: it has failed. Proto: there is an association.
+    /// Closes the manager; one that is not open stays so. RmFail: it has failed. Inval, Async: the flags.
+    /// Proto: there is an association. A refusal changes nothing.
     pub fn close(&mut self, flags: Flags) -> Code
         ensures { Calls self.old self.new (result ≡ Code.RmFail)
             (λ before behind. MovesTables before behind (λ old new. Closes old new flags.0 result)) }
@@ -246,7 +248,9 @@ impl<L: LogStore> KvManager<L> {
         self.store.work_call(verb, thread, xid, flags)
     }
 
-    /// A scan of the branches in doubt. RmFail: the manager has failed.
+    /// A scan of the branches in doubt: the next of them, at most so many. RmFail: the manager has failed.
+    /// Inval: the flags. Proto: it is not open. Inval: no scan is open and none begins. RmErr: one begins, and
+    /// 256 threads have one. A refusal changes nothing, nor does want of memory.
     pub fn recover(
         &mut self,
         thread: u32,
@@ -363,7 +367,9 @@ impl<L: LogStore> KvManager<L> {
     }
 
     /// A branch promises, with what it has written; one that wrote nothing is ended. RmFail: the manager has
-    /// failed, or its device fails now. The thread is not looked at.
+    /// failed, or its device fails now. Inval, Async: the flags. Proto: it is not open. Inval: the null XID.
+    /// NotA: the branch is not known. Proto: a thread is in it, or its state has no such row. All but a failure
+    /// now change nothing, nor does want of memory. The thread is not looked at.
     pub fn prepare(&mut self, _thread: u32, xid: &Xid, flags: Flags) -> Result<Code, AllocError>
         ensures answer { IfOk result (Finishes self.old self.new Verb.Prepare xid.now flags.0) }
         ensures err { OnErr result (SameManager self.old self.new) }
@@ -372,7 +378,8 @@ impl<L: LogStore> KvManager<L> {
     }
 
     /// A prepared branch commits, or with TMONEPHASE one that is not prepared. One that an operator decided
-    /// answers by the decision, and the first outcome that it is told is noted. RmFail as at `prepare`.
+    /// answers by the decision, and the first outcome that it is told is noted. The refusals are
+    /// those of `prepare`; RmErr: 2^63 - 1 commits are counted, and nothing changed.
     pub fn commit(&mut self, _thread: u32, xid: &Xid, flags: Flags) -> Result<Code, AllocError>
         ensures answer { IfOk result (Finishes self.old self.new Verb.Commit xid.now flags.0) }
         ensures err { OnErr result (SameManager self.old self.new) }
@@ -380,7 +387,7 @@ impl<L: LogStore> KvManager<L> {
         self.finish(Verb::Commit, xid, flags)
     }
 
-    /// A branch rolls back; one that an operator decided as at `commit`. RmFail as at `prepare`.
+    /// A branch rolls back; one that an operator decided as at `commit`. The refusals are those of `prepare`.
     pub fn rollback(&mut self, _thread: u32, xid: &Xid, flags: Flags) -> Result<Code, AllocError>
         ensures answer { IfOk result (Finishes self.old self.new Verb.Rollback xid.now flags.0) }
         ensures err { OnErr result (SameManager self.old self.new) }
@@ -388,7 +395,7 @@ impl<L: LogStore> KvManager<L> {
         self.finish(Verb::Rollback, xid, flags)
     }
 
-    /// An operator's decision about a branch is forgotten. RmFail as at `prepare`.
+    /// An operator's decision about a branch is forgotten. The refusals are those of `prepare`.
     pub fn forget(&mut self, _thread: u32, xid: &Xid, flags: Flags) -> Result<Code, AllocError>
         ensures answer { IfOk result (Finishes self.old self.new Verb.Forget xid.now flags.0) }
         ensures err { OnErr result (SameManager self.old self.new) }
@@ -414,7 +421,9 @@ impl<L: LogStore> KvManager<L> {
         decided(answer)
     }
 
-    /// A thread begins work in a branch, or takes it up again. RmFail: the manager has failed.
+    /// A thread begins work in a branch, joins it, or takes it up again. RmFail: the manager has failed. The
+    /// other codes are those of `States::work_call`: Inval, Async, Proto, DupId, NotA, RmErr, which change
+    /// nothing, and RbRollback, behind which a resumed association is gone.
     pub fn start(&mut self, thread: u32, xid: &Xid, flags: Flags) -> Result<Code, AllocError>
         ensures answer { IfOk result (λ answer. (wanted : Wanted)
             → Calls self.old self.new (answer ≡ Code.RmFail)
@@ -425,8 +434,9 @@ impl<L: LogStore> KvManager<L> {
         self.work_call(Verb::Start, thread, xid, flags)
     }
 
-    /// A thread ends its work in a branch, or suspends it. RmFail: the manager has failed. With TMSUCCESS
-    /// and with TMFAIL it takes no memory.
+    /// A thread ends its work in a branch, or suspends it. RmFail: the manager has failed. The other codes are
+    /// those of `States::work_call`: Inval, Async, Proto, NotA, RmErr, which change nothing, NoMigrate, and
+    /// RbRollback, behind which the association is gone. With TMSUCCESS and with TMFAIL it takes no memory.
     pub fn end(&mut self, thread: u32, xid: &Xid, flags: Flags) -> Result<Code, AllocError>
         ensures answer { IfOk result (λ answer. (wanted : Wanted)
             → Calls self.old self.new (answer ≡ Code.RmFail)

@@ -46,24 +46,32 @@ pub trait ResourceManager {
         ensures { result ≡ decision_at (state_at (sight self.now).tables xid.now)
             ((sight self.now).decided xid.now) };
 
-    /// Opens the manager, which migrates associations or not. RmFail.
+    /// Opens the manager, which migrates associations or not; one that is open stays so. RmFail. Inval, Async:
+    /// the flags. A refusal changes nothing.
     fn open(&mut self, flags: Flags, migrates: bool) -> Code
         ensures { Calls (sight self.old) (sight self.new) (result ≡ Code.RmFail)
             (λ old new. Opens old new flags.0 migrates result) };
 
-    /// Closes the manager. RmFail. Proto: there is an association.
+    /// Closes the manager; one that is not open stays so. RmFail. Inval, Async: the flags. Proto: there is an
+    /// association. A refusal changes nothing.
     fn close(&mut self, flags: Flags) -> Code
         ensures { Calls (sight self.old) (sight self.new) (result ≡ Code.RmFail)
             (λ old new. Closes old new flags.0 result) };
 
-    /// A thread begins work in a branch, or takes it up again.
+    /// A thread begins work in a branch, joins it, or takes it up again (C193, xa_start). RmFail. Inval,
+    /// Async: the flags. Proto: the manager is not open. Inval: the null XID. DupId, NotA: the branch is
+    /// known, or is not. Proto: the thread or the branch is in no state for it. RmErr: a limit of the
+    /// manager's own. These change nothing, nor does want of memory. RbRollback: an association was resumed
+    /// of a branch that can only be rolled back; it is gone.
     fn start(&mut self, thread: u32, xid: &Xid, flags: Flags) -> Result<Code, AllocError>
         ensures answer { IfOk result (λ answer. (wanted : Wanted)
             → Calls (sight self.old) (sight self.new) (answer ≡ Code.RmFail)
             (λ old new. Answers wanted old new Verb.Start thread xid.now flags.0 answer)) }
         ensures err { OnErr result (SameManager (sight self.old) (sight self.new)) };
 
-    /// A thread ends its work in a branch, or suspends it. With TMSUCCESS and with TMFAIL it takes no memory.
+    /// A thread ends its work in a branch, or suspends it (C193, xa_end). The codes are those of `start`, but
+    /// for DupId. NoMigrate: it is suspended, and the same thread alone may resume it. RbRollback: the work
+    /// failed, or had failed; the association is gone. With TMSUCCESS and with TMFAIL it takes no memory.
     fn end(&mut self, thread: u32, xid: &Xid, flags: Flags) -> Result<Code, AllocError>
         ensures answer { IfOk result (λ answer. (wanted : Wanted)
             → Calls (sight self.old) (sight self.new) (answer ≡ Code.RmFail)
@@ -71,29 +79,31 @@ pub trait ResourceManager {
         ensures err { OnErr result ((is_left flags.0 ≡ false)
             × SameManager (sight self.old) (sight self.new)) };
 
-    /// A branch promises, with what it has written; one that wrote nothing is ended. RmFail: the device had
-    /// failed, or fails now. RmErr: a limit of the manager's own, which changes nothing. The thread is not
-    /// looked at.
+    /// A branch promises, with what it has written; one that wrote nothing is ended (C193, xa_prepare).
+    /// RmFail: the device had failed, or fails now. Inval, Async: the flags. Proto: the manager is not open.
+    /// Inval: the null XID. NotA: the branch is not known. Proto: a thread is in it, or its state has no such
+    /// row. RmErr: a limit of the manager's own. All but a failure now change nothing, nor does want of
+    /// memory. The thread is not looked at.
     fn prepare(&mut self, thread: u32, xid: &Xid, flags: Flags) -> Result<Code, AllocError>
         ensures answer { IfOk result (Finishes (sight self.old) (sight self.new)
             Verb.Prepare xid.now flags.0) }
         ensures err { OnErr result (SameManager (sight self.old) (sight self.new)) };
 
     /// A prepared branch commits, or with TMONEPHASE one that is not prepared. One that an operator decided
-    /// answers by the decision, and the first outcome that it is told is noted. RmFail, RmErr as at
-    /// `prepare`.
+    /// answers by the decision, and the first outcome that it is told is noted. The refusals are
+    /// those of `prepare`.
     fn commit(&mut self, thread: u32, xid: &Xid, flags: Flags) -> Result<Code, AllocError>
         ensures answer { IfOk result (Finishes (sight self.old) (sight self.new)
             Verb.Commit xid.now flags.0) }
         ensures err { OnErr result (SameManager (sight self.old) (sight self.new)) };
 
-    /// A branch rolls back; one that an operator decided as at `commit`. RmFail, RmErr as at `prepare`.
+    /// A branch rolls back; one that an operator decided as at `commit`. The refusals are those of `prepare`.
     fn rollback(&mut self, thread: u32, xid: &Xid, flags: Flags) -> Result<Code, AllocError>
         ensures answer { IfOk result (Finishes (sight self.old) (sight self.new)
             Verb.Rollback xid.now flags.0) }
         ensures err { OnErr result (SameManager (sight self.old) (sight self.new)) };
 
-    /// An operator's decision about a branch is forgotten. RmFail, RmErr as at `prepare`.
+    /// An operator's decision about a branch is forgotten. The refusals are those of `prepare`.
     fn forget(&mut self, thread: u32, xid: &Xid, flags: Flags) -> Result<Code, AllocError>
         ensures answer { IfOk result (Finishes (sight self.old) (sight self.new)
             Verb.Forget xid.now flags.0) }
@@ -106,7 +116,9 @@ pub trait ResourceManager {
         ensures ok { OnOk result (Decides (sight self.old) (sight self.new) xid.now outcome) }
         ensures err { IfErr result (NotDecided (sight self.old) (sight self.new) xid.now outcome) };
 
-    /// A scan of the branches in doubt.
+    /// A scan of the branches in doubt (C193, xa_recover): the next of them, at most so many. RmFail. Inval:
+    /// the flags. Proto: the manager is not open. Inval: no scan is open and none begins. RmErr: a limit of
+    /// the manager's own. A refusal changes nothing, nor does want of memory.
     fn recover(
         &mut self,
         thread: u32,

@@ -273,7 +273,8 @@ impl<L: LogStore> RecLog<L> {
         self.store.reserve(more)
     }
 
-    /// Appends a record, where there is room for its frame; it is not forced.
+    /// Appends a record, where there is room for its frame; it is not forced. Device: the device failed, and
+    /// any front of the frame stands; the log has failed until its restart.
     pub fn append(&mut self, frame: &Frame) -> Result<(), LogError>
         requires room { length (record_text (frame_record frame.now)) ≤ self.old.room }
         requires works { self.old.sight.failed ≡ false }
@@ -289,7 +290,8 @@ impl<L: LogStore> RecLog<L> {
         Ok(())
     }
 
-    /// Forces all the records.
+    /// Forces all the records. Device: the device failed, and so has the log until its restart; of the records
+    /// that were not forced any first ones are now.
     pub fn force(&mut self) -> Result<(), LogError>
         requires { self.old.sight.failed ≡ false }
         ensures ok { OnOk result (Forced self.old self.new) }

@@ -52,15 +52,27 @@ writing or memory failed.";
 
 /// What `rstar tree --help` says below its usage.
 const TREE_HELP: &str = "\
-In: the processes as TOML, a line ---, and an event a line: begin, join, work, commit,
-abort, ask, deliver, settle, restart P (restart P K: process P crashes, and K bytes of its
-log are kept behind those that are forced), trim P; and an operator's acts: heur CASE commit
-or heur CASE rollback (a manager's case in doubt is decided without its parent), and forget
-CASE. Out: a line for each log record, message and word to the application, 'trim P N'
-where N records remain, and 'end'; 'refused N E' where event N is refused, 'error ..' where
-the script is. With --counts, behind that, a line for each process: how many records it wrote
-in its steps, how many of them forced, and how many messages it sent, in all and by kind; the
-first Opened of each process, which opening the tree writes, does not count. With --logs,
+In: the processes as TOML, a line ---, and an event a line:
+  begin pa|pc                          a transaction, under Presumed Abort or Presumed Commit
+  join CASE CHILD                      the case's process invites a child of it
+  work CASE CHILD put KEY VALUE        gives it an operation (also: get KEY, del KEY)
+  commit TXN, abort TXN                what the application asks
+  deliver N                            message N, of those that were sent; again, if it came before
+  settle                               all that were not delivered, at most 10,000 of them
+  ask CASE                             a case in doubt asks its parent
+  restart P [K]                        process P crashes and comes back; K bytes of its log are
+                                       kept behind those that are forced (without K: all)
+  trim P                               the log of process P
+  heur CASE commit|rollback            an operator decides a manager's case in doubt
+  forget CASE                          and lets it go
+TXN is as a1.1, CASE as a1.1 or a1.1@2.1.1, KEY and VALUE are visible ASCII characters, up to
+64 and 256. Empty lines and lines that begin with # are skipped.
+
+Out: a line for each log record, message and word to the application, 'trim P N' where N
+records remain, and 'end'; 'refused N E' where event N is refused, 'error ..' where the script
+is (docs/ERRORS.md). With --counts, behind that, a line for each process: how many records it
+wrote in its steps, how many of them forced, and how many messages it sent, in all and by kind;
+the first Opened of each process, which opening the tree writes, does not count. With --logs,
 where no event is refused: the processes, a line ---, and a line 'log P HEX' for the log of
 each process, as 'rstar log' and 'rstar audit' read them.
 
@@ -71,13 +83,23 @@ Examples: rstar tree < examples/commit.tree
 
 /// What `rstar xa --help` says below its usage.
 const XA_HELP: &str = "\
-In: a line for each call of the XA interface (open, close, start, end, prepare, commit,
-rollback, forget, recover), for each operation of a thread on the data (get, put, del), for
-each restart of the manager (restart, restart K: of the log only K bytes are kept behind
-those that are forced), for each trim of its log (trim), and for each decision of an operator
-(heur XID commit, heur XID rollback). Out: a line for each answer, and 'end': a code by its
-name in XA, '= VALUE', '= none', 'done', 'refused N', 'boot N', 'trim N'; 'error ..' where the
-script is refused.
+In: a request a line, of one resource manager:
+  open FLAGS [INFO], close FLAGS
+  start|end|prepare|commit|rollback|forget TH XID FLAGS
+  recover TH COUNT FLAGS
+  get TH KEY, put TH KEY VALUE, del TH KEY    in the branch that the thread is active in
+  heur XID commit|rollback                    an operator decides a prepared branch
+  restart [K]                                 it crashes and comes back; K bytes of its log are
+                                              kept behind those that are forced (without K: all)
+  trim                                        its log
+TH is a number, XID as 7:01:02 (format, global name and branch's name, both in hexadecimal),
+FLAGS are XA's names, joined by +, as TMJOIN or TMNOFLAGS. INFO is 1 to 32 letters; opened by
+'nomigrate', the manager lets no thread resume what another suspended. KEY and VALUE are visible
+ASCII characters, up to 64 and 256. Empty lines and lines that begin with # are skipped.
+
+Out: a line for each request, and 'end': a code by its name in XA, '= VALUE', '= none', 'done',
+'refused N', 'boot N', 'trim N', of recover the number of branches and their names; 'error ..'
+where the script is refused (docs/ERRORS.md).
 
 Examples: rstar xa < examples/migrate.xa
           rstar xa < examples/prepared.xa";
@@ -96,12 +118,13 @@ const AUDIT_HELP: &str = "\
 In: as 'rstar log' reads it, and 'rstar tree --logs' writes it. Out: a line for each case
 that a log still tells of, process by process: 'CASE OWN OUTCOME'. OWN is how the case stands
 by the records of its own process: commit, abort, collecting, in-doubt, heur-commit or
-heur-rollback. OUTCOME is how its transaction ends: the case's own decision or what it was
-told, or else what its parent's log says, or else what is presumed. ' mismatch' stands behind
-it where an operator decided otherwise. The last line is 'mismatches N'; the status is 3
-where N is above 0. 'damaged P PLACE' alone where a log is damaged, 'error ..' where the
-input is refused. With --explain, behind each line that is in-doubt or shows a mismatch: who
-asks whom about it, a line a step, or what it was told; and what to do.
+heur-rollback. OUTCOME is how its transaction ends if every process restarts now: the case's
+own decision or what it was told, or else what its parent's log says, or else what is presumed;
+one that is not decided yet counts as aborted. ' mismatch' stands behind it where an operator
+decided otherwise. The last line is 'mismatches N'; the status is 3 where N is above 0.
+'damaged P PLACE' alone where a log is damaged, 'error ..' where the input is refused. With
+--explain, behind each line that is in-doubt or shows a mismatch: who asks whom about it, a
+line a step, or what it was told; and what to do.
 
 Examples: rstar audit < examples/commit.logs
           rstar audit --explain < examples/operator.logs
@@ -111,15 +134,16 @@ Examples: rstar audit < examples/commit.logs
 const CRASH_HELP: &str = "\
 In: a tree script, as 'rstar tree' reads it. Behind each of its events, each process crashes
 in a run of its own, once with each number of its unforced records kept, from none to all.
-Then all messages are delivered, every case that its log shows in doubt asks its parent, all
-messages are delivered again, and the logs are audited. Out: a line for each crash that
+Then messages are delivered as by settle, every case that its log shows in doubt asks its
+parent, messages are delivered again, and the logs are audited. Out: a line for each crash that
 leaves something: 'event N restart P K:' and then 'in-doubt CASE ..', 'mismatch CASE ..', or
-both; it is the run of the first N events and 'restart P K'. The last line is 'points N
+both; it is the run of the first N events and 'restart P K'. 'damaged P PLACE' or 'refused N E'
+would stand there, too, were there such a crash; none was found. The last line is 'points N
 in-doubt D mismatches M': so many crashes were tried, and so many end with a case in doubt,
-and with a mismatch; the status is 3 where one does. 'refused N E' stands behind it where
-event N is refused, and 'error ..' alone where the script is. Standard error has a line for
-each event. Each crash runs its script anew, so the time goes with the square of the number
-of events.
+and with a mismatch. 'refused N E' stands behind it where event N of the script is refused, and
+'error ..' alone where the script is. The status is 2 where an event is refused, else 3 where a
+crash leaves something. Standard error has a line for each event. Each crash runs its script
+anew, so the time goes with the square of the number of events.
 
 Examples: rstar crash < examples/commit.tree
           rstar crash < examples/operator.tree";

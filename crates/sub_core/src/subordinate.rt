@@ -59,7 +59,7 @@ impl<M: ResourceManager> Model for Subordinate<M> {
 
 impl<M: ResourceManager> Subordinate<M> {
     /// The manager `me` of this tree below this parent, which drives a manager that was just made over an
-    /// empty log, and opens it. It takes no memory.
+    /// empty log, and opens it, without migration: no branch of a tree is suspended. It takes no memory.
     pub fn open(
         alloc: Global,
         me: ProcessId,

@@ -98,7 +98,8 @@ impl States {
         self.branches.in_doubt()
     }
 
-    /// Opens the manager, which migrates associations or not. Where it is open nothing changes.
+    /// Opens the manager, which migrates associations or not. Where it is open nothing changes. Inval,
+    /// Async: the flags; nothing changes.
     pub fn open(&mut self, flags: Flags, migrates: bool) -> Code
         ensures { Opens self.old self.new flags.0 migrates result }
     {
@@ -112,7 +113,8 @@ impl States {
         Code::Ok
     }
 
-    /// Closes the manager. Proto: there is an association.
+    /// Closes the manager; one that is not open stays so. Inval, Async: the flags. Proto: there is an
+    /// association. A refusal changes nothing.
     pub fn close(&mut self, flags: Flags) -> Code
         ensures { Closes self.old self.new flags.0 result }
     {
@@ -212,7 +214,9 @@ impl States {
         self.branches.decided(xid)
     }
 
-    /// A scan of the branches in doubt.
+    /// A scan of the branches in doubt: the next of them, at most so many. Inval: the flags. Proto: the
+    /// manager is not open. Inval: no scan is open and none begins. RmErr: one begins, and 256 threads have
+    /// one. A refusal changes nothing, nor does want of memory.
     pub fn recover(
         &mut self,
         thread: u32,
