@@ -28,7 +28,7 @@ use Rattle.tree_model.specs.Restarts.{is_known}
 use Rattle.tree_model.proofs.NameTests.{case_tells, ticket_tells}
 use Rattle.live_table.specs.Tables.{entry_at, live_value}
 use Rattle.live_table.proofs.Writes.{live_found}
-use Rattle.core_model.specs.Turns.{Turn as CoreTurn, Refuses as RefusesTurn, Takes as TakesTurn, Finds, act_turn, asked_by, cascaded_turn, child_says, coordinator_act, is_case_of, message_turn, seat_in, turn_of, work_for_turn, work_turn}
+use Rattle.core_model.specs.Turns.{Turn as CoreTurn, Refuses as RefusesTurn, Takes as TakesTurn, Finds, ack_turn, act_turn, asked_by, asked_of, cascaded_turn, child_says, child_turn, coordinator_act, inquiry_turn, is_case_of, message_turn, seat_in, turn_of, vote_turn, work_for_turn, work_turn}
 use Rattle.coord_table.specs.declared.held.Held.{Held}
 use Rattle.coord_table.specs.Cases.{Slots, has_child, held_view, view_in}
 use Rattle.coord_table.specs.declared.asked.Asked.{Asked}
@@ -38,7 +38,7 @@ use Rattle.coord_table.specs.Takes.{IsAt}
 use Rattle.coord_core.specs.declared.turn.Turn.{Turn}
 use Rattle.coord_core.specs.declared.turn.Turn.TheVariants.{Refuses, Takes, Presumes, Nothing}
 use Rattle.coord_core.specs.States.{CoordinatorValue, place_of, role_below, state}
-use Rattle.coord_core.specs.Meets.{FindsAt, Hears, HearsOf, May, Meets, MeetsAct, RetiresAs, RetiresNone, is_of_child, meant, met, met_by_child, no_data}
+use Rattle.coord_core.specs.Meets.{FindsAt, Hears, HearsFrom, HearsOf, May, Meets, MeetsAct, RetiresAs, RetiresNone, is_of_child, meant, met, met_by_child, no_data}
 
 -- What a child asks.
 
@@ -163,80 +163,53 @@ module _ (v : CoordinatorValue) (n : ℕ) (p : ProcessId) (c : Case) (turn : Tur
   hears_abort is may = of_case v (MessageInput n (Abort c))
       (λ found. cascaded_turn (state v) p found (Abort c)) Aborts c turn refl refl (λ d u. refl) is may
 
--- what is said of the case that was found for the child
-of_child : (v : CoordinatorValue) (i : Input) (says : Option Case → CoreTurn) (x : Txn) (t : Ticket)
-    (asked : Asked) (otherwise turn : Turn)
-    → asked_by i ≡ Some (x, t) → ((found : Option Case)
-    → says found ≡ met_by_child v asked otherwise found) → RetiresNone i
-    → HearsOf v x t asked otherwise turn → Hears v i says turn
-of_child v i says x t asked otherwise turn by same retires hears =
+-- a message of a child is one that asks as its case's ticket, and ends nobody's time
+pub heard_from : (v : CoordinatorValue) (i : Input) (d : Case) (says : Option Case → CoreTurn) (turn : Turn)
+    → asked_by i ≡ asked_of d → RetiresNone i → HearsFrom v d says turn → Hears v i says turn
+heard_from v i d says turn by retires hears =
     record {
       found = hears.found;
       finds = subst (λ child. Finds (state v) child hears.found) (sym by) hears.finds;
-      is = same hears.found ∙ hears.is;
+      is = hears.is;
       may = hears.may i retires;
     }
 
-module _ (v : CoordinatorValue) (n : ℕ) (x : Txn) (t : Ticket) (turn : Turn) where
-  voted : (w : Vote) (m : Message) → asked_by (MessageInput n m) ≡ Some (x, t)
-      → ((found : Option Case) → child_says (state v) found m ≡ met_by_child v (AskedVote t w) Nothing found)
-      → RetiresNone (MessageInput n m)
-      → HearsOf v x t (AskedVote t w) Nothing turn
-      → Hears v (MessageInput n m) (λ found. child_says (state v) found m) turn
-  voted w m by same retires hears = of_child v (MessageInput n m) (λ found. child_says (state v) found m) x t
-      (AskedVote t w) Nothing turn by same retires hears
+module _ (v : CoordinatorValue) (d : Case) where
+  -- a case without a ticket is no child's
+  pub no_ticket : (says : Ticket → Option Case → CoreTurn) → d.ticket ≡ None
+      → HearsFrom v d (λ found. child_turn d (λ t. says t found)) Nothing
+  no_ticket says none =
+      record { found = None; finds = rw none refl; is = rw none refl; may = λ i retires. tt }
 
-  pub hears_yes : HearsOf v x t (AskedVote t VoteYes) Nothing turn
-      → Hears v (MessageInput n (Yes (child_case x t)))
-      (λ found. child_says (state v) found (Yes (child_case x t))) turn
-  hears_yes = voted VoteYes (Yes (child_case x t)) refl same (λ d u. refl)
-    where
-      same : (found : Option Case) → child_says (state v) found (Yes (child_case x t))
-          ≡ met_by_child v (AskedVote t VoteYes) Nothing found
-      same None = refl
-      same (Some c) = refl
+  -- what a ticket asks of the case that was found for it
+  pub by_ticket : (turn : Turn) (t : Ticket) (asked : Asked) (otherwise : Turn)
+      (says : Ticket → Option Case → CoreTurn)
+      → d.ticket ≡ Some t → ((found : Option Case) → says t found ≡ met_by_child v asked otherwise found)
+      → HearsOf v d.txn t asked otherwise turn → HearsFrom v d (λ found. child_turn d (λ t. says t found)) turn
+  by_ticket turn t asked otherwise says is same hears =
+      record {
+        found = hears.found;
+        finds = rw is hears.finds;
+        is = rw is (same hears.found ∙ hears.is);
+        may = hears.may;
+      }
 
-  pub hears_no : HearsOf v x t (AskedVote t VoteNo) Nothing turn
-      → Hears v (MessageInput n (No (child_case x t)))
-      (λ found. child_says (state v) found (No (child_case x t))) turn
-  hears_no = voted VoteNo (No (child_case x t)) refl same (λ d u. refl)
-    where
-      same : (found : Option Case) → child_says (state v) found (No (child_case x t))
-          ≡ met_by_child v (AskedVote t VoteNo) Nothing found
-      same None = refl
-      same (Some c) = refl
+-- what is met by each kind of message
+module _ (v : CoordinatorValue) where
+  pub votes : (t : Ticket) (w : Vote) (found : Option Case)
+      → vote_turn (state v) w t found ≡ met_by_child v (AskedVote t w) Nothing found
+  votes t w None = refl
+  votes t w (Some c) = refl
 
-  pub hears_read : HearsOf v x t (AskedVote t VoteRead) Nothing turn
-      → Hears v (MessageInput n (Read (child_case x t)))
-      (λ found. child_says (state v) found (Read (child_case x t))) turn
-  hears_read = voted VoteRead (Read (child_case x t)) refl same (λ d u. refl)
-    where
-      same : (found : Option Case) → child_says (state v) found (Read (child_case x t))
-          ≡ met_by_child v (AskedVote t VoteRead) Nothing found
-      same None = refl
-      same (Some c) = refl
+  pub acknowledges : (t : Ticket) (o : Outcome) (found : Option Case)
+      → ack_turn (state v) o t found ≡ met_by_child v (AskedAck t o) Nothing found
+  acknowledges t o None = refl
+  acknowledges t o (Some c) = refl
 
-  pub hears_ack : (o : Outcome) → HearsOf v x t (AskedAck t o) Nothing turn
-      → Hears v (MessageInput n (Ack (child_case x t) o))
-      (λ found. child_says (state v) found (Ack (child_case x t) o)) turn
-  hears_ack o = of_child v (MessageInput n (Ack (child_case x t) o)) (λ found. child_says (state v) found
-      (Ack (child_case x t) o)) x t (AskedAck t o) Nothing turn refl same (λ d u. refl)
-    where
-      same : (found : Option Case) → child_says (state v) found (Ack (child_case x t) o)
-          ≡ met_by_child v (AskedAck t o) Nothing found
-      same None = refl
-      same (Some c) = refl
-
-  pub hears_inquiry : HearsOf v x t (AskedInquire t) (Presumes x t) turn
-      → Hears v (MessageInput n (Inquire (child_case x t)))
-      (λ found. child_says (state v) found (Inquire (child_case x t))) turn
-  hears_inquiry = of_child v (MessageInput n (Inquire (child_case x t))) (λ found. child_says (state v) found
-      (Inquire (child_case x t))) x t (AskedInquire t) (Presumes x t) turn refl same (λ d u. refl)
-    where
-      same : (found : Option Case) → child_says (state v) found (Inquire (child_case x t))
-          ≡ met_by_child v (AskedInquire t) (Presumes x t) found
-      same None = refl
-      same (Some c) = refl
+  pub inquires : (x : Txn) (t : Ticket) (found : Option Case)
+      → inquiry_turn (state v) x t found ≡ met_by_child v (AskedInquire t) (Presumes x t) found
+  inquires x t None = refl
+  inquires x t (Some c) = refl
 
 -- Any input.
 

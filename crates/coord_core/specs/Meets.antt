@@ -15,7 +15,7 @@ use Rattle.tree_model.specs.Names.{child_case, presumed, same_case, same_txn}
 use Rattle.tree_model.specs.Nodes.{DataAnswer, ReadsOnly}
 use Rattle.tree_model.specs.CoordinatorRows.{Row, post, tells_outcome}
 use Rattle.live_table.specs.Tables.{AreApart, live_value}
-use Rattle.core_model.specs.Turns.{Turn as CoreTurn, Refuses as RefusesTurn, Begins as BeginsTurn, Issues as IssuesTurn, Takes as TakesTurn, Says as SaysTurn, Finds, asked_by, coordinator_act, next_begun, next_ticket, seat_in, turn_of}
+use Rattle.core_model.specs.Turns.{Turn as CoreTurn, Refuses as RefusesTurn, Begins as BeginsTurn, Issues as IssuesTurn, Takes as TakesTurn, Says as SaysTurn, Finds, asked_by, asked_of, coordinator_act, next_begun, next_ticket, seat_in, turn_of}
 use Rattle.core_model.specs.Makes.{retires}
 use Rattle.coord_table.specs.Cases.{FitsGiven, Slots, has_child, ticket_in, view_in}
 use Rattle.coord_table.specs.declared.asked.Asked.{Asked}
@@ -117,6 +117,14 @@ pub record HearsOf (v : CoordinatorValue) (x : Txn) (t : Ticket) (asked : Asked)
   pub found : Option Case
   pub finds : Finds (state v) (Some (x, t)) found
   pub is : met_by_child v asked otherwise found ≡ meant v turn
+  pub may : (i : Input) → RetiresNone i → May v i turn
+
+-- the turn is the one that is met by a message of a child, which says this for the case that was found for it
+pub record HearsFrom (v : CoordinatorValue) (d : Case) (says : Option Case → CoreTurn)
+    (turn : Turn) : Type 0 where
+  pub found : Option Case
+  pub finds : Finds (state v) (asked_of d) found
+  pub is : says found ≡ meant v turn
   pub may : (i : Input) → RetiresNone i → May v i turn
 
 -- what was found of a child: no live case of the transaction has it; or the key and the case that has it

@@ -3,17 +3,17 @@
 ghost use Rattle.std.specs.Prelude.{◌≡◌, false, true};
 ghost use Rattle.tree_model.specs.declared.events.Input.{Input as AnyInput};
 ghost use Rattle.tree_model.specs.declared.events.Input.TheVariants as input;
-ghost use Rattle.core_model.specs.Turns.{Takes, cascaded_turn, child_says, joined_turn, message_turn};
+ghost use Rattle.core_model.specs.Turns.{Takes, ack_turn, cascaded_turn, child_says, child_turn, inquiry_turn, joined_turn, message_turn, vote_turn};
 ghost use Rattle.coord_table.specs.Cases.{ticket_in};
 ghost use Rattle.coord_table.specs.Asks.{is_for_any};
-ghost use Rattle.coord_core.specs.Meets.{Hears, HearsOf, May, RetiresAs, is_of_child, meant, met, no_data};
+ghost use Rattle.coord_core.specs.Meets.{Hears, HearsFrom, HearsOf, May, RetiresAs, is_of_child, meant, met, no_data};
 ghost use Rattle.coord_core.specs.States.{place_of, state};
 
 use crate::coordinator::Coordinator;
 use crate::turn::Turn;
 use coord_table::Asked;
 use log_store::LogStore;
-use tree_model::{Case, Message, ProcessId, Ticket, Txn, Vote};
+use tree_model::{Case, Message, Outcome, ProcessId, Ticket, Txn, Vote};
 
 impl<L: LogStore> Coordinator<L> {
     /// Which turn a message meets. One that is not for this coordinator, or comes where nothing waits for
@@ -77,51 +77,55 @@ impl<L: LogStore> Coordinator<L> {
     {
         match message {
             Message::Joined(case, ticket) => self.hear_case(*case, Asked::Joined(*ticket)),
-            Message::Yes(
-                Case {
-                    txn,
-                    ticket: Some(ticket),
-                },
-            ) => self.hear_of(
-                *txn,
-                *ticket,
-                Asked::Vote(*ticket, Vote::Yes),
-                Turn::Nothing,
-            ),
-            Message::No(
-                Case {
-                    txn,
-                    ticket: Some(ticket),
-                },
-            ) => self.hear_of(*txn, *ticket, Asked::Vote(*ticket, Vote::No), Turn::Nothing),
-            Message::Read(
-                Case {
-                    txn,
-                    ticket: Some(ticket),
-                },
-            ) => self.hear_of(
-                *txn,
-                *ticket,
-                Asked::Vote(*ticket, Vote::Read),
-                Turn::Nothing,
-            ),
-            Message::Ack(
-                Case {
-                    txn,
-                    ticket: Some(ticket),
-                },
-                outcome,
-            ) => self.hear_of(*txn, *ticket, Asked::Ack(*ticket, *outcome), Turn::Nothing),
-            Message::Inquire(
-                Case {
-                    txn,
-                    ticket: Some(ticket),
-                },
-            ) => {
-                let presumes = Turn::Presumes(*txn, *ticket);
-                self.hear_of(*txn, *ticket, Asked::Inquire(*ticket), presumes)
-            }
+            Message::Yes(case) => self.hear_vote(*case, Vote::Yes),
+            Message::No(case) => self.hear_vote(*case, Vote::No),
+            Message::Read(case) => self.hear_vote(*case, Vote::Read),
+            Message::Ack(case, outcome) => self.hear_ack(*case, *outcome),
+            Message::Inquire(case) => self.hear_inquiry(*case),
             _ => Turn::Nothing,
+        }
+    }
+
+    /// A child's vote.
+    fn hear_vote(&self, case: Case, vote: Vote) -> Turn<'static>
+        requires { self.now.log.sight.failed ≡ false }
+        ensures { HearsFrom self.now case (λ found. child_turn case
+            (λ t. vote_turn (state self.now) vote t found)) result }
+    {
+        match case.ticket {
+            None => Turn::Nothing,
+            Some(ticket) => {
+                self.hear_of(case.txn, ticket, Asked::Vote(ticket, vote), Turn::Nothing)
+            }
+        }
+    }
+
+    /// A child's acknowledgement.
+    fn hear_ack(&self, case: Case, outcome: Outcome) -> Turn<'static>
+        requires { self.now.log.sight.failed ≡ false }
+        ensures { HearsFrom self.now case (λ found. child_turn case
+            (λ t. ack_turn (state self.now) outcome t found)) result }
+    {
+        match case.ticket {
+            None => Turn::Nothing,
+            Some(ticket) => {
+                self.hear_of(case.txn, ticket, Asked::Ack(ticket, outcome), Turn::Nothing)
+            }
+        }
+    }
+
+    /// A child's inquiry; where no live case has its ticket, it gets what is presumed.
+    fn hear_inquiry(&self, case: Case) -> Turn<'static>
+        requires { self.now.log.sight.failed ≡ false }
+        ensures { HearsFrom self.now case (λ found. child_turn case
+            (λ t. inquiry_turn (state self.now) case.txn t found)) result }
+    {
+        match case.ticket {
+            None => Turn::Nothing,
+            Some(ticket) => {
+                let presumes = Turn::Presumes(case.txn, ticket);
+                self.hear_of(case.txn, ticket, Asked::Inquire(ticket), presumes)
+            }
         }
     }
 

@@ -1,6 +1,7 @@
 //! A key store with a log, as an XA manager.
 #![tactic(auto)]
 
+mod finishing;
 mod manager;
 mod resource;
 mod restart;

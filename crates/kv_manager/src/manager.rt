@@ -1,46 +1,37 @@
 //! A key store with a log, as an XA manager.
 
-ghost use Rattle.std.specs.Prelude.{◌≡◌, ◌<◌, ◌≤◌, ◌+◌, ◌^◌, ◌∷◌, [], length, false, true, IfOk, IfErr, OnOk, OnErr, Err, Some, None};
+ghost use Rattle.std.specs.Prelude.{◌≡◌, ◌<◌, ◌+◌, [], length, false, true, IfOk, IfErr, OnOk, OnErr, Err, Some, None};
 ghost use Rattle.key_tables.specs.declared.holders.Mode.TheVariants as mode;
 ghost use Rattle.kv_core.specs.Stores.{MovesTables, state_of};
 ghost use Rattle.kv_core.specs.Works.{Reads, Writes, work_refusal};
-ghost use Rattle.kv_core.specs.Ends.{IsDue, known_of};
+ghost use Rattle.kv_core.specs.Ends.{known_of};
 ghost use Rattle.xa_heur.specs.Decisions.{decision_at};
-ghost use Rattle.manager_model.specs.Deciding.{Decides, NotDecided};
 ghost use Rattle.xa_assoc.specs.Answers.{Answers, Closes, Opens, Recovers, Wanted, map_ok};
 ghost use Rattle.xa_assoc.specs.Ready.{is_work_verb, leaves};
 ghost use Rattle.xa_tables.specs.Calls.{legal};
-ghost use Rattle.kv_manager.specs.Resources.{IsRefusal, is_refusal, sight_of};
-ghost use Rattle.kv_manager.specs.Sights.{IsLogged, SameManager};
+ghost use Rattle.kv_manager.specs.Resources.{sight_of};
+ghost use Rattle.kv_manager.specs.Sights.{SameManager};
 ghost use Rattle.manager_model.specs.Opening.{IsNew};
 ghost use Rattle.std.specs.List.{AllByRecursion};
 ghost use Rattle.log_rules.specs.sound.Sound.{IsSound};
-ghost use Rattle.log_text.specs.Made.{frame_record};
-ghost use Rattle.log_text.specs.Payloads.{record_text};
-ghost use Rattle.rec_log.specs.Sights.{IsRecord, ReadsAs, left_by, records_of, whole_within};
+ghost use Rattle.rec_log.specs.Sights.{ReadsAs, left_by, records_of, whole_within};
 ghost use Rattle.tree_model.specs.declared.names.Kind.TheVariants as kind;
-ghost use Rattle.kv_store.specs.writes.Writes.{writes_of};
-ghost use Rattle.kv_turns.specs.Turns.{applies, entry_record};
 ghost use Rattle.kv_manager.specs.Restarts.{IsReady, LeavesNone, NotRestarted, NotRestored, Restarted, RestoredFrom, StartsOver};
-ghost use Rattle.kv_manager.specs.Turns.{Calls, Finishes, HasWrites, IsDueTurn, OnlyRoom, Refuses, Takes};
+ghost use Rattle.kv_manager.specs.Turns.{Calls, Refuses};
 
 use crate::restart::{Ready, RestartError, ready_for, restart_log, started};
-use core_log::write;
 use kv_core::KeyStore;
-use kv_turns::{Entry, Turn};
 use log_store::LogStore;
-use log_text::Frame;
-use manager_model::DecideError;
 use rec_log::{OpenError, RecLog};
 use std::alloc::{AllocError, Global};
 use std::marker::Model;
 use std::mem;
 use thiserror::Error;
-use tree_model::{Bytes, Kind, LogRecord, Outcome};
+use tree_model::{Bytes, Kind, LogRecord};
 use xa_assoc::WorkError;
 use xa_codes::{Code, Flags};
 use xa_heur::Decision;
-use xa_tables::{BranchState, Call, Verb};
+use xa_tables::{BranchState, Verb};
 use xa_xid::Xid;
 
 /// Why no manager is restored from a store.
@@ -60,7 +51,7 @@ pub struct KvManager<L: LogStore> {
     pub(crate) alloc: Global,
     pub(crate) log: RecLog<L>,
     boot: u64,
-    store: KeyStore,
+    pub(crate) store: KeyStore,
 }
 
 impl<L: LogStore> Model for KvManager<L> {
@@ -71,18 +62,6 @@ impl<L: LogStore> Model for KvManager<L> {
     ghost view = { λ m. record { store = m.store; log = m.log; boot = m.boot } };
 
     ghost invariant = { λ m. IsKept (record { store = m.store; log = m.log; boot = m.boot }) };
-}
-
-/// Whether a branch took the turn of a decision, by what the turn answered.
-fn decided(answer: Code) -> Result<(), DecideError>
-    ensures ok { OnOk result (is_refusal answer ≡ false) }
-    ensures err { IfErr result (IsRefusal answer) }
-{
-    match answer {
-        Code::RmFail => Err(DecideError::Device),
-        Code::RmErr => Err(DecideError::Memory),
-        _ => Ok(()),
-    }
 }
 
 impl<L: LogStore> KvManager<L> {
@@ -266,159 +245,6 @@ impl<L: LogStore> KvManager<L> {
             return Ok(Err(Code::RmFail));
         }
         self.store.recover(thread, count, flags)
-    }
-
-    /// The record of a branch, with room for it in the log: all the memory that the log needs.
-    fn frame(&mut self, xid: &Xid, entry: Entry) -> Result<Frame, AllocError>
-        requires { HasWrites entry (writes_of self.old.store.writes xid.now) }
-        ensures record { IfOk result (λ frame. frame_record frame ≡ entry_record entry xid.now
-            (writes_of self.old.store.writes xid.now)) }
-        ensures room { IfOk result (λ frame. length (record_text (frame_record frame)) ≤ self.new.log.room) }
-        ensures sound { IfOk result (λ frame. IsRecord kind.Manager (frame_record frame)) }
-        ensures stays { OnlyRoom self.old self.new }
-    {
-        let frame = entry.frame(xid, self.store.writes(xid), self.alloc)?;
-        self.log.reserve(frame.bytes().len())?;
-        Ok(frame)
-    }
-
-    /// A branch takes a turn whose record leaves the data as they are.
-    fn take_noted(
-        &mut self,
-        xid: &Xid,
-        call: Call,
-        turn: Turn,
-        entry: Entry,
-    ) -> Result<Code, AllocError>
-        requires due { IsDueTurn self.old xid.now call turn }
-        requires entry { turn.entry ≡ Some entry }
-        requires data { applies entry ≡ false }
-        ensures answer { IfOk result (Takes self.old self.new xid.now turn) }
-        ensures err { OnErr result (SameManager self.old self.new) }
-    {
-        let frame = self.frame(xid, entry)?;
-        match write(&mut self.log, &frame, turn.is_forced) {
-            Ok(()) => {
-                self.store.finish(xid, call, turn);
-                Ok(turn.code)
-            }
-            Err(_) => Ok(Code::RmFail),
-        }
-    }
-
-    /// A branch takes a turn that makes its writes data. They are staged before the record is written, and
-    /// published behind it.
-    fn take_committed(
-        &mut self,
-        xid: &Xid,
-        call: Call,
-        turn: Turn,
-        entry: Entry,
-    ) -> Result<Code, AllocError>
-        requires due { IsDueTurn self.old xid.now call turn }
-        requires entry { turn.entry ≡ Some entry }
-        requires data { applies entry ≡ true }
-        requires fits { self.old.store.versions.count + 1 < 2 ^ 63 }
-        ensures answer { IfOk result (Takes self.old self.new xid.now turn) }
-        ensures err { OnErr result (SameManager self.old self.new) }
-    {
-        let frame = self.frame(xid, entry)?;
-        self.store.stage(xid)?;
-        match write(&mut self.log, &frame, turn.is_forced) {
-            Ok(()) => {
-                self.store.publish();
-                self.store.finish(xid, call, turn);
-                Ok(turn.code)
-            }
-            Err(_) => Ok(Code::RmFail),
-        }
-    }
-
-    /// A branch takes the turn of a call that no check refuses, or of an operator's decision.
-    fn take(&mut self, xid: &Xid, call: Call, turn: Turn) -> Result<Code, AllocError>
-        requires due { IsDueTurn self.old xid.now call turn }
-        ensures answer { IfOk result (Takes self.old self.new xid.now turn) }
-        ensures err { OnErr result (SameManager self.old self.new) }
-    {
-        match turn.entry {
-            None => {
-                self.store.finish(xid, call, turn);
-                Ok(turn.code)
-            }
-            Some(entry) if !entry.applies() => self.take_noted(xid, call, turn, entry),
-            Some(_) if !self.store.has_numbers() => Ok(Code::RmErr),
-            Some(entry) => self.take_committed(xid, call, turn, entry),
-        }
-    }
-
-    /// A prepare, commit, rollback or forget.
-    fn finish(&mut self, verb: Verb, xid: &Xid, flags: Flags) -> Result<Code, AllocError>
-        requires { is_work_verb verb ≡ false }
-        ensures answer { IfOk result (Finishes self.old self.new verb xid.now flags.0) }
-        ensures err { OnErr result (SameManager self.old self.new) }
-    {
-        if self.has_failed() {
-            return Ok(Code::RmFail);
-        }
-        match self.store.due(verb, xid, flags) {
-            Ok((call, turn)) => self.take(xid, call, turn),
-            Err(refusal) => Ok(refusal),
-        }
-    }
-
-    /// A branch promises, with what it has written; one that wrote nothing is ended. RmFail: the manager has
-    /// failed, or its device fails now. Inval, Async: the flags. Proto: it is not open. Inval: the null XID.
-    /// NotA: the branch is not known. Proto: a thread is in it, or its state has no such row. All but a failure
-    /// now change nothing, nor does want of memory. The thread is not looked at.
-    pub fn prepare(&mut self, _thread: u32, xid: &Xid, flags: Flags) -> Result<Code, AllocError>
-        ensures answer { IfOk result (Finishes self.old self.new Verb.Prepare xid.now flags.0) }
-        ensures err { OnErr result (SameManager self.old self.new) }
-    {
-        self.finish(Verb::Prepare, xid, flags)
-    }
-
-    /// A prepared branch commits, or with TMONEPHASE one that is not prepared. One that an operator decided
-    /// answers by the decision, and the first outcome that it is told is noted. The refusals are
-    /// those of `prepare`; RmErr: 2^63 - 1 commits are counted, and nothing changed.
-    pub fn commit(&mut self, _thread: u32, xid: &Xid, flags: Flags) -> Result<Code, AllocError>
-        ensures answer { IfOk result (Finishes self.old self.new Verb.Commit xid.now flags.0) }
-        ensures err { OnErr result (SameManager self.old self.new) }
-    {
-        self.finish(Verb::Commit, xid, flags)
-    }
-
-    /// A branch rolls back; one that an operator decided as at `commit`. The refusals are those of `prepare`.
-    pub fn rollback(&mut self, _thread: u32, xid: &Xid, flags: Flags) -> Result<Code, AllocError>
-        ensures answer { IfOk result (Finishes self.old self.new Verb.Rollback xid.now flags.0) }
-        ensures err { OnErr result (SameManager self.old self.new) }
-    {
-        self.finish(Verb::Rollback, xid, flags)
-    }
-
-    /// An operator's decision about a branch is forgotten. The refusals are those of `prepare`.
-    pub fn forget(&mut self, _thread: u32, xid: &Xid, flags: Flags) -> Result<Code, AllocError>
-        ensures answer { IfOk result (Finishes self.old self.new Verb.Forget xid.now flags.0) }
-        ensures err { OnErr result (SameManager self.old self.new) }
-    {
-        self.finish(Verb::Forget, xid, flags)
-    }
-
-    /// An operator decides a prepared branch, without its parent: the decision is forced, and stands until
-    /// it is forgotten. The manager need not be open. Failed, then NotInDoubt: nothing changed. Memory:
-    /// nothing changed, also where no commit more can be counted. Device: it fails now.
-    pub fn decide(&mut self, xid: &Xid, outcome: Outcome) -> Result<(), DecideError>
-        ensures ok { OnOk result (Decides (sight_of self.old) (sight_of self.new) xid.now outcome) }
-        ensures err { IfErr result (NotDecided (sight_of self.old) (sight_of self.new) xid.now outcome) }
-    {
-        if self.has_failed() {
-            return Err(DecideError::Failed);
-        }
-        if self.state(xid) != BranchState::S3 {
-            return Err(DecideError::NotInDoubt);
-        }
-        self.store.reserve_decision()?;
-        let answer = self.take(xid, Call::Commit, Turn::decide(outcome))?;
-        decided(answer)
     }
 
     /// A thread begins work in a branch, joins it, or takes it up again. RmFail: the manager has failed. The

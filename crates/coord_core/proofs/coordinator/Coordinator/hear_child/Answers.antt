@@ -1,15 +1,12 @@
-use Rattle.std.proofs.Common.{rules, ◌≡◌, subst, sym}
+use Rattle.std.proofs.Common.{rules, ◌≡◌, subst, sym, refl}
 use Rattle.tree_model.specs.declared.messages.Message.{Message}
 use Rattle.tree_model.specs.declared.messages.Message.TheVariants.{Joined, Yes, No, Read, Ack, Inquire}
 use Rattle.tree_model.specs.declared.events.Input.TheVariants.{Message as MessageInput}
-use Rattle.tree_model.specs.Names.{child_case}
-use Rattle.core_model.specs.Turns.{child_says}
 use Rattle.tree_model.specs.declared.standings.Vote.TheVariants.{Yes as VoteYes, No as VoteNo, Read as VoteRead}
-use Rattle.coord_table.specs.declared.asked.Asked.TheVariants.{Vote as AskedVote, Ack as AskedAck, Inquire as AskedInquire}
-use Rattle.coord_core.specs.declared.turn.Turn.TheVariants.{Nothing, Presumes}
+use Rattle.core_model.specs.Turns.{ack_turn, child_says, child_turn, inquiry_turn, vote_turn}
 use Rattle.coord_core.specs.States.{state}
-use Rattle.coord_core.specs.Meets.{Hears, HearsOf}
-use Rattle.coord_core.proofs.Heard.{hears_ack, hears_inquiry, hears_joined, hears_no, hears_read, hears_yes}
+use Rattle.coord_core.specs.Meets.{Hears, HearsFrom}
+use Rattle.coord_core.proofs.Heard.{heard_from, hears_joined}
 use Rattle.coord_core.proofs.coordinator.Coordinator.hear_child.Goals as goal
 
 pub returns-in-Joined : goal.returns-in-Joined
@@ -20,55 +17,52 @@ returns-in-Joined g c =
     (hears_joined c.args.self.now c.args.number c.in-Joined.case c.in-Joined.ticket c.hear_case.result
     c.hear_case.ensures.is c.hear_case.ensures.may)
 
-pub returns-in-Yes-Some : goal.returns-in-Yes-Some
-returns-in-Yes-Some g c =
-    let is : c.args.message.now ≡ Yes (child_case c.in-Yes-Some.txn c.in-Yes-Some.ticket) = search rules in
-    let hears : HearsOf c.args.self.now c.in-Yes-Some.txn c.in-Yes-Some.ticket
-    (AskedVote c.in-Yes-Some.ticket VoteYes) Nothing c.hear_of.result = search rules in
+pub returns-in-Yes : goal.returns-in-Yes
+returns-in-Yes g c =
+    let is : c.args.message.now ≡ Yes c.in-Yes.case = search rules in
+    let hears : HearsFrom c.args.self.now c.in-Yes.case (λ found. child_turn c.in-Yes.case
+    (λ t. vote_turn (state c.args.self.now) VoteYes t found)) c.hear_vote.result = search rules in
     subst (λ (m : Message). Hears c.args.self.now (MessageInput c.args.number m)
-    (λ found. child_says (state c.args.self.now) found m) c.hear_of.result) (sym is)
-    (hears_yes c.args.self.now c.args.number c.in-Yes-Some.txn c.in-Yes-Some.ticket c.hear_of.result hears)
+    (λ found. child_says (state c.args.self.now) found m) c.hear_vote.result) (sym is)
+    (heard_from c.args.self.now (MessageInput c.args.number (Yes c.in-Yes.case)) c.in-Yes.case
+    (λ found. child_says (state c.args.self.now) found (Yes c.in-Yes.case)) c.hear_vote.result refl (λ d u. refl) hears)
 
-pub returns-in-No-Some : goal.returns-in-No-Some
-returns-in-No-Some g c =
-    let is : c.args.message.now ≡ No (child_case c.in-No-Some.txn c.in-No-Some.ticket) = search rules in
-    let hears : HearsOf c.args.self.now c.in-No-Some.txn c.in-No-Some.ticket
-    (AskedVote c.in-No-Some.ticket VoteNo) Nothing c.hear_of-in-No-Some.result = search rules in
+pub returns-in-No : goal.returns-in-No
+returns-in-No g c =
+    let is : c.args.message.now ≡ No c.in-No.case = search rules in
+    let hears : HearsFrom c.args.self.now c.in-No.case (λ found. child_turn c.in-No.case
+    (λ t. vote_turn (state c.args.self.now) VoteNo t found)) c.hear_vote-in-No.result = search rules in
     subst (λ (m : Message). Hears c.args.self.now (MessageInput c.args.number m)
-    (λ found. child_says (state c.args.self.now) found m) c.hear_of-in-No-Some.result) (sym is)
-    (hears_no c.args.self.now c.args.number c.in-No-Some.txn c.in-No-Some.ticket
-    c.hear_of-in-No-Some.result hears)
+    (λ found. child_says (state c.args.self.now) found m) c.hear_vote-in-No.result) (sym is)
+    (heard_from c.args.self.now (MessageInput c.args.number (No c.in-No.case)) c.in-No.case
+    (λ found. child_says (state c.args.self.now) found (No c.in-No.case)) c.hear_vote-in-No.result refl (λ d u. refl) hears)
 
-pub returns-in-Read-Some : goal.returns-in-Read-Some
-returns-in-Read-Some g c =
-    let is : c.args.message.now ≡ Read (child_case c.in-Read-Some.txn c.in-Read-Some.ticket) = search rules in
-    let hears : HearsOf c.args.self.now c.in-Read-Some.txn c.in-Read-Some.ticket
-    (AskedVote c.in-Read-Some.ticket VoteRead) Nothing c.hear_of-in-Read-Some.result = search rules in
+pub returns-in-Read : goal.returns-in-Read
+returns-in-Read g c =
+    let is : c.args.message.now ≡ Read c.in-Read.case = search rules in
+    let hears : HearsFrom c.args.self.now c.in-Read.case (λ found. child_turn c.in-Read.case
+    (λ t. vote_turn (state c.args.self.now) VoteRead t found)) c.hear_vote-in-Read.result = search rules in
     subst (λ (m : Message). Hears c.args.self.now (MessageInput c.args.number m)
-    (λ found. child_says (state c.args.self.now) found m) c.hear_of-in-Read-Some.result) (sym is)
-    (hears_read c.args.self.now c.args.number c.in-Read-Some.txn c.in-Read-Some.ticket
-    c.hear_of-in-Read-Some.result hears)
+    (λ found. child_says (state c.args.self.now) found m) c.hear_vote-in-Read.result) (sym is)
+    (heard_from c.args.self.now (MessageInput c.args.number (Read c.in-Read.case)) c.in-Read.case
+    (λ found. child_says (state c.args.self.now) found (Read c.in-Read.case)) c.hear_vote-in-Read.result refl (λ d u. refl) hears)
 
-pub returns-in-Ack-Some-default : goal.returns-in-Ack-Some-default
-returns-in-Ack-Some-default g c =
-    let is : c.args.message.now ≡ Ack (child_case c.in-Ack-Some-default.txn c.in-Ack-Some-default.ticket)
-    c.in-Ack-Some-default.outcome = search rules in
-    let hears : HearsOf c.args.self.now c.in-Ack-Some-default.txn c.in-Ack-Some-default.ticket
-    (AskedAck c.in-Ack-Some-default.ticket c.in-Ack-Some-default.outcome) Nothing
-    c.hear_of-in-Ack-Some-default.result = search rules in
+pub returns-in-Ack : goal.returns-in-Ack
+returns-in-Ack g c =
+    let is : c.args.message.now ≡ Ack c.in-Ack.case c.in-Ack.outcome = search rules in
+    let hears : HearsFrom c.args.self.now c.in-Ack.case (λ found. child_turn c.in-Ack.case
+    (λ t. ack_turn (state c.args.self.now) c.in-Ack.outcome t found)) c.hear_ack.result = search rules in
     subst (λ (m : Message). Hears c.args.self.now (MessageInput c.args.number m)
-    (λ found. child_says (state c.args.self.now) found m) c.hear_of-in-Ack-Some-default.result) (sym is)
-    (hears_ack c.args.self.now c.args.number c.in-Ack-Some-default.txn c.in-Ack-Some-default.ticket
-    c.hear_of-in-Ack-Some-default.result c.in-Ack-Some-default.outcome hears)
+    (λ found. child_says (state c.args.self.now) found m) c.hear_ack.result) (sym is)
+    (heard_from c.args.self.now (MessageInput c.args.number (Ack c.in-Ack.case c.in-Ack.outcome)) c.in-Ack.case
+    (λ found. child_says (state c.args.self.now) found (Ack c.in-Ack.case c.in-Ack.outcome)) c.hear_ack.result refl (λ d u. refl) hears)
 
-pub returns-in-Inquire-Some : goal.returns-in-Inquire-Some
-returns-in-Inquire-Some g c =
-    let is : c.args.message.now ≡ Inquire (child_case c.in-Inquire-Some.txn c.in-Inquire-Some.ticket) =
-    search rules in
-    let hears : HearsOf c.args.self.now c.in-Inquire-Some.txn c.in-Inquire-Some.ticket
-    (AskedInquire c.in-Inquire-Some.ticket) (Presumes c.in-Inquire-Some.txn c.in-Inquire-Some.ticket)
-    c.hear_of-in-Inquire-Some.result = search rules in
+pub returns-in-Inquire : goal.returns-in-Inquire
+returns-in-Inquire g c =
+    let is : c.args.message.now ≡ Inquire c.in-Inquire.case = search rules in
+    let hears : HearsFrom c.args.self.now c.in-Inquire.case (λ found. child_turn c.in-Inquire.case
+    (λ t. inquiry_turn (state c.args.self.now) c.in-Inquire.case.txn t found)) c.hear_inquiry.result = search rules in
     subst (λ (m : Message). Hears c.args.self.now (MessageInput c.args.number m)
-    (λ found. child_says (state c.args.self.now) found m) c.hear_of-in-Inquire-Some.result) (sym is)
-    (hears_inquiry c.args.self.now c.args.number c.in-Inquire-Some.txn c.in-Inquire-Some.ticket
-    c.hear_of-in-Inquire-Some.result hears)
+    (λ found. child_says (state c.args.self.now) found m) c.hear_inquiry.result) (sym is)
+    (heard_from c.args.self.now (MessageInput c.args.number (Inquire c.in-Inquire.case)) c.in-Inquire.case
+    (λ found. child_says (state c.args.self.now) found (Inquire c.in-Inquire.case)) c.hear_inquiry.result refl (λ d u. refl) hears)
