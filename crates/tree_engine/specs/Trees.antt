@@ -9,6 +9,7 @@ use Rattle.tree_model.specs.declared.events.Reaction.{Reaction}
 use Rattle.tree_model.specs.declared.names.ProcessId.{ProcessId}
 use Rattle.tree_model.specs.Texts.{reaction_lines}
 use Rattle.tree_model.specs.Errors.{step_error_number}
+use Rattle.tree_model.specs.Outcomes.{Headline}
 use Rattle.tree_model.specs.Trees.{tree_error_number}
 use Rattle.tree_model.specs.World.{Made, World}
 use Rattle.link_script.specs.declared.script.ScriptFault.{ScriptFault}
@@ -21,7 +22,6 @@ use Rattle.report_io.specs.declared.status.Status.{Status}
 use Rattle.report_io.specs.declared.status.Status.TheVariants.{Ended, Refused, Stopped}
 use Rattle.core_law.specs.worlds.Refusals.{IsRunOf, LeadsTo, Refusal, RefusesIn}
 use Rattle.core_law.specs.worlds.Runs.{IsOpened}
-use Rattle.core_law.specs.worlds.Sayings.{Saying}
 use Rattle.core_law.specs.worlds.Ties.{Follows}
 use Rattle.core_law.specs.worlds.Worlds.{WorldState}
 use Rattle.tree_engine.specs.declared.tree.Output.{Output}
@@ -91,10 +91,9 @@ Tells Trace w refusal text = text ≡ trace_of w ++ last_line refusal
 Tells Counts w refusal text = text ≡ (trace_of w ++ last_line refusal) ++ counts_text w
 
 -- The text is that of the run of just these events: they led the tree, opened, to a state that stands for a
--- run of the model, with its journal, its messages and its processes; of this run the saying holds; and the
+-- run of the model, with its journal, its messages and its processes; of this run the headline holds; and the
 -- text tells that state. A refused event is one that the model refuses there by that number.
-pub record RunsOver (Holds : Saying) (output : Output) (tree : List TreeEntry) (events : List Event)
-    (status : Status)
+pub record RunsOver (output : Output) (tree : List TreeEntry) (events : List Event) (status : Status)
     (text : List ℕ) : Type 0 where
   pub refusal : Refusal
   pub start : WorldState
@@ -105,7 +104,7 @@ pub record RunsOver (Holds : Saying) (output : Output) (tree : List TreeEntry) (
   pub world : World
   pub tree_is : end.tree ≡ tree
   pub follows : Follows moves world end
-  pub holds : Holds tree moves world
+  pub headline : Headline tree moves world
   pub refuses : RefusesIn tree world events refusal
   pub status_is : status ≡ ending refusal
   pub tells : Tells output end refusal text
@@ -119,12 +118,11 @@ fault_text Utf8 = codes "error 4" ++ 10 ∷ []
 fault_text TooLong = codes "error 5" ++ 10 ∷ []
 
 -- the text is that of the run of the script that the input is
-pub record RunsScript (Holds : Saying) (output : Output) (status : Status)
-    (input text : List ℕ) : Type 0 where
+pub record RunsScript (output : Output) (status : Status) (input text : List ℕ) : Type 0 where
   pub tree : List TreeEntry
   pub events : List Event
   pub script : IsScript input tree events
-  pub runs : RunsOver Holds output tree events status text
+  pub runs : RunsOver output tree events status text
 
 -- the text is the line of the fault that is there
 pub record RefusesScript (input text : List ℕ) : Type 0 where
@@ -133,7 +131,7 @@ pub record RefusesScript (input text : List ℕ) : Type 0 where
   pub line : text ≡ fault_text fault
 
 -- what is written of an input, by how the run ends
-abbrev pub IsTreeReport : Saying → Output → Status → List ℕ → List ℕ → Type 0
-IsTreeReport Holds output Ended input text = RunsScript Holds output Ended input text
-IsTreeReport Holds output Stopped input text = RunsScript Holds output Stopped input text
-IsTreeReport Holds output Refused input text = RefusesScript input text
+abbrev pub IsTreeReport : Output → Status → List ℕ → List ℕ → Type 0
+IsTreeReport output Ended input text = RunsScript output Ended input text
+IsTreeReport output Stopped input text = RunsScript output Stopped input text
+IsTreeReport output Refused input text = RefusesScript input text

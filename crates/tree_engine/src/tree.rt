@@ -6,7 +6,6 @@ ghost use Rattle.tree_model.specs.Trees.{IsTree};
 ghost use Rattle.report_io.specs.declared.status.Status.{Status as AnyStatus};
 ghost use Rattle.report_io.specs.Streams.{IsInput, WritesFront};
 ghost use Rattle.core_law.specs.worlds.Runs.{IsOpened};
-ghost use Rattle.core_law.specs.worlds.Sayings.{Agrees, AnswersTruly, Consents, IsByOperatorsAlone, IsOne, KeepsHeadline, KeepsMismatches};
 ghost use Rattle.tree_world.specs.Worlds.{state};
 ghost use Rattle.tree_engine.specs.Trees.{IsNumbered, IsTreeReport, Plays, Tells, ending, fault_text};
 
@@ -52,26 +51,11 @@ pub fn run_tree<R: Read, W: Write>(
     writer: &mut W,
 ) -> Result<Status, Failure>
     ensures written { IfOk result (λ status. (input : List ℕ) × (text : List ℕ)
-        × IsInput (R.remaining reader.old) input × IsTreeReport IsOne output status input text
-        × Appends (W.contents writer.old) (W.contents writer.new) text) }
-    ensures agreement { IfOk result (λ status. (input : List ℕ) × (text : List ℕ)
-        × IsInput (R.remaining reader.old) input × IsTreeReport Agrees output status input text
-        × Appends (W.contents writer.old) (W.contents writer.new) text) }
-    ensures commit_rule { IfOk result (λ status. (input : List ℕ) × (text : List ℕ)
-        × IsInput (R.remaining reader.old) input × IsTreeReport Consents output status input text
-        × Appends (W.contents writer.old) (W.contents writer.new) text) }
-    ensures true_answers { IfOk result (λ status. (input : List ℕ) × (text : List ℕ)
-        × IsInput (R.remaining reader.old) input × IsTreeReport AnswersTruly output status input text
-        × Appends (W.contents writer.old) (W.contents writer.new) text) }
-    ensures standing_mismatches { IfOk result (λ status. (input : List ℕ) × (text : List ℕ)
-        × IsInput (R.remaining reader.old) input × IsTreeReport KeepsMismatches output status input text
-        × Appends (W.contents writer.old) (W.contents writer.new) text) }
-    ensures by_operators_alone { IfOk result (λ status. (input : List ℕ) × (text : List ℕ)
-        × IsInput (R.remaining reader.old) input × IsTreeReport IsByOperatorsAlone output status input text
+        × IsInput (R.remaining reader.old) input × IsTreeReport output status input text
         × Appends (W.contents writer.old) (W.contents writer.new) text) }
     ensures cut { IfErr result (λ e. e ≡ Failure.Write → (input : List ℕ)
         × (text : List ℕ) × (status : AnyStatus)
-        × IsInput (R.remaining reader.old) input × IsTreeReport KeepsHeadline output status input text
+        × IsInput (R.remaining reader.old) input × IsTreeReport output status input text
         × WritesFront (W.contents writer.old) (W.contents writer.new) text) }
     ensures unread { IfErr result (λ e. e ≡ Failure.Read
         → Keeps (W.contents writer.old) (W.contents writer.new)) }
@@ -88,7 +72,7 @@ pub fn run_tree<R: Read, W: Write>(
 
 /// The answer to an input.
 fn report(alloc: Global, output: Output, input: &[u8]) -> Result<(Vec<u8>, Status), Failure>
-    ensures report { IfOk result (λ r. IsTreeReport KeepsHeadline output r.1 input.now r.0.items) }
+    ensures report { IfOk result (λ r. IsTreeReport output r.1 input.now r.0.items) }
     ensures memory { IfErr result (λ e. e ≡ Failure.Memory) }
 {
     match read(alloc, input) {

@@ -3,13 +3,12 @@ use Rattle.std.proofs.Common.{refl, sym, subst, ℕ, List, [], ◌++◌, Result,
 use Rattle.tree_model.specs.declared.events.Event.{Event}
 use Rattle.tree_model.specs.declared.events.StepError.{StepError}
 use Rattle.tree_model.specs.declared.trees.TreeEntry.{TreeEntry}
-use Rattle.tree_model.specs.Outcomes.{Headline}
 use Rattle.tree_model.specs.Trees.{IsTree}
 use Rattle.tree_model.specs.World.{Made, World, opened_world}
 use Rattle.core_law.specs.worlds.Worlds.{Applies, Stops, WorldState}
 use Rattle.core_law.specs.worlds.Runs.{IsOpened, Leads, LeadsUntil}
 use Rattle.core_law.specs.worlds.Ties.{FollowsBehindFaults, entered_of}
-use Rattle.core_law.specs.worlds.Sayings.{IsModelledTree, SaidBehindFaults, Saying}
+use Rattle.core_law.specs.worlds.Modelled.{IsModelledTree, KeepsHeadline}
 use Rattle.core_law.proofs.worlds.Events.{GoesOnIn, applied_on, leads_on, leads_until_on, stopped_on}
 use Rattle.core_law.proofs.worlds.Journals.{entered_hides, entered_shows, opened_behind_faults}
 use Rattle.core_law.proofs.worlds.Processes.{as_the_model}
@@ -42,7 +41,7 @@ pub opened_modelled : (tree : List TreeEntry) (s : WorldState) → IsTree tree
     → IsOpened s tree → IsModelledTree s
 opened_modelled tree s is_tree opened = record {
   is_tree = subst IsTree (sym opened.tree_is) is_tree;
-  run = record { moves = []; world = opened_world; follows = opened_behind_faults tree s opened; holds = tt };
+  run = record { moves = []; world = opened_world; follows = opened_behind_faults tree s opened };
 }
 
 pub stays_modelled : (s t : WorldState) → IsModelledTree s → GoesOnFrom s t → IsModelledTree t
@@ -54,18 +53,12 @@ stays_modelled s t m goes =
         moves = g.goes_on_so.later ++ m.run.moves;
         world = g.goes_on_so.world;
         follows = g.goes_on_so.follows;
-        holds = tt;
       };
     }
 
--- what follows from the headline is said of the run
-pub says : (Holds : Saying) (s : WorldState)
-    → ((tree : List TreeEntry) (moves : List Made) (w : World) → Headline tree moves w → Holds tree moves w)
-    → IsModelledTree s → SaidBehindFaults Holds s
-says Holds s less m = record {
-  moves = m.run.moves;
-  world = m.run.world;
-  follows = m.run.follows;
-  holds = less s.tree m.run.moves m.run.world
-      (modelled_behind_faults s m.run.moves m.run.world m.is_tree m.run.follows);
+-- of the run that it stands for the headline holds
+pub keeps_headline : (s : WorldState) → IsModelledTree s → KeepsHeadline s
+keeps_headline s m = record {
+  run = m.run;
+  headline = modelled_behind_faults s m.run.moves m.run.world m.is_tree m.run.follows;
 }

@@ -10,7 +10,7 @@ ghost use Rattle.tree_model.specs.Names.{same_process};
 ghost use Rattle.tree_model.specs.Nodes.{Role, role_by};
 ghost use Rattle.tree_model.specs.Trees.{IsTree};
 ghost use Rattle.core_law.specs.worlds.Runs.{IsOpened};
-ghost use Rattle.core_law.specs.worlds.Sayings.{KeepsHeadline, SaidBehindFaults};
+ghost use Rattle.core_law.specs.worlds.Modelled.{KeepsHeadline};
 ghost use Rattle.tree_world.specs.Openings.{AreOpened, OpenedAs, OpenedAt};
 ghost use Rattle.tree_world.specs.Nodes.{core_of, nodes_at};
 ghost use Rattle.tree_world.specs.Worlds.{state};
@@ -257,7 +257,7 @@ impl<L: LogStore + Drop> World<L> {
     pub fn with_stores(alloc: Global, tree: Tree, stores: Vec<L>) -> Result<World<L>, OpenError>
         requires { IsTree tree }
         ensures opened { IfOk result (λ world. IsOpened (state world) tree) }
-        ensures headline { IfOk result (λ world. SaidBehindFaults KeepsHeadline (state world)) }
+        ensures headline { IfOk result (λ world. KeepsHeadline (state world)) }
     {
         let nodes = opened_over(alloc, tree.entries(), stores)?;
         Ok(World {
@@ -276,7 +276,7 @@ impl World<MemoryStore> {
     pub fn new(alloc: Global, tree: Tree) -> Result<World<MemoryStore>, OpenError>
         requires { IsTree tree }
         ensures opened { IfOk result (λ world. IsOpened (state world) tree) }
-        ensures headline { IfOk result (λ world. SaidBehindFaults KeepsHeadline (state world)) }
+        ensures headline { IfOk result (λ world. KeepsHeadline (state world)) }
     {
         let stores = memory_stores(alloc, tree.entries().len())?;
         World::with_stores(alloc, tree, stores)

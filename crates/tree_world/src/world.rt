@@ -5,7 +5,7 @@ ghost use Rattle.tree_model.specs.World.{Made, World as ModelWorld};
 ghost use Rattle.core_law.specs.worlds.Worlds.{Applies, Stops};
 ghost use Rattle.core_law.specs.worlds.Runs.{Leads, LeadsUntil};
 ghost use Rattle.core_law.specs.worlds.Ties.{FollowsBehindFaults, GoesOnBehindFaults};
-ghost use Rattle.core_law.specs.worlds.Sayings.{Agrees, AnswersTruly, Consents, IsByOperatorsAlone, KeepsMismatches, SaidBehindFaults};
+ghost use Rattle.core_law.specs.worlds.Modelled.{KeepsHeadline};
 ghost use Rattle.short_steps.specs.Shown.{entry_part, shown_part};
 ghost use Rattle.tree_world.specs.Nodes.{SpellsLogBy, live_at, node_in};
 ghost use Rattle.tree_world.specs.Worlds.{logs_at, state};
@@ -26,7 +26,7 @@ pub struct World<L: LogStore> {
 
 impl<L: LogStore> Model for World<L> {
     ghost use Rattle.tree_world.specs.Worlds.{WorldValue, running_state, value_of};
-    ghost use Rattle.core_law.specs.worlds.Sayings.{IsModelledTree};
+    ghost use Rattle.core_law.specs.worlds.Modelled.{IsModelledTree};
 
     ghost Value = { WorldValue L };
 
@@ -115,11 +115,7 @@ impl<L: LogStore> World<L> {
         ensures err { IfErr result (λ e. Stops (state self.old) event.now e (state self.new)) }
         ensures goes_on { (es : List Made) (w : ModelWorld) → FollowsBehindFaults es w (state self.old)
             → GoesOnBehindFaults es w (state self.new) }
-        ensures agreement { SaidBehindFaults Agrees (state self.new) }
-        ensures commit_rule { SaidBehindFaults Consents (state self.new) }
-        ensures true_answers { SaidBehindFaults AnswersTruly (state self.new) }
-        ensures standing_mismatches { SaidBehindFaults KeepsMismatches (state self.new) }
-        ensures by_operators_alone { SaidBehindFaults IsByOperatorsAlone (state self.new) }
+        ensures headline { KeepsHeadline (state self.new) }
     {
         self.running.make(event)
     }
@@ -134,11 +130,7 @@ impl<L: LogStore> World<L> {
         ensures within { IfErr result (λ refusal. refusal.0 < length events.now) }
         ensures goes_on { (es : List Made) (w : ModelWorld) → FollowsBehindFaults es w (state self.old)
             → GoesOnBehindFaults es w (state self.new) }
-        ensures agreement { SaidBehindFaults Agrees (state self.new) }
-        ensures commit_rule { SaidBehindFaults Consents (state self.new) }
-        ensures true_answers { SaidBehindFaults AnswersTruly (state self.new) }
-        ensures standing_mismatches { SaidBehindFaults KeepsMismatches (state self.new) }
-        ensures by_operators_alone { SaidBehindFaults IsByOperatorsAlone (state self.new) }
+        ensures headline { KeepsHeadline (state self.new) }
     {
         self.running.make_all(events)
     }

@@ -1,8 +1,7 @@
 use Rattle.std.proofs.Common.{subst}
 use Rattle.tree_world.specs.Nodes.{nodes_at}
 use Rattle.tree_world.specs.Openings.{AreOpened}
-use Rattle.core_law.specs.worlds.Sayings.{KeepsHeadline}
-use Rattle.tree_world.proofs.Modelled.{opened_modelled, says}
+use Rattle.tree_world.proofs.Modelled.{keeps_headline, opened_modelled}
 use Rattle.tree_world.proofs.OpenNodes.{opened_tree}
 use Rattle.tree_world.proofs.world.World.with_stores.Goals as goal
 
@@ -17,4 +16,4 @@ pub invariant_of-result : goal.invariant_of-result
 invariant_of-result g c = opened_modelled c.args.tree _ c.requires (returns-clause-opened g c)
 
 pub returns-clause-headline : goal.returns-clause-headline
-returns-clause-headline g c = says KeepsHeadline _ (λ tree moves w h. h) (invariant_of-result g c)
+returns-clause-headline g c = keeps_headline _ (invariant_of-result g c)

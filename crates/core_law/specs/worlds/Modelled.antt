@@ -1,0 +1,23 @@
+-- A tree's state that stands for a run of the model, in which devices may have failed.
+use Rattle.std.specs.Prelude.{List}
+use Rattle.tree_model.specs.Outcomes.{Headline}
+use Rattle.tree_model.specs.Trees.{IsTree}
+use Rattle.tree_model.specs.World.{Made, World}
+use Rattle.core_law.specs.worlds.Worlds.{WorldState}
+use Rattle.core_law.specs.worlds.Ties.{FollowsBehindFaults}
+
+-- the state stands for a run in which devices may have failed
+pub record StandsForRun (s : WorldState) : Type 0 where
+  pub moves : List Made
+  pub world : World
+  pub follows : FollowsBehindFaults moves world s
+
+-- it stands for such a run, and of this run the headline holds
+pub record KeepsHeadline (s : WorldState) : Type 0 where
+  pub run : StandsForRun s
+  pub headline : Headline s.tree run.moves run.world
+
+-- the processes are a tree, and its state stands for such a run
+pub record IsModelledTree (s : WorldState) : Type 0 where
+  pub is_tree : IsTree s.tree
+  pub run : StandsForRun s
