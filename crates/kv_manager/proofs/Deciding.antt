@@ -1,6 +1,6 @@
 -- An operator's decision: a turn, for which room was made first.
 use Rattle.std.proofs.Common.{◌≡◌, ◌≢◌, ◌≤◌, ◌<◌, ◌∙◌, Bool, true, false, Option, Some, None, List, [], ◌∷◌, Result, Ok, Err, refl, sym, ap, subst, arith}
-use Rattle.std.specs.Prelude.{Contains, IfErr, OnOk, is_some, unwrap_or}
+use Rattle.std.specs.Prelude.{Contains, IfErr, MatchBool, OnOk, is_some, unwrap_or}
 use Rattle.std.specs.Map.{lookup}
 use Rattle.xa_codes.specs.declared.code.Code.{Code}
 use Rattle.xa_codes.specs.declared.code.Code.TheVariants as code
@@ -18,15 +18,16 @@ use Rattle.xa_heur.specs.Cases.{decision_in, decision_or}
 use Rattle.tree_model.specs.declared.names.Outcome.{Outcome}
 use Rattle.tree_model.specs.declared.names.Outcome.TheVariants.{Aborted, Committed}
 use Rattle.log_text.specs.Parts.{name_in}
-use Rattle.rec_log.specs.Sights.{Breaks}
+use Rattle.rec_log.specs.Sights.{Breaks, LogState}
 use Rattle.core_model.specs.States.{wrote}
 use Rattle.manager_model.specs.Sights.{SameManager}
 use Rattle.manager_model.specs.Ends.{logged_under, state_of as state_of_log}
 use Rattle.manager_model.specs.Deciding.{DecideFails, Decides, NotDecided, decision_writes}
 use Rattle.manager_model.specs.declared.errors.DecideError.{DecideError}
 use Rattle.manager_model.specs.declared.errors.DecideError.TheVariants.{Device, Failed, Memory, NotInDoubt}
-use Rattle.kv_store.specs.Versions.{SameData}
-use Rattle.kv_store.specs.writes.Writes.{writes_of}
+use Rattle.kv_locks.specs.Locks.{Releases}
+use Rattle.kv_store.specs.Versions.{Applies, SameData}
+use Rattle.kv_store.specs.writes.Writes.{Leaves, writes_of}
 use Rattle.kv_turns.specs.declared.entries.Entry.{Entry}
 use Rattle.kv_turns.specs.declared.turns.Turn.{Turn}
 use Rattle.kv_turns.specs.Turns.{decide_turn, entry_record, heur_entry}
@@ -35,7 +36,7 @@ use Rattle.kv_core.specs.Ends.{IsListed, OfOperator, Reserves, known_behind, kno
 use Rattle.kv_manager.specs.Resources.{IsRefusal, is_refusal, sight_of}
 use Rattle.kv_manager.specs.Sights.{KvSight, SameManager as SameKv}
 use Rattle.kv_manager.specs.Turns as kv
-use Rattle.kv_manager.specs.Turns.{Fails as KvFails, IsDueTurn, Makes as KvMakes, Takes as KvTakes}
+use Rattle.kv_manager.specs.Turns.{DecisionFails, Fails as KvFails, IsDueTurn, Makes as KvMakes, Takes as KvTakes, commits, with_record}
 use Rattle.kv_manager.proofs.Resources.{same_sight, same_tables}
 
 -- The turn.
@@ -181,6 +182,102 @@ module _ (old mid new : KvSight) (x : Xid) (o : Outcome) (works : old.log.sight.
   was_not answer (kv.Spent is commits few alike) Memory h = nothing_changed alike
   was_not answer (kv.Spent is commits few alike) Failed h = absurd h
   was_not answer (kv.Spent is commits few alike) NotInDoubt h = absurd h
+
+-- The same of the key store itself.
+
+module _ (old mid new : KvSight) (x : Xid) (o : Outcome) (room : Reserves old.store mid.store)
+    (log : mid.log ≡ old.log) (boot : mid.boot ≡ old.boot) where
+  known_alike : (y : Xid) → decision_in mid.store.decisions y ≡ decision_in old.store.decisions y
+  known_alike y = ap (λ (ds : List (Xid × Decision)). lookup (same y) ds) room.decisions
+
+  versions_by : (o : Outcome) → MatchBool (commits (Some (heur_entry o)))
+      (Applies mid.store.versions new.store.versions (writes_of mid.store.writes x))
+      (new.store.versions ≡ mid.store.versions)
+      → MatchBool (commits (Some (heur_entry o)))
+      (Applies old.store.versions new.store.versions (writes_of old.store.writes x))
+      (new.store.versions ≡ old.store.versions)
+  versions_by Committed applied =
+      subst (λ w. Applies old.store.versions new.store.versions (writes_of w x)) room.writes
+      (subst (λ v. Applies v new.store.versions (writes_of mid.store.writes x)) room.versions applied)
+  versions_by Aborted stay = stay ∙ room.versions
+
+  makes : KvMakes mid new x (decide_turn o) → KvMakes old new x (decide_turn o)
+  makes made = record {
+    tables = subst (λ t. TakesRow t new.store.tables x S5) room.tables made.tables;
+    keeps = (
+      subst (λ w. Leaves w new.store.writes x []) room.writes made.keeps.0,
+      subst (λ k. Releases k new.store.locks x) room.locks made.keeps.1,
+    );
+    versions = versions_by o made.versions;
+    decisions = record {
+      own = made.decisions.own ∙ ap (known_behind (Some (heur_entry o))) (known_alike x);
+      others = λ y apart. made.decisions.others y apart ∙ known_alike y;
+    };
+    log = made.log
+        ∙ ap (λ (l : LogState). with_record l.sight
+        (entry_record (heur_entry o) x (writes_of mid.store.writes x)) true) log
+        ∙ ap (λ w. with_record old.log.sight (entry_record (heur_entry o) x (writes_of w x)) true) room.writes;
+    boot = made.boot ∙ boot;
+  }
+
+  breaks : KvFails mid new x (decide_turn o) → DecisionFails old new x o
+  breaks failed = record {
+    log = subst (λ w. Breaks old.log new.log (entry_record (heur_entry o) x (writes_of w x) ∷ []))
+        room.writes (subst (λ k. Breaks k new.log
+        (entry_record (heur_entry o) x (writes_of mid.store.writes x) ∷ [])) log
+        (subst (λ e. Breaks mid.log new.log (entry_record e x (writes_of mid.store.writes x) ∷ []))
+        (sym (one_entry (heur_entry o) failed.entry failed.writes_it)) failed.log));
+    tables = failed.tables ∙ room.tables;
+    writes = failed.writes ∙ room.writes;
+    locks = failed.locks ∙ room.locks;
+    decisions = λ y. ap (λ t. decision_in t y) failed.decisions ∙ known_alike y;
+    boot = failed.boot ∙ boot;
+  }
+    where
+      one_entry : (e f : Entry) → Some e ≡ Some f → e ≡ f
+      one_entry e f h = cc
+
+  stays : SameKv mid new → SameKv old new
+  stays alike = record {
+    tables = subst (λ t. Same t new.store.tables) room.tables alike.tables;
+    writes = λ y. alike.writes y ∙ ap (λ w. writes_of w y) room.writes;
+    locks = alike.locks ∙ room.locks;
+    versions = subst (λ v. SameData v new.store.versions) room.versions alike.versions;
+    decisions = λ y. alike.decisions y ∙ known_alike y;
+    log = alike.log ∙ ap (λ (l : LogState). l.sight) log;
+    boot = alike.boot ∙ boot;
+  }
+
+  no_code : (o : Outcome) → is_refusal (heur_code o) ≡ false
+  no_code Committed = refl
+  no_code Aborted = refl
+
+  clash : {A : Type 0} → true ≡ false → A
+  clash h = absurd (cc)
+
+  apart_codes : code.RmFail ≡ code.RmErr → ⊥
+  apart_codes h = absurd (cc)
+
+  pub was_taken : (answer : Code) → KvTakes mid new x (decide_turn o) answer → is_refusal answer ≡ false
+      → KvMakes old new x (decide_turn o)
+  was_taken answer (kv.Made is made) h = makes made
+  was_taken answer (kv.Broke is failed) h = clash (ap is_refusal (sym is) ∙ h)
+  was_taken answer (kv.Spent is commits few alike) h = clash (ap is_refusal (sym is) ∙ h)
+
+  pub was_not_taken : (answer : Code) → KvTakes mid new x (decide_turn o) answer
+      → (e : DecideError) → IsRefusal answer e → kv.NotTaken old new x o e
+  was_not_taken answer (kv.Made is made) Device h = clash (ap is_refusal (sym h ∙ is) ∙ no_code o)
+  was_not_taken answer (kv.Made is made) Memory h = clash (ap is_refusal (sym h ∙ is) ∙ no_code o)
+  was_not_taken answer (kv.Made is made) Failed h = absurd h
+  was_not_taken answer (kv.Made is made) NotInDoubt h = absurd h
+  was_not_taken answer (kv.Broke is failed) Device h = breaks failed
+  was_not_taken answer (kv.Broke is failed) Memory h = absurd (apart_codes (sym is ∙ h))
+  was_not_taken answer (kv.Broke is failed) Failed h = absurd h
+  was_not_taken answer (kv.Broke is failed) NotInDoubt h = absurd h
+  was_not_taken answer (kv.Spent is commits few alike) Device h = absurd (apart_codes (sym h ∙ is))
+  was_not_taken answer (kv.Spent is commits few alike) Memory h = stays alike
+  was_not_taken answer (kv.Spent is commits few alike) Failed h = absurd h
+  was_not_taken answer (kv.Spent is commits few alike) NotInDoubt h = absurd h
 
 -- an error, said of in other words
 pub map_err : {A E : Type 0} (P Q : E → Type 0) (r : Result A E)

@@ -7,19 +7,22 @@ use Rattle.xa_tables.specs.declared.call.Verb.{Verb}
 use Rattle.xa_xid.specs.declared.xid.Xid.{Xid}
 use Rattle.xa_branch.specs.Branches.{is_known}
 use Rattle.xa_assoc.specs.Answers.{Takes as TakesRow}
+use Rattle.tree_model.specs.declared.names.Outcome.{Outcome}
 use Rattle.tree_model.specs.declared.records.LogRecord.{LogRecord}
 use Rattle.tree_model.specs.declared.records.Write.{Write}
+use Rattle.manager_model.specs.declared.errors.DecideError.{DecideError}
+use Rattle.manager_model.specs.declared.errors.DecideError.TheVariants.{Device}
 use Rattle.rec_log.specs.Sights.{Breaks, LogSight}
 use Rattle.core_model.specs.States.{wrote}
 use Rattle.kv_store.specs.Versions.{Applies}
 use Rattle.kv_turns.specs.declared.entries.Entry.{Entry}
 use Rattle.kv_turns.specs.declared.entries.Entry.TheVariants.{Prepared, Direct}
 use Rattle.kv_turns.specs.declared.turns.Turn.{Turn}
-use Rattle.kv_turns.specs.Turns.{applies, entry_record}
+use Rattle.kv_turns.specs.Turns.{applies, entry_record, heur_entry}
 use Rattle.kv_store.specs.writes.Writes.{writes_of}
 use Rattle.xa_assoc.specs.declared.errors.WorkError.{WorkError}
 use Rattle.xa_assoc.specs.declared.errors.WorkError.TheVariants.{RmFail}
-use Rattle.xa_heur.specs.Cases.{Notes, decision_in}
+use Rattle.xa_heur.specs.Cases.{Notes, SameDecisions, decision_in}
 use Rattle.kv_core.specs.Stores.{KeySight, has_numbers}
 use Rattle.kv_core.specs.Works.{IsRefused}
 use Rattle.kv_core.specs.Ends.{IsDue, IsListed, IsOff, IsTurn, LetsGo, known_behind, wrote_some}
@@ -73,6 +76,20 @@ pub data Takes (old new : KvSight) (x : Xid) (turn : Turn) (answer : Code) : Typ
   Spent : answer ≡ code.RmErr → commits turn.entry ≡ true → has_numbers old.store ≡ false
       → SameManager old new
       → Takes old new x turn answer
+
+-- the device failed under the record of an operator's decision, and nothing of the key store changed but room
+pub record DecisionFails (old new : KvSight) (x : Xid) (o : Outcome) : Type 0 where
+  pub log : Breaks old.log new.log (entry_record (heur_entry o) x (writes_of old.store.writes x) ∷ [])
+  pub tables : new.store.tables ≡ old.store.tables
+  pub writes : new.store.writes ≡ old.store.writes
+  pub locks : new.store.locks ≡ old.store.locks
+  pub decisions : SameDecisions old.store.decisions new.store.decisions
+  pub boot : new.boot ≡ old.boot
+
+-- an operator's decision was not taken, and what that leaves: nothing changed, or the device failed
+abbrev pub NotTaken : KvSight → KvSight → Xid → Outcome → DecideError → Type 0
+NotTaken old new x o Device = DecisionFails old new x o
+NotTaken old new x o e = SameManager old new
 
 -- what a prepare, commit, rollback or forget answers and does: a failed manager refuses it, then the first
 -- check, and else its turn is taken

@@ -10,8 +10,8 @@ ghost use Rattle.log_text.specs.Payloads.{record_text};
 ghost use Rattle.rec_log.specs.Sights.{IsRecord};
 ghost use Rattle.tree_model.specs.declared.names.Kind.TheVariants as kind;
 ghost use Rattle.kv_store.specs.writes.Writes.{writes_of};
-ghost use Rattle.kv_turns.specs.Turns.{applies, entry_record};
-ghost use Rattle.kv_manager.specs.Turns.{Finishes, HasWrites, IsDueTurn, OnlyRoom, Takes};
+ghost use Rattle.kv_turns.specs.Turns.{applies, decide_turn, entry_record};
+ghost use Rattle.kv_manager.specs.Turns.{Finishes, HasWrites, IsDueTurn, Makes, NotTaken, OnlyRoom, Takes};
 
 use crate::manager::KvManager;
 use core_log::write;
@@ -178,7 +178,9 @@ impl<L: LogStore> KvManager<L> {
     /// nothing changed, also where no commit more can be counted. Device: it fails now.
     pub fn decide(&mut self, xid: &Xid, outcome: Outcome) -> Result<(), DecideError>
         ensures ok { OnOk result (Decides (sight_of self.old) (sight_of self.new) xid.now outcome) }
+        ensures turn { OnOk result (Makes self.old self.new xid.now (decide_turn outcome)) }
         ensures err { IfErr result (NotDecided (sight_of self.old) (sight_of self.new) xid.now outcome) }
+        ensures no_turn { IfErr result (NotTaken self.old self.new xid.now outcome) }
     {
         if self.has_failed() {
             return Err(DecideError::Failed);

@@ -51,6 +51,7 @@ impl<L: LogStore> KvManager<L> {
     pub fn trim(&mut self) -> Result<usize, TrimError>
         ensures ok { IfOk result (Trims (sight_of self.old) (sight_of self.new)) }
         ensures err { IfErr result (NotTrimmed (sight_of self.old) (sight_of self.new)) }
+        ensures store { self.new.store ≡ self.old.store }
     {
         if self.has_failed() {
             return Err(TrimError::Failed);

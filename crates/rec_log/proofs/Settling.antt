@@ -9,7 +9,9 @@ use Rattle.log_rules.specs.order.Orders.{nothing_seen}
 use Rattle.log_rules.specs.order.Logs.{LogReading, Whole, Damaged, read_frames, read_log}
 use Rattle.rec_log.specs.Texts.{is_whole, records_in, whole_size}
 use Rattle.rec_log.specs.Sights.{body, bytes_behind, front, kept_of, log_state}
-use Rattle.rec_log.specs.Openings.{Ends, IsFound, Opens, Settles, StaysForced}
+use Rattle.rec_log.specs.Openings.{Ends, IsFound, IsRefused, NotOpened, Opens, Settles, StaysForced}
+use Rattle.rec_log.specs.declared.opening.OpenError.{OpenError}
+use Rattle.rec_log.specs.declared.opening.OpenError.TheVariants.{Memory, Device, Damaged as DamagedError}
 use Rattle.rec_log.specs.declared.opening.Found.TheVariants.{Empty, Sound}
 use Rattle.rec_log.proofs.Frames.{no_records, nothing_whole}
 use Rattle.rec_log.proofs.Turns.{all_front, drop_all, records_stand}
@@ -127,3 +129,14 @@ opens p bytes text before failures forced failures' room s = record {
   works = refl;
   failures_stay = s.failures_stay;
 }
+
+-- A text that was not put in place.
+
+module _ {S : Type 0} (bytes : S → List ℕ) (forced failures : S → ℕ) (p : Kind) (old new : S)
+    (text : List ℕ) where
+  pub not_opened : Settles p (bytes old) (forced old) (failures old) text (length text) (failures old)
+      → (e : OpenError) → IsRefused bytes forced failures old new text e
+      → NotOpened bytes forced failures p old new e
+  not_opened settles Memory same = same
+  not_opened settles Device breaks = record { text = text; settles = settles; breaks = breaks }
+  not_opened settles (DamagedError place) h = absurd h

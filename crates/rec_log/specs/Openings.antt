@@ -2,7 +2,7 @@
 use Rattle.std.specs.Prelude.{◌≡◌, ◌<◌, ◌≤◌, ◌⊎◌, ⊤, ℕ, true, false, Option, Some, None, List, [], ◌++◌, length, take, drop}
 use Rattle.tree_model.specs.declared.names.Kind.{Kind}
 use Rattle.tree_model.specs.declared.records.LogRecord.{LogRecord}
-use Rattle.log_store.specs.Stores.{SameStore}
+use Rattle.log_store.specs.Stores.{ReplaceBreaks, SameStore}
 use Rattle.log_rules.specs.order.Logs.{Whole, Damaged, read_frames, read_log}
 use Rattle.log_rules.specs.order.Orders.{SeenLog, after, nothing_seen}
 use Rattle.rec_log.specs.Texts.{is_whole, records_in}
@@ -62,19 +62,6 @@ pub record Opens (p : Kind) (bytes : List ℕ) (forced failures : ℕ) (log : Lo
   pub works : log.sight.failed ≡ false
   pub failures_stay : log.sight.failures ≡ failures
 
--- why no log is opened, and what store is handed back
-abbrev pub NotOpened : {S : Type 0} → (S → List ℕ) → (S → ℕ) → (S → ℕ) → Kind → S → S → OpenError → Type 0
-NotOpened bytes forced failures p old new Memory = SameStore bytes forced failures old new
-NotOpened bytes forced failures p old new Device = failures old < failures new
-NotOpened bytes forced failures p old new (DamagedError place) =
-    (new ≡ old) × (read_log p (bytes old) ≡ Damaged place)
-
--- a text was not put in place
-abbrev pub IsRefused : {S : Type 0} → (S → List ℕ) → (S → ℕ) → (S → ℕ) → S → S → OpenError → Type 0
-IsRefused bytes forced failures old new Memory = SameStore bytes forced failures old new
-IsRefused bytes forced failures old new Device = failures old < failures new
-IsRefused bytes forced failures old new (DamagedError place) = ⊥
-
 -- a text of the records that these bytes are, whole, with its header forced: the bytes as they were, or a
 -- text that is all forced
 pub record Settles (p : Kind) (bytes : List ℕ) (forced failures : ℕ) (text : List ℕ)
@@ -86,3 +73,24 @@ pub record Settles (p : Kind) (bytes : List ℕ) (forced failures : ℕ) (text :
   pub torn : ℕ
   pub read : read_log p bytes ≡ Whole (records_in p 0 (drop 5 text)) torn
   pub failures_stay : failures' ≡ failures
+
+-- the device failed as the text of a whole log was put in place: the old bytes stand with their forced front,
+-- or that text, all forced
+pub record BreaksOpening {S : Type 0} (bytes : S → List ℕ) (forced failures : S → ℕ) (p : Kind)
+    (old new : S) : Type 0 where
+  pub text : List ℕ
+  pub settles : Settles p (bytes old) (forced old) (failures old) text (length text) (failures old)
+  pub breaks : ReplaceBreaks bytes forced failures old new text
+
+-- why no log is opened, and what store is handed back
+abbrev pub NotOpened : {S : Type 0} → (S → List ℕ) → (S → ℕ) → (S → ℕ) → Kind → S → S → OpenError → Type 0
+NotOpened bytes forced failures p old new Memory = SameStore bytes forced failures old new
+NotOpened bytes forced failures p old new Device = BreaksOpening bytes forced failures p old new
+NotOpened bytes forced failures p old new (DamagedError place) =
+    (new ≡ old) × (read_log p (bytes old) ≡ Damaged place)
+
+-- a text was not put in place
+abbrev pub IsRefused : {S : Type 0} → (S → List ℕ) → (S → ℕ) → (S → ℕ) → S → S → List ℕ → OpenError → Type 0
+IsRefused bytes forced failures old new text Memory = SameStore bytes forced failures old new
+IsRefused bytes forced failures old new text Device = ReplaceBreaks bytes forced failures old new text
+IsRefused bytes forced failures old new text (DamagedError place) = ⊥

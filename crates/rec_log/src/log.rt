@@ -198,7 +198,7 @@ fn text_of(new: &[Frame], alloc: Global) -> Result<Vec<u8>, AllocError>
 /// A store in which this text stands, forced, in place of what stood there.
 fn replaced<L: LogStore + Drop>(store: L, text: &[u8]) -> Result<L, (OpenError, L)>
     ensures ok { IfOk result (λ new. Replaces L.bytes L.forced L.failures store new text.now) }
-    ensures err { IfErr result (λ e. IsRefused L.bytes L.forced L.failures store e.1 e.0) }
+    ensures err { IfErr result (λ e. IsRefused L.bytes L.forced L.failures store e.1 text.now e.0) }
 {
     let mut store = store;
     match store.replace(text) {

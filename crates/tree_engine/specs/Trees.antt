@@ -105,7 +105,7 @@ pub record RunsOver (output : Output) (tree : List TreeEntry) (events : List Eve
   pub tree_is : end.tree ≡ tree
   pub follows : Follows moves world end
   pub headline : Headline tree moves world
-  pub refuses : RefusesIn tree world events refusal
+  pub refuses : RefusesIn tree world end.delivered events refusal
   pub status_is : status ≡ ending refusal
   pub tells : Tells output end refusal text
 

@@ -272,7 +272,7 @@ boot_moved old new keep (answer.NotDecided e) h = absurd h
 -- Trims.
 
 trim_moved : (old new : KvSight) (a : Answer) → Trims old new a → Moved old new Trim a
-trim_moved old new (answer.Trimmed n) h = record { move = WorkMove; shown = refl; makes = h.tables }
+trim_moved old new (answer.Trimmed n) h = record { move = WorkMove; shown = refl; makes = h.0.tables }
 trim_moved old new (answer.NotTrimmed trim_error.Memory) h = absurd (h.0 refl)
 trim_moved old new (answer.NotTrimmed trim_error.Device) h =
     record { move = WorkMove; shown = refl; makes = h.1.tables }
@@ -294,7 +294,7 @@ decide_moved : (old new : KvSight) (x : Xid) (o : Outcome) (a : Answer) → Deci
 decide_moved old new x o answer.Done h = record {
   move = DecideMove x;
   shown = refl;
-  makes = (h.prepared, h.tables);
+  makes = (h.0.prepared, h.0.tables);
 }
 decide_moved old new x o (answer.NotDecided decide_error.Memory) h = absurd (h.0 refl)
 decide_moved old new x o (answer.NotDecided decide_error.Device) h =

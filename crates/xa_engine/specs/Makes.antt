@@ -16,7 +16,8 @@ use Rattle.kv_core.specs.Stores.{MovesTables}
 use Rattle.kv_core.specs.Works.{Reads, Writes, work_refusal}
 use Rattle.kv_manager.specs.declared.restart.RestartError.TheVariants as restart_error
 use Rattle.kv_manager.specs.Sights.{KvSight}
-use Rattle.kv_manager.specs.Turns.{Calls, Finishes, Refuses}
+use Rattle.kv_turns.specs.Turns.{decide_turn}
+use Rattle.kv_manager.specs.Turns.{Calls, Finishes, Makes as TakesTurn, NotTaken, Refuses}
 use Rattle.kv_manager.specs.Restarts.{NotRestarted, Restarted}
 use Rattle.kv_manager.specs.Resources.{sight_of}
 use Rattle.tree_model.specs.declared.names.Outcome.{Outcome}
@@ -102,17 +103,18 @@ Boots old new keep (answer.NotBooted e) =
     (e ≡ restart_error.Memory → ⊥) × NotRestarted old new (kept_bytes keep) e
 Boots old new keep _ = ⊥
 
--- a trim, of which so many records remain, or why there is none
+-- a trim, of which so many records remain, or why there is none; either leaves the key store as it was
 abbrev pub Trims : KvSight → KvSight → Answer → Type 0
-Trims old new (answer.Trimmed n) = TrimsLog (sight_of old) (sight_of new) n
-Trims old new (answer.NotTrimmed e) = (e ≡ trim_error.Memory → ⊥) × NotTrimmed (sight_of old) (sight_of new) e
+Trims old new (answer.Trimmed n) = TrimsLog (sight_of old) (sight_of new) n × (new.store ≡ old.store)
+Trims old new (answer.NotTrimmed e) =
+    (e ≡ trim_error.Memory → ⊥) × NotTrimmed (sight_of old) (sight_of new) e × (new.store ≡ old.store)
 Trims old new _ = ⊥
 
 -- an operator's decision, or why there is none
 abbrev pub Decides : KvSight → KvSight → Xid → Outcome → Answer → Type 0
-Decides old new x o answer.Done = IsDecided (sight_of old) (sight_of new) x o
+Decides old new x o answer.Done = IsDecided (sight_of old) (sight_of new) x o × TakesTurn old new x (decide_turn o)
 Decides old new x o (answer.NotDecided e) =
-    (e ≡ decide_error.Memory → ⊥) × NotDecided (sight_of old) (sight_of new) x o e
+    (e ≡ decide_error.Memory → ⊥) × NotDecided (sight_of old) (sight_of new) x o e × NotTaken old new x o e
 Decides old new x o _ = ⊥
 
 -- a request takes a manager from one state to another, and is answered so

@@ -1,5 +1,5 @@
 -- What events lead an opened tree to is a run of the model, of which the headline holds.
-use Rattle.std.proofs.Common.{◌≡◌, ◌≢◌, ◌∙◌, sym, subst, refl, ℕ, Option, Some, None, List, [], ◌++◌, take}
+use Rattle.std.proofs.Common.{◌≡◌, ◌≢◌, ◌∙◌, sym, subst, refl, ℕ, Option, Some, None, List, [], ◌++◌, take, ap}
 use Rattle.tree_model.specs.declared.names.ProcessId.{ProcessId}
 use Rattle.tree_model.specs.declared.messages.Envelope.{Envelope}
 use Rattle.tree_model.specs.declared.events.Act.{Act}
@@ -17,7 +17,7 @@ use Rattle.tree_headline.proofs.runs.Headline as runs
 use Rattle.core_law.specs.worlds.Worlds.{NoneDelivered, NotActed, NotDelivered, NotRestartedAt, NotTrimmedAt, RefusesAt, RefusesMessage, Same, Stops, WorldState, least_open}
 use Rattle.core_law.specs.worlds.Runs.{IsOpened}
 use Rattle.core_law.specs.worlds.Ties.{Follows, FollowsBehindFaults, IsModelled}
-use Rattle.core_law.specs.worlds.Refusals.{IsForItself, IsRunOf, LeadsTo, Refusal, RefusesDelivery, RefusesEvent}
+use Rattle.core_law.specs.worlds.Refusals.{IsForItself, IsRunOf, LeadsTo, Refusal, RefusesDelivery, RefusesEvent, RefusesNextDelivery}
 use Rattle.core_law.proofs.worlds.Openings.{opened_follows}
 use Rattle.core_law.proofs.worlds.Unchanged.{same_follows}
 use Rattle.core_law.proofs.worlds.Events.{leads_on, settles_on}
@@ -84,7 +84,7 @@ not_restarted s t q bytes step_error.NoSuch itself h = (h.0, h.1, refl)
 -- of a trim that was refused for itself there is no process, or it has failed
 not_trimmed : (es : List Made) (w : World) (s t : WorldState) (q : ProcessId) (e : StepError) → Follows es w s
     → ForItself e → NotTrimmedAt s t q e
-    → Same s t × RefusesEvent s.tree w (Trim q) e
+    → Same s t × RefusesEvent s.tree w t.delivered (Trim q) e
 not_trimmed es w s t q step_error.Memory f itself h = absurd (itself.memory refl)
 not_trimmed es w s t q step_error.Device f itself h = absurd (itself.device refl)
 not_trimmed es w s t q step_error.UnknownTxn f itself h = absurd h
@@ -101,25 +101,23 @@ record StoppedSo (tree : List TreeEntry) (t : WorldState) (event : Event) (e : S
   world : World
   tree_is : t.tree ≡ tree
   follows : Follows moves world t
-  refuses : RefusesEvent tree world event e
+  refuses : RefusesEvent tree world t.delivered event e
 
 module _ (tree : List TreeEntry) (is_tree : IsTree tree) where
   settle_refused : (before t : WorldState) (e : StepError) (o : Option ℕ) (es : List Made) (w : World)
       → before.tree ≡ tree → ForItself e → Follows es w before
-      → NoneDelivered before t e o → StoppedSo tree t Settle e
-  settle_refused before t e None es w is itself f h = absurd (itself.memory h.0)
-  settle_refused before t e (Some k) es w is itself f h =
+      → least_open 1 before.delivered ≡ o → NoneDelivered before t e o → StoppedSo tree t Settle e
+  settle_refused before t e None es w is itself f least h = absurd (itself.memory h.0)
+  settle_refused before t e (Some k) es w is itself f least h =
       let why = not_delivered before t k e itself h in
       record {
         moves = es;
         world = w;
         tree_is = why.0.tree ∙ is;
         follows = same_follows es w before t f why.0;
-        refuses = (
-          k,
-          subst (λ z. RefusesDelivery z w k (sent_as w.net k) e) is
-              (refused_delivery es w before k e f why.1),
-        );
+        refuses = subst (λ o. RefusesNextDelivery tree w o e) (sym (ap (least_open 1) why.0.delivered ∙ least))
+            (subst (λ z. RefusesDelivery z w k (sent_as w.net k) e) is
+            (refused_delivery es w before k e f why.1));
       }
 
   stopped_so : (s t : WorldState) (event : Event) (e : StepError) (es : List Made) (w : World) → s.tree ≡ tree
@@ -132,7 +130,7 @@ module _ (tree : List TreeEntry) (is_tree : IsTree tree) where
         world = w;
         tree_is = why.0.tree ∙ is;
         follows = same_follows es w s t f why.0;
-        refuses = subst (λ z. RefusesEvent z w (ActOf a) e) is
+        refuses = subst (λ z. RefusesEvent z w t.delivered (ActOf a) e) is
             (refused_so es w s (process_of_act (root_of s.tree) a) (ActInput a) e f why.1);
       }
   stopped_so s t (Deliver k) e es w is itself f h =
@@ -150,7 +148,7 @@ module _ (tree : List TreeEntry) (is_tree : IsTree tree) where
       (by_whole es w s f) h.settles in
       settle_refused h.before t e (least_open 1 h.before.delivered)
       (g.goes_on_so.later ++ es) g.goes_on_so.world g.tree_stays itself
-      (whole_follows (g.goes_on_so.later ++ es) g.goes_on_so.world h.before g.goes_on_so.follows) h.stops
+      (whole_follows (g.goes_on_so.later ++ es) g.goes_on_so.world h.before g.goes_on_so.follows) refl h.stops
   stopped_so s t (Restart q bytes) e es w is itself f h =
       let why = not_restarted s t q bytes e itself h in
       record {
@@ -158,8 +156,8 @@ module _ (tree : List TreeEntry) (is_tree : IsTree tree) where
         world = w;
         tree_is = why.0.tree ∙ is;
         follows = same_follows es w s t f why.0;
-        refuses = subst (λ z. RefusesEvent z w (Restart q bytes) e) is
-            (subst (λ x. RefusesEvent s.tree w (Restart q bytes) x) (sym why.2)
+        refuses = subst (λ z. RefusesEvent z w t.delivered (Restart q bytes) e) is
+            (subst (λ x. RefusesEvent s.tree w t.delivered (Restart q bytes) x) (sym why.2)
             (restart_refused es w s f q why.1));
       }
   stopped_so s t (Trim q) e es w is itself f h =
@@ -169,7 +167,7 @@ module _ (tree : List TreeEntry) (is_tree : IsTree tree) where
         world = w;
         tree_is = why.0.tree ∙ is;
         follows = same_follows es w s t f why.0;
-        refuses = subst (λ z. RefusesEvent z w (Trim q) e) is why.1;
+        refuses = subst (λ z. RefusesEvent z w t.delivered (Trim q) e) is why.1;
       }
 
   headline_of : (s : WorldState) (es : List Made) (w : World) → s.tree ≡ tree

@@ -1,5 +1,5 @@
 -- What the model refuses, and what a whole run comes to.
-use Rattle.std.specs.Prelude.{◌≡◌, ◌≢◌, ⊤, ℕ, Option, Some, None, List, slice_get, if◌then◌else◌}
+use Rattle.std.specs.Prelude.{◌≡◌, ◌≢◌, ⊤, ℕ, Bool, Option, Some, None, List, slice_get, if◌then◌else◌}
 use Rattle.tree_model.specs.declared.names.ProcessId.{ProcessId}
 use Rattle.tree_model.specs.declared.messages.Envelope.{Envelope}
 use Rattle.tree_model.specs.declared.events.Event.{Event}
@@ -16,7 +16,7 @@ use Rattle.tree_model.specs.Trees.{root_of}
 use Rattle.tree_model.specs.Outcomes.{Headline}
 use Rattle.tree_model.specs.World.{Made, Makes, Move, Refuses, Stepped, World, node_makes}
 use Rattle.core_law.specs.Steps.{quiet_move}
-use Rattle.core_law.specs.worlds.Worlds.{WorldState}
+use Rattle.core_law.specs.worlds.Worlds.{WorldState, least_open}
 use Rattle.core_law.specs.worlds.Runs.{Leads, LeadsUntil}
 use Rattle.core_law.specs.worlds.Ties.{Follows}
 
@@ -40,22 +40,27 @@ abbrev pub RefusesDelivery : List TreeEntry → World → ℕ → Option Envelop
 RefusesDelivery tree w k None e = e ≡ NoSuch
 RefusesDelivery tree w k (Some l) e = RefusesSo tree w l.to (MessageInput k l.message) e
 
--- the model refuses the event so: of a settle, one of its deliveries; of a restart, whichever records it
--- keeps
-abbrev pub RefusesEvent : List TreeEntry → World → Event → StepError → Type 0
-RefusesEvent tree w (ActOf a) e = RefusesSo tree w (process_of_act (root_of tree) a) (ActInput a) e
-RefusesEvent tree w (Deliver k) e = RefusesDelivery tree w k (sent_as w.net k) e
-RefusesEvent tree w Settle e = (k : ℕ) × RefusesDelivery tree w k (sent_as w.net k) e
-RefusesEvent tree w (Restart q bytes) e = (k : ℕ)
-    → model_refusal tree w (quiet_move q (Restarting k) None) ≡ Some e
-RefusesEvent tree w (Trim q) e = model_refusal tree w (quiet_move q Trimming None) ≡ Some e
+-- the model refuses to deliver the message with this number, which is the next one of a settle
+abbrev pub RefusesNextDelivery : List TreeEntry → World → Option ℕ → StepError → Type 0
+RefusesNextDelivery tree w None e = ⊥
+RefusesNextDelivery tree w (Some k) e = RefusesDelivery tree w k (sent_as w.net k) e
 
--- the event behind those that were made is one that the model refuses so
-pub record RefusesNext (tree : List TreeEntry) (w : World) (events : List Event) (made : ℕ)
-    (e : StepError) : Type 0 where
+-- the model refuses the event so, where these messages were delivered: a settle at the first message that was
+-- not; a restart whichever records it keeps
+abbrev pub RefusesEvent : List TreeEntry → World → List Bool → Event → StepError → Type 0
+RefusesEvent tree w delivered (ActOf a) e = RefusesSo tree w (process_of_act (root_of tree) a) (ActInput a) e
+RefusesEvent tree w delivered (Deliver k) e = RefusesDelivery tree w k (sent_as w.net k) e
+RefusesEvent tree w delivered Settle e = RefusesNextDelivery tree w (least_open 1 delivered) e
+RefusesEvent tree w delivered (Restart q bytes) e = (k : ℕ)
+    → model_refusal tree w (quiet_move q (Restarting k) None) ≡ Some e
+RefusesEvent tree w delivered (Trim q) e = model_refusal tree w (quiet_move q Trimming None) ≡ Some e
+
+-- the event behind those that were made is one that the model refuses so, where these messages were delivered
+pub record RefusesNext (tree : List TreeEntry) (w : World) (delivered : List Bool) (events : List Event)
+    (made : ℕ) (e : StepError) : Type 0 where
   pub event : Event
   pub next : slice_get events made ≡ Some event
-  pub refused : RefusesEvent tree w event e
+  pub refused : RefusesEvent tree w delivered event e
 
 -- how many events were made, and why the next was refused; or none was
 abbrev pub Refusal : Type 0
@@ -71,10 +76,10 @@ abbrev pub IsForItself : Refusal → Type 0
 IsForItself None = ⊤
 IsForItself (Some refused) = (refused.1 ≢ Memory) × (refused.1 ≢ Device)
 
--- the refused event, where there is one, is refused so by the model
-abbrev pub RefusesIn : List TreeEntry → World → List Event → Refusal → Type 0
-RefusesIn tree w events None = ⊤
-RefusesIn tree w events (Some refused) = RefusesNext tree w events refused.0 refused.1
+-- the refused event, where there is one, is refused so by the model, where these messages were delivered
+abbrev pub RefusesIn : List TreeEntry → World → List Bool → List Event → Refusal → Type 0
+RefusesIn tree w delivered events None = ⊤
+RefusesIn tree w delivered events (Some refused) = RefusesNext tree w delivered events refused.0 refused.1
 
 -- what the events come to is a run of the model, of which the headline holds, and a refused event is one that
 -- it refuses
@@ -85,4 +90,4 @@ pub record IsRunOf (tree : List TreeEntry) (events : List Event) (refusal : Refu
   pub tree_is : end.tree ≡ tree
   pub follows : Follows moves world end
   pub headline : Headline tree moves world
-  pub refuses : RefusesIn tree world events refusal
+  pub refuses : RefusesIn tree world end.delivered events refusal

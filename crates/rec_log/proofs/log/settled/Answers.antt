@@ -1,8 +1,8 @@
-use Rattle.std.proofs.Common.{◌≡◌, ◌∙◌, ◌-◌, sym, ap, subst, take, length}
-use Rattle.std.proofs.lemmas.Result.{IfOk-weaker}
+use Rattle.std.proofs.Common.{◌≡◌, ◌∙◌, ◌-◌, refl, sym, ap, subst, take, length}
+use Rattle.std.proofs.lemmas.Result.{IfErr-weaker, IfOk-weaker}
 use Rattle.rec_log.specs.Openings.{IsFound}
 use Rattle.rec_log.specs.declared.opening.Found.TheVariants.{Empty, Sound}
-use Rattle.rec_log.proofs.Settling.{settles_empty, settles_front}
+use Rattle.rec_log.proofs.Settling.{not_opened, settles_empty, settles_front}
 use Rattle.rec_log.proofs.log.settled.Goals as goal
 
 pub returns-in-Ok-Empty-clause-ok : goal.returns-in-Ok-Empty-clause-ok
@@ -27,3 +27,27 @@ returns-in-Ok-clause-ok g c =
     IfOk-weaker c.replaced-in-Ok.result _ _ (λ new r. settles_front _ _ _ _ _ _ _ torn found
     (r.text_stands ∙ front) (r.all ∙ ap length (sym r.text_stands)) r.failures_stay)
     c.replaced-in-Ok.ensures.ok
+
+pub returns-in-Ok-Empty-clause-err : goal.returns-in-Ok-Empty-clause-err
+returns-in-Ok-Empty-clause-err g c =
+    let found : IsFound c.args.kind (g.L.LogStore.bytes c.args.store) Empty =
+    subst (λ xs. IsFound c.args.kind xs Empty) c.bytes.ensures
+    (subst (IsFound c.args.kind c.bytes.result.now) c.in-Ok-Empty.field-0-is c.in-Ok-Empty.ensures.ok) in
+    IfErr-weaker c.replaced.result _ _ (λ e refused. not_opened g.L.LogStore.bytes g.L.LogStore.forced
+    g.L.LogStore.failures c.args.kind c.args.store e.1 _
+    (settles_empty _ _ _ _ _ _ _ found refl refl refl) e.0 refused) c.replaced.ensures.err
+
+pub returns-in-Ok-clause-err : goal.returns-in-Ok-clause-err
+returns-in-Ok-clause-err g c =
+    let torn = c.in-Ok-Sound.torn in
+    let found : IsFound c.args.kind (g.L.LogStore.bytes c.args.store) (Sound torn) =
+    subst (λ xs. IsFound c.args.kind xs (Sound torn)) c.bytes.ensures
+    (subst (IsFound c.args.kind c.bytes.result.now) c.in-Ok-Sound.field-0-is c.in-Ok-Sound.ensures.ok) in
+    let front : c.deref.result.now ≡ take (length (g.L.LogStore.bytes c.args.store) - torn)
+    (g.L.LogStore.bytes c.args.store) =
+    c.deref.ensures.value ∙ c.in-Ok.ensures ∙ ap
+    (λ t. take (length t - torn) c.bytes-3.result.now) c.bytes-2.ensures
+    ∙ ap (take (length (g.L.LogStore.bytes c.args.store) - torn)) c.bytes-3.ensures in
+    IfErr-weaker c.replaced-in-Ok.result _ _ (λ e refused. not_opened g.L.LogStore.bytes g.L.LogStore.forced
+    g.L.LogStore.failures c.args.kind c.args.store e.1 _
+    (settles_front _ _ _ _ _ _ _ torn found front refl refl) e.0 refused) c.replaced-in-Ok.ensures.err
