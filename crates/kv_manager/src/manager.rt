@@ -10,7 +10,8 @@ ghost use Rattle.manager_model.specs.Deciding.{Decides, NotDecided};
 ghost use Rattle.xa_assoc.specs.Answers.{Answers, Closes, Opens, Recovers, Wanted, map_ok};
 ghost use Rattle.xa_assoc.specs.Ready.{is_work_verb, leaves};
 ghost use Rattle.xa_tables.specs.Calls.{legal};
-ghost use Rattle.kv_manager.specs.Resources.{IsRefusal, is_refusal, sight_of};
+ghost use Rattle.kv_manager.specs.Resources.{IsRefusal, sight_of};
+ghost use Rattle.xa_codes.specs.Codes.{is_own};
 ghost use Rattle.kv_manager.specs.Sights.{IsLogged, SameManager};
 ghost use Rattle.manager_model.specs.Opening.{IsNew};
 ghost use Rattle.std.specs.List.{AllByRecursion};
@@ -75,7 +76,7 @@ impl<L: LogStore> Model for KvManager<L> {
 
 /// Whether a branch took the turn of a decision, by what the turn answered.
 fn decided(answer: Code) -> Result<(), DecideError>
-    ensures ok { OnOk result (is_refusal answer ≡ false) }
+    ensures ok { OnOk result (is_own answer ≡ false) }
     ensures err { IfErr result (IsRefusal answer) }
 {
     match answer {
