@@ -3,3 +3,4 @@ pub mod NoteLaws
 pub mod OrderLaws
 pub mod FirstLaws
 mod SayingLaws
+pub mod OwnLaws

@@ -3,7 +3,7 @@
 ghost use Rattle.std.specs.Prelude.{◌≡◌, ◌++◌, [], IfOk, OnOk, fold, map};
 ghost use Rattle.std.specs.Map.{lookup};
 ghost use Rattle.std.specs.Option.{option_copied};
-ghost use Rattle.tree_model.specs.LogNames.{is_own as is_own_of, own_by};
+ghost use Rattle.tree_model.specs.LogNames.{own_by};
 ghost use Rattle.tree_model.specs.Nodes.{role_by};
 ghost use Rattle.tree_model.specs.Records.{record_case};
 ghost use Rattle.inquire_core.specs.Readings.{same};
@@ -11,6 +11,7 @@ ghost use Rattle.audit_cases.specs.Notes.{IsRecordAt, last_places as last_places
 
 use crate::kinds::Kinds;
 use indexmap::{IndexMap, IndexSet};
+use inquire_core::is_own;
 use std::alloc::{AllocError, Global};
 use std::marker::Model;
 use tree_model::{Branch, Case, Kind, LogRecord, ProcessId, Record, Ticket, Tree, TreeEntry};
@@ -95,17 +96,6 @@ impl Noted {
     }
 }
 
-/// Whether a case that the log names with this parent is the process's own.
-#[tactic(auto, unfolding(tree_model::specs::Names::same_process))]
-fn is_own(tree: &Tree, entry: &TreeEntry, of: Option<ProcessId>, case: &Case) -> bool
-    ensures { result ≡ is_own_of (place_at tree.now entry.now) of case.now }
-{
-    case.txn.root == tree.root()
-        && case.process() == entry.id
-        && case.ticket.is_some() == entry.parent.is_some()
-        && of == entry.parent
-}
-
 /// One record more of a case.
 fn note_of(
     alloc: Global,
@@ -180,6 +170,7 @@ impl Notes {
 
     /// One record more of the log of this process, where it is of a case of the process's own; it must be
     /// one that a process of this kind writes.
+    #[tactic(auto, using(crate::proofs::OwnLaws::own_by_parent))]
     pub fn take(
         &mut self,
         tree: &Tree,
@@ -193,7 +184,7 @@ impl Notes {
     {
         match record.entry.case() {
             Some(case) => {
-                if !is_own(tree, entry, record.parent, &case) {
+                if !is_own(entry.id, entry.parent, tree, record.parent, &case) {
                     return Ok(());
                 }
                 note_of(self.alloc, &mut self.cases, case, &record.entry)?;

@@ -13,4 +13,5 @@ mod lists;
 mod live;
 
 pub use child::Child;
+pub use lists::none_of;
 pub use live::Live;

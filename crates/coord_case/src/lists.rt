@@ -17,7 +17,7 @@ pub(crate) type Children = SmallVec<Child, 8>;
 
 /// Whether there is no ticket.
 #[tactic(auto, unfolding(tree_model::specs::Records::none_of))]
-pub(crate) fn none_of(tickets: &[Ticket]) -> bool
+pub fn none_of(tickets: &[Ticket]) -> bool
     ensures { result ≡ is_none_of tickets.now }
 {
     match tickets {

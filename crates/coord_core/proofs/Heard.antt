@@ -28,7 +28,7 @@ use Rattle.tree_model.specs.Restarts.{is_known}
 use Rattle.tree_model.proofs.NameTests.{case_tells, ticket_tells}
 use Rattle.live_table.specs.Tables.{entry_at, live_value}
 use Rattle.live_table.proofs.Writes.{live_found}
-use Rattle.core_model.specs.Turns.{Turn as CoreTurn, Refuses as RefusesTurn, Takes as TakesTurn, Finds, ack_turn, act_turn, asked_by, asked_of, cascaded_turn, child_says, child_turn, coordinator_act, inquiry_turn, is_case_of, message_turn, seat_in, turn_of, vote_turn, work_for_turn, work_turn}
+use Rattle.core_model.specs.Turns.{Turn as CoreTurn, Refuses as RefusesTurn, Takes as TakesTurn, Finds, ack_turn, act_turn, asked_by, asked_of, cascaded_turn, child_says, child_turn, coordinator_act, inquiry_turn, is_case_of, message_turn, seat_in, turn_of, vote_turn, work_for_turn, work_turn, no_answer}
 use Rattle.coord_table.specs.declared.held.Held.{Held}
 use Rattle.coord_table.specs.Cases.{Slots, has_child, held_view, view_in}
 use Rattle.coord_table.specs.declared.asked.Asked.{Asked}
@@ -38,7 +38,7 @@ use Rattle.coord_table.specs.Takes.{IsAt}
 use Rattle.coord_core.specs.declared.turn.Turn.{Turn}
 use Rattle.coord_core.specs.declared.turn.Turn.TheVariants.{Refuses, Takes, Presumes, Nothing}
 use Rattle.coord_core.specs.States.{CoordinatorValue, place_of, role_below, state}
-use Rattle.coord_core.specs.Meets.{FindsAt, Hears, HearsFrom, HearsOf, May, Meets, MeetsAct, RetiresAs, RetiresNone, is_of_child, meant, met, met_by_child, no_data}
+use Rattle.coord_core.specs.Meets.{FindsAt, Hears, HearsFrom, HearsOf, May, Meets, MeetsAct, RetiresAs, RetiresNone, is_of_child, meant, met, met_by_child}
 
 -- What a child asks.
 
@@ -314,7 +314,7 @@ meets_act v a turn listed up meets =
 
 -- a message
 pub meets_message : (v : CoordinatorValue) (n : ℕ) (m : Message) (turn : Turn) → v.log.sight.failed ≡ false
-    → Hears v (MessageInput n m) (λ found. message_turn (place_of v).role (state v) no_data found m) turn
+    → Hears v (MessageInput n m) (λ found. message_turn (place_of v).role (state v) no_answer found m) turn
     → Meets v (MessageInput n m) turn
 unfolding turn_of
 meets_message v n m turn up hears =
@@ -322,7 +322,7 @@ meets_message v n m turn up hears =
       found = hears.found;
       finds = hears.finds;
       is = by_tests true v.log.sight.failed
-          (message_turn (place_of v).role (state v) no_data hears.found m) refl up ∙ hears.is;
+          (message_turn (place_of v).role (state v) no_answer hears.found m) refl up ∙ hears.is;
       may = hears.may;
     }
 

@@ -26,7 +26,7 @@ use Rattle.live_table.specs.Tables.{AreApart, case_of, entry_at, live_value}
 use Rattle.live_table.proofs.Writes.{live_found}
 use Rattle.rec_log.specs.Sights.{Breaks, LogSight, LogState}
 use Rattle.core_model.specs.States.{CoreState, SameCore, logged, wrote}
-use Rattle.core_model.specs.Turns.{Says as SaysTurn, Takes as TakesTurn, reacted, seat_in}
+use Rattle.core_model.specs.Turns.{Says as SaysTurn, Takes as TakesTurn, reacted, seat_in, no_answer}
 use Rattle.core_model.specs.Makes.{BreaksIn, Makes, NotMade, OpensCase, retired_by}
 use Rattle.core_model.proofs.Alike.{same_view}
 use Rattle.coord_table.specs.declared.held.Held.{Held}
@@ -43,7 +43,7 @@ use Rattle.coord_table.proofs.Given.{gone_keeps}
 use Rattle.coord_core.specs.declared.turn.Turn.{Turn}
 use Rattle.coord_core.specs.declared.turn.Turn.TheVariants.{Refuses, Begins as BeginsOne, Issues as IssuesOne}
 use Rattle.coord_core.specs.States.{CoordinatorValue, IsCoordinator, own_ticket, own_txn, role_below, state}
-use Rattle.coord_core.specs.Meets.{Meets, RetiresAs, RetiresNone, meant, met, no_data}
+use Rattle.coord_core.specs.Meets.{Meets, RetiresAs, RetiresNone, meant, met}
 use Rattle.coord_core.specs.Turned.{Stopped, Turned, WritesDown, framed_of}
 
 -- The step.
@@ -51,7 +51,7 @@ use Rattle.coord_core.specs.Turned.{Stopped, Turned, WritesDown, framed_of}
 -- the turn that the input meets was made: so was the input
 pub makes_of : (v : CoordinatorValue) (new : CoreState) (i : Input) (turn : Turn)
     (reaction : Reaction) → Meets v i turn
-    → Turned (state v) new i (meant v turn) reaction → Makes (state v) new no_data i reaction
+    → Turned (state v) new i (meant v turn) reaction → Makes (state v) new no_answer i reaction
 makes_of v new i turn reaction meets turned =
     record {
       found = meets.found;
@@ -65,7 +65,7 @@ makes_of v new i turn reaction meets turned =
 -- the turn was stopped: so the input was not made
 pub not_made : (v : CoordinatorValue) (new : CoreState) (i : Input) (turn : Turn)
     (e : StepError) → Meets v i turn
-    → Stopped (state v) new (meant v turn) e → NotMade (state v) new no_data i e
+    → Stopped (state v) new (meant v turn) e → NotMade (state v) new no_answer i e
 not_made v new i turn Memory meets stopped = stopped
 not_made v new i turn Device meets stopped = record {
   found = meets.found;
@@ -98,7 +98,7 @@ same_core s =
 
 -- the input meets a refusal
 pub refused_by : (v : CoordinatorValue) (i : Input) (e : StepError) → Meets v i (Refuses e)
-    → NotMade (state v) (state v) no_data i e
+    → NotMade (state v) (state v) no_answer i e
 refused_by v i Memory meets = same_core (state v)
 refused_by v i Device meets = let clash : false ≡ true = meets.may in absurd (cc)
 refused_by v i UnknownTxn meets = record {
@@ -148,13 +148,13 @@ refused_by v i NoSuch meets = record {
 
 pub step_ok : (v : CoordinatorValue) (new : CoreState) (i : Input) (turn : Turn)
     (made : Result Reaction StepError) → Meets v i turn
-    → IfOk made (Turned (state v) new i (meant v turn)) → IfOk made (Makes (state v) new no_data i)
+    → IfOk made (Turned (state v) new i (meant v turn)) → IfOk made (Makes (state v) new no_answer i)
 step_ok v new i turn (Ok reaction) meets turned = makes_of v new i turn reaction meets turned
 step_ok v new i turn (Err e) meets turned = turned
 
 pub step_err : (v : CoordinatorValue) (new : CoreState) (i : Input) (turn : Turn)
     (made : Result Reaction StepError) → Meets v i turn
-    → IfErr made (Stopped (state v) new (meant v turn)) → IfErr made (NotMade (state v) new no_data i)
+    → IfErr made (Stopped (state v) new (meant v turn)) → IfErr made (NotMade (state v) new no_answer i)
 step_err v new i turn (Ok reaction) meets stopped = stopped
 step_err v new i turn (Err e) meets stopped = not_made v new i turn e meets stopped
 

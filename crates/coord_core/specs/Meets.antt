@@ -8,14 +8,13 @@ use Rattle.tree_model.specs.declared.events.Act.{Act}
 use Rattle.tree_model.specs.declared.events.Input.{Input}
 use Rattle.tree_model.specs.declared.events.Input.TheVariants.{Act as ActInput}
 use Rattle.tree_model.specs.declared.events.StepError.{StepError}
-use Rattle.tree_model.specs.declared.events.StepError.TheVariants.{Closed, Device, UnknownTxn}
+use Rattle.tree_model.specs.declared.events.StepError.TheVariants.{Closed, UnknownTxn}
 use Rattle.tree_model.specs.declared.standings.Standing.{Standing}
 use Rattle.tree_model.specs.declared.standings.Standing.TheVariants.{Active, Unknown}
 use Rattle.tree_model.specs.Names.{child_case, presumed, same_case, same_txn}
-use Rattle.tree_model.specs.Nodes.{DataAnswer, ReadsOnly}
 use Rattle.tree_model.specs.CoordinatorRows.{Row, post, tells_outcome}
 use Rattle.live_table.specs.Tables.{AreApart, live_value}
-use Rattle.core_model.specs.Turns.{Turn as CoreTurn, Refuses as RefusesTurn, Begins as BeginsTurn, Issues as IssuesTurn, Takes as TakesTurn, Says as SaysTurn, Finds, asked_by, asked_of, coordinator_act, next_begun, next_ticket, seat_in, turn_of}
+use Rattle.core_model.specs.Turns.{Turn as CoreTurn, Refuses as RefusesTurn, Begins as BeginsTurn, Issues as IssuesTurn, Takes as TakesTurn, Says as SaysTurn, Finds, asked_by, asked_of, coordinator_act, next_begun, next_ticket, seat_in, turn_of, no_answer, is_refusal}
 use Rattle.core_model.specs.Makes.{retires}
 use Rattle.coord_table.specs.Cases.{FitsGiven, Slots, has_child, ticket_in, view_in}
 use Rattle.coord_table.specs.declared.asked.Asked.{Asked}
@@ -25,10 +24,6 @@ use Rattle.coord_table.specs.Takes.{IsAt}
 use Rattle.coord_core.specs.declared.turn.Turn.{Turn}
 use Rattle.coord_core.specs.declared.turn.Turn.TheVariants.{Refuses, Begins, Issues, Takes, Answers, Repeats, Presumes, Nothing}
 use Rattle.coord_core.specs.States.{CoordinatorValue, state}
-
--- a coordinator has no data that answer anything
-abbrev pub no_data : DataAnswer
-no_data = record { starts = false; does = false; holding = ReadsOnly }
 
 -- the row that is met by what is asked of a case
 abbrev pub met : CoordinatorValue → Case → Asked → Row
@@ -50,11 +45,6 @@ meant v Nothing = SaysTurn []
 abbrev pub RetiresAs : Input → Asked → Case → Type 0
 RetiresAs i asked c = (d : Case) (t : Ticket)
     → retires i d t ≡ (is_retiring asked && same_case (child_case d.txn t) c)
-
--- an error by which the reaction table refuses; the device's is none
-abbrev pub is_refusal : StepError → Bool
-is_refusal Device = false
-is_refusal _ = true
 
 -- what is asked of the case under the key may be asked of it
 pub record MayTake (v : CoordinatorValue) (i : Input) (key : ℕ) (c : Case) (asked : Asked) : Type 0 where
@@ -144,7 +134,7 @@ IsClosed _ e = e ≡ Closed
 pub record Meets (v : CoordinatorValue) (i : Input) (turn : Turn) : Type 0 where
   pub found : Option Case
   pub finds : Finds (state v) (asked_by i) found
-  pub is : turn_of (state v) no_data found i ≡ meant v turn
+  pub is : turn_of (state v) no_answer found i ≡ meant v turn
   pub may : May v i turn
 
 -- what was found of a case: it is not live; or its key, and where it stands

@@ -3,7 +3,7 @@
 ghost use Rattle.std.specs.Prelude.{IfErr, IfOk};
 ghost use Rattle.core_model.specs.States.{HasNumbers};
 ghost use Rattle.core_model.specs.Makes.{Makes, NotMade};
-ghost use Rattle.coord_core.specs.Meets.{no_data};
+ghost use Rattle.core_model.specs.Turns.{no_answer};
 ghost use Rattle.coord_core.specs.States.{state};
 
 use crate::coordinator::Coordinator;
@@ -15,9 +15,9 @@ impl<L: LogStore> Coordinator<L> {
     /// root. Memory. Nothing changed.
     pub fn begin(&mut self, presumption: Presumption) -> Result<Reaction, StepError>
         requires { HasNumbers (state self.old) }
-        ensures ok { IfOk result (Makes (state self.old) (state self.new) no_data
+        ensures ok { IfOk result (Makes (state self.old) (state self.new) no_answer
             (Input.Act (Act.Begin presumption))) }
-        ensures err { IfErr result (NotMade (state self.old) (state self.new) no_data
+        ensures err { IfErr result (NotMade (state self.old) (state self.new) no_answer
             (Input.Act (Act.Begin presumption))) }
     {
         self.step(&Input::Act(Act::Begin(presumption)))
@@ -28,9 +28,9 @@ impl<L: LogStore> Coordinator<L> {
     /// Memory. Nothing changed.
     pub fn join(&mut self, case: Case, child: ProcessId) -> Result<Reaction, StepError>
         requires { HasNumbers (state self.old) }
-        ensures ok { IfOk result (Makes (state self.old) (state self.new) no_data
+        ensures ok { IfOk result (Makes (state self.old) (state self.new) no_answer
             (Input.Act (Act.Join case child))) }
-        ensures err { IfErr result (NotMade (state self.old) (state self.new) no_data
+        ensures err { IfErr result (NotMade (state self.old) (state self.new) no_answer
             (Input.Act (Act.Join case child))) }
     {
         self.step(&Input::Act(Act::Join(case, child)))
@@ -40,9 +40,9 @@ impl<L: LogStore> Coordinator<L> {
     /// NotAChild: it is no accepted child that is a manager.
     pub fn work(&mut self, case: Case, child: ProcessId, op: Op) -> Result<Reaction, StepError>
         requires { HasNumbers (state self.old) }
-        ensures ok { IfOk result (Makes (state self.old) (state self.new) no_data
+        ensures ok { IfOk result (Makes (state self.old) (state self.new) no_answer
             (Input.Act (Act.Work case child op))) }
-        ensures err { IfErr result (NotMade (state self.old) (state self.new) no_data
+        ensures err { IfErr result (NotMade (state self.old) (state self.new) no_answer
             (Input.Act (Act.Work case child op))) }
     {
         self.step(&Input::Act(Act::Work(case, child, op)))
@@ -53,9 +53,9 @@ impl<L: LogStore> Coordinator<L> {
     /// under the record.
     pub fn commit(&mut self, txn: Txn) -> Result<Reaction, StepError>
         requires { HasNumbers (state self.old) }
-        ensures ok { IfOk result (Makes (state self.old) (state self.new) no_data
+        ensures ok { IfOk result (Makes (state self.old) (state self.new) no_answer
             (Input.Act (Act.Commit txn))) }
-        ensures err { IfErr result (NotMade (state self.old) (state self.new) no_data
+        ensures err { IfErr result (NotMade (state self.old) (state self.new) no_answer
             (Input.Act (Act.Commit txn))) }
     {
         self.step(&Input::Act(Act::Commit(txn)))
@@ -65,9 +65,9 @@ impl<L: LogStore> Coordinator<L> {
     /// decided.
     pub fn abort(&mut self, txn: Txn) -> Result<Reaction, StepError>
         requires { HasNumbers (state self.old) }
-        ensures ok { IfOk result (Makes (state self.old) (state self.new) no_data
+        ensures ok { IfOk result (Makes (state self.old) (state self.new) no_answer
             (Input.Act (Act.Abort txn))) }
-        ensures err { IfErr result (NotMade (state self.old) (state self.new) no_data
+        ensures err { IfErr result (NotMade (state self.old) (state self.new) no_answer
             (Input.Act (Act.Abort txn))) }
     {
         self.step(&Input::Act(Act::Abort(txn)))

@@ -3,10 +3,10 @@
 ghost use Rattle.std.specs.Prelude.{◌≡◌, false, true};
 ghost use Rattle.tree_model.specs.declared.events.Input.{Input as AnyInput};
 ghost use Rattle.tree_model.specs.declared.events.Input.TheVariants as input;
-ghost use Rattle.core_model.specs.Turns.{Takes, ack_turn, cascaded_turn, child_says, child_turn, inquiry_turn, joined_turn, message_turn, vote_turn};
+ghost use Rattle.core_model.specs.Turns.{Takes, ack_turn, cascaded_turn, child_says, child_turn, inquiry_turn, joined_turn, message_turn, no_answer, vote_turn};
 ghost use Rattle.coord_table.specs.Cases.{ticket_in};
 ghost use Rattle.coord_table.specs.Asks.{is_for_any};
-ghost use Rattle.coord_core.specs.Meets.{Hears, HearsFrom, HearsOf, May, RetiresAs, is_of_child, meant, met, no_data};
+ghost use Rattle.coord_core.specs.Meets.{Hears, HearsFrom, HearsOf, May, RetiresAs, is_of_child, meant, met};
 ghost use Rattle.coord_core.specs.States.{place_of, state};
 
 use crate::coordinator::Coordinator;
@@ -21,7 +21,7 @@ impl<L: LogStore> Coordinator<L> {
     pub(crate) fn hear(&self, number: u64, message: &Message) -> Turn<'static>
         requires { self.now.log.sight.failed ≡ false }
         ensures { Hears self.now (input.Message number message.now) (λ found. message_turn
-            (place_of self.now).role (state self.now) no_data found message.now) result }
+            (place_of self.now).role (state self.now) no_answer found message.now) result }
     {
         match self.parent {
             None => self.hear_child(number, message),

@@ -4,12 +4,12 @@ ghost use Rattle.std.specs.Prelude.{◌≡◌, ◌+◌, ◌<◌, ◌^◌, false,
 ghost use Rattle.live_table.specs.Tables.{AreApart, live_value};
 ghost use Rattle.tree_model.specs.declared.events.Input.{Input as AnyInput};
 ghost use Rattle.core_model.specs.States.{HasNumbers};
-ghost use Rattle.core_model.specs.Turns.{Takes};
+ghost use Rattle.core_model.specs.Turns.{Takes, no_answer};
 ghost use Rattle.core_model.specs.Makes.{Makes, NotMade};
 ghost use Rattle.coord_table.specs.Cases.{FitsGiven, ticket_in, view_in};
 ghost use Rattle.coord_table.specs.Asks.{Accepts, is_for_any, is_of_root};
 ghost use Rattle.coord_table.specs.Takes.{IsAt};
-ghost use Rattle.coord_core.specs.Meets.{RetiresAs, RetiresNone, meant, met, no_data};
+ghost use Rattle.coord_core.specs.Meets.{RetiresAs, RetiresNone, meant, met};
 ghost use Rattle.coord_core.specs.States.{state};
 ghost use Rattle.coord_core.specs.Turned.{Stopped, Turned};
 ghost use Rattle.coord_core.specs.declared.turn.Turn.TheVariants as turn;
@@ -30,8 +30,8 @@ impl<L: LogStore> Coordinator<L> {
     /// coordinator answers Failed until its restart.
     pub fn step(&mut self, input: &Input) -> Result<Reaction, StepError>
         requires { HasNumbers (state self.old) }
-        ensures ok { IfOk result (Makes (state self.old) (state self.new) no_data input.now) }
-        ensures err { IfErr result (NotMade (state self.old) (state self.new) no_data input.now) }
+        ensures ok { IfOk result (Makes (state self.old) (state self.new) no_answer input.now) }
+        ensures err { IfErr result (NotMade (state self.old) (state self.new) no_answer input.now) }
     {
         match self.meet(input) {
             Turn::Refuses(error) => Err(error),

@@ -3,10 +3,10 @@
 ghost use Rattle.std.specs.Prelude.{◌≡◌, false, true, IfErr, IfOk};
 ghost use Rattle.live_table.specs.Tables.{AreApart};
 ghost use Rattle.tree_model.specs.declared.events.Input.{Input as AnyInput};
-ghost use Rattle.core_model.specs.Turns.{live_turn};
+ghost use Rattle.core_model.specs.Turns.{is_refusal, live_turn};
 ghost use Rattle.coord_table.specs.Cases.{view_in};
 ghost use Rattle.coord_table.specs.Takes.{IsAt};
-ghost use Rattle.coord_core.specs.Meets.{IsClosed, May, Meets, MeetsAct, is_refusal, meant};
+ghost use Rattle.coord_core.specs.Meets.{IsClosed, May, Meets, MeetsAct, meant};
 
 use crate::coordinator::Coordinator;
 use crate::places::{is_child, is_manager};

@@ -1,16 +1,15 @@
 //! A coordinator in one of its cases, and the messages that it sends from there.
 
-ghost use Rattle.std.specs.Prelude.{◌≡◌, ◌++◌, ◌∷◌, [], IfOk, OnOk};
-ghost use Rattle.tree_model.specs.CoordinatorRows.{abort_heard_above, acknowledges_abort, each, post, tells, tells_outcome, to_child, unknown_commit, up as up_of};
+ghost use Rattle.std.specs.Prelude.{◌≡◌, ◌++◌, IfOk, OnOk};
+ghost use Rattle.tree_model.specs.CoordinatorRows.{abort_heard_above, acknowledges_abort, each, tells, tells_outcome, to_child, unknown_commit, up as up_of};
 ghost use Rattle.tree_model.specs.Reactions.{told_of};
 ghost use Rattle.tree_model.specs.Standings.{CoordinatorView};
-ghost use Rattle.tree_model.specs.Records.{none_of as is_none_of};
 ghost use Rattle.coord_effects.specs.Rows.{reason as reason_meant, seat as seat_meant};
 
 use std::alloc::{AllocError, Global};
 use tree_model::{
     Case, Conclusion, Envelope, Envelopes, Message, Outcome, Presumption, ProcessId, Sequence,
-    Ticket, Told,
+    Ticket, Told, one_message,
 };
 
 /// A coordinator in one of its cases; the root has no parent.
@@ -62,20 +61,6 @@ pub fn up(alloc: Global, seat: Seat, message: Message) -> Result<Envelopes, Allo
         None => Ok(Sequence::new(alloc)),
         Some(parent) => one_message(alloc, seat.me, parent, message),
     }
-}
-
-/// One message.
-pub fn one_message(
-    alloc: Global,
-    from: ProcessId,
-    to: ProcessId,
-    message: Message,
-) -> Result<Envelopes, AllocError>
-    ensures { IfOk result (λ messages. messages ≡ post from to message ∷ []) }
-{
-    let mut messages = Sequence::new(alloc);
-    messages.push(Envelope { from, to, message })?;
-    Ok(messages)
 }
 
 /// An abort under Presumed Commit is acknowledged; under Presumed Abort nothing is said.
@@ -140,15 +125,4 @@ pub fn tell_each(
         messages.push(outcome_message(seat, outcome, *ticket))?;
     }
     Ok(())
-}
-
-/// Whether there is no ticket.
-#[tactic(auto, unfolding(tree_model::specs::Records::none_of))]
-pub fn none_of(tickets: &[Ticket]) -> bool
-    ensures { result ≡ is_none_of tickets.now }
-{
-    match tickets {
-        [] => true,
-        [_, ..] => false,
-    }
 }

@@ -14,10 +14,10 @@ ghost use Rattle.tree_model.specs.SameViews.{SameView};
 ghost use Rattle.coord_effects.specs.Rows.{Does, seat as seat_meant};
 
 use coord_case::Live;
-use coord_effects::{RowEffect, Seat, Written, acknowledge_abort, one_message, tell_each, up};
+use coord_effects::{RowEffect, Seat, Written, acknowledge_abort, tell_each, up};
 use std::alloc::{AllocError, Global};
 use tree_model::{
-    Conclusion, Message, Op, Outcome, Presumption, ProcessId, Record, Sequence, Ticket,
+    Conclusion, Message, Op, Outcome, Presumption, ProcessId, Record, Sequence, Ticket, one_message,
 };
 
 /// Active, the join act: a child that is not accepted is invited.

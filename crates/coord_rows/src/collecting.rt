@@ -15,10 +15,9 @@ ghost use Rattle.tree_model.specs.CoordinatorRows.{
 ghost use Rattle.tree_model.specs.SameViews.{SameView};
 ghost use Rattle.coord_effects.specs.Rows.{Does, reason as reason_meant, seat as seat_meant};
 
-use coord_case::Live;
+use coord_case::{Live, none_of};
 use coord_effects::{
-    Reason, RowEffect, Seat, Written, decides_owed, forgets_behind, heard_above, none_of,
-    tell_each, up,
+    Reason, RowEffect, Seat, Written, decides_owed, forgets_behind, heard_above, tell_each, up,
 };
 use std::alloc::{AllocError, Global};
 use tree_model::{Conclusion, Message, Outcome, Presumption, Record, Sequence, Ticket, Told, Vote};

@@ -7,12 +7,11 @@ use Rattle.tree_model.specs.declared.records.LogRecord.{LogRecord}
 use Rattle.tree_model.specs.declared.records.Record.{Record}
 use Rattle.tree_model.proofs.LogNameLaws.{reads_back}
 use Rattle.tree_model.specs.LogNames.{in_log, is_own_record, own_by, own_records, parent_of}
-use Rattle.tree_model.specs.Nodes.{AtLeaf, AtRoot, Below, Place, Role}
+use Rattle.tree_model.specs.Nodes.{AtLeaf, AtRoot, Below, Place, Role, IsCoordinator}
 use Rattle.tree_model.specs.Records.{has, is_opened, record_case}
 use Rattle.tree_model.specs.Restarts.{data_records, trimmed}
 use Rattle.log_rules.specs.trim.Trims.{front_of_trim, last_opened, opened_after, stays, staying}
 use Rattle.log_rules.specs.sound.Sound.{IsSound}
-use Rattle.log_rules.specs.reads.ReadTrims.{Coordinates}
 use Rattle.log_rules.proofs.reads.Trimmed.{coordinators_read_trims}
 use Rattle.log_rules.proofs.reads.ManagerTrims.{managers_read_trims}
 use Rattle.core_model.specs.Makes.{kind_of_role}
@@ -99,7 +98,7 @@ module _ (place : Place) where
     abbrev ReadsTrim : Type 0
     ReadsTrim = own_records place (front_of_trim ls) ++ data_records place.role rs ≡ trimmed place.role rs
 
-    coordinated : Coordinates place.role → kind_of_role place.role ≡ kind_of_role AtRoot
+    coordinated : IsCoordinator place.role → kind_of_role place.role ≡ kind_of_role AtRoot
         → data_records place.role rs ≡ [] → AllByRecursion (IsSound (kind_of_role place.role)) ls → ReadsTrim
     coordinated coordinates kind none sound =
         ap (λ ds. own_records place (front_of_trim ls) ++ ds) none
@@ -110,10 +109,10 @@ module _ (place : Place) where
     reads_trim : (role : Role) → place.role ≡ role
         → AllByRecursion (IsSound (kind_of_role place.role)) ls → ReadsTrim
     reads_trim AtRoot is sound =
-        coordinated (subst Coordinates (sym is) tt) (ap kind_of_role is)
+        coordinated (subst IsCoordinator (sym is) tt) (ap kind_of_role is)
         (ap (λ r. data_records r rs) is) sound
     reads_trim (Below p) is sound =
-        coordinated (subst Coordinates (sym is) tt) (ap kind_of_role is)
+        coordinated (subst IsCoordinator (sym is) tt) (ap kind_of_role is)
         (ap (λ r. data_records r rs) is) sound
     reads_trim (AtLeaf p) is sound =
         managers_read_trims place p ls is

@@ -12,12 +12,11 @@ use Rattle.tree_model.specs.declared.records.Record.TheVariants.{Abort, Collecti
 use Rattle.tree_model.specs.declared.standings.Standing.{Standing}
 use Rattle.tree_model.specs.declared.standings.Standing.TheVariants as standing
 use Rattle.tree_model.specs.Memory.{Asked, Idle, Memory, Open, Over, Phase, fresh_memory, memory_of}
-use Rattle.tree_model.specs.Nodes.{AtLeaf, AtRoot, Below, Node, Place, Role, kept}
+use Rattle.tree_model.specs.Nodes.{AtLeaf, AtRoot, Below, Node, Place, Role, kept, IsCoordinator}
 use Rattle.tree_model.specs.Records.{boot_of, has, is_abort, is_collecting, is_commit, is_end, is_prepare, named_by, named_in, none_of, owing_by, owing_in, prepares_branch, promised_by, promised_in, record_case}
 use Rattle.tree_model.specs.Restarts.{case_stays, data_records, is_known, is_open, recorded_view, stays, staying, trimmed, trims}
 use Rattle.tree_model.specs.Standings.{CoordinatorView, Decided, Finished, ManagerView, Mark, Promised, ToldOf, Unmarked, coordinator_standing, coordinator_view, known_view, manager_view, mark_after, mark_of, marked_branch, phase_standing, standing_by, unknown_view, view_at as standing_view}
 use Rattle.tree_model.specs.Views.{IsOpenAlike}
-use Rattle.log_rules.specs.reads.ReadTrims.{Coordinates}
 use Rattle.tree_nodes.specs.Marks.{is_branch_record}
 use Rattle.tree_nodes.specs.WorldHolds.{is_of, is_record_of}
 use Rattle.tree_nodes.proofs.Boots.{trims_memory}
@@ -129,8 +128,8 @@ module _ (c : Case) where
 
   -- What a coordinator's trim keeps of the case: all of its records where it is known, else none.
 
-  module _ (role : Role) (coordinates : Coordinates role) (whole : List Record) where
-    stays_as : (r : Role) → Coordinates r → (rs : List Record) (x : Record)
+  module _ (role : Role) (coordinates : IsCoordinator role) (whole : List Record) where
+    stays_as : (r : Role) → IsCoordinator r → (rs : List Record) (x : Record)
         → stays r whole rs x ≡ case_stays whole (record_case x)
     stays_as AtRoot e rs x = refl
     stays_as (Below p) e rs x = refl
@@ -170,7 +169,7 @@ module _ (c : Case) where
             ap (λ k. if k then r ∷ of (staying role whole rs) else of (staying role whole rs)) is ∙ e
         by_test false is false stays e = e
 
-    no_data : (r : Role) → Coordinates r → data_records r whole ≡ []
+    no_data : (r : Role) → IsCoordinator r → data_records r whole ≡ []
     no_data AtRoot e = refl
     no_data (Below p) e = refl
     no_data (AtLeaf p) e = absurd e
@@ -316,7 +315,7 @@ module _ (c : Case) where
             (none_of (owing_by c (kept n))) s)) (sym (idle_unknown c.txn.presumption))
             ∙ ap is_known (sym (recorded_is (kept n))) ∙ unknown
 
-    module _ (coordinates : Coordinates place.role) where
+    module _ (coordinates : IsCoordinator place.role) where
       left_view : (b : Bool) → is_known (recorded_view (kept n) c).standing ≡ b
           → view c m (trimmed place.role (kept n)) ≡ view c m (kept n)
       left_view true known = view_same c m (trimmed place.role (kept n)) (kept n)

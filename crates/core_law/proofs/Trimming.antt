@@ -8,14 +8,13 @@ use Rattle.tree_model.specs.declared.events.Happening.TheVariants.{Trim}
 use Rattle.tree_model.specs.declared.events.StepError.TheVariants.{Device, Failed}
 use Rattle.tree_model.specs.LogNames.{in_log}
 use Rattle.tree_model.specs.Memory.{Memory, active_ticket}
-use Rattle.tree_model.specs.Nodes.{AtLeaf, AtRoot, Below, Node, Place, Role, kept}
+use Rattle.tree_model.specs.Nodes.{AtLeaf, AtRoot, Below, Node, Place, Role, kept, IsCoordinator}
 use Rattle.tree_model.specs.Records.{boot_of}
 use Rattle.tree_model.specs.Restarts.{trim_effect, trim_fails, trimmed, trims}
 use Rattle.tree_model.specs.World.{Refuses, fault_effect, node_makes, trim_makes}
 use Rattle.tree_model.specs.SameViews.{SameView}
 use Rattle.tree_nodes.proofs.Boots.{trimmed_boot, trims_memory}
 use Rattle.rec_log.specs.Sights.{Kept, LogSight, records_of}
-use Rattle.log_rules.specs.reads.ReadTrims.{Coordinates}
 use Rattle.core_model.specs.Restarting.{NotTrimmed, Trims, trimmed_log}
 use Rattle.core_model.specs.States.{CoreState, logged, parent}
 use Rattle.core_law.specs.Fits.{HasOpened, KeepsOwn, OpenFits}
@@ -32,9 +31,9 @@ use Rattle.core_law.proofs.TrimmedViews.{trimmed_branch, trimmed_view}
 view_stays : (role : Role) (place : Place) (n : Node) (c : Case) → place.role ≡ role → OpenFits role place n
     → view_at role place n c ≡ view_at role place (trims place n) c
 view_stays AtRoot place n c is fits =
-    sym (trimmed_view c place n (fits c) (subst Coordinates (sym is) tt))
+    sym (trimmed_view c place n (fits c) (subst IsCoordinator (sym is) tt))
 view_stays (Below p) place n c is fits =
-    sym (trimmed_view c place n (fits c) (subst Coordinates (sym is) tt))
+    sym (trimmed_view c place n (fits c) (subst IsCoordinator (sym is) tt))
 view_stays (AtLeaf p) place n c is fits = refl
 
 branch_stays : (role : Role) (place : Place) (n : Node) (c : Case) → place.role ≡ role → OpenFits role place n

@@ -10,7 +10,7 @@ use Rattle.tree_model.specs.declared.events.Input.{Input}
 use Rattle.tree_model.specs.declared.events.Reaction.{Reaction}
 use Rattle.tree_model.specs.declared.events.StepError.{StepError}
 use Rattle.tree_model.specs.declared.events.StepError.TheVariants.{Device, Failed}
-use Rattle.tree_model.specs.Nodes.{DataAnswer, Effect, Node, ReadsOnly, reaction_of}
+use Rattle.tree_model.specs.Nodes.{DataAnswer, Effect, Node, reaction_of}
 use Rattle.tree_model.specs.Reactions.{is_passed_over}
 use Rattle.tree_model.specs.World.{Makes as Leaves, Move, Refuses, node_makes}
 use Rattle.log_rules.specs.sound.Sound.{IsSound}
@@ -18,6 +18,7 @@ use Rattle.rec_log.specs.Sights.{records_of, whole_within}
 use Rattle.core_model.specs.States.{CoreState}
 use Rattle.core_model.specs.Makes.{IsBroken, IsRefused, Makes, kind_of_role}
 use Rattle.core_model.specs.Restarting.{NotRestarted, NotTrimmed, Restarts, Trims}
+use Rattle.core_model.specs.Turns.{no_answer}
 use Rattle.core_law.specs.Fits.{HasOpened, KeepsOwn, NodeFits, OpenFits}
 use Rattle.core_law.specs.Ties.{Stands}
 
@@ -65,10 +66,6 @@ FaultsAreMoves = (n : Node) (old new : CoreState) (a : DataAnswer) (i : Input)
     → IsBroken old new a i → FaultsAs n old new old.place.me i a
 
 -- Restarts and trims.
-
--- an answer of a manager's data to a move that asks them nothing
-abbrev pub no_answer : DataAnswer
-no_answer = record { starts = false; does = false; holding = ReadsOnly }
 
 -- a move of this process in which its data are asked nothing, and in which its device fails or not
 abbrev pub quiet_move : ProcessId → Happening → Option Fault → Move

@@ -20,11 +20,11 @@ use Rattle.tree_model.specs.declared.events.Act.TheVariants.{Begin, Join as Join
 use Rattle.tree_model.specs.declared.events.Input.{Input}
 use Rattle.tree_model.specs.declared.events.Input.TheVariants.{Act as ActInput, Message as MessageInput}
 use Rattle.tree_model.specs.declared.events.StepError.{StepError}
-use Rattle.tree_model.specs.declared.events.StepError.TheVariants.{UnknownTxn, NotAChild, Closed, Failed, NotInDoubt, NothingToForget, NoSuch}
+use Rattle.tree_model.specs.declared.events.StepError.TheVariants.{UnknownTxn, NotAChild, Closed, Failed, NotInDoubt, NothingToForget, NoSuch, Device}
 use Rattle.tree_model.specs.declared.trees.TreeEntry.{TreeEntry}
 use Rattle.tree_model.specs.Names.{same_txn, child_case, root_case, presumed}
 use Rattle.tree_model.specs.Records.{in_list}
-use Rattle.tree_model.specs.Nodes.{Role, AtRoot, Below, AtLeaf, DataAnswer, is_child, is_leaf, role_of}
+use Rattle.tree_model.specs.Nodes.{Role, AtRoot, Below, AtLeaf, DataAnswer, is_child, is_leaf, role_of, ReadsOnly}
 use Rattle.tree_model.specs.Memory.{of_ticket, ticket_of_child}
 use Rattle.tree_model.specs.Standings.{CoordinatorView, ManagerView}
 use Rattle.tree_model.specs.CoordinatorRows.{Seat, Row, ByAct, active_join, active_work, active_commit, active_abort, collecting_abort, prepared_ask, on_vote, on_ack, on_inquiry, on_joined, on_prepare, on_commit, on_abort, post, tells_outcome}
@@ -35,6 +35,7 @@ use Rattle.tree_model.specs.Restarts.{is_known}
 use Rattle.tree_model.specs.Views.{begin_effect}
 use Rattle.core_model.specs.States.{CoreState, parent}
 
+-- what a process does with an input that it meets
 pub data Turn : Type 0 where
   Refuses : StepError → Turn
   -- a transaction begins at the root
@@ -56,6 +57,15 @@ reacted (Issues d t l) = Does (sends_only (l ∷ []))
 reacted (Takes c row) = Does (row_effect c row)
 reacted (Handles c row) = Does (leaf_effect row)
 reacted (Says ls) = Does (sends_only ls)
+
+-- an error by which the reaction table refuses; the device's is none
+abbrev pub is_refusal : StepError → Bool
+is_refusal Device = false
+is_refusal _ = true
+
+-- the answer of data that are asked nothing; a coordinator has none that answer anything
+abbrev pub no_answer : DataAnswer
+no_answer = record { starts = false; does = false; holding = ReadsOnly }
 
 -- Whose case a child is of.
 

@@ -1,10 +1,8 @@
 -- The lines of crashes.
 use Rattle.std.specs.Prelude.{ℕ, ◌+◌, ◌&&◌, nat_eq, not, Bool, false, if◌then◌else◌, None, Some, List, [], ◌++◌, codes, count_by, length}
 use Rattle.std.specs.List.{flat_map, list_all}
-use Rattle.std.specs.Fmt.{decimal}
 use Rattle.tree_model.specs.declared.names.Case.{Case}
 use Rattle.tree_model.specs.Errors.{step_error_number}
-use Rattle.tree_model.specs.Texts.{case_text}
 use Rattle.core_law.specs.worlds.Refusals.{Refusal}
 use Rattle.tree_engine.specs.Trees.{refused_text}
 use Rattle.crash_engine.specs.declared.auditing.Left.{Left}
@@ -14,6 +12,7 @@ use Rattle.crash_engine.specs.declared.trial.Found.TheVariants.{Damaged, Ended, 
 use Rattle.crash_engine.specs.declared.trial.Trial.{Trial}
 use Rattle.crash_engine.specs.declared.ending.Ending.{Ending}
 use Rattle.crash_engine.specs.declared.ending.Ending.TheVariants as ending
+use Rattle.trace_lines.specs.Trace.{case_word, number_word}
 
 -- What is found.
 
@@ -50,17 +49,9 @@ mismatch_count ts = count_by (λ t. has_mismatch t.found) ts
 
 -- Lines.
 
--- a space and a number
-unfoldable pub part : ℕ → List ℕ
-part n = codes " " ++ decimal n
-
--- a space and a case
-unfoldable pub case_part : Case → List ℕ
-case_part c = codes " " ++ case_text c
-
 -- a word and cases behind it, where there are any
 unfoldable pub cases_text : List ℕ → List Case → List ℕ
-cases_text word cs = if is_none cs then [] else word ++ flat_map case_part cs
+cases_text word cs = if is_none cs then [] else word ++ flat_map case_word cs
 
 -- the cases in doubt, and those with a mismatch
 unfoldable pub left_text : Left → List ℕ
@@ -69,12 +60,12 @@ left_text l = cases_text (codes " in-doubt") l.in_doubt.items ++ cases_text (cod
 -- what a crash ends with
 unfoldable pub found_text : Found → List ℕ
 found_text (Ended l) = left_text l
-found_text (Damaged q place) = codes " damaged" ++ part q.0 ++ part place
-found_text (Refused made e) = codes " refused" ++ part (made + 1) ++ part (step_error_number e)
+found_text (Damaged q place) = codes " damaged" ++ number_word q.0 ++ number_word place
+found_text (Refused made e) = codes " refused" ++ number_word (made + 1) ++ number_word (step_error_number e)
 
 -- the crash: behind so many events this process restarts, and keeps so many bytes
 unfoldable pub point_text : ℕ → Point → List ℕ
-point_text events p = codes "event" ++ part events ++ codes " restart" ++ part p.process.0 ++ part p.keep ++ codes ":"
+point_text events p = codes "event" ++ number_word events ++ codes " restart" ++ number_word p.process.0 ++ number_word p.keep ++ codes ":"
 
 -- the line of a crash, where something is left
 unfoldable pub trial_text : Trial → List ℕ
@@ -84,8 +75,8 @@ trial_text t =
 -- the line of the numbers: of crashes, of those with a case in doubt, and of those with a mismatch
 unfoldable pub totals_text : List Trial → List ℕ
 totals_text ts =
-    codes "points" ++ part (length ts) ++ codes " in-doubt" ++ part (doubt_count ts)
-    ++ codes " mismatches" ++ part (mismatch_count ts) ++ codes "\n"
+    codes "points" ++ number_word (length ts) ++ codes " in-doubt" ++ number_word (doubt_count ts)
+    ++ codes " mismatches" ++ number_word (mismatch_count ts) ++ codes "\n"
 
 -- the line of the refused event, if one was refused
 abbrev pub refusal_text : Refusal → List ℕ

@@ -3,7 +3,6 @@
 ghost use Rattle.std.specs.Prelude.{◌≡◌, ◌+◌, ◌++◌, IfOk, OnOk};
 ghost use Rattle.crash_engine.specs.Texts.{
   are_clean as all_clean,
-  case_part,
   cases_text,
   crashes_text,
   doubt_count,
@@ -13,46 +12,28 @@ ghost use Rattle.crash_engine.specs.Texts.{
   is_clean as clean_by,
   left_text,
   mismatch_count,
-  part,
   point_text,
   refusal_text,
   totals_text,
   trial_text,
 };
 ghost use Rattle.std.specs.List.{flat_map};
+ghost use Rattle.trace_lines.specs.Trace.{case_word, number_word};
 
 use crate::auditing::Left;
 use crate::points::Point;
 use crate::trial::{Found, Trial};
 use std::alloc::{AllocError, Global};
-use trace_lines::{push, push_case, push_number};
+use trace_lines::{push, push_case_word, push_number_word};
 use tree_engine::{Refusal, push_refused};
 use tree_model::Case;
 
-/// A space and a number.
-#[tactic(auto, unfolding(crate::specs::Texts::part))]
-fn push_part(out: &mut Vec<u8>, number: u64) -> Result<(), AllocError>
-    ensures { OnOk result (out.new.items ≡ out.old.items ++ part number) }
-{
-    push(out, " ")?;
-    push_number(out, number)
-}
-
-/// A space and a case.
-#[tactic(auto, unfolding(crate::specs::Texts::case_part))]
-fn push_case_part(out: &mut Vec<u8>, case: &Case) -> Result<(), AllocError>
-    ensures { OnOk result (out.new.items ≡ out.old.items ++ case_part case.now) }
-{
-    push(out, " ")?;
-    push_case(out, case)
-}
-
 /// Each of these cases.
 fn push_each(out: &mut Vec<u8>, cases: &[Case]) -> Result<(), AllocError>
-    ensures { OnOk result (out.new.items ≡ out.old.items ++ flat_map case_part cases.now) }
+    ensures { OnOk result (out.new.items ≡ out.old.items ++ flat_map case_word cases.now) }
 {
     for case in cases {
-        push_case_part(out, case)?;
+        push_case_word(out, case)?;
     }
     Ok(())
 }
@@ -79,11 +60,11 @@ fn push_left(out: &mut Vec<u8>, left: &Left) -> Result<(), AllocError>
 
 /// A word and two numbers.
 fn push_two(out: &mut Vec<u8>, word: &str, one: u64, other: u64) -> Result<(), AllocError>
-    ensures { OnOk result (out.new.items ≡ out.old.items ++ (word.now ++ part one ++ part other)) }
+    ensures { OnOk result (out.new.items ≡ out.old.items ++ (word.now ++ number_word one ++ number_word other)) }
 {
     push(out, word)?;
-    push_part(out, one)?;
-    push_part(out, other)
+    push_number_word(out, one)?;
+    push_number_word(out, other)
 }
 
 /// What a crash ends with. 2^64 events are taken for want of memory.
@@ -149,7 +130,7 @@ fn push_point(out: &mut Vec<u8>, events: usize, point: Point) -> Result<(), Allo
     ensures { OnOk result (out.new.items ≡ out.old.items ++ point_text events point) }
 {
     push(out, "event")?;
-    push_part(out, events as u64)?;
+    push_number_word(out, events as u64)?;
     push_two(out, " restart", u64::from(point.process.0), point.keep)?;
     push(out, ":")
 }
@@ -191,10 +172,10 @@ fn count_mismatches(trials: &[Trial]) -> usize
 
 /// A word and a number.
 fn push_count(out: &mut Vec<u8>, word: &str, count: usize) -> Result<(), AllocError>
-    ensures { OnOk result (out.new.items ≡ out.old.items ++ (word.now ++ part count)) }
+    ensures { OnOk result (out.new.items ≡ out.old.items ++ (word.now ++ number_word count)) }
 {
     push(out, word)?;
-    push_part(out, count as u64)
+    push_number_word(out, count as u64)
 }
 
 /// The line of the numbers.

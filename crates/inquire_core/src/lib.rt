@@ -17,5 +17,5 @@ mod recorded;
 
 pub use answers::{answer, presumed};
 pub use planning::{RestartPlan, plan};
-pub use reading::Reading;
+pub use reading::{Reading, is_own};
 pub use recorded::{Recorded, Stage};

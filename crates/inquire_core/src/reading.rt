@@ -30,7 +30,7 @@ impl Model for Reading {
 
 /// Whether a case that the log names with this parent is the process's own.
 #[tactic(auto, unfolding(tree_model::specs::Names::same_process))]
-fn is_own(
+pub fn is_own(
     me: ProcessId,
     parent: Option<ProcessId>,
     tree: &Tree,

@@ -11,11 +11,10 @@ use Rattle.tree_model.specs.declared.records.Branch.TheVariants.{Foreign}
 use Rattle.tree_model.specs.declared.records.LogRecord.{LogRecord}
 use Rattle.tree_model.specs.declared.records.Record.{Record}
 use Rattle.tree_model.specs.declared.records.Record.TheVariants.{Opened, Collecting, Prepare, Commit, Abort, End, Prepared, Committed, RolledBack, Direct, HeurCommit, HeurRollback, Told, Forgot, Base, Pair}
-use Rattle.tree_model.specs.LogNames.{name_xid}
+use Rattle.tree_model.specs.LogNames.{name_xid, by_xid}
 use Rattle.tree_model.specs.Records.{branch_case, record_branch, record_case, same_branch}
 use Rattle.log_rules.specs.trim.Tables.{is_live, is_prepared, log_name}
 use Rattle.log_rules.specs.trim.Trims.{is_name, is_of, prepares, said_of, staying, stays, stays_by}
-use Rattle.kv_core.specs.Folds.{by_xid}
 use Rattle.kv_core.proofs.Lookups.{same_is, true_is_false}
 use Rattle.kv_core.proofs.Promised.{branch_same, of_name}
 

@@ -10,18 +10,17 @@ use Rattle.tree_model.specs.declared.records.LogRecord.{LogRecord}
 use Rattle.tree_model.specs.declared.records.Record.{Record}
 use Rattle.tree_model.specs.declared.records.Record.TheVariants.{Opened, Collecting, Prepare, Commit, Abort, End, Prepared, Committed, RolledBack, Direct, HeurCommit, HeurRollback, Told as ToldRecord, Forgot, Base as BaseRecord, Pair as PairRecord}
 use Rattle.tree_model.specs.declared.records.Write.{Write}
-use Rattle.tree_model.specs.LogNames.{name_xid}
-use Rattle.tree_model.specs.Records.{record_branch, same_branch, same_xid}
-use Rattle.tree_model.specs.Store.{Data, applied, commits, no_data, stored, stored_after, writes_of as writes_promised}
+use Rattle.tree_model.specs.LogNames.{name_xid, renamed_by, by_xid}
+use Rattle.tree_model.specs.Records.{record_branch, same_branch, same_xid, is_opened}
+use Rattle.tree_model.specs.Store.{Data, applied, commits, no_data, stored, stored_after, writes_of as writes_promised, data_of}
 use Rattle.log_text.proofs.NameReading.{same_xid_is, same_xid_refl}
 use Rattle.log_rules.specs.declared.order.seen.Mark.{Mark}
 use Rattle.log_rules.specs.declared.order.seen.Mark.TheVariants.{Open, Decided, Told}
 use Rattle.log_rules.specs.declared.order.seen.Promise.{Promise}
-use Rattle.log_rules.specs.order.Orders.{SeenLog, after, boot_rises, followed, found, is_heuristic, is_open, is_opened, is_untold, keys_free, keys_once, names_key, nothing_seen, opens, promised, promised_by, promises, rank_in, rises, same, with_promise, without_promise}
+use Rattle.log_rules.specs.order.Orders.{SeenLog, after, boot_rises, followed, found, is_heuristic, is_open, is_untold, keys_free, keys_once, names_key, nothing_seen, opens, promised, promised_by, promises, rank_in, rises, same, with_promise, without_promise}
 use Rattle.kv_store.specs.Pairs.{keys_rise}
 use Rattle.kv_store.specs.Versions.{pair_write}
 use Rattle.kv_store.proofs.Pairs.{writes_pairs}
-use Rattle.kv_core.specs.Folds.{by_xid, data_of, renamed_by}
 use Rattle.kv_core.specs.Replays.{IsOrderly, IsTied, seen_after, seen_of}
 use Rattle.kv_core.proofs.Lookups.{found_out, found_put, same_is, same_itself, true_is_false}
 use Rattle.kv_core.proofs.Orderly.{apart_where_free, orderly_mark, orderly_out, orderly_put, orderly_stays}

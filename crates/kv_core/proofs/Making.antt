@@ -7,15 +7,15 @@ use Rattle.tree_model.specs.declared.records.LogRecord.{LogRecord}
 use Rattle.tree_model.specs.declared.records.Record.{Record}
 use Rattle.tree_model.specs.declared.records.Record.TheVariants.{Committed, Direct, HeurCommit, Base, Pair}
 use Rattle.tree_model.specs.declared.records.Write.{Write}
-use Rattle.tree_model.specs.LogNames.{name_xid}
-use Rattle.tree_model.specs.Records.{record_branch}
+use Rattle.tree_model.specs.LogNames.{name_xid, renamed_by}
+use Rattle.tree_model.specs.Records.{record_branch, is_opened}
 use Rattle.tree_model.specs.Store.{Data, applied, commits, stored_after, with_pair, writes_of as writes_promised}
-use Rattle.log_rules.specs.order.Orders.{SeenLog, after, followed, found, is_open, is_opened, promised, with_promise, without_promise}
+use Rattle.log_rules.specs.order.Orders.{SeenLog, after, followed, found, is_open, promised, with_promise, without_promise}
 use Rattle.log_rules.specs.declared.order.seen.Mark.TheVariants.{Decided}
 use Rattle.kv_store.specs.Pairs.{keys_rise}
 use Rattle.kv_store.specs.Versions.{Applies, Sets, VersionTable, pair_write, value_at, value_by, written}
 use Rattle.kv_store.proofs.Pairs.{writes_pairs}
-use Rattle.kv_core.specs.Folds.{AreData, base_after, renamed_by}
+use Rattle.kv_core.specs.Folds.{AreData, base_after}
 use Rattle.kv_core.specs.Replays.{IsTied, KeepsBefore, Takes}
 
 -- a commit

@@ -10,9 +10,9 @@ use Rattle.tree_model.specs.declared.records.Record.{Record}
 use Rattle.tree_model.specs.declared.records.Record.TheVariants as entry
 use Rattle.tree_model.specs.declared.records.Write.{Write}
 use Rattle.tree_model.specs.Records.{same_branch, same_bytes}
-use Rattle.tree_model.specs.Store.{Data, applied, key_below, no_data, set_key, stored, stored_after, with_pair, without_key, writes_of}
+use Rattle.tree_model.specs.Store.{Data, applied, key_below, no_data, set_key, stored, stored_after, with_pair, without_key, writes_of, data_of}
 use Rattle.kv_store.specs.Pairs.{found_in}
-use Rattle.kv_core.specs.Folds.{by_xid, data_of}
+use Rattle.tree_model.specs.LogNames.{by_xid}
 use Rattle.kv_core.specs.Names.{keys_in, keys_of, written_keys}
 
 abbrev Pairs : Type 0

@@ -13,11 +13,10 @@ use Rattle.tree_model.specs.declared.records.Record.{Record}
 use Rattle.tree_model.specs.declared.records.Record.TheVariants.{Opened, Collecting, Prepare, Commit, Abort, End, Prepared, Committed, RolledBack, Direct, HeurCommit, HeurRollback, Told, Forgot, Base, Pair}
 use Rattle.tree_model.specs.Records.{same_branch, same_xid}
 use Rattle.tree_model.specs.Standings.{Decided, Finished, Mark, Promised, ToldOf, Unmarked, mark_after, mark_of}
-use Rattle.tree_model.specs.LogNames.{name_xid}
+use Rattle.tree_model.specs.LogNames.{name_xid, by_xid}
 use Rattle.log_rules.specs.order.Orders.{same}
 use Rattle.log_text.proofs.NameReading.{same_xid_is, same_xid_refl}
 use Rattle.kv_core.specs.Decisions.{KnowDecided, NotesRecord, known_after, says_decided}
-use Rattle.kv_core.specs.Folds.{by_xid}
 use Rattle.kv_core.proofs.Lookups.{same_is, same_itself, true_is_false}
 
 pub branch_same : (k x : Xid) → same_branch (Foreign k) (Foreign x) ≡ same k x

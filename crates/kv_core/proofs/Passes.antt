@@ -5,13 +5,14 @@ use Rattle.std.specs.Result.{IsErrAnd}
 use Rattle.log_text.specs.declared.records.ReadFault.{ReadFault}
 use Rattle.log_text.specs.declared.records.ReadFault.TheVariants as fault
 use Rattle.tree_model.specs.declared.records.LogRecord.{LogRecord}
-use Rattle.tree_model.specs.Store.{Data, no_data, stored, stored_after}
+use Rattle.tree_model.specs.Store.{Data, no_data, stored, stored_after, data_of}
 use Rattle.log_rules.specs.order.Orders.{SeenLog, after, nothing_seen}
 use Rattle.kv_store.specs.Versions.{VersionTable, value_at, value_by}
 use Rattle.kv_store.specs.Pairs.{found_in}
 use Rattle.kv_core.specs.declared.fault.ReplayError.{ReplayError}
 use Rattle.kv_core.specs.declared.fault.ReplayError.TheVariants.{Memory, Malformed, Exhausted}
-use Rattle.kv_core.specs.Folds.{AreData, GoBack, base_after, by_xid, data_behind, data_of, last_within, latest}
+use Rattle.kv_core.specs.Folds.{AreData, GoBack, base_after, data_behind, last_within, latest}
+use Rattle.tree_model.specs.LogNames.{by_xid}
 use Rattle.kv_core.specs.Replays.{CountTooFar, Fails, KeepsBefore, Reads, TakeFails, Takes, error_of, seen_after, seen_of}
 use Rattle.kv_core.proofs.Lawful.{lawful_of}
 

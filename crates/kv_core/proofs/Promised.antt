@@ -10,19 +10,18 @@ use Rattle.tree_model.specs.declared.records.LogRecord.{LogRecord}
 use Rattle.tree_model.specs.declared.records.Record.{Record}
 use Rattle.tree_model.specs.declared.records.Record.TheVariants.{Opened, Collecting, Prepare, Commit, Abort, End, Prepared, Committed, RolledBack, Direct, HeurCommit, HeurRollback, Told, Forgot, Base, Pair}
 use Rattle.tree_model.specs.declared.records.Write.{Write}
-use Rattle.tree_model.specs.LogNames.{name_by, name_xid}
+use Rattle.tree_model.specs.LogNames.{name_by, name_xid, by_xid}
 use Rattle.tree_model.specs.Records.{branch_case, record_branch, record_case, same_branch, same_xid}
 use Rattle.tree_model.specs.Restarts.{is_open}
-use Rattle.tree_model.specs.Standings.{Decided, Finished, Mark, Promised, ToldOf, Unmarked, mark_after, mark_of}
+use Rattle.tree_model.specs.Standings.{Decided, Finished, Mark, Promised, ToldOf, Unmarked, mark_after, mark_of, mark_at}
 use Rattle.tree_model.specs.Store.{Data, stored_after, writes_of}
 use Rattle.log_text.proofs.NameReading.{same_xid_is, same_xid_refl}
 use Rattle.log_rules.specs.declared.trim.lives.Said.{Said}
 use Rattle.log_rules.specs.declared.trim.lives.Said.TheVariants.{Nothing, Over, Waits}
 use Rattle.log_rules.specs.trim.Tables.{is_live, is_prepared, log_name, said_after, same}
 use Rattle.log_rules.specs.trim.Trims.{is_name, is_of, prepares, said_behind, said_of, staying, stays, stays_by}
-use Rattle.kv_core.specs.Folds.{by_xid}
 use Rattle.kv_core.proofs.Lookups.{same_is, same_itself, true_is_false}
-use Rattle.kv_core.specs.Keeping.{is_managers, mark_at}
+use Rattle.kv_core.specs.Keeping.{is_managers}
 
 -- Names.
 

@@ -7,8 +7,7 @@ use Rattle.tree_model.specs.Records.{same_bytes}
 use Rattle.tree_model.specs.Store.{Data, base_records, key_below, pair_record, stored_after, with_pair}
 use Rattle.kv_store.specs.Pairs.{is_behind, keys_rise}
 use Rattle.kv_store.proofs.Order.{below_both, below_itself, same_is}
-use Rattle.kv_core.specs.Folds.{by_xid}
-use Rattle.kv_core.specs.Keeping.{unnamed}
+use Rattle.tree_model.specs.LogNames.{by_xid, unnamed}
 
 abbrev pub Pairs : Type 0
 Pairs = List (List ℕ × List ℕ)

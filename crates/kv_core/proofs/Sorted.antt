@@ -11,8 +11,8 @@ use Rattle.std.specs.List.Sorted.{IsPermutation, IsSorted}
 use Rattle.std.specs.Ordering.{is_lt, nat_cmp}
 use Rattle.tree_model.specs.declared.records.LogRecord.{LogRecord}
 use Rattle.tree_model.specs.Records.{same_bytes}
-use Rattle.tree_model.specs.Store.{key_below}
-use Rattle.kv_core.specs.Folds.{AreData, data_of}
+use Rattle.tree_model.specs.Store.{key_below, data_of}
+use Rattle.kv_core.specs.Folds.{AreData}
 use Rattle.kv_store.specs.Pairs.{found_in, keys_rise}
 use Rattle.kv_store.specs.Versions.{VersionTable, value_at}
 use Rattle.kv_store.proofs.Order.{bytes_are_same}

@@ -9,7 +9,7 @@ use Rattle.log_rules.specs.sound.Sound.{IsSound}
 use Rattle.log_rules.proofs.sound.Sizes.{records_fit_frames}
 use Rattle.log_rules.proofs.sound.Records.{records_read_back}
 use Rattle.rec_log.specs.Sights.{AreRecords, IsRecord}
-use Rattle.kv_core.specs.Keeping.{unnamed}
+use Rattle.tree_model.specs.LogNames.{unnamed}
 
 pub pair_fits : (k v j u : List ℕ) → IsSound Manager (unnamed (Pair k v)) → j ≡ k → u ≡ v
     → FitsFrame (record { entry = Pair j u; parent = None })

@@ -5,7 +5,7 @@ use Rattle.std.proofs.lemmas.Grind.{fold-append}
 use Rattle.std.specs.List.{AllByRecursion}
 use Rattle.xa_xid.specs.declared.xid.Xid.{Xid}
 use Rattle.xa_heur.specs.declared.decision.Decision.{Decision}
-use Rattle.xa_heur.specs.Decisions.{decided_as, decision_after, decision_of}
+use Rattle.xa_heur.specs.Decisions.{decided_as, decision_after, decision_of, decided_in}
 use Rattle.tree_model.specs.declared.names.Outcome.TheVariants.{Aborted}
 use Rattle.tree_model.specs.declared.names.ProcessId.{ProcessId}
 use Rattle.tree_model.specs.declared.records.Branch.TheVariants.{Foreign}
@@ -14,13 +14,12 @@ use Rattle.tree_model.specs.declared.records.Record.{Record}
 use Rattle.tree_model.specs.declared.records.Record.TheVariants.{Base, Opened}
 use Rattle.tree_model.specs.Records.{is_opened, record_branch}
 use Rattle.tree_model.specs.Restarts.{is_open}
-use Rattle.tree_model.specs.Standings.{Mark, Unmarked, mark_after, mark_of}
-use Rattle.tree_model.specs.Store.{Data, base_records, no_data, pair_record, stored, stored_after, writes_of}
-use Rattle.log_rules.specs.trim.Trims.{front_of_trim, last_opened, opened_after, staying}
+use Rattle.tree_model.specs.Standings.{Mark, Unmarked, mark_after, mark_of, mark_at}
+use Rattle.tree_model.specs.Store.{Data, base_records, no_data, pair_record, stored, stored_after, writes_of, data_of}
+use Rattle.log_rules.specs.trim.Trims.{front_of_trim, last_opened, opened_after, staying, trim_of}
 use Rattle.kv_store.specs.Pairs.{keys_rise}
-use Rattle.kv_core.specs.Decisions.{decided_in}
-use Rattle.kv_core.specs.Folds.{by_xid, data_of, renamed_by}
-use Rattle.kv_core.specs.Keeping.{TrimsKeepData, is_managers, mark_at, trim_of, unnamed}
+use Rattle.tree_model.specs.LogNames.{renamed_by, by_xid, unnamed}
+use Rattle.kv_core.specs.Keeping.{TrimsKeepData, is_managers}
 use Rattle.kv_core.proofs.Deciding.{decisions_from}
 use Rattle.kv_core.proofs.Promised.{kept_from, live, marks_from}
 use Rattle.kv_core.proofs.Rebasing.{bases_read, rebased}

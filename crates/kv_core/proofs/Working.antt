@@ -9,7 +9,8 @@ use Rattle.key_tables.specs.declared.holders.Mode.{Mode}
 use Rattle.key_tables.specs.Holders.{blocked_by}
 use Rattle.kv_locks.specs.Locks.{holders_of}
 use Rattle.kv_core.specs.Stores.{KeySight, is_let_go, state_of}
-use Rattle.kv_core.specs.Works.{at_work, branch_refusal, is_spoiled, is_too_long, limit_refusal, unless_locked, worker_of, working}
+use Rattle.kv_core.specs.Works.{at_work, branch_refusal, is_too_long, limit_refusal, unless_locked, worker_of, working}
+use Rattle.xa_tables.specs.Tables.{is_spoiled}
 
 -- the state of a branch that a thread works for does not pass a test that no state at work passes
 pub works_apart : (q : BranchState → Bool) (s : KeySight) (t : ℕ) (x : Xid) → q S1 ≡ false

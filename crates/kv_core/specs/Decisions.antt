@@ -2,7 +2,7 @@
 use Rattle.std.specs.Prelude.{◌≡◌, Bool, true, false, if◌then◌else◌, is_some, Option, Some, None, List, map}
 use Rattle.xa_xid.specs.declared.xid.Xid.{Xid}
 use Rattle.xa_heur.specs.declared.decision.Decision.{Decision}
-use Rattle.xa_heur.specs.Decisions.{decided_as, decision_of}
+use Rattle.xa_heur.specs.Decisions.{decided_as, decided_in}
 use Rattle.xa_heur.specs.Cases.{DecisionTable, decision_in, decision_or}
 use Rattle.tree_model.specs.declared.names.Outcome.TheVariants.{Committed as CommittedOutcome, Aborted as AbortedOutcome}
 use Rattle.tree_model.specs.declared.records.Branch.{Branch}
@@ -12,7 +12,7 @@ use Rattle.tree_model.specs.declared.records.Record.{Record}
 use Rattle.tree_model.specs.declared.records.Record.TheVariants.{Prepared, HeurCommit, HeurRollback, Told, Forgot}
 use Rattle.tree_model.specs.Records.{same_branch}
 use Rattle.tree_model.specs.Standings.{Decided, Mark, ToldOf, mark_of}
-use Rattle.kv_core.specs.Folds.{by_xid}
+use Rattle.tree_model.specs.LogNames.{by_xid}
 
 -- what is known of an operator's decision of a branch behind one more record, of which this was known
 abbrev pub known_after : Branch → Option Decision → Record → Option Decision
@@ -33,10 +33,6 @@ abbrev pub says_decided : Mark → Bool
 says_decided Decided = true
 says_decided (ToldOf o) = true
 says_decided _ = false
-
--- what an operator decided of a branch by the records of a log, and what it was told since
-abbrev pub decided_in : List LogRecord → Xid → Decision
-decided_in ls x = decision_of (Foreign x) (map by_xid ls)
 
 -- what operators decided by the records of a log, each branch by its XID; of one whose last record says that
 -- an operator decided it, it is known how

@@ -1,29 +1,12 @@
 -- The data of a key store: the fold over the records of its log.
-use Rattle.std.specs.Prelude.{◌≡◌, ◌≤◌, ℕ, false, if◌then◌else◌, nat_le, List, [], ◌∷◌, Option, Some, None, fold, map}
-use Rattle.tree_model.specs.declared.names.ProcessId.{ProcessId}
-use Rattle.tree_model.specs.declared.records.Branch.{Branch}
-use Rattle.tree_model.specs.declared.records.Branch.TheVariants.{Foreign}
+use Rattle.std.specs.Prelude.{◌≡◌, ◌≤◌, ℕ, false, if◌then◌else◌, nat_le, List, [], ◌∷◌, fold, map}
 use Rattle.tree_model.specs.declared.records.LogRecord.{LogRecord}
 use Rattle.tree_model.specs.declared.records.Record.{Record}
 use Rattle.tree_model.specs.declared.records.Record.TheVariants.{Base}
-use Rattle.tree_model.specs.LogNames.{name_xid, renamed}
-use Rattle.tree_model.specs.Records.{record_branch}
-use Rattle.tree_model.specs.Store.{Data, no_data, stored, stored_after}
+use Rattle.tree_model.specs.LogNames.{by_xid}
+use Rattle.tree_model.specs.Store.{Data, no_data, stored_after}
 use Rattle.kv_store.specs.Pairs.{found_in}
 use Rattle.kv_store.specs.Versions.{VersionTable, value_at}
-
--- a record whose branch is named by its XID; one without a branch stays
-abbrev pub renamed_by : Option ProcessId → Option Branch → Record → Record
-renamed_by p None r = r
-renamed_by p (Some b) r = renamed (Foreign (name_xid p b)) r
-
--- a record of a log, its branch named by its XID: so a branch is the same whoever reads the log
-abbrev pub by_xid : LogRecord → Record
-by_xid l = renamed_by l.parent (record_branch l.entry) l.entry
-
--- the data that the records of a log make
-abbrev pub data_of : List LogRecord → Data
-data_of ls = stored (map by_xid ls)
 
 -- the base of versions behind a record: a Base sets it
 abbrev pub base_after : ℕ → Record → ℕ

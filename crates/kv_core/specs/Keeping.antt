@@ -1,5 +1,5 @@
 -- What a trim keeps of a manager's data.
-use Rattle.std.specs.Prelude.{◌≡◌, ◌++◌, Bool, true, false, List, map, None}
+use Rattle.std.specs.Prelude.{◌≡◌, Bool, true, false, List}
 use Rattle.std.specs.List.{AllByRecursion}
 use Rattle.xa_xid.specs.declared.xid.Xid.{Xid}
 use Rattle.tree_model.specs.declared.records.Branch.TheVariants.{Foreign}
@@ -7,12 +7,11 @@ use Rattle.tree_model.specs.declared.records.LogRecord.{LogRecord}
 use Rattle.tree_model.specs.declared.records.Record.{Record}
 use Rattle.tree_model.specs.declared.records.Record.TheVariants.{Collecting, Prepare, Commit, Abort, End}
 use Rattle.tree_model.specs.Restarts.{is_open}
-use Rattle.tree_model.specs.Standings.{Mark, mark_of}
-use Rattle.tree_model.specs.Store.{base_records, writes_of}
-use Rattle.log_rules.specs.trim.Trims.{front_of_trim}
+use Rattle.tree_model.specs.Standings.{mark_at}
+use Rattle.tree_model.specs.Store.{writes_of, data_of}
+use Rattle.log_rules.specs.trim.Trims.{trim_of}
 use Rattle.kv_store.specs.Pairs.{keys_rise}
-use Rattle.kv_core.specs.Folds.{by_xid, data_of}
-use Rattle.kv_core.specs.Decisions.{decided_in}
+use Rattle.xa_heur.specs.Decisions.{decided_in}
 
 -- a record that can stand in a manager's log: it is of no coordinator's case
 abbrev pub is_managers : Record → Bool
@@ -22,18 +21,6 @@ is_managers (Commit c ts) = false
 is_managers (Abort c ts) = false
 is_managers (End c) = false
 is_managers _ = true
-
--- a record of no branch, as a log holds it
-abbrev pub unnamed : Record → LogRecord
-unnamed r = record { entry = r; parent = None }
-
--- the log that a trim leaves of a manager's: what stays of its records, and its data behind them
-abbrev pub trim_of : List LogRecord → List LogRecord
-trim_of ls = front_of_trim ls ++ map unnamed (base_records (data_of ls))
-
--- what the last record of a branch says, by its XID
-abbrev pub mark_at : List LogRecord → Xid → Mark
-mark_at ls x = mark_of (Foreign x) (map by_xid ls)
 
 -- these records make the same data; each branch that is open by the first has the same writes, its last
 -- record says the same, and so do its records of an operator's decision

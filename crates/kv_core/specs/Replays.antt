@@ -7,7 +7,7 @@ use Rattle.tree_model.specs.declared.records.Branch.TheVariants.{Foreign}
 use Rattle.tree_model.specs.declared.records.LogRecord.{LogRecord}
 use Rattle.tree_model.specs.declared.records.Record.{Record}
 use Rattle.tree_model.specs.declared.records.Write.{Write}
-use Rattle.tree_model.specs.Store.{Data, stored_after, writes_of as writes_promised}
+use Rattle.tree_model.specs.Store.{Data, stored_after, writes_of as writes_promised, data_of}
 use Rattle.log_text.specs.declared.records.ReadFault.{ReadFault}
 use Rattle.log_text.specs.declared.records.ReadFault.TheVariants as fault
 use Rattle.log_rules.specs.order.Orders.{SeenLog, after, found, is_open, keys_once, left_by, names_key, nothing_seen, promised, same}
@@ -21,7 +21,8 @@ use Rattle.xa_heur.specs.Cases.{DecisionTable}
 use Rattle.kv_core.specs.Decisions.{KnowDecided}
 use Rattle.kv_core.specs.declared.fault.ReplayError.{ReplayError}
 use Rattle.kv_core.specs.declared.fault.ReplayError.TheVariants.{Memory, Malformed, Exhausted}
-use Rattle.kv_core.specs.Folds.{AreData, GoBack, base_after, by_xid, data_of}
+use Rattle.kv_core.specs.Folds.{AreData, GoBack, base_after}
+use Rattle.tree_model.specs.LogNames.{by_xid}
 
 -- what has been seen behind some more records; none where one of them may not follow
 unfoldable pub seen_after : Option SeenLog → List LogRecord → Option SeenLog

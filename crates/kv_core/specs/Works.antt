@@ -1,7 +1,8 @@
 -- Reads and writes of a thread in the branch that it is active in.
-use Rattle.std.specs.Prelude.{◌≡◌, ℕ, Bool, true, false, ◌==◌, ◌||◌, nat_lt, if◌then◌else◌, find, List, length, Option, Some, None}
+use Rattle.std.specs.Prelude.{◌≡◌, ℕ, Bool, false, ◌==◌, ◌||◌, nat_lt, if◌then◌else◌, find, List, length, Option, Some, None}
 use Rattle.xa_tables.specs.declared.states.BranchState.{BranchState}
 use Rattle.xa_tables.specs.declared.states.BranchState.TheVariants.{S1, S4}
+use Rattle.xa_tables.specs.Tables.{is_spoiled}
 use Rattle.xa_xid.specs.declared.xid.Xid.{Xid}
 use Rattle.xa_assoc.specs.Associations.{active_of}
 use Rattle.xa_assoc.specs.declared.errors.WorkError.{WorkError}
@@ -27,15 +28,11 @@ abbrev pub worker_of : KeySight → Option Xid → Option Xid
 worker_of s None = None
 worker_of s (Some x) = working (state_of s x) x
 
+-- the branch that a thread works for, if it works for one
 abbrev pub at_work : KeySight → ℕ → Option Xid
 at_work s t = worker_of s (active_of s.tables.associations t)
 
 -- What refuses work: the first check that applies.
-
--- the branch can be rolled back alone
-abbrev pub is_spoiled : BranchState → Bool
-is_spoiled S4 = true
-is_spoiled _ = false
 
 -- a value has more than 256 bytes
 abbrev pub is_long : Option (List ℕ) → Bool
@@ -68,6 +65,7 @@ abbrev pub refusal_by : KeySight → List ℕ → Option (List ℕ) → Mode →
 refusal_by s k v m None = Some NotAssociated
 refusal_by s k v m (Some x) = branch_refusal s k v m x
 
+-- why a thread's work at a key is refused: the first check that fails; none where it is taken
 abbrev pub work_refusal : KeySight → ℕ → List ℕ → Option (List ℕ) → Mode → Option WorkError
 work_refusal s t k v m = refusal_by s k v m (at_work s t)
 

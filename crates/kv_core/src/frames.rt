@@ -7,7 +7,7 @@ ghost use Rattle.log_rules.specs.sound.Sound.{IsSound};
 ghost use Rattle.std.specs.Bool.{Decides};
 ghost use Rattle.rec_log.specs.Sights.{AreRecords};
 ghost use Rattle.tree_model.specs.Store.{pair_record};
-ghost use Rattle.kv_core.specs.Keeping.{unnamed};
+ghost use Rattle.tree_model.specs.LogNames.{unnamed};
 ghost use Rattle.tree_model.specs.declared.records.Record.TheVariants as entry;
 
 use log_text::Frame;

@@ -1,7 +1,8 @@
 //! The data as pairs of a key and its value, keys rising.
 
 ghost use Rattle.std.specs.Prelude.{◌≡◌, ◌++◌, true, IfOk, OnOk, map};
-ghost use Rattle.kv_core.specs.Folds.{AreData, data_of};
+ghost use Rattle.kv_core.specs.Folds.{AreData};
+ghost use Rattle.tree_model.specs.Store.{data_of};
 ghost use Rattle.kv_store.specs.Pairs.{keys_rise};
 ghost use Rattle.kv_core.specs.Names.{is_next, keys_in, pair_if, pairs_at, written_keys};
 ghost use Rattle.kv_store.specs.Versions.{value_at};

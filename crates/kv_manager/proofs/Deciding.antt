@@ -33,7 +33,8 @@ use Rattle.kv_turns.specs.declared.turns.Turn.{Turn}
 use Rattle.kv_turns.specs.Turns.{decide_turn, entry_record, heur_entry}
 use Rattle.kv_core.specs.Stores.{KeySight, state_of}
 use Rattle.kv_core.specs.Ends.{IsListed, OfOperator, Reserves, known_behind, known_of}
-use Rattle.kv_manager.specs.Resources.{IsRefusal, is_refusal, sight_of}
+use Rattle.kv_manager.specs.Resources.{IsRefusal, sight_of}
+use Rattle.xa_codes.specs.Codes.{is_own}
 use Rattle.kv_manager.specs.Sights.{KvSight, SameManager as SameKv}
 use Rattle.kv_manager.specs.Turns as kv
 use Rattle.kv_manager.specs.Turns.{DecisionFails, Fails as KvFails, IsDueTurn, Makes as KvMakes, Takes as KvTakes, commits, with_record}
@@ -149,7 +150,7 @@ module _ (old mid new : KvSight) (x : Xid) (o : Outcome) (works : old.log.sight.
   pub nothing_changed : SameKv mid new → SameManager (sight_of old) (sight_of new)
   nothing_changed alike = same_sight old new (stays_same alike)
 
-  no_refusal : (o : Outcome) → is_refusal (heur_code o) ≡ false
+  no_refusal : (o : Outcome) → is_own (heur_code o) ≡ false
   no_refusal Committed = refl
   no_refusal Aborted = refl
 
@@ -160,18 +161,18 @@ module _ (old mid new : KvSight) (x : Xid) (o : Outcome) (works : old.log.sight.
   other_codes h = absurd (cc)
 
   -- it was decided
-  pub was_decided : (answer : Code) → KvTakes mid new x (decide_turn o) answer → is_refusal answer ≡ false
+  pub was_decided : (answer : Code) → KvTakes mid new x (decide_turn o) answer → is_own answer ≡ false
       → Decides (sight_of old) (sight_of new) x o
   was_decided answer (kv.Made is made) h = decides made
-  was_decided answer (kv.Broke is failed) h = never (ap is_refusal (sym is) ∙ h)
-  was_decided answer (kv.Spent is commits few alike) h = never (ap is_refusal (sym is) ∙ h)
+  was_decided answer (kv.Broke is failed) h = never (ap is_own (sym is) ∙ h)
+  was_decided answer (kv.Spent is commits few alike) h = never (ap is_own (sym is) ∙ h)
 
   -- or it was not
   pub was_not : (answer : Code) → KvTakes mid new x (decide_turn o) answer
       → (e : DecideError) → IsRefusal answer e
       → NotDecided (sight_of old) (sight_of new) x o e
-  was_not answer (kv.Made is made) Device h = never (ap is_refusal (sym h ∙ is) ∙ no_refusal o)
-  was_not answer (kv.Made is made) Memory h = never (ap is_refusal (sym h ∙ is) ∙ no_refusal o)
+  was_not answer (kv.Made is made) Device h = never (ap is_own (sym h ∙ is) ∙ no_refusal o)
+  was_not answer (kv.Made is made) Memory h = never (ap is_own (sym h ∙ is) ∙ no_refusal o)
   was_not answer (kv.Made is made) Failed h = absurd h
   was_not answer (kv.Made is made) NotInDoubt h = absurd h
   was_not answer (kv.Broke is failed) Device h = fails failed
@@ -248,7 +249,7 @@ module _ (old mid new : KvSight) (x : Xid) (o : Outcome) (room : Reserves old.st
     boot = alike.boot ∙ boot;
   }
 
-  no_code : (o : Outcome) → is_refusal (heur_code o) ≡ false
+  no_code : (o : Outcome) → is_own (heur_code o) ≡ false
   no_code Committed = refl
   no_code Aborted = refl
 
@@ -258,16 +259,16 @@ module _ (old mid new : KvSight) (x : Xid) (o : Outcome) (room : Reserves old.st
   apart_codes : code.RmFail ≡ code.RmErr → ⊥
   apart_codes h = absurd (cc)
 
-  pub was_taken : (answer : Code) → KvTakes mid new x (decide_turn o) answer → is_refusal answer ≡ false
+  pub was_taken : (answer : Code) → KvTakes mid new x (decide_turn o) answer → is_own answer ≡ false
       → KvMakes old new x (decide_turn o)
   was_taken answer (kv.Made is made) h = makes made
-  was_taken answer (kv.Broke is failed) h = clash (ap is_refusal (sym is) ∙ h)
-  was_taken answer (kv.Spent is commits few alike) h = clash (ap is_refusal (sym is) ∙ h)
+  was_taken answer (kv.Broke is failed) h = clash (ap is_own (sym is) ∙ h)
+  was_taken answer (kv.Spent is commits few alike) h = clash (ap is_own (sym is) ∙ h)
 
   pub was_not_taken : (answer : Code) → KvTakes mid new x (decide_turn o) answer
       → (e : DecideError) → IsRefusal answer e → kv.NotTaken old new x o e
-  was_not_taken answer (kv.Made is made) Device h = clash (ap is_refusal (sym h ∙ is) ∙ no_code o)
-  was_not_taken answer (kv.Made is made) Memory h = clash (ap is_refusal (sym h ∙ is) ∙ no_code o)
+  was_not_taken answer (kv.Made is made) Device h = clash (ap is_own (sym h ∙ is) ∙ no_code o)
+  was_not_taken answer (kv.Made is made) Memory h = clash (ap is_own (sym h ∙ is) ∙ no_code o)
   was_not_taken answer (kv.Made is made) Failed h = absurd h
   was_not_taken answer (kv.Made is made) NotInDoubt h = absurd h
   was_not_taken answer (kv.Broke is failed) Device h = breaks failed

@@ -4,7 +4,7 @@ use Rattle.std.proofs.lemmas.List.{append-nil}
 use Rattle.std.specs.Prelude.{◌||◌, Contains, nat_lt}
 use Rattle.xa_codes.specs.declared.code.Code.{Code}
 use Rattle.xa_codes.specs.declared.code.Code.TheVariants as code
-use Rattle.xa_tables.specs.Tables.{branch_rows}
+use Rattle.xa_tables.specs.Tables.{branch_rows, is_spoiled}
 use Rattle.xa_tables.specs.declared.call.Call.{Call}
 use Rattle.xa_tables.specs.declared.call.Call.TheVariants as call
 use Rattle.xa_tables.specs.declared.call.Verb.{Verb}
@@ -51,7 +51,7 @@ use Rattle.kv_turns.specs.Turns.{entry_of, tell_turn, turn_of}
 use Rattle.kv_core.specs.Stores.{KeySight, MovesTables, SameStore, has_numbers, state_of}
 use Rattle.kv_core.specs.Ends.{IsListed, LetsGo, Refused as OffRefused, Unlisted as OffUnlisted, known_behind, known_of, turn_for, wrote_some}
 use Rattle.kv_core.specs.Works as core
-use Rattle.kv_core.specs.Works.{IsRefused, Reads, Writes, at_work, branch_refusal, is_spoiled, is_too_long, limit_refusal, refusal_by, unless_locked, worker_of, working}
+use Rattle.kv_core.specs.Works.{IsRefused, Reads, Writes, at_work, branch_refusal, is_too_long, limit_refusal, refusal_by, unless_locked, worker_of, working}
 use Rattle.kv_manager.specs.Sights.{KvSight, SameManager as SameKv}
 use Rattle.kv_manager.specs.Turns as kv
 use Rattle.kv_manager.specs.Turns.{Calls as KvCalls, Finishes as KvFinishes, Makes as KvMakes, Fails as KvFails, Takes as KvTakes, Logs, Refuses, with_record}

@@ -12,7 +12,7 @@ use Rattle.xa_assoc.specs.Answers.{state_at}
 use Rattle.xa_assoc.specs.Restored.{Restored, restore_refusal, state_left, states_left}
 use Rattle.tree_model.specs.declared.records.Branch.TheVariants.{Foreign}
 use Rattle.tree_model.specs.declared.records.LogRecord.{LogRecord}
-use Rattle.tree_model.specs.Store.{Data, writes_of as promised_of}
+use Rattle.tree_model.specs.Store.{Data, writes_of as promised_of, data_of}
 use Rattle.log_rules.specs.declared.order.seen.Promise.{Promise}
 use Rattle.log_rules.specs.order.Orders.{SeenLog, found, is_open, left_by, names_key, opens, promised, promised_by, same}
 use Rattle.key_tables.specs.declared.holders.Mode.TheVariants.{Exclusive}
@@ -21,7 +21,7 @@ use Rattle.kv_locks.specs.Locks.{LockTable, holders_of}
 use Rattle.kv_store.specs.Pairs.{keys_rise}
 use Rattle.kv_store.specs.Versions.{VersionTable}
 use Rattle.kv_store.specs.writes.Writes.{WriteTable, writes_of}
-use Rattle.kv_core.specs.Folds.{AreData, data_of}
+use Rattle.kv_core.specs.Folds.{AreData}
 use Rattle.kv_core.specs.Replays.{HoldPromises, Leaves, seen_of}
 use Rattle.kv_core.specs.declared.fault.ReplayError.{ReplayError}
 use Rattle.kv_core.specs.declared.fault.ReplayError.TheVariants.{Memory, Malformed, Exhausted}
@@ -37,15 +37,16 @@ use Rattle.kv_manager.specs.declared.restart.Ready.{Ready}
 use Rattle.kv_manager.specs.declared.restart.RestartError.{RestartError}
 use Rattle.kv_manager.specs.declared.restart.RestartError.TheVariants.{Device, Exhausted as ExhaustedRestart, Memory as MemoryRestart, Unfit}
 use Rattle.xa_heur.specs.Cases.{DecisionTable}
-use Rattle.kv_core.specs.Decisions.{KnowDecided, decided_in, says_decided}
+use Rattle.kv_core.specs.Decisions.{KnowDecided, says_decided}
+use Rattle.xa_heur.specs.Decisions.{decided_in}
 use Rattle.kv_core.specs.Stores.{IsTidy, KeySight, Rebuilt, is_decided, is_let_go}
 use Rattle.kv_core.specs.Ends.{known_of}
 use Rattle.kv_manager.specs.Restarts.{FailsToRestart, IsReady, LeavesNone, LeavesStore, NotBegun, NotRebuilt, NotStored, StartsOver, error_of, next_boot, opened}
 use Rattle.kv_manager.specs.Sights.{IsKept, IsLogged, KvSight, SaysDecided, logged}
 use Rattle.kv_manager.proofs.Marks.{agrees_of, prepared_mark, state_by}
 use Rattle.kv_manager.proofs.Turns.{data_behind, decided_behind, mark_behind}
-use Rattle.manager_model.specs.Restarting.{mark_at, marked_state}
-use Rattle.tree_model.specs.Standings.{Decided, Finished, Mark, Promised, ToldOf, Unmarked}
+use Rattle.manager_model.specs.Restarting.{marked_state}
+use Rattle.tree_model.specs.Standings.{Decided, Finished, Mark, Promised, ToldOf, Unmarked, mark_at}
 
 Live : Type 0
 Live = List (Xid × Promise)

@@ -10,7 +10,7 @@ use Rattle.tree_model.specs.declared.records.LogRecord.{LogRecord}
 use Rattle.tree_model.specs.declared.records.Record.{Record}
 use Rattle.tree_model.specs.declared.records.Record.TheVariants.{Opened, Collecting, Prepare, Commit, Abort, End, Prepared, Committed, RolledBack, Direct, HeurCommit, HeurRollback, Told, Forgot, Base, Pair}
 use Rattle.tree_model.specs.Restarts.{is_open}
-use Rattle.tree_model.specs.Store.{base_records, pair_record, writes_of as promised_of}
+use Rattle.tree_model.specs.Store.{base_records, pair_record, writes_of as promised_of, data_of}
 use Rattle.log_rules.specs.sound.Sound.{IsSound, IsSoundEntry}
 use Rattle.rec_log.specs.Sights.{LogState, records_of}
 use Rattle.rec_log.specs.Trimming.{Trimmed}
@@ -20,15 +20,16 @@ use Rattle.kv_locks.specs.Locks.{LockTable}
 use Rattle.kv_store.specs.Versions.{VersionTable}
 use Rattle.kv_store.specs.writes.Writes.{WriteTable}
 use Rattle.xa_heur.specs.Cases.{DecisionTable}
-use Rattle.tree_model.specs.Standings.{Decided, Finished, Mark, Promised, ToldOf, Unmarked}
+use Rattle.tree_model.specs.Standings.{Decided, Finished, Mark, Promised, ToldOf, Unmarked, mark_at}
 use Rattle.kv_core.specs.Ends.{known_of}
 use Rattle.kv_core.specs.Decisions.{says_decided}
-use Rattle.kv_core.specs.Folds.{AreData, data_of}
+use Rattle.kv_core.specs.Folds.{AreData}
 use Rattle.kv_core.specs.Replays.{Leaves}
 use Rattle.kv_core.proofs.Lawful.{lawful_of}
-use Rattle.kv_core.specs.Keeping.{KeepsData, is_managers, trim_of, unnamed}
+use Rattle.kv_core.specs.Keeping.{KeepsData, is_managers}
+use Rattle.log_rules.specs.trim.Trims.{trim_of}
+use Rattle.tree_model.specs.LogNames.{unnamed}
 use Rattle.kv_core.proofs.Trims.{trims_keep_data}
-use Rattle.manager_model.specs.Restarting.{mark_at}
 use Rattle.kv_manager.specs.Sights.{IsKept, IsLogged, KvSight, SaysDecided, logged}
 use Rattle.kv_manager.proofs.Turns.{same_data}
 

@@ -25,9 +25,9 @@ use Rattle.tree_model.specs.declared.records.Branch.TheVariants.{Foreign}
 use Rattle.tree_model.specs.declared.records.LogRecord.{LogRecord}
 use Rattle.tree_model.specs.declared.records.Write.{Write}
 use Rattle.tree_model.specs.Records.{same_branch, same_xid}
-use Rattle.tree_model.specs.ManagerRows.{is_acknowledged}
-use Rattle.tree_model.specs.Standings.{Decided, Finished, Mark, Promised, ToldOf, Unmarked, mark_after, mark_of}
-use Rattle.tree_model.specs.Store.{Data, commits, stored, stored_after, writes_of as promised_of}
+use Rattle.tree_model.specs.ManagerRows.{is_acknowledged, presumption_of}
+use Rattle.tree_model.specs.Standings.{Decided, Finished, Mark, Promised, ToldOf, Unmarked, mark_after, mark_of, mark_at}
+use Rattle.tree_model.specs.Store.{Data, commits, stored, stored_after, writes_of as promised_of, data_of}
 use Rattle.log_text.proofs.NameReading.{same_xid_is, same_xid_refl}
 use Rattle.log_rules.proofs.sound.CutNames.{name_again}
 use Rattle.rec_log.specs.Sights.{Breaks, LogSight, left_by, longer, records_of}
@@ -39,17 +39,17 @@ use Rattle.kv_store.specs.writes.Writes.{AreWrites, Leaves, writes_of}
 use Rattle.kv_turns.specs.declared.entries.Entry.{Entry}
 use Rattle.kv_turns.specs.declared.entries.Entry.TheVariants.{Prepared, Committed, RolledBack, Direct, HeurCommit, HeurRollback, Told, Forgot}
 use Rattle.kv_turns.specs.declared.turns.Turn.{Turn}
-use Rattle.kv_turns.specs.Turns.{IsEntry, applies, decide_turn, entry_of, entry_record, presumption_of, silent, tell_turn, turn_of, writes}
-use Rattle.kv_core.specs.Folds.{AreData, by_xid, data_of}
+use Rattle.kv_turns.specs.Turns.{IsEntry, applies, decide_turn, entry_of, entry_record, silent, tell_turn, turn_of, writes}
+use Rattle.kv_core.specs.Folds.{AreData}
+use Rattle.tree_model.specs.LogNames.{by_xid}
 use Rattle.xa_heur.specs.declared.decision.Decision.{Decision}
-use Rattle.xa_heur.specs.Decisions.{decided_as, decision_after, decision_of, first_told, told_behind}
+use Rattle.xa_heur.specs.Decisions.{decided_as, decision_after, decision_of, first_told, told_behind, decided_in}
 use Rattle.xa_heur.specs.Cases.{DecisionTable, Notes, decision_in, decision_or}
-use Rattle.kv_core.specs.Decisions.{decided_in, says_decided}
+use Rattle.kv_core.specs.Decisions.{says_decided}
 use Rattle.kv_core.specs.Stores.{KeySight, is_decided, is_let_go, state_of}
 use Rattle.kv_core.specs.Ends.{IsListed, IsTurn, LetsGo, OfCall, OfOperator, PublishesWrites, StagesWrites, TakesTurn, known_behind, known_of, wrote_some}
 use Rattle.kv_locks.specs.Locks.{Releases}
 use Rattle.kv_manager.specs.Sights.{IsKept, IsLogged, KvSight, SameManager, SaysDecided, logged}
-use Rattle.manager_model.specs.Restarting.{mark_at}
 use Rattle.kv_manager.proofs.Keeping.{KeepsPromises, one_data}
 use Rattle.kv_manager.proofs.Marks.{branch_same}
 use Rattle.xa_assoc.proofs.Reactions.{stays}

@@ -1,5 +1,5 @@
 -- A key store with a log, as a process sees the resource manager that it drives.
-use Rattle.std.specs.Prelude.{◌≡◌, not, Bool, true, false, if◌then◌else◌, List, ℕ, Option, Some, None}
+use Rattle.std.specs.Prelude.{◌≡◌, not, if◌then◌else◌, List, ℕ, Option, Some, None}
 use Rattle.xa_codes.specs.declared.code.Code.{Code}
 use Rattle.xa_codes.specs.declared.code.Code.TheVariants as code
 use Rattle.manager_model.specs.declared.errors.DecideError.{DecideError}
@@ -59,13 +59,7 @@ seen_fault Memory = seen.Memory
 seen_fault Unfit = seen.Memory
 seen_fault Exhausted = seen.Memory
 
--- a turn of an operator's decision was not taken: the device failed, or no commit more can be counted
-abbrev pub is_refusal : Code → Bool
-is_refusal code.RmFail = true
-is_refusal code.RmErr = true
-is_refusal _ = false
-
--- why it was not
+-- why a turn of an operator's decision was not taken: the device failed, or no commit more can be counted
 abbrev pub IsRefusal : Code → DecideError → Type 0
 IsRefusal answer decides.Device = answer ≡ code.RmFail
 IsRefusal answer decides.Memory = answer ≡ code.RmErr

@@ -14,7 +14,8 @@ use Rattle.rec_log.specs.Sights.{Breaks, IsRecord, LogState, RestartBreaks, Rest
 use Rattle.kv_store.specs.writes.Writes.{writes_of}
 use Rattle.kv_core.specs.declared.fault.ReplayError.{ReplayError}
 use Rattle.kv_core.specs.declared.fault.ReplayError.TheVariants as replays
-use Rattle.kv_core.specs.Folds.{AreData, data_of}
+use Rattle.kv_core.specs.Folds.{AreData}
+use Rattle.tree_model.specs.Store.{data_of}
 use Rattle.kv_core.specs.Decisions.{KnowDecided}
 use Rattle.kv_core.specs.Replays.{AreMalformed, CountTooFar, HoldPromises, seen_of}
 use Rattle.kv_core.specs.Stores.{KeySight}

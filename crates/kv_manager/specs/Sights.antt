@@ -4,16 +4,16 @@ use Rattle.xa_tables.specs.declared.states.BranchState.TheVariants.{S3, S5}
 use Rattle.xa_xid.specs.declared.xid.Xid.{Xid}
 use Rattle.tree_model.specs.declared.names.Kind.TheVariants.{Manager}
 use Rattle.tree_model.specs.declared.records.Branch.TheVariants.{Foreign}
-use Rattle.tree_model.specs.Standings.{Promised}
-use Rattle.tree_model.specs.Store.{Data, writes_of as promised_of}
+use Rattle.tree_model.specs.Standings.{Promised, mark_at}
+use Rattle.tree_model.specs.Store.{Data, writes_of as promised_of, data_of}
 use Rattle.rec_log.specs.Sights.{LogState, records_of}
 use Rattle.kv_store.specs.Pairs.{keys_rise}
-use Rattle.kv_core.specs.Folds.{AreData, data_of}
-use Rattle.kv_core.specs.Decisions.{decided_in, says_decided}
+use Rattle.kv_core.specs.Folds.{AreData}
+use Rattle.kv_core.specs.Decisions.{says_decided}
+use Rattle.xa_heur.specs.Decisions.{decided_in}
 use Rattle.kv_store.specs.Versions.{SameData}
 use Rattle.kv_store.specs.writes.Writes.{SameWrites, writes_of}
 use Rattle.xa_assoc.specs.Answers.{Same}
-use Rattle.manager_model.specs.Restarting.{mark_at}
 use Rattle.xa_heur.specs.declared.decision.Decision.{Decision}
 use Rattle.xa_heur.specs.Cases.{SameDecisions}
 use Rattle.tree_model.specs.declared.records.LogRecord.{LogRecord}

@@ -3,7 +3,8 @@
 ghost use Rattle.std.specs.Prelude.{◌≡◌, ◌<◌, ◌≤◌, ◌+◌, ◌^◌, length, false, true, IfOk, IfErr, OnOk, OnErr, Err, Some, None};
 ghost use Rattle.manager_model.specs.Deciding.{Decides, NotDecided};
 ghost use Rattle.xa_assoc.specs.Ready.{is_work_verb, leaves};
-ghost use Rattle.kv_manager.specs.Resources.{IsRefusal, is_refusal, sight_of};
+ghost use Rattle.xa_codes.specs.Codes.{is_own};
+ghost use Rattle.kv_manager.specs.Resources.{IsRefusal, sight_of};
 ghost use Rattle.kv_manager.specs.Sights.{SameManager};
 ghost use Rattle.log_text.specs.Made.{frame_record};
 ghost use Rattle.log_text.specs.Payloads.{record_text};
@@ -27,7 +28,7 @@ use xa_xid::Xid;
 
 /// Whether a branch took the turn of a decision, by what the turn answered.
 fn decided(answer: Code) -> Result<(), DecideError>
-    ensures ok { OnOk result (is_refusal answer ≡ false) }
+    ensures ok { OnOk result (is_own answer ≡ false) }
     ensures err { IfErr result (IsRefusal answer) }
 {
     match answer {

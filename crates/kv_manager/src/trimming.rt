@@ -2,11 +2,10 @@
 
 ghost use Rattle.std.specs.Prelude.{◌≡◌, IfErr, IfOk, map};
 ghost use Rattle.tree_model.specs.declared.names.Kind.TheVariants as kind;
-ghost use Rattle.tree_model.specs.Store.{base_records};
+ghost use Rattle.tree_model.specs.Store.{base_records, data_of};
 ghost use Rattle.log_text.specs.Made.{frame_record};
 ghost use Rattle.rec_log.specs.Sights.{AreRecords, records_of};
-ghost use Rattle.kv_core.specs.Keeping.{unnamed};
-ghost use Rattle.kv_core.specs.Folds.{data_of};
+ghost use Rattle.tree_model.specs.LogNames.{unnamed};
 ghost use Rattle.kv_manager.specs.Resources.{sight_of, trim_error};
 ghost use Rattle.manager_model.specs.Trimming.{NotTrimmed, Trims};
 

@@ -7,17 +7,14 @@ use Rattle.xa_tables.specs.declared.call.Call.TheVariants as call
 use Rattle.xa_tables.specs.declared.states.BranchState.{BranchState}
 use Rattle.xa_tables.specs.declared.states.BranchState.TheVariants.{S0, S3, S5}
 use Rattle.xa_xid.specs.Xids.{XidParts}
-use Rattle.tree_model.specs.declared.names.Presumption.{Presumption}
-use Rattle.tree_model.specs.declared.names.Presumption.TheVariants.{PresumeAbort}
 use Rattle.tree_model.specs.declared.names.Outcome.{Outcome}
 use Rattle.tree_model.specs.declared.names.Outcome.TheVariants.{Committed as CommittedOutcome, Aborted as AbortedOutcome}
 use Rattle.tree_model.specs.declared.records.Branch.{Branch}
-use Rattle.tree_model.specs.declared.records.Branch.TheVariants.{Case as CaseBranch, Foreign}
 use Rattle.tree_model.specs.declared.records.LogRecord.{LogRecord}
 use Rattle.tree_model.specs.declared.records.Record.{Record}
 use Rattle.tree_model.specs.declared.records.Record.TheVariants as record_of
 use Rattle.tree_model.specs.declared.records.Write.{Write}
-use Rattle.tree_model.specs.ManagerRows.{is_acknowledged}
+use Rattle.tree_model.specs.ManagerRows.{is_acknowledged, is_told_forced, presumption_of}
 use Rattle.xa_heur.specs.declared.decision.Decision.{Decision}
 use Rattle.xa_heur.specs.Decisions.{heur_code}
 use Rattle.log_text.specs.Parts.{name_in}
@@ -25,11 +22,6 @@ use Rattle.kv_store.specs.writes.Writes.{AreWrites}
 use Rattle.kv_turns.specs.declared.entries.Entry.{Entry}
 use Rattle.kv_turns.specs.declared.entries.Entry.TheVariants.{Prepared, Committed, RolledBack, Direct, HeurCommit, HeurRollback, Told, Forgot}
 use Rattle.kv_turns.specs.declared.turns.Turn.{Turn}
-
--- the presumption of a branch: that of its case; one that is no case's is under Presumed Abort
-abbrev pub presumption_of : Branch → Presumption
-presumption_of (CaseBranch c) = c.txn.presumption
-presumption_of (Foreign x) = PresumeAbort
 
 -- Turns.
 
@@ -45,12 +37,6 @@ writes e is_forced s = record { code = code.Ok; to = s; entry = Some e; is_force
 abbrev pub prepare_turn : Bool → Turn
 prepare_turn false = silent code.RdOnly S0
 prepare_turn true = writes Prepared true S3
-
--- whether the record of what a decided branch is told is forced: as its outcome would be; of a branch that is
--- no case's always
-abbrev pub is_told_forced : Branch → Outcome → Bool
-is_told_forced (CaseBranch c) o = is_acknowledged c.txn.presumption o
-is_told_forced (Foreign x) o = true
 
 -- an outcome comes to a branch that an operator decided, which was told this: it answers by the decision, and
 -- the first outcome is noted

@@ -5,7 +5,8 @@ ghost use Rattle.tree_model.specs.declared.names.Kind.TheVariants as kind;
 ghost use Rattle.log_text.specs.Made.{frame_record};
 ghost use Rattle.log_text.specs.Parts.{name_in};
 ghost use Rattle.log_rules.specs.sound.Sound.{IsSound, IsSoundName};
-ghost use Rattle.kv_turns.specs.Turns.{IsEntry, applies, entry_of, entry_record, heur_entry, presumption_of};
+ghost use Rattle.kv_turns.specs.Turns.{IsEntry, applies, entry_of, entry_record, heur_entry};
+ghost use Rattle.tree_model.specs.ManagerRows.{presumption_of};
 
 use log_text::{Frame, name_in};
 use std::alloc::{AllocError, Global};

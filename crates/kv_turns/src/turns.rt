@@ -1,7 +1,8 @@
 //! What a call that finishes a branch makes of it.
 
 ghost use Rattle.std.specs.Prelude.{◌≡◌};
-ghost use Rattle.kv_turns.specs.Turns.{commit_turn, decide_turn, direct_turn, is_told_forced, prepare_turn, rollback_turn, silent, tell_turn, turn_of, writes};
+ghost use Rattle.kv_turns.specs.Turns.{commit_turn, decide_turn, direct_turn, prepare_turn, rollback_turn, silent, tell_turn, turn_of, writes};
+ghost use Rattle.tree_model.specs.ManagerRows.{is_told_forced};
 
 use crate::entries::{Entry, presumption_of};
 use tree_model::{Branch, Outcome};

@@ -13,16 +13,13 @@ use Rattle.tree_model.specs.declared.records.LogRecord.{LogRecord}
 use Rattle.tree_model.specs.declared.records.Record.{Record}
 use Rattle.tree_model.specs.declared.records.Record.TheVariants.{Opened, Collecting, Prepare, Commit, Abort, End, Prepared, Committed, RolledBack, Direct, HeurCommit, HeurRollback, Told, Forgot, Base, Pair}
 use Rattle.tree_model.specs.declared.records.Write.{Write}
+use Rattle.tree_model.specs.LogNames.{unnamed}
 use Rattle.log_text.specs.Parts.{Front, Name, name_at, tickets_of, writes_of, key_at, value_at}
 
 -- the number in just 8 bytes, below 2^63
 abbrev pub below : List ℕ → Option ℕ
 below bytes =
     if (length bytes == 8) && nat_lt (big_number 8 bytes) (2 ^ 63) then Some (big_number 8 bytes) else None
-
--- a record of the process itself, under no parent
-abbrev pub unnamed : Record → LogRecord
-unnamed r = record { entry = r; parent = None }
 
 -- a record under this parent, or none
 abbrev pub named : Option ProcessId → Record → LogRecord

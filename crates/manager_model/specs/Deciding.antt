@@ -14,7 +14,8 @@ use Rattle.log_text.specs.Parts.{name_in}
 use Rattle.rec_log.specs.Sights.{Breaks}
 use Rattle.core_model.specs.States.{wrote}
 use Rattle.manager_model.specs.Sights.{ManagerSight, SameManager}
-use Rattle.manager_model.specs.Ends.{OthersStayDecided, forced, logged_under, state_of}
+use Rattle.manager_model.specs.Ends.{OthersStayDecided, logged_under, state_of}
+use Rattle.tree_model.specs.CoordinatorRows.{forced}
 use Rattle.manager_model.specs.declared.errors.DecideError.{DecideError}
 use Rattle.manager_model.specs.declared.errors.DecideError.TheVariants.{Memory, Device, Failed, NotInDoubt}
 

@@ -15,20 +15,18 @@ use Rattle.xa_branch.specs.Names.{same}
 use Rattle.xa_assoc.specs.Answers.{Same, Takes, state_at}
 use Rattle.xa_assoc.specs.Ready.{leaves, ready}
 use Rattle.tree_model.specs.declared.names.Kind.TheVariants.{Manager}
-use Rattle.tree_model.specs.declared.names.Presumption.{Presumption}
-use Rattle.tree_model.specs.declared.names.Presumption.TheVariants.{PresumeAbort}
 use Rattle.xa_heur.specs.declared.decision.Decision.{Decision}
 use Rattle.xa_heur.specs.Decisions.{heur_code, told_behind}
 use Rattle.tree_model.specs.declared.names.Outcome.{Outcome}
 use Rattle.tree_model.specs.declared.names.Outcome.TheVariants.{Committed as CommittedOutcome, Aborted as AbortedOutcome}
 use Rattle.tree_model.specs.declared.records.Branch.{Branch}
-use Rattle.tree_model.specs.declared.records.Branch.TheVariants.{Case as CaseBranch, Foreign}
 use Rattle.tree_model.specs.declared.records.LogRecord.{LogRecord}
 use Rattle.tree_model.specs.declared.records.Record.{Record}
 use Rattle.tree_model.specs.declared.records.Record.TheVariants.{Prepared, Committed, RolledBack, Direct, Told, Forgot}
 use Rattle.tree_model.specs.declared.records.Write.{Write}
-use Rattle.tree_model.specs.ManagerRows.{is_acknowledged}
+use Rattle.tree_model.specs.ManagerRows.{is_acknowledged, is_told_forced, presumption_of}
 use Rattle.tree_model.specs.Nodes.{Written}
+use Rattle.tree_model.specs.CoordinatorRows.{forced}
 use Rattle.log_text.specs.Parts.{name_in}
 use Rattle.rec_log.specs.Sights.{Breaks, LogSight, LogState}
 use Rattle.core_model.specs.States.{wrote}
@@ -64,25 +62,10 @@ row_for m x c = row_of c (state_at m.tables x) (m.writes x) (m.decided x)
 
 -- The records.
 
--- the presumption of a branch: that of its case; one that is no case's is under Presumed Abort
-abbrev pub presumption_of : Branch → Presumption
-presumption_of (CaseBranch c) = c.txn.presumption
-presumption_of (Foreign x) = PresumeAbort
-
--- one forced record
-abbrev pub forced : Record → List Written
-forced r = record { entry = r; is_forced = true } ∷ []
-
 -- the writes of a branch as a record of this sort, forced; a branch without writes has none
 abbrev pub unless_empty : (List Write → Record) → List Write → List Written
 unless_empty entry [] = []
 unless_empty entry (w ∷ ws) = forced (entry (w ∷ ws))
-
--- whether the record of what a decided branch was told is forced: as its outcome would be; of a branch that
--- is no case's always
-abbrev pub is_told_forced : Branch → Outcome → Bool
-is_told_forced (CaseBranch c) o = is_acknowledged c.txn.presumption o
-is_told_forced (Foreign x) o = true
 
 -- the record of the outcome that a decided branch is told; the first one counts
 abbrev pub tells : Branch → Outcome → Option Outcome → List Written

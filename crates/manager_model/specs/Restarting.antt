@@ -1,24 +1,19 @@
 -- A manager behind a crash: what the records say that are left of its log.
-use Rattle.std.specs.Prelude.{◌≡◌, ◌+◌, ℕ, Option, Some, None, List, [], ◌∷◌, ◌++◌, map}
+use Rattle.std.specs.Prelude.{◌≡◌, ◌+◌, ℕ, None, List, [], ◌∷◌, ◌++◌, map}
 use Rattle.xa_tables.specs.declared.states.BranchState.{BranchState}
 use Rattle.xa_tables.specs.declared.states.BranchState.TheVariants.{S0, S3, S5}
 use Rattle.xa_tables.specs.declared.states.InitState.TheVariants.{R0}
 use Rattle.xa_xid.specs.declared.xid.Xid.{Xid}
 use Rattle.xa_assoc.specs.Associations.{IsBare}
 use Rattle.xa_assoc.specs.Answers.{Same, state_at}
-use Rattle.xa_heur.specs.declared.decision.Decision.{Decision}
-use Rattle.xa_heur.specs.Decisions.{decision_of}
-use Rattle.tree_model.specs.declared.names.ProcessId.{ProcessId}
-use Rattle.tree_model.specs.declared.records.Branch.{Branch}
+use Rattle.xa_heur.specs.Decisions.{decided_in}
 use Rattle.tree_model.specs.declared.records.Branch.TheVariants.{Foreign}
 use Rattle.tree_model.specs.declared.records.LogRecord.{LogRecord}
-use Rattle.tree_model.specs.declared.records.Record.{Record}
 use Rattle.tree_model.specs.declared.records.Record.TheVariants.{Opened}
 use Rattle.tree_model.specs.declared.records.Write.{Write}
-use Rattle.tree_model.specs.LogNames.{name_xid, renamed}
-use Rattle.tree_model.specs.Records.{boot_of, record_branch}
-use Rattle.tree_model.specs.Standings.{Mark, Unmarked, Promised, Decided, ToldOf, Finished, mark_of}
-use Rattle.tree_model.specs.Store.{Data, stored, writes_of}
+use Rattle.tree_model.specs.Records.{boot_of}
+use Rattle.tree_model.specs.Standings.{Mark, Unmarked, Promised, Decided, ToldOf, Finished, mark_at}
+use Rattle.tree_model.specs.Store.{writes_of, data_of}
 use Rattle.rec_log.specs.Sights.{RestartBreaks, left_by}
 use Rattle.core_model.specs.States.{forced_sight}
 use Rattle.manager_model.specs.Sights.{ManagerSight, SameManager}
@@ -27,23 +22,6 @@ use Rattle.manager_model.specs.declared.errors.RestartError.{RestartError}
 use Rattle.manager_model.specs.declared.errors.RestartError.TheVariants.{Memory, Device}
 
 -- What records say of a branch, by its XID.
-
--- a record whose branch is named by its XID; one without a branch stays
-abbrev pub renamed_by : Option ProcessId → Option Branch → Record → Record
-renamed_by p None r = r
-renamed_by p (Some b) r = renamed (Foreign (name_xid p b)) r
-
--- a record of a log, its branch named by its XID: so a branch is the same whoever reads the log
-abbrev pub by_xid : LogRecord → Record
-by_xid l = renamed_by l.parent (record_branch l.entry) l.entry
-
--- what the last record of a branch says
-abbrev pub mark_at : List LogRecord → Xid → Mark
-mark_at ls x = mark_of (Foreign x) (map by_xid ls)
-
--- the data that the records make
-abbrev pub data_in : List LogRecord → Data
-data_in ls = stored (map by_xid ls)
 
 -- the state of a branch by what its last record says: prepared, or decided by an operator, else gone
 abbrev pub marked_state : Mark → BranchState
@@ -60,11 +38,7 @@ marked_writes _ ws = []
 
 -- what a branch has written by these records
 abbrev pub writes_left : List LogRecord → Xid → List Write
-writes_left ls x = marked_writes (mark_at ls x) (writes_of (Foreign x) (data_in ls).promised)
-
--- what an operator decided of a branch by these records, and what it was told since
-abbrev pub decided_at : List LogRecord → Xid → Decision
-decided_at ls x = decision_of (Foreign x) (map by_xid ls)
+writes_left ls x = marked_writes (mark_at ls x) (writes_of (Foreign x) (data_of ls).promised)
 
 -- the boot behind those of these records
 abbrev pub next_boot : List LogRecord → ℕ
@@ -91,7 +65,7 @@ pub record Restarts (old new : ManagerSight) (keep : ℕ) : Type 0 where
   pub seats : new.tables.associations.seats ≡ []
   pub writes : (x : Xid) → new.writes x ≡ writes_left (left_by old.log keep) x
   pub decided : (x : Xid) → state_at new.tables x ≡ S5
-      → new.decided x ≡ decided_at (left_by old.log keep) x
+      → new.decided x ≡ decided_in (left_by old.log keep) x
   pub boot : new.boot ≡ next_boot (left_by old.log keep)
   pub log : new.log ≡ forced_sight (with_boot (left_by old.log keep)) old.log.failures
 

@@ -1,26 +1,18 @@
 -- A trim of a manager's log.
-use Rattle.std.specs.Prelude.{◌≡◌, ◌<◌, ◌⊎◌, ℕ, true, List, [], ◌++◌, length, map, None}
+use Rattle.std.specs.Prelude.{◌≡◌, ◌<◌, ◌⊎◌, ℕ, true, List, [], length}
 use Rattle.xa_xid.specs.declared.xid.Xid.{Xid}
 use Rattle.xa_assoc.specs.Answers.{Same}
 use Rattle.tree_model.specs.declared.records.LogRecord.{LogRecord}
-use Rattle.tree_model.specs.declared.records.Record.{Record}
-use Rattle.tree_model.specs.Store.{base_records}
-use Rattle.log_rules.specs.trim.Trims.{front_of_trim}
+use Rattle.log_rules.specs.trim.Trims.{trim_of}
 use Rattle.rec_log.specs.Sights.{LogSight, records_of}
 use Rattle.core_model.specs.States.{forced_sight}
 use Rattle.manager_model.specs.Sights.{ManagerSight, SameData, SameManager}
-use Rattle.manager_model.specs.Restarting.{data_in}
 use Rattle.manager_model.specs.declared.errors.TrimError.{TrimError}
 use Rattle.manager_model.specs.declared.errors.TrimError.TheVariants.{Memory, Device, Failed}
 
--- a record of no branch, as a log holds it
-abbrev pub unnamed : Record → LogRecord
-unnamed r = record { entry = r; parent = None }
-
--- the log that a trim leaves: what stays of its records, and the data behind them as a base and its pairs,
--- keys rising
+-- the log that a trim leaves
 abbrev pub trimmed : LogSight → List LogRecord
-trimmed s = front_of_trim (records_of s.kept) ++ map unnamed (base_records (data_in (records_of s.kept)))
+trimmed s = trim_of (records_of s.kept)
 
 -- the log was trimmed, all of it forced, and nothing else moved; so many records remain
 pub record Trims (old new : ManagerSight) (remain : ℕ) : Type 0 where

@@ -27,7 +27,8 @@ use Rattle.tree_model.specs.Branches.{branch_parts}
 use Rattle.tree_model.specs.Records.{same_bytes, same_xid}
 use Rattle.log_text.specs.Parts.{Front, Name, all_of, and_more, below_in, case_name, fits_ticket, key_at, left_at, name_at, name_in, presumption_in, put_of, ticket_at, ticket_in, tickets_of, txn_in, value_at, write_at, write_by, writes_of, xid_at}
 use Rattle.log_text.specs.Payloads.{key_text, left_text, name_text, payload_text, ticket_text, tickets_text, value_text, write_text, writes_text}
-use Rattle.log_text.specs.Reading.{bare, below, branch_record, coordinator_record, listing, manager_record, named, of_branch, of_case, of_name, pair_by, pair_of, read_record, told, unnamed, writing}
+use Rattle.log_text.specs.Reading.{bare, below, branch_record, coordinator_record, listing, manager_record, named, of_branch, of_case, of_name, pair_by, pair_of, read_record, told, writing}
+use Rattle.tree_model.specs.LogNames.{unnamed}
 
 some_is : {A : Type 0} (x y : A) → Some x ≡ Some y → x ≡ y
 some_is x y e = cc

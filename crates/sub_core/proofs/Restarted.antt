@@ -15,11 +15,11 @@ use Rattle.tree_model.specs.declared.records.RecordKind.TheVariants as kind
 use Rattle.tree_model.specs.declared.records.Subject.TheVariants as subject
 use Rattle.tree_model.specs.declared.events.Reaction.{Reaction}
 use Rattle.tree_model.specs.declared.events.StepError.TheVariants as error
-use Rattle.tree_model.specs.LogNames.{below_of, name_xid, own_records}
+use Rattle.tree_model.specs.LogNames.{below_of, name_xid, own_records, by_xid}
 use Rattle.tree_model.specs.Branches.{branch_parts}
 use Rattle.tree_model.specs.Records.{boot_of}
 use Rattle.tree_model.specs.Restarts.{recorded_branch}
-use Rattle.tree_model.specs.Standings.{mark_of, unknown_view}
+use Rattle.tree_model.specs.Standings.{mark_of, unknown_view, mark_at}
 use Rattle.xa_heur.specs.declared.decision.Decision.{Decision}
 use Rattle.log_text.specs.Parts.{name_in}
 use Rattle.rec_log.specs.Sights.{RestartBreaks, left_by}
@@ -27,12 +27,13 @@ use Rattle.core_model.specs.States.{forced_sight}
 use Rattle.core_model.specs.Restarting.{NotRestarted, Restarts, restarted_log}
 use Rattle.core_model.proofs.Alike.{same_view}
 use Rattle.manager_model.specs.Ends.{state_of}
-use Rattle.manager_model.specs.Restarting.{RestartFails, Restarts as ManagerRestarts, boot_record, by_xid, mark_at, marked_state, next_boot}
+use Rattle.manager_model.specs.Restarting.{RestartFails, Restarts as ManagerRestarts, boot_record, marked_state, next_boot}
 use Rattle.manager_model.specs.Sights.{Calls, ManagerSight}
 use Rattle.sub_deeds.specs.Deeds.{IsIdle}
 use Rattle.sub_deeds.proofs.Quiet.{same_idle}
 use Rattle.sub_table.specs.declared.rebuilt.Rebuilt.{Rebuilt}
-use Rattle.sub_table.specs.Rebuilt.{IsLeft, Rebuilds, leaf}
+use Rattle.sub_table.specs.Rebuilt.{IsLeft, Rebuilds}
+use Rattle.tree_model.specs.Views.{leaf_place}
 use Rattle.sub_table.proofs.Booting.{boot_branch, boot_last, boot_read, boot_resumes}
 use Rattle.sub_table.proofs.Marks.{boots_alike, marks_alike}
 use Rattle.sub_table.proofs.Steps.{left_xid}
@@ -58,14 +59,14 @@ shown_restart boot messages =
 
 module _ (s : SubState) (keep : ℕ) (r : Rebuilt) (mid m : ManagerSight)
     (refuses : Code → Type 0) (answer : Code)
-    (made : Rebuilds (leaf s.me s.parent s.tree) s.parent (left_by s.manager.log keep) r)
+    (made : Rebuilds (leaf_place s.me s.parent s.tree) s.parent (left_by s.manager.log keep) r)
     (restarts : ManagerRestarts s.manager mid keep)
     (calls : Calls mid m (refuses answer) (λ old new. Opens old new 0 false answer)) where
   abbrev ls : List LogRecord
   ls = left_by s.manager.log keep
 
   abbrev rs : List Record
-  rs = own_records (leaf s.me s.parent s.tree) (left_by s.manager.log keep)
+  rs = own_records (leaf_place s.me s.parent s.tree) (left_by s.manager.log keep)
 
   -- the subordinate behind it
   abbrev pub reopened : SubState
@@ -82,10 +83,10 @@ module _ (s : SubState) (keep : ℕ) (r : Rebuilt) (mid m : ManagerSight)
   up = ap (λ l. l.failed) restarts.log
 
   boots : next_boot (left_by s.manager.log keep)
-      ≡ boot_of (own_records (leaf s.me s.parent s.tree) (left_by s.manager.log keep)) + 1
+      ≡ boot_of (own_records (leaf_place s.me s.parent s.tree) (left_by s.manager.log keep)) + 1
   boots = ap (λ n. n + 1) (sym (boots_alike s.me s.parent s.tree (left_by s.manager.log keep)))
 
-  boot_is : m.boot ≡ boot_of (own_records (leaf s.me s.parent s.tree) (left_by s.manager.log keep)) + 1
+  boot_is : m.boot ≡ boot_of (own_records (leaf_place s.me s.parent s.tree) (left_by s.manager.log keep)) + 1
   boot_is = calls.boot ∙ restarts.boot ∙ boots
 
   idle : IsIdle m
@@ -97,7 +98,7 @@ module _ (s : SubState) (keep : ℕ) (r : Rebuilt) (mid m : ManagerSight)
   states : (x : Xid) → state_at m.tables x ≡ state_at mid.tables x
   states x = ap (λ (bs : BranchList). state_in bs.branches x) (calls.works up).branches
 
-  named : (c : Case) (b : Branch) → IsLeft (leaf s.me s.parent s.tree) s.parent rs r.boot c
+  named : (c : Case) (b : Branch) → IsLeft (leaf_place s.me s.parent s.tree) s.parent rs r.boot c
       b → IsNamed s.parent c b.xid
   named c b d =
       let is : b.xid ≡ name_xid (Some s.parent) (CaseBranch c) =
@@ -110,25 +111,25 @@ module _ (s : SubState) (keep : ℕ) (r : Rebuilt) (mid m : ManagerSight)
       }
 
   -- what the records say of a case is what they say of its XID
-  mark_is : (c : Case) (b : Branch) → IsLeft (leaf s.me s.parent s.tree) s.parent rs r.boot c b
+  mark_is : (c : Case) (b : Branch) → IsLeft (leaf_place s.me s.parent s.tree) s.parent rs r.boot c b
       → mark_at (left_by s.manager.log keep) b.xid ≡ mark_of (CaseBranch c) rs
   mark_is c b d =
       ap (λ (x : Xid). mark_at (left_by s.manager.log keep) x)
       (left_xid s.parent c b (mark_of (CaseBranch c) rs) d.kept)
       ∙ marks_alike s.me s.parent s.tree c d.own.own d.own.reads (left_by s.manager.log keep) made.reads
 
-  state_is : (c : Case) (b : Branch) → IsLeft (leaf s.me s.parent s.tree) s.parent rs r.boot c b
+  state_is : (c : Case) (b : Branch) → IsLeft (leaf_place s.me s.parent s.tree) s.parent rs r.boot c b
       → state_at mid.tables b.xid ≡ stage_state b.stage
   state_is c b d =
       restarts.states b.xid ∙ ap marked_state (mark_is c b d)
       ∙ left_state s.parent c b (mark_of (CaseBranch c) rs) d.kept
 
-  stands : (c : Case) (b : Branch) → IsLeft (leaf s.me s.parent s.tree) s.parent rs r.boot c b
+  stands : (c : Case) (b : Branch) → IsLeft (leaf_place s.me s.parent s.tree) s.parent rs r.boot c b
       → state_at m.tables b.xid ≡ stage_state b.stage
   stands c b d = states b.xid ∙ state_is c b d
 
   -- what it was told is what the manager's records say that it was
-  agrees : (c : Case) (b : Branch) → IsLeft (leaf s.me s.parent s.tree) s.parent rs r.boot c b
+  agrees : (c : Case) (b : Branch) → IsLeft (leaf_place s.me s.parent s.tree) s.parent rs r.boot c b
       → AgreesWith b.stage (m.decided b.xid)
   agrees c b d = by_stage b.stage refl
     where
@@ -141,7 +142,7 @@ module _ (s : SubState) (keep : ℕ) (r : Rebuilt) (mid m : ManagerSight)
           ∙ told_by_mark (Foreign b.xid) (map by_xid (left_by s.manager.log keep)) told
           (mark_is c b d ∙ left_mark s.parent c b (mark_of (CaseBranch c) rs) told d.kept is)
 
-  given_by : (c : Case) (b : Branch) → IsLeft (leaf s.me s.parent s.tree) s.parent rs
+  given_by : (c : Case) (b : Branch) → IsLeft (leaf_place s.me s.parent s.tree) s.parent rs
       r.boot c b → IsGiven reopened c
   given_by c b d = record {
     ticket = d.own.given.ticket;
@@ -166,7 +167,7 @@ module _ (s : SubState) (keep : ℕ) (r : Rebuilt) (mid m : ManagerSight)
   log_is = calls.log ∙ restarts.log
       ∙ ap (λ n. forced_sight (left_by s.manager.log keep ++ boot_record n ∷ []) s.manager.log.failures) boots
 
-  read : own_records (leaf s.me s.parent s.tree) (restarted_log (core_of s) keep) ≡ rs
+  read : own_records (leaf_place s.me s.parent s.tree) (restarted_log (core_of s) keep) ≡ rs
       ++ Opened (boot_of rs + 1) ∷ []
   read = boot_read s.me s.parent s.tree (left_by s.manager.log keep) (boot_of rs + 1)
 

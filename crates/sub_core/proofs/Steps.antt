@@ -19,7 +19,7 @@ use Rattle.tree_model.specs.Nodes.{DataAnswer}
 use Rattle.tree_model.specs.CoordinatorRows.{post}
 use Rattle.tree_model.specs.ManagerRows.{Leaf, untold_ask}
 use Rattle.tree_model.specs.Reactions.{act_is_listed, sends_only}
-use Rattle.core_model.specs.Turns.{Finds, Handles, Refuses, Says, Turn, asked_by, asked_in, leaf_ask_turn, leaf_in, reacted, turn_of, up_turn}
+use Rattle.core_model.specs.Turns.{Finds, Handles, Refuses, Says, Turn, asked_by, asked_in, leaf_ask_turn, leaf_in, reacted, turn_of, up_turn, is_refusal}
 use Rattle.core_model.specs.Makes.{Makes, NotMade}
 use Rattle.sub_branch.specs.declared.branch.Branch.{Branch}
 use Rattle.sub_branch.specs.declared.branch.Stage.{Stage}
@@ -28,7 +28,7 @@ use Rattle.sub_branch.specs.Stages.{awaits}
 use Rattle.sub_table.specs.Tables.{branch_in, kept_view, stage_view, ticket_in}
 use Rattle.sub_core.specs.Subordinates.{Hears, NotHeard, NotTurned, SubState, Turns, Writes, core_of, turn_for}
 use Rattle.sub_deeds.specs.Replies.{shown}
-use Rattle.sub_core.specs.Steps.{Acts, Leaves, NotActed, data_answer, is_refusal, turn_at}
+use Rattle.sub_core.specs.Steps.{Acts, Leaves, NotActed, data_answer, turn_at}
 use Rattle.sub_core.proofs.Joins.{stays_core}
 use Rattle.sub_core.proofs.Rows.{handled}
 use Rattle.sub_core.proofs.Staying.{no_record}

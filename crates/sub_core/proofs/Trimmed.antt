@@ -14,10 +14,10 @@ use Rattle.tree_model.specs.declared.records.Record.{Record}
 use Rattle.tree_model.specs.declared.records.Record.TheVariants.{Opened, Collecting, Prepare, Commit, Abort, End, Prepared, Committed, RolledBack, Direct, HeurCommit, HeurRollback, Told, Forgot, Base, Pair}
 use Rattle.tree_model.specs.declared.records.Write.{Write}
 use Rattle.tree_model.specs.declared.trees.TreeEntry.{TreeEntry}
-use Rattle.tree_model.specs.LogNames.{in_log, name_xid, own_by, own_records, renamed}
+use Rattle.tree_model.specs.LogNames.{in_log, name_xid, own_by, own_records, renamed, by_xid, unnamed}
 use Rattle.tree_model.specs.Records.{branch_case, record_case, same_branch, same_xid}
 use Rattle.tree_model.specs.Standings.{unknown_view}
-use Rattle.tree_model.specs.Store.{Data, applied, base_records, no_data, pair_record, stored, stored_after, with_pair, writes_of}
+use Rattle.tree_model.specs.Store.{Data, applied, base_records, no_data, pair_record, stored, stored_after, with_pair, writes_of, data_of}
 use Rattle.log_text.proofs.NameReading.{same_xid_is, same_xid_refl}
 use Rattle.log_rules.specs.trim.Tables.{same}
 use Rattle.log_rules.specs.trim.Trims.{front_of_trim}
@@ -28,12 +28,11 @@ use Rattle.rec_log.specs.Sights.{records_of}
 use Rattle.core_model.specs.Restarting.{NotTrimmed, Trims, trimmed_log}
 use Rattle.core_model.specs.States.{SameCore, forced_sight}
 use Rattle.core_model.proofs.Alike.{same_view}
-use Rattle.manager_model.specs.Restarting.{by_xid, data_in}
 use Rattle.manager_model.specs.Sights.{ManagerSight, SameManager}
 use Rattle.manager_model.specs.declared.errors.TrimError.{TrimError}
 use Rattle.manager_model.specs.declared.errors.TrimError.TheVariants as trim_error
-use Rattle.manager_model.specs.Trimming.{NotTrimmed as NotTrimmedBy, TrimFails, Trims as ManagerTrims, trimmed, unnamed}
-use Rattle.sub_table.specs.Rebuilt.{leaf}
+use Rattle.manager_model.specs.Trimming.{NotTrimmed as NotTrimmedBy, TrimFails, Trims as ManagerTrims, trimmed}
+use Rattle.tree_model.specs.Views.{leaf_place}
 use Rattle.sub_core.specs.Subordinates.{SubState, core_of}
 use Rattle.sub_core.proofs.Ties.{behind}
 
@@ -58,23 +57,23 @@ module _ (me p : ProcessId) (tree : List TreeEntry) where
     count : d.count ≡ e.count
     pairs : d.pairs ≡ e.pairs
     promised : (q : Option ProcessId) (b : Branch) → IsSoundName q b
-        → writes_of (read_name (leaf me p tree) q b) d.promised
+        → writes_of (read_name (leaf_place me p tree) q b) d.promised
         ≡ writes_of (Foreign (name_xid q b)) e.promised
 
   branch_test : (q r : Option ProcessId) (a b : Branch) → IsSoundName q a → IsSoundName r b
-      → same_branch (read_name (leaf me p tree) q a) (read_name (leaf me p tree) r b)
+      → same_branch (read_name (leaf_place me p tree) q a) (read_name (leaf_place me p tree) r b)
       ≡ same_branch (Foreign (name_xid q a)) (Foreign (name_xid r b))
   unfolding same_branch
-  branch_test q r a b h k = sym (alike (leaf me p tree) r q b a k h)
+  branch_test q r a b h k = sym (alike (leaf_place me p tree) r q b a k h)
       ∙ sym (xid_test (name_xid q a) (name_xid r b))
 
   abbrev behind_one : Data → Record → Option ProcessId → Data
-  behind_one d r q = fold stored_after d (own_by (leaf me p tree)
+  behind_one d r q = fold stored_after d (own_by (leaf_place me p tree)
       (record { entry = r; parent = q }) (record_case r))
 
   promised_one : (d e : Data) (q : Option ProcessId) (b : Branch) (ws : List Write)
       → IsSoundName q b → Alike d e
-      → Alike (stored_after d (Prepared (read_name (leaf me p tree) q b) ws))
+      → Alike (stored_after d (Prepared (read_name (leaf_place me p tree) q b) ws))
       (stored_after e (Prepared (Foreign (name_xid q b)) ws))
   unfolding writes_of
   promised_one d e q b ws h same_data = record {
@@ -95,10 +94,10 @@ module _ (me p : ProcessId) (tree : List TreeEntry) where
   -- a record of a branch, as the process reads it
   read_one : (r : Branch → Record) (d e : Data) (q : Option ProcessId) (b : Branch)
       → ((c a : Branch) → renamed a (r c) ≡ r a) → ((c : Branch) → record_case (r c) ≡ branch_case c)
-      → Alike (stored_after d (r (read_name (leaf me p tree) q b))) e → Alike (behind_one d (r b) q) e
+      → Alike (stored_after d (r (read_name (leaf_place me p tree) q b))) e → Alike (behind_one d (r b) q) e
   read_one r d e q b names case h =
       subst (λ rs. Alike (fold stored_after d rs) e)
-      (sym (read_as (leaf me p tree) p refl r q b names case)) h
+      (sym (read_as (leaf_place me p tree) p refl r q b names case)) h
 
   stored_one : (d e : Data) (r : Record) (q : Option ProcessId)
       → IsSound Manager (record { entry = r; parent = q }) → Alike d e
@@ -126,24 +125,24 @@ module _ (me p : ProcessId) (tree : List TreeEntry) where
   stored_one d e (End c) q h k = absurd h.1
 
   stored_from : (d e : Data) (ls : List LogRecord) → AllByRecursion (IsSound Manager) ls → Alike d e
-      → Alike (fold stored_after d (own_records (leaf me p tree) ls)) (fold stored_after e (map by_xid ls))
+      → Alike (fold stored_after d (own_records (leaf_place me p tree) ls)) (fold stored_after e (map by_xid ls))
   unfolding own_records
   stored_from d e [] h k = k
   stored_from d e (l ∷ ls) h k =
       subst (λ v. Alike v (fold stored_after e (map by_xid (l ∷ ls))))
-      (sym (fold-append stored_after d (own_by (leaf me p tree) l (record_case l.entry))
-      (own_records (leaf me p tree) ls)))
+      (sym (fold-append stored_after d (own_by (leaf_place me p tree) l (record_case l.entry))
+      (own_records (leaf_place me p tree) ls)))
       (stored_from (behind_one d l.entry l.parent) (stored_after e (by_xid l)) ls h.1
       (stored_one d e l.entry l.parent h.0 k))
 
   all_alike : (ls : List LogRecord) → AllByRecursion (IsSound Manager) ls
-      → Alike (stored (own_records (leaf me p tree) ls)) (data_in ls)
+      → Alike (stored (own_records (leaf_place me p tree) ls)) (data_of ls)
   unfolding stored writes_of
   all_alike ls h = stored_from no_data no_data ls h
       (record { count = refl; pairs = refl; promised = λ q b k. refl })
 
   base_alike : (ls : List LogRecord) → AllByRecursion (IsSound Manager) ls
-      → base_records (stored (own_records (leaf me p tree) ls)) ≡ base_records (data_in ls)
+      → base_records (stored (own_records (leaf_place me p tree) ls)) ≡ base_records (data_of ls)
   base_alike ls h = let k = all_alike ls h in λ i. Base (k.count i) ∷ map pair_record (k.pairs i)
 
 -- a base and its pairs have no name
@@ -161,7 +160,7 @@ trims_alike : (s : SubState) → AllByRecursion (IsSound Manager) (records_of s.
     → trimmed s.manager.log ≡ trimmed_log (core_of s)
 trims_alike s sound =
     let ls = records_of s.manager.log.kept in
-    ap (λ ks. front_of_trim ls ++ ks) (sym (base_unnamed (Some s.parent) (data_in ls))
+    ap (λ ks. front_of_trim ls ++ ks) (sym (base_unnamed (Some s.parent) (data_of ls))
     ∙ ap (map (in_log (Some s.parent))) (sym (base_alike s.me s.parent s.tree ls sound)))
 
 -- What a trim leaves.

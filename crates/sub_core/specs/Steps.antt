@@ -1,5 +1,5 @@
 -- A step of a subordinate: one input, as `core_model` says of any process.
-use Rattle.std.specs.Prelude.{◌≡◌, ℕ, Bool, true, false, []}
+use Rattle.std.specs.Prelude.{◌≡◌, ℕ, false, []}
 use Rattle.xa_codes.specs.declared.code.Code.{Code}
 use Rattle.xa_codes.specs.declared.code.Code.TheVariants.{RmFail}
 use Rattle.xa_assoc.specs.Answers.{Opens}
@@ -10,10 +10,9 @@ use Rattle.tree_model.specs.declared.events.Input.{Input}
 use Rattle.tree_model.specs.declared.events.Input.TheVariants.{Act as ActInput, Message as MessageInput}
 use Rattle.tree_model.specs.declared.events.Reaction.{Reaction}
 use Rattle.tree_model.specs.declared.events.StepError.{StepError}
-use Rattle.tree_model.specs.declared.events.StepError.TheVariants.{Device}
-use Rattle.tree_model.specs.Nodes.{DataAnswer, ReadsOnly}
+use Rattle.tree_model.specs.Nodes.{DataAnswer}
 use Rattle.core_model.specs.States.{CoreState}
-use Rattle.core_model.specs.Turns.{Turn, manager_act}
+use Rattle.core_model.specs.Turns.{Turn, manager_act, no_answer}
 use Rattle.rec_log.specs.Sights.{left_by}
 use Rattle.manager_model.specs.Restarting.{Restarts, writes_left}
 use Rattle.manager_model.specs.Sights.{Calls, ManagerSight}
@@ -26,7 +25,7 @@ state sight s = core_of (seen sight s)
 
 -- what the manager's data answer to an input; to an act they answer nothing
 abbrev pub data_answer : SubState → Input → DataAnswer
-data_answer s (ActInput a) = record { starts = false; does = false; holding = ReadsOnly }
+data_answer s (ActInput a) = no_answer
 data_answer s (MessageInput k m) = answer_for s m
 
 -- what an act leaves of the manager's writes: a branch that an operator decides has written nothing any more,
@@ -40,11 +39,6 @@ ActLeaves _ old new = WritesNothing old new
 abbrev pub Leaves : Input → SubState → SubState → Type 0
 Leaves (ActInput a) old new = ActLeaves a old new
 Leaves (MessageInput k m) old new = Writes old new m
-
--- an error by which the reaction table refuses; the device's is none
-abbrev pub is_refusal : StepError → Bool
-is_refusal Device = false
-is_refusal _ = true
 
 -- what an act meets
 abbrev pub turn_at : SubState → Act → Turn

@@ -1,11 +1,11 @@
 //! The acts: a manager has no children; its operator decides, and forgets.
 
 ghost use Rattle.std.specs.Prelude.{◌≡◌, false, true, IfErr, IfOk};
-ghost use Rattle.core_model.specs.Turns.{Refuses, childless_turn};
+ghost use Rattle.core_model.specs.Turns.{Refuses, childless_turn, is_refusal};
 ghost use Rattle.tree_model.specs.declared.events.Act.TheVariants as act;
 ghost use Rattle.sub_table.specs.Tables.{branch_in, kept_view};
 ghost use Rattle.sub_core.specs.Subordinates.{seen};
-ghost use Rattle.sub_core.specs.Steps.{Acts, NotActed, is_refusal};
+ghost use Rattle.sub_core.specs.Steps.{Acts, NotActed};
 
 use crate::subordinate::{Subordinate, find_branch};
 use manager_model::ResourceManager;

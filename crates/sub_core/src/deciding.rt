@@ -44,10 +44,7 @@ fn logged_alone(kind: RecordKind, case: Case, alloc: Global) -> Result<Reaction,
 fn is_same(one: Outcome, other: Outcome) -> bool
     ensures { result ≡ same_outcome one other }
 {
-    matches!(
-        (one, other),
-        (Outcome::Committed, Outcome::Committed) | (Outcome::Aborted, Outcome::Aborted)
-    )
+    one == other
 }
 
 impl<M: ResourceManager> Subordinate<M> {

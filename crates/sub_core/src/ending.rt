@@ -11,9 +11,10 @@ ghost use Rattle.sub_deeds.specs.Replies.{shown};
 use crate::subordinate::Subordinate;
 use manager_model::ResourceManager;
 use std::alloc::{AllocError, Global};
-use sub_deeds::{commit, letter, logged, reply, roll_back, silence};
+use sub_deeds::{commit, logged, reply, roll_back, silence};
 use tree_model::{
     Case, Envelopes, Message, Outcome, ProcessId, Reaction, RecordKind, Sequence, StepError,
+    one_message,
 };
 use xa_xid::Xid;
 
@@ -28,7 +29,7 @@ fn acknowledgement(
     ensures { IfOk result (λ messages. messages ≡ acknowledged me parent case outcome) }
 {
     if outcome.is_acknowledged(case.txn.presumption) {
-        letter(me, parent, Message::Ack(case, outcome), alloc)
+        one_message(alloc, me, parent, Message::Ack(case, outcome))
     } else {
         Ok(Sequence::new(alloc))
     }

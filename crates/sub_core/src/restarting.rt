@@ -5,7 +5,8 @@ ghost use Rattle.std.specs.Prelude.{◌≡◌, ◌∷◌, ◌+◌, [], true, IfE
 ghost use Rattle.core_model.specs.Restarting.{NotRestarted, NotTrimmed, Restarts, Trims};
 ghost use Rattle.manager_model.specs.Restarting.{NotRestarted as NotReopened};
 ghost use Rattle.rec_log.specs.Sights.{left_by};
-ghost use Rattle.sub_table.specs.Rebuilt.{Rebuilds, leaf};
+ghost use Rattle.sub_table.specs.Rebuilt.{Rebuilds};
+ghost use Rattle.tree_model.specs.Views.{leaf_place};
 ghost use Rattle.sub_core.specs.Subordinates.{seen};
 ghost use Rattle.sub_core.specs.Steps.{LeavesPromises, Reopens, state};
 ghost use Rattle.tree_model.specs.declared.records.RecordKind.TheVariants as kind;
@@ -45,7 +46,7 @@ fn reopen<M: ResourceManager>(manager: &mut M, keep: usize) -> Result<(), Restar
 impl<M: ResourceManager> Subordinate<M> {
     /// What the records leave that a crash would leave. Memory: also where no run makes such records.
     fn rebuilt(&self, keep: usize) -> Result<Rebuilt, StepError>
-        ensures ok { IfOk result (Rebuilds (leaf self.now.me self.now.parent self.now.tree) self.now.parent
+        ensures ok { IfOk result (Rebuilds (leaf_place self.now.me self.now.parent self.now.tree) self.now.parent
             (left_by (M.sight self.now.manager).log keep)) }
         ensures err { IfErr result (λ e. e ≡ StepError.Memory) }
     {
@@ -60,7 +61,7 @@ impl<M: ResourceManager> Subordinate<M> {
     /// shows it. The error is that of `rebuilt`.
     fn ready(&self, keep: usize) -> Result<(Rebuilt, Sequence<Logged>), StepError>
         ensures ok { IfOk result (λ ready. Rebuilds
-            (leaf self.now.me self.now.parent self.now.tree) self.now.parent
+            (leaf_place self.now.me self.now.parent self.now.tree) self.now.parent
             (left_by (M.sight self.now.manager).log keep) ready.0) }
         ensures written { IfOk result (λ ready.
             ready.1 ≡ record { kind = kind.Opened; subject = subject.Boot (ready.0.boot + 1); forced = true } ∷ []) }

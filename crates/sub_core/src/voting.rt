@@ -9,8 +9,8 @@ ghost use Rattle.sub_core.specs.Subordinates.{Hears, IsAt, NotHeard, active, log
 use crate::subordinate::Subordinate;
 use manager_model::ResourceManager;
 use std::alloc::{AllocError, Global};
-use sub_deeds::{letter, logged, promise, reply, silence};
-use tree_model::{Case, Message, ProcessId, Reaction, RecordKind, StepError, Vote};
+use sub_deeds::{logged, promise, reply, silence};
+use tree_model::{Case, Message, ProcessId, Reaction, RecordKind, StepError, Vote, one_message};
 use xa_xid::Xid;
 
 /// YES with its record.
@@ -19,7 +19,7 @@ fn yes(me: ProcessId, parent: ProcessId, case: Case, alloc: Global) -> Result<Re
         ≡ logged_reply kind.Prepared case true me parent (message.Yes case)) }
 {
     let written = logged(RecordKind::Prepared, case, true, alloc)?;
-    let messages = letter(me, parent, Message::Yes(case), alloc)?;
+    let messages = one_message(alloc, me, parent, Message::Yes(case))?;
     Ok(Reaction {
         written,
         messages,

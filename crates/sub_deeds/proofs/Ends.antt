@@ -3,7 +3,7 @@ use Rattle.std.proofs.Common.{◌≡◌, ◌≢◌, ◌∙◌, ℕ, true, false,
 use Rattle.std.specs.Prelude.{Contains}
 use Rattle.xa_codes.specs.declared.code.Code.{Code}
 use Rattle.xa_codes.specs.declared.code.Code.TheVariants as code
-use Rattle.xa_tables.specs.Tables.{branch_rows}
+use Rattle.xa_tables.specs.Tables.{branch_rows, is_in_doubt}
 use Rattle.xa_tables.specs.declared.call.Call.{Call}
 use Rattle.xa_tables.specs.declared.call.Call.TheVariants as call
 use Rattle.xa_tables.specs.declared.call.Verb.{Verb}
@@ -24,7 +24,7 @@ use Rattle.xa_heur.specs.Decisions.{heur_code}
 use Rattle.tree_model.specs.declared.names.Outcome.{Outcome}
 use Rattle.tree_model.specs.declared.names.Outcome.TheVariants.{Committed, Aborted}
 use Rattle.manager_model.specs.Ends.{Broke, Failed, Fails, Finishes as Answers, Limited, Made, Makes, Refused, Unlisted, logged_under, outcome_row, prepare_row as prepare_answer, row_for, row_of, written_for}
-use Rattle.sub_deeds.specs.Deeds.{BreaksUnder, Finishes, IsIdle, IsQuiet, can_commit, can_roll_back, vote_of}
+use Rattle.sub_deeds.specs.Deeds.{BreaksUnder, Finishes, IsIdle, IsQuiet, can_roll_back, vote_of}
 use Rattle.sub_deeds.proofs.Quiet.{not_null, ready_is, same_idle}
 
 -- a row is not answered by these
@@ -155,7 +155,7 @@ heur_commits Committed = (1, omega arith, refl)
 heur_commits Aborted = (2, omega arith, refl)
 
 commit_by : (m : ManagerSight) (x : Xid) (s : BranchState) → state_at m.tables x ≡ s
-    → can_commit s ≡ true → HasRow m x call.Commit s
+    → is_in_doubt s ≡ true → HasRow m x call.Commit s
 commit_by m x S3 at can = record {
   at = at;
   here = λ e. absurd cc;
@@ -173,7 +173,7 @@ commit_by m x S1 at can = absurd cc
 commit_by m x S2 at can = absurd cc
 commit_by m x S4 at can = absurd cc
 
-pub commit_row : (m : ManagerSight) (x : Xid) → can_commit (state_at m.tables x) ≡ true
+pub commit_row : (m : ManagerSight) (x : Xid) → is_in_doubt (state_at m.tables x) ≡ true
     → HasRow m x call.Commit (state_at m.tables x)
 commit_row m x can = commit_by m x (state_at m.tables x) refl can
 

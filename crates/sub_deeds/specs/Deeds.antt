@@ -96,12 +96,6 @@ abbrev pub outcome_call : Outcome → Call
 outcome_call Committed = Commit
 outcome_call Aborted = Rollback
 
--- a branch in this state can be committed by a subordinate: it promised, though an operator decided it since
-abbrev pub can_commit : BranchState → Bool
-can_commit S3 = true
-can_commit S5 = true
-can_commit _ = false
-
 -- a branch in this state can be rolled back by a subordinate
 abbrev pub can_roll_back : BranchState → Bool
 can_roll_back S2 = true

@@ -6,7 +6,8 @@ ghost use Rattle.xa_tables.specs.declared.states.BranchState.TheVariants as stat
 ghost use Rattle.xa_xid.specs.Xids.{null_xid};
 ghost use Rattle.xa_assoc.specs.Answers.{state_at};
 ghost use Rattle.manager_model.specs.Sights.{SameManager};
-ghost use Rattle.sub_deeds.specs.Deeds.{Decides, Finishes, HasBegun, Idles, IsIdle, NotDecided, NotFinished, Works, can_commit, can_roll_back, outcome_call, vote_of};
+ghost use Rattle.sub_deeds.specs.Deeds.{Decides, Finishes, HasBegun, Idles, IsIdle, NotDecided, NotFinished, Works, can_roll_back, outcome_call, vote_of};
+ghost use Rattle.xa_tables.specs.Tables.{is_in_doubt};
 
 use manager_model::{DecideError, ResourceManager, WorkError};
 use std::alloc::AllocError;
@@ -85,7 +86,7 @@ pub fn commit<M: ResourceManager>(manager: &mut M, xid: &Xid) -> Result<(), Step
     requires idle { IsIdle (M.sight manager.old) }
     requires up { (M.sight manager.old).log.failed ≡ false }
     requires named { xid.now ≢ null_xid }
-    requires state { can_commit (state_at (M.sight manager.old).tables xid.now) ≡ true }
+    requires state { is_in_doubt (state_at (M.sight manager.old).tables xid.now) ≡ true }
     ensures ok { OnOk result (Finishes (M.sight manager.old) (M.sight manager.new) xid.now call.Commit) }
     ensures err { IfErr result (NotFinished (M.sight manager.old) (M.sight manager.new) xid.now call.Commit) }
 {

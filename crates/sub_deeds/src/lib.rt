@@ -5,4 +5,4 @@ mod deeds;
 mod replies;
 
 pub use deeds::{begin, commit, decide, forget, promise, roll_back, tell, work};
-pub use replies::{letter, logged, reply, silence};
+pub use replies::{logged, reply, silence};

@@ -7,7 +7,7 @@ ghost use Rattle.sub_deeds.specs.Replies.{shown};
 
 use std::alloc::{AllocError, Global};
 use tree_model::{
-    Case, Envelope, Envelopes, Logged, Message, ProcessId, Reaction, RecordKind, Sequence, Subject,
+    Case, Logged, Message, ProcessId, Reaction, RecordKind, Sequence, Subject, one_message,
 };
 
 /// A reaction that shows nothing. It takes no memory.
@@ -23,20 +23,6 @@ pub fn silence(alloc: Global) -> Reaction
     }
 }
 
-/// One message.
-pub fn letter(
-    from: ProcessId,
-    to: ProcessId,
-    message: Message,
-    alloc: Global,
-) -> Result<Envelopes, AllocError>
-    ensures { IfOk result (λ messages. messages ≡ post from to message ∷ []) }
-{
-    let mut messages = Sequence::new(alloc);
-    messages.push(Envelope { from, to, message })?;
-    Ok(messages)
-}
-
 /// A reaction with one message.
 pub fn reply(
     from: ProcessId,
@@ -46,7 +32,7 @@ pub fn reply(
 ) -> Result<Reaction, AllocError>
     ensures { IfOk result (λ reaction. reaction ≡ shown [] (post from to message ∷ [])) }
 {
-    let messages = letter(from, to, message, alloc)?;
+    let messages = one_message(alloc, from, to, message)?;
     Ok(Reaction {
         messages,
         ..silence(alloc)

@@ -15,7 +15,7 @@ use Rattle.tree_model.specs.Nodes.{AtLeaf}
 use Rattle.tree_model.specs.Records.{boot_of, cases_in}
 use Rattle.tree_model.specs.Restarts.{inquires_by, manager_resumes, recorded_branch, resumes}
 use Rattle.tree_model.specs.Standings.{mark_of, marked_branch}
-use Rattle.sub_table.specs.Rebuilt.{leaf}
+use Rattle.tree_model.specs.Views.{leaf_place}
 use Rattle.sub_table.proofs.Reading.{own_append}
 use Rattle.sub_table.proofs.Rebuilding.{same_flat}
 
@@ -45,13 +45,13 @@ boot_resumes me p rs n =
     (λ c. ap (λ v. inquires_by me p c v v.standing) (boot_branch rs n c)) (cases_in rs)
 
 alone : (me p : ProcessId) (tree : List TreeEntry) (n : ℕ)
-    → own_records (leaf me p tree) (record { entry = Opened n; parent = None } ∷ []) ≡ Opened n ∷ []
+    → own_records (leaf_place me p tree) (record { entry = Opened n; parent = None } ∷ []) ≡ Opened n ∷ []
 unfolding own_records
 alone me p tree n = refl
 
 pub boot_read : (me p : ProcessId) (tree : List TreeEntry) (ls : List LogRecord) (n : ℕ)
-    → own_records (leaf me p tree) (ls ++ record { entry = Opened n; parent = None } ∷ [])
-    ≡ own_records (leaf me p tree) ls ++ Opened n ∷ []
+    → own_records (leaf_place me p tree) (ls ++ record { entry = Opened n; parent = None } ∷ [])
+    ≡ own_records (leaf_place me p tree) ls ++ Opened n ∷ []
 boot_read me p tree ls n =
-    own_append (leaf me p tree) ls (record { entry = Opened n; parent = None } ∷ [])
-    ∙ ap (λ rs. own_records (leaf me p tree) ls ++ rs) (alone me p tree n)
+    own_append (leaf_place me p tree) ls (record { entry = Opened n; parent = None } ∷ [])
+    ∙ ap (λ rs. own_records (leaf_place me p tree) ls ++ rs) (alone me p tree n)

@@ -19,7 +19,8 @@ use Rattle.tree_model.specs.Standings.{Decided, Finished, Mark, Promised, ToldOf
 use Rattle.tree_model.proofs.NameTests.{case_tells, process_tells}
 use Rattle.log_text.specs.Parts.{Name, name_in}
 use Rattle.log_text.proofs.NameReading.{same_xid_is, same_xid_refl}
-use Rattle.sub_table.specs.Rebuilt.{NameReads, ReadsBack, leaf, own_case}
+use Rattle.sub_table.specs.Rebuilt.{NameReads, ReadsBack, own_case}
+use Rattle.tree_model.specs.Views.{leaf_place}
 use Rattle.sub_table.proofs.Reading.{is_it, own_append, read_as, read_is, read_name}
 
 -- a record of a log, its branch named by its XID
@@ -34,18 +35,18 @@ case_is_one : (c d : Case) → CaseBranch c ≡ CaseBranch d → c ≡ d
 case_is_one c d e = cc
 
 module _ (me p : ProcessId) (tree : List TreeEntry) (c : Case)
-    (own : is_own (leaf me p tree) (Some p) c ≡ true) (reads : NameReads (Some p) (CaseBranch c)) where
+    (own : is_own (leaf_place me p tree) (Some p) c ≡ true) (reads : NameReads (Some p) (CaseBranch c)) where
   abbrev x : Xid
   x = name_xid (Some p) (CaseBranch c)
 
-  under : (q : Option ProcessId) (d : Case) → is_own (leaf me p tree) q d ≡ true → q ≡ Some p
+  under : (q : Option ProcessId) (d : Case) → is_own (leaf_place me p tree) q d ≡ true → q ≡ Some p
   under None d h = absurd (let f = below h in cc)
     where
-      below : is_own (leaf me p tree) None d ≡ true → false ≡ true
+      below : is_own (leaf_place me p tree) None d ≡ true → false ≡ true
       below h = grind (arith, common_steps)
   under (Some r) d h = ap Some ((process_tells r p).0 (below h))
     where
-      below : is_own (leaf me p tree) (Some r) d ≡ true → same_parent (Some r) (Some p) ≡ true
+      below : is_own (leaf_place me p tree) (Some r) d ≡ true → same_parent (Some r) (Some p) ≡ true
       below h = grind (arith, common_steps)
 
   -- a name that is not the case's has another XID
@@ -62,14 +63,14 @@ module _ (me p : ProcessId) (tree : List TreeEntry) (c : Case)
   itself q b e = ap (λ (n : Name). same_xid (name_xid n.0 n.1) x) e ∙ same_xid_refl x
 
   alike : (q : Option ProcessId) (b : Branch) → NameReads q b
-      → same_xid (name_xid q b) x ≡ is_it (own_case (leaf me p tree) q b) c
+      → same_xid (name_xid q b) x ≡ is_it (own_case (leaf_place me p tree) q b) c
   alike q (Foreign y) h = apart q (Foreign y) h (λ e. other (ap (λ (n : Name). n.1) e))
     where
       other : Foreign y ≡ CaseBranch c → ⊥
       other e = absurd (cc)
-  alike q (CaseBranch d) h = by_own (is_own (leaf me p tree) q d) refl
+  alike q (CaseBranch d) h = by_own (is_own (leaf_place me p tree) q d) refl
     where
-      by_case : is_own (leaf me p tree) q d ≡ true → (t : Bool) → same_case d c ≡ t
+      by_case : is_own (leaf_place me p tree) q d ≡ true → (t : Bool) → same_case d c ≡ t
           → same_xid (name_xid q (CaseBranch d)) x ≡ t
       by_case is true e = itself q (CaseBranch d) (λ i. (under q d is i, CaseBranch ((case_tells d c).0 e i)))
       by_case is false e = apart q (CaseBranch d) h
@@ -78,70 +79,70 @@ module _ (me p : ProcessId) (tree : List TreeEntry) (c : Case)
           differs : d ≡ c → ⊥
           differs f = absurd (let g : same_case d c ≡ true = (case_tells d c).1 f in cc)
 
-      by_own : (t : Bool) → is_own (leaf me p tree) q d ≡ t
+      by_own : (t : Bool) → is_own (leaf_place me p tree) q d ≡ t
           → same_xid (name_xid q (CaseBranch d)) x ≡ is_it (cond t (Some d) None) c
       by_own true is = by_case is (same_case d c) refl
       by_own false is = apart q (CaseBranch d) h (λ f. differs f)
         where
           differs : ◌≡◌ {A = Name} (q, CaseBranch d) (Some p, CaseBranch c) → ⊥
-          differs f = absurd (let g : is_own (leaf me p tree) q d
-              ≡ true = ap (λ r. is_own (leaf me p tree) r d) (ap (λ (n : Name). n.0) f)
-              ∙ ap (is_own (leaf me p tree) (Some p))
+          differs f = absurd (let g : is_own (leaf_place me p tree) q d
+              ≡ true = ap (λ r. is_own (leaf_place me p tree) r d) (ap (λ (n : Name). n.0) f)
+              ∙ ap (is_own (leaf_place me p tree) (Some p))
               (case_is_one d c (ap (λ (n : Name). n.1) f)) ∙ own in cc)
 
   branch_alike : (q : Option ProcessId) (b : Branch) → NameReads q b
-      → same_branch (read_name (leaf me p tree) q b) (CaseBranch c)
+      → same_branch (read_name (leaf_place me p tree) q b) (CaseBranch c)
       ≡ same_branch (Foreign (name_xid q b)) (Foreign x)
   unfolding same_branch
-  branch_alike q b h = read_is (leaf me p tree) q b c ∙ sym (alike q b h)
+  branch_alike q b h = read_is (leaf_place me p tree) q b c ∙ sym (alike q b h)
 
   -- what one record of a branch makes of the mark
   marked : (r : Branch → Record) (q : Option ProcessId) (b : Branch) (v m : Mark) → NameReads q b
       → ((c d : Branch) → renamed d (r c) ≡ r d)
       → ((c : Branch) → record_case (r c) ≡ branch_case c)
       → ((c d : Branch) (m : Mark) → mark_after d m (r c) ≡ cond (same_branch c d) v m)
-      → fold (mark_after (CaseBranch c)) m (own_records (leaf me p tree)
+      → fold (mark_after (CaseBranch c)) m (own_records (leaf_place me p tree)
       (record { entry = r b; parent = q } ∷ []))
       ≡ mark_after (Foreign x) m (renamed (Foreign (name_xid q b)) (r b))
   marked r q b v m h names case marks =
       ap (fold (mark_after (CaseBranch c)) m) (read_as me p tree r q b names case)
-      ∙ marks (read_name (leaf me p tree) q b) (CaseBranch c) m ∙ ap (λ t. cond t v m) (branch_alike q b h)
+      ∙ marks (read_name (leaf_place me p tree) q b) (CaseBranch c) m ∙ ap (λ t. cond t v m) (branch_alike q b h)
       ∙ sym (marks (Foreign (name_xid q b)) (Foreign x) m)
       ∙ ap (mark_after (Foreign x) m) (sym (names b (Foreign (name_xid q b))))
 
   one_marked : (r : Record) (q : Option ProcessId) (m : Mark) → ReadsBack (record { entry = r; parent = q })
-      → fold (mark_after (CaseBranch c)) m (own_records (leaf me p tree)
+      → fold (mark_after (CaseBranch c)) m (own_records (leaf_place me p tree)
       (record { entry = r; parent = q } ∷ []))
       ≡ mark_after (Foreign x) m (named_by q (record_branch r) r)
   unfolding own_records
   one_marked (Opened n) q m h = refl
   one_marked (Base n) q m h = refl
   one_marked (Pair k v) q m h = refl
-  one_marked (Collecting d ts) q m h = by_own (is_own (leaf me p tree) q d)
+  one_marked (Collecting d ts) q m h = by_own (is_own (leaf_place me p tree) q d)
     where
       by_own : (t : Bool) → fold (mark_after (CaseBranch c)) m
           (cond t (Collecting d ts ∷ []) (foreign_to (AtLeaf p) q d (Collecting d ts)) ++ []) ≡ m
       by_own true = refl
       by_own false = refl
-  one_marked (Prepare d ts) q m h = by_own (is_own (leaf me p tree) q d)
+  one_marked (Prepare d ts) q m h = by_own (is_own (leaf_place me p tree) q d)
     where
       by_own : (t : Bool) → fold (mark_after (CaseBranch c)) m
           (cond t (Prepare d ts ∷ []) (foreign_to (AtLeaf p) q d (Prepare d ts)) ++ []) ≡ m
       by_own true = refl
       by_own false = refl
-  one_marked (Commit d ts) q m h = by_own (is_own (leaf me p tree) q d)
+  one_marked (Commit d ts) q m h = by_own (is_own (leaf_place me p tree) q d)
     where
       by_own : (t : Bool) → fold (mark_after (CaseBranch c)) m
           (cond t (Commit d ts ∷ []) (foreign_to (AtLeaf p) q d (Commit d ts)) ++ []) ≡ m
       by_own true = refl
       by_own false = refl
-  one_marked (Abort d ts) q m h = by_own (is_own (leaf me p tree) q d)
+  one_marked (Abort d ts) q m h = by_own (is_own (leaf_place me p tree) q d)
     where
       by_own : (t : Bool) → fold (mark_after (CaseBranch c)) m
           (cond t (Abort d ts ∷ []) (foreign_to (AtLeaf p) q d (Abort d ts)) ++ []) ≡ m
       by_own true = refl
       by_own false = refl
-  one_marked (End d) q m h = by_own (is_own (leaf me p tree) q d)
+  one_marked (End d) q m h = by_own (is_own (leaf_place me p tree) q d)
     where
       by_own : (t : Bool) → fold (mark_after (CaseBranch c)) m
           (cond t (End d ∷ []) (foreign_to (AtLeaf p) q d (End d)) ++ []) ≡ m
@@ -163,22 +164,22 @@ module _ (me p : ProcessId) (tree : List TreeEntry) (c : Case)
   one_marked (Forgot b) q m h = marked Forgot q b Finished m h (λ c d. refl) (λ c. refl) (λ c d m. refl)
 
   marks_from : (ls : List LogRecord) (m : Mark) → AllByRecursion ReadsBack ls
-      → fold (mark_after (CaseBranch c)) m (own_records (leaf me p tree) ls)
+      → fold (mark_after (CaseBranch c)) m (own_records (leaf_place me p tree) ls)
       ≡ fold (mark_after (Foreign x)) m (map by_xid ls)
   unfolding own_records
   marks_from [] m h = refl
   marks_from (l ∷ ls) m h =
-      ap (fold (mark_after (CaseBranch c)) m) (own_append (leaf me p tree) (l ∷ []) ls)
-      ∙ fold-append (mark_after (CaseBranch c)) m (own_records (leaf me p tree) (l ∷ []))
-      (own_records (leaf me p tree) ls)
-      ∙ ap (λ v. fold (mark_after (CaseBranch c)) v (own_records (leaf me p tree) ls))
+      ap (fold (mark_after (CaseBranch c)) m) (own_append (leaf_place me p tree) (l ∷ []) ls)
+      ∙ fold-append (mark_after (CaseBranch c)) m (own_records (leaf_place me p tree) (l ∷ []))
+      (own_records (leaf_place me p tree) ls)
+      ∙ ap (λ v. fold (mark_after (CaseBranch c)) v (own_records (leaf_place me p tree) ls))
       (one_marked l.entry l.parent m h.0)
       ∙ marks_from ls (mark_after (Foreign x) m (by_xid l)) h.1
 
   -- what the records say of the case is what they say of its XID
   pub marks_alike : (ls : List LogRecord) → AllByRecursion ReadsBack ls
       → mark_of (Foreign (name_xid (Some p) (CaseBranch c))) (map by_xid ls)
-      ≡ mark_of (CaseBranch c) (own_records (leaf me p tree) ls)
+      ≡ mark_of (CaseBranch c) (own_records (leaf_place me p tree) ls)
   unfolding mark_of
   marks_alike ls h = sym (marks_from ls Unmarked h)
 
@@ -187,44 +188,44 @@ module _ (me p : ProcessId) (tree : List TreeEntry) where
   named_boot : (r : Branch → Record) (q : Option ProcessId) (b : Branch) (n : ℕ)
       → ((c d : Branch) → renamed d (r c) ≡ r d)
       → ((c : Branch) → record_case (r c) ≡ branch_case c) → ((c : Branch) (n : ℕ) → boot_after n (r c) ≡ n)
-      → fold boot_after n (own_records (leaf me p tree)
+      → fold boot_after n (own_records (leaf_place me p tree)
       (record { entry = r b; parent = q } ∷ [])) ≡ boot_after n (r b)
   named_boot r q b n names case stays =
       ap (fold boot_after n) (read_as me p tree r q b names case)
-      ∙ stays (read_name (leaf me p tree) q b) n ∙ sym (stays b n)
+      ∙ stays (read_name (leaf_place me p tree) q b) n ∙ sym (stays b n)
 
   one_boot : (r : Record) (q : Option ProcessId) (n : ℕ)
-      → fold boot_after n (own_records (leaf me p tree)
+      → fold boot_after n (own_records (leaf_place me p tree)
       (record { entry = r; parent = q } ∷ [])) ≡ boot_after n r
   unfolding own_records
   one_boot (Opened k) q n = refl
   one_boot (Base k) q n = refl
   one_boot (Pair k v) q n = refl
-  one_boot (Collecting d ts) q n = by_own (is_own (leaf me p tree) q d)
+  one_boot (Collecting d ts) q n = by_own (is_own (leaf_place me p tree) q d)
     where
       by_own : (t : Bool) → fold boot_after n
           (cond t (Collecting d ts ∷ []) (foreign_to (AtLeaf p) q d (Collecting d ts)) ++ []) ≡ n
       by_own true = refl
       by_own false = refl
-  one_boot (Prepare d ts) q n = by_own (is_own (leaf me p tree) q d)
+  one_boot (Prepare d ts) q n = by_own (is_own (leaf_place me p tree) q d)
     where
       by_own : (t : Bool) → fold boot_after n
           (cond t (Prepare d ts ∷ []) (foreign_to (AtLeaf p) q d (Prepare d ts)) ++ []) ≡ n
       by_own true = refl
       by_own false = refl
-  one_boot (Commit d ts) q n = by_own (is_own (leaf me p tree) q d)
+  one_boot (Commit d ts) q n = by_own (is_own (leaf_place me p tree) q d)
     where
       by_own : (t : Bool) → fold boot_after n
           (cond t (Commit d ts ∷ []) (foreign_to (AtLeaf p) q d (Commit d ts)) ++ []) ≡ n
       by_own true = refl
       by_own false = refl
-  one_boot (Abort d ts) q n = by_own (is_own (leaf me p tree) q d)
+  one_boot (Abort d ts) q n = by_own (is_own (leaf_place me p tree) q d)
     where
       by_own : (t : Bool) → fold boot_after n
           (cond t (Abort d ts ∷ []) (foreign_to (AtLeaf p) q d (Abort d ts)) ++ []) ≡ n
       by_own true = refl
       by_own false = refl
-  one_boot (End d) q n = by_own (is_own (leaf me p tree) q d)
+  one_boot (End d) q n = by_own (is_own (leaf_place me p tree) q d)
     where
       by_own : (t : Bool) → fold boot_after n
           (cond t (End d ∷ []) (foreign_to (AtLeaf p) q d (End d)) ++ []) ≡ n
@@ -239,17 +240,17 @@ module _ (me p : ProcessId) (tree : List TreeEntry) where
   one_boot (Told b o) q n = named_boot (λ c. Told c o) q b n (λ c d. refl) (λ c. refl) (λ c n. refl)
   one_boot (Forgot b) q n = named_boot Forgot q b n (λ c d. refl) (λ c. refl) (λ c n. refl)
 
-  boots_from : (ls : List LogRecord) (n : ℕ) → fold boot_after n (own_records (leaf me p tree) ls)
+  boots_from : (ls : List LogRecord) (n : ℕ) → fold boot_after n (own_records (leaf_place me p tree) ls)
       ≡ fold boot_after n (map (λ l. l.entry) ls)
   unfolding own_records
   boots_from [] n = refl
   boots_from (l ∷ ls) n =
-      ap (fold boot_after n) (own_append (leaf me p tree) (l ∷ []) ls)
-      ∙ fold-append boot_after n (own_records (leaf me p tree) (l ∷ [])) (own_records (leaf me p tree) ls)
-      ∙ ap (λ k. fold boot_after k (own_records (leaf me p tree) ls)) (one_boot l.entry l.parent n)
+      ap (fold boot_after n) (own_append (leaf_place me p tree) (l ∷ []) ls)
+      ∙ fold-append boot_after n (own_records (leaf_place me p tree) (l ∷ [])) (own_records (leaf_place me p tree) ls)
+      ∙ ap (λ k. fold boot_after k (own_records (leaf_place me p tree) ls)) (one_boot l.entry l.parent n)
       ∙ boots_from ls (boot_after n l.entry)
 
-  pub boots_alike : (ls : List LogRecord) → boot_of (own_records (leaf me p tree) ls)
+  pub boots_alike : (ls : List LogRecord) → boot_of (own_records (leaf_place me p tree) ls)
       ≡ boot_of (map (λ l. l.entry) ls)
   unfolding boot_of
   boots_alike ls = boots_from ls 0

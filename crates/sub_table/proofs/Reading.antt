@@ -16,7 +16,8 @@ use Rattle.tree_model.specs.Names.{same_case}
 use Rattle.tree_model.specs.Nodes.{AtLeaf, Place}
 use Rattle.tree_model.specs.Records.{boot_after, branch_case, record_case, same_branch}
 use Rattle.tree_model.specs.Standings.{Decided, Finished, Mark, Promised, ToldOf, mark_after}
-use Rattle.sub_table.specs.Rebuilt.{leaf, own_case}
+use Rattle.sub_table.specs.Rebuilt.{own_case}
+use Rattle.tree_model.specs.Views.{leaf_place}
 
 pub own_append : (place : Place) (xs ys : List LogRecord)
     → own_records place (xs ++ ys) ≡ own_records place xs ++ own_records place ys
@@ -69,16 +70,16 @@ module _ (me p : ProcessId) (tree : List TreeEntry) where
   pub read_as : (r : Branch → Record) (q : Option ProcessId) (b : Branch)
       → ((c d : Branch) → renamed d (r c) ≡ r d)
       → ((c : Branch) → record_case (r c) ≡ branch_case c)
-      → own_records (leaf me p tree) (record { entry = r b; parent = q } ∷ [])
-      ≡ r (read_name (leaf me p tree) q b) ∷ []
+      → own_records (leaf_place me p tree) (record { entry = r b; parent = q } ∷ [])
+      ≡ r (read_name (leaf_place me p tree) q b) ∷ []
   unfolding own_records
   read_as r q (Foreign y) names case =
-      ap (λ o. own_by (leaf me p tree) (record { entry = r (Foreign y); parent = q }) o ++ [])
+      ap (λ o. own_by (leaf_place me p tree) (record { entry = r (Foreign y); parent = q }) o ++ [])
       (case (Foreign y))
   read_as r q (CaseBranch d) names case =
-      ap (λ o. own_by (leaf me p tree) (record { entry = r (CaseBranch d); parent = q }) o
+      ap (λ o. own_by (leaf_place me p tree) (record { entry = r (CaseBranch d); parent = q }) o
       ++ []) (case (CaseBranch d))
-      ∙ by_test (is_own (leaf me p tree) q d)
+      ∙ by_test (is_own (leaf_place me p tree) q d)
     where
       by_test : (t : Bool) → cond t (r (CaseBranch d) ∷ [])
           (foreign_to (AtLeaf p) q d (r (CaseBranch d))) ++ []
@@ -91,75 +92,75 @@ module _ (me p : ProcessId) (tree : List TreeEntry) where
       → ((c : Branch) → record_case (r c) ≡ branch_case c)
       → ((c d : Branch) (m : Mark) → mark_after d m (r c) ≡ cond (same_branch c d) x m)
       → ((c : Branch) (n : ℕ) → boot_after n (r c) ≡ n)
-      → One (leaf me p tree) (record { entry = r b; parent = q }) (own_case (leaf me p tree) q b) (λ m. x)
+      → One (leaf_place me p tree) (record { entry = r b; parent = q }) (own_case (leaf_place me p tree) q b) (λ m. x)
   one_branch r q b x names case marks boots = record {
-    read = r (read_name (leaf me p tree) q b);
+    read = r (read_name (leaf_place me p tree) q b);
     is = read_as r q b names case;
-    marks = λ c m. marks (read_name (leaf me p tree) q b) (CaseBranch c) m
-        ∙ ap (λ t. cond t x m) (read_is (leaf me p tree) q b c);
-    case = case (read_name (leaf me p tree) q b) ∙ case_is (leaf me p tree) q b;
-    boot = λ n. boots (read_name (leaf me p tree) q b) n ∙ sym (boots b n);
+    marks = λ c m. marks (read_name (leaf_place me p tree) q b) (CaseBranch c) m
+        ∙ ap (λ t. cond t x m) (read_is (leaf_place me p tree) q b c);
+    case = case (read_name (leaf_place me p tree) q b) ∙ case_is (leaf_place me p tree) q b;
+    boot = λ n. boots (read_name (leaf_place me p tree) q b) n ∙ sym (boots b n);
   }
 
   pub one_prepared : (q : Option ProcessId) (b : Branch) (ws : List Write)
-      → One (leaf me p tree) (record { entry = PreparedRecord b ws; parent = q })
-      (own_case (leaf me p tree) q b) (λ m. Promised)
+      → One (leaf_place me p tree) (record { entry = PreparedRecord b ws; parent = q })
+      (own_case (leaf_place me p tree) q b) (λ m. Promised)
   one_prepared q b ws = one_branch (λ c. PreparedRecord c ws) q b Promised (λ c d. refl) (λ c. refl)
       (λ c d m. refl) (λ c n. refl)
 
   pub one_committed : (q : Option ProcessId) (b : Branch)
-      → One (leaf me p tree) (record { entry = Committed b; parent = q })
-      (own_case (leaf me p tree) q b) (λ m. Finished)
+      → One (leaf_place me p tree) (record { entry = Committed b; parent = q })
+      (own_case (leaf_place me p tree) q b) (λ m. Finished)
   one_committed q b = one_branch Committed q b Finished (λ c d. refl) (λ c. refl)
       (λ c d m. refl) (λ c n. refl)
 
   pub one_rolled_back : (q : Option ProcessId) (b : Branch)
-      → One (leaf me p tree) (record { entry = RolledBack b; parent = q })
-      (own_case (leaf me p tree) q b) (λ m. Finished)
+      → One (leaf_place me p tree) (record { entry = RolledBack b; parent = q })
+      (own_case (leaf_place me p tree) q b) (λ m. Finished)
   one_rolled_back q b = one_branch RolledBack q b Finished (λ c d. refl) (λ c. refl)
       (λ c d m. refl) (λ c n. refl)
 
   pub one_direct : (q : Option ProcessId) (b : Branch) (ws : List Write)
-      → One (leaf me p tree) (record { entry = Direct b ws; parent = q })
-      (own_case (leaf me p tree) q b) (λ m. Finished)
+      → One (leaf_place me p tree) (record { entry = Direct b ws; parent = q })
+      (own_case (leaf_place me p tree) q b) (λ m. Finished)
   one_direct q b ws = one_branch (λ c. Direct c ws) q b Finished (λ c d. refl) (λ c. refl)
       (λ c d m. refl) (λ c n. refl)
 
   pub one_forgot : (q : Option ProcessId) (b : Branch)
-      → One (leaf me p tree) (record { entry = Forgot b; parent = q })
-      (own_case (leaf me p tree) q b) (λ m. Finished)
+      → One (leaf_place me p tree) (record { entry = Forgot b; parent = q })
+      (own_case (leaf_place me p tree) q b) (λ m. Finished)
   one_forgot q b = one_branch Forgot q b Finished (λ c d. refl) (λ c. refl) (λ c d m. refl) (λ c n. refl)
 
   pub one_committed_so : (q : Option ProcessId) (b : Branch)
-      → One (leaf me p tree) (record { entry = HeurCommit b; parent = q })
-      (own_case (leaf me p tree) q b) (λ m. Decided)
+      → One (leaf_place me p tree) (record { entry = HeurCommit b; parent = q })
+      (own_case (leaf_place me p tree) q b) (λ m. Decided)
   one_committed_so q b = one_branch HeurCommit q b Decided (λ c d. refl) (λ c. refl)
       (λ c d m. refl) (λ c n. refl)
 
   pub one_rolled_back_so : (q : Option ProcessId) (b : Branch)
-      → One (leaf me p tree) (record { entry = HeurRollback b; parent = q })
-      (own_case (leaf me p tree) q b) (λ m. Decided)
+      → One (leaf_place me p tree) (record { entry = HeurRollback b; parent = q })
+      (own_case (leaf_place me p tree) q b) (λ m. Decided)
   one_rolled_back_so q b = one_branch HeurRollback q b Decided (λ c d. refl) (λ c. refl)
       (λ c d m. refl) (λ c n. refl)
 
   pub one_told : (q : Option ProcessId) (b : Branch) (o : Outcome)
-      → One (leaf me p tree) (record { entry = Told b o; parent = q })
-      (own_case (leaf me p tree) q b) (λ m. ToldOf o)
+      → One (leaf_place me p tree) (record { entry = Told b o; parent = q })
+      (own_case (leaf_place me p tree) q b) (λ m. ToldOf o)
   one_told q b o = one_branch (λ c. Told c o) q b (ToldOf o) (λ c d. refl) (λ c. refl)
       (λ c d m. refl) (λ c n. refl)
 
   -- a record of no branch
   pub one_opened : (q : Option ProcessId) (n : ℕ)
-      → One (leaf me p tree) (record { entry = Opened n; parent = q }) None (λ m. m)
+      → One (leaf_place me p tree) (record { entry = Opened n; parent = q }) None (λ m. m)
   unfolding own_records
   one_opened q n = record { read = Opened n; is = refl; marks = λ c m. refl; case = refl; boot = λ k. refl }
 
   pub one_base : (q : Option ProcessId) (n : ℕ)
-      → One (leaf me p tree) (record { entry = Base n; parent = q }) None (λ m. m)
+      → One (leaf_place me p tree) (record { entry = Base n; parent = q }) None (λ m. m)
   unfolding own_records
   one_base q n = record { read = Base n; is = refl; marks = λ c m. refl; case = refl; boot = λ k. refl }
 
   pub one_pair : (q : Option ProcessId) (k v : List ℕ)
-      → One (leaf me p tree) (record { entry = Pair k v; parent = q }) None (λ m. m)
+      → One (leaf_place me p tree) (record { entry = Pair k v; parent = q }) None (λ m. m)
   unfolding own_records
   one_pair q k v = record { read = Pair k v; is = refl; marks = λ c m. refl; case = refl; boot = λ n. refl }

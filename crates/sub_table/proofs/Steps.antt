@@ -22,7 +22,8 @@ use Rattle.sub_branch.specs.declared.branch.Branch.{Branch}
 use Rattle.sub_branch.specs.declared.branch.Stage.TheVariants.{Heuristic, Prepared}
 use Rattle.sub_table.specs.Tables.{branch_in, ticket_in}
 use Rattle.sub_table.specs.declared.cases.Cases.{Cases}
-use Rattle.sub_table.specs.Rebuilt.{DecidesBy, DecidesCase, Ends, EndsBy, IsGivenBy, IsOwn, Leaves, NameReads, Promises, PromisesBy, ReadsBack, Takes, branch_left, kept_at, leaf, own_case}
+use Rattle.sub_table.specs.Rebuilt.{DecidesBy, DecidesCase, Ends, EndsBy, IsGivenBy, IsOwn, Leaves, NameReads, Promises, PromisesBy, ReadsBack, Takes, branch_left, kept_at, own_case}
+use Rattle.tree_model.specs.Views.{leaf_place}
 use Rattle.sub_table.proofs.Reading.{One, is_it, one_base, one_committed, one_committed_so, one_direct, one_forgot, one_opened, one_pair, one_prepared, one_rolled_back, one_rolled_back_so, one_told, own_append}
 
 one : (c d : Case) → same_case c d ≡ true → c ≡ d
@@ -147,47 +148,47 @@ parent_is None p h = absurd (cc)
 parent_is (Some r) p h = ap Some ((process_tells r p).0 h)
 
 module _ (me p : ProcessId) (tree : List TreeEntry) (ls : List LogRecord) (old : Cases)
-    (left : Leaves (leaf me p tree) p ls old) where
-  own_parent : (q : Option ProcessId) (c : Case) → is_own (leaf me p tree) q c ≡ true → q ≡ Some p
+    (left : Leaves (leaf_place me p tree) p ls old) where
+  own_parent : (q : Option ProcessId) (c : Case) → is_own (leaf_place me p tree) q c ≡ true → q ≡ Some p
   own_parent q c is = parent_is q p (below_is is)
     where
-      below_is : is_own (leaf me p tree) q c ≡ true → same_parent q (Some p) ≡ true
+      below_is : is_own (leaf_place me p tree) q c ≡ true → same_parent q (Some p) ≡ true
       below_is h = grind (arith, common_steps)
 
   -- a record that says nothing of a case of the process's own
-  stays : (l : LogRecord) (new : Cases) (x : Mark → Mark) → One (leaf me p tree) l None x → ReadsBack l
+  stays : (l : LogRecord) (new : Cases) (x : Mark → Mark) → One (leaf_place me p tree) l None x → ReadsBack l
       → new.branches ≡ old.branches → new.order ≡ old.order → new.newest ≡ old.newest
       → new.boot ≡ boot_after old.boot l.entry
-      → Leaves (leaf me p tree) p (ls ++ l ∷ []) new
+      → Leaves (leaf_place me p tree) p (ls ++ l ∷ []) new
   stays l new x reads back branches order newest boot =
-      leaves_more (leaf me p tree) p ls l None x reads old new left back boot (ap (λ s. s.keys) order)
+      leaves_more (leaf_place me p tree) p ls l None x reads old new left back boot (ap (λ s. s.keys) order)
       (λ d. ap (λ t. ticket_in t d) branches ∙ left.tickets d) (λ c. ap (λ t. branch_in t c) branches)
-      (λ c b e. subst (λ n. IsOwn (leaf me p tree) p n c) (sym newest)
+      (λ c b e. subst (λ n. IsOwn (leaf_place me p tree) p n c) (sym newest)
       (left.live c b (ap (λ t. branch_in t c) (sym branches) ∙ e)))
 
-  quiet : (l : LogRecord) (new : Cases) (x : Mark → Mark) → One (leaf me p tree) l None x → ReadsBack l
-      → boot_after old.boot l.entry ≡ old.boot → new ≡ old → Leaves (leaf me p tree) p (ls ++ l ∷ []) new
+  quiet : (l : LogRecord) (new : Cases) (x : Mark → Mark) → One (leaf_place me p tree) l None x → ReadsBack l
+      → boot_after old.boot l.entry ≡ old.boot → new ≡ old → Leaves (leaf_place me p tree) p (ls ++ l ∷ []) new
   quiet l new x reads back boot is =
       stays l new x reads back (ap (λ s. s.branches) is) (ap (λ s. s.order) is) (ap (λ s. s.newest) is)
       (ap (λ s. s.boot) is ∙ sym boot)
 
   -- a record of a case of the process's own that promised
   promised : (l : LogRecord) (mid new : Cases) (q : Option ProcessId) (b : AnyBranch) (o : Option Case)
-      → own_case (leaf me p tree) q b ≡ o
-      → One (leaf me p tree) l o (λ m. Promised) → NameReads q b → ReadsBack l
+      → own_case (leaf_place me p tree) q b ≡ o
+      → One (leaf_place me p tree) l o (λ m. Promised) → NameReads q b → ReadsBack l
       → boot_after old.boot l.entry ≡ old.boot
-      → PromisesBy old new p o → Leaves (leaf me p tree) p (ls ++ l ∷ []) new
+      → PromisesBy old new p o → Leaves (leaf_place me p tree) p (ls ++ l ∷ []) new
   promised l mid new q b None is reads name back boot made = quiet l new (λ m. Promised) reads back boot made
   promised l mid new q b (Some c) is reads name back boot made =
       let adds = made.1 in
       let makes = made.2 in
-      let own = own_is (leaf me p tree) q b c is in
+      let own = own_is (leaf_place me p tree) q b c is in
       let under : q ≡ Some p = own_parent q c own.1 in
       let named : NameReads (Some p) (CaseBranch c) =
       subst (λ r. NameReads r (CaseBranch c)) under (subst (NameReads q) own.0 name) in
-      let mine : is_own (leaf me p tree) (Some p) c ≡ true =
-      ap (λ r. is_own (leaf me p tree) r c) (sym under) ∙ own.1 in
-      leaves_more (leaf me p tree) p ls l (Some c) (λ m. Promised) reads old new left back
+      let mine : is_own (leaf_place me p tree) (Some p) c ≡ true =
+      ap (λ r. is_own (leaf_place me p tree) r c) (sym under) ∙ own.1 in
+      leaves_more (leaf_place me p tree) p ls l (Some c) (λ m. Promised) reads old new left back
       (makes.boot ∙ ap (λ s. s.boot) adds.0 ∙ sym boot) (ap (λ s. s.keys) makes.order ∙ adds.1)
       (λ d. ap (λ ts. ticket_in (record { tickets = ts; branches = new.branches.branches }) d) makes.tickets
       ∙ ap (λ s. ticket_in s.branches d) adds.0 ∙ left.tickets d)
@@ -203,28 +204,28 @@ module _ (me p : ProcessId) (tree : List TreeEntry) (ls : List LogRecord) (old :
 
       by_live : (d : Case) (v : Branch) (t : Bool) → same_case c d ≡ t
           → made.0 ≡ record old { order = made.0.order } → Promises made.0 new p c
-          → is_own (leaf me p tree) (Some p) c ≡ true → NameReads (Some p) (CaseBranch c)
+          → is_own (leaf_place me p tree) (Some p) c ≡ true → NameReads (Some p) (CaseBranch c)
           → branch_in new.branches d ≡ Some v
-          → IsOwn (leaf me p tree) p new.newest d
+          → IsOwn (leaf_place me p tree) p new.newest d
       by_live d v true e adds makes mine named at =
-          subst (λ k. IsOwn (leaf me p tree) p new.newest k) (one c d e)
+          subst (λ k. IsOwn (leaf_place me p tree) p new.newest k) (one c d e)
           (record { own = mine; reads = named; given = makes.given })
       by_live d v false e adds makes mine named at =
           let grows : old.newest ≤ new.newest =
           subst (λ n. n ≤ new.newest) (ap (λ s. s.newest) adds) makes.grows in
-          more_own (leaf me p tree) p old.newest new.newest d grows
+          more_own (leaf_place me p tree) p old.newest new.newest d grows
           (left.live d v (sym (makes.branches.others d e ∙ ap (λ s. branch_in s.branches d) adds) ∙ at))
 
   -- a record of a case of the process's own that is finished
   ended : (l : LogRecord) (mid new : Cases) (o : Option Case)
-      → One (leaf me p tree) l o (λ m. Finished) → ReadsBack l
+      → One (leaf_place me p tree) l o (λ m. Finished) → ReadsBack l
       → boot_after old.boot l.entry ≡ old.boot → EndsBy old new o
-      → Leaves (leaf me p tree) p (ls ++ l ∷ []) new
+      → Leaves (leaf_place me p tree) p (ls ++ l ∷ []) new
   ended l mid new None reads back boot made = quiet l new (λ m. Finished) reads back boot made
   ended l mid new (Some c) reads back boot made =
       let adds = made.1 in
       let makes = made.2 in
-      leaves_more (leaf me p tree) p ls l (Some c) (λ m. Finished) reads old new left back
+      leaves_more (leaf_place me p tree) p ls l (Some c) (λ m. Finished) reads old new left back
       (makes.boot ∙ ap (λ s. s.boot) adds.0 ∙ sym boot) (ap (λ s. s.keys) makes.order ∙ adds.1)
       (makes.tickets (λ d. ap (λ s. ticket_in s.branches d) adds.0 ∙ left.tickets d))
       (λ d. by_case d (same_case c d) refl adds.0 makes)
@@ -238,23 +239,23 @@ module _ (me p : ProcessId) (tree : List TreeEntry) (ls : List LogRecord) (old :
 
       by_live : (d : Case) (v : Branch) (t : Bool) → same_case c d ≡ t
           → made.0 ≡ record old { order = made.0.order } → Ends made.0 new c
-          → branch_in new.branches d ≡ Some v → IsOwn (leaf me p tree) p new.newest d
+          → branch_in new.branches d ≡ Some v → IsOwn (leaf_place me p tree) p new.newest d
       by_live d v true e adds makes at = absurd
           (let none = ap (branch_in new.branches) (sym (one c d e)) ∙ makes.branches.own in cc)
       by_live d v false e adds makes at =
-          subst (λ n. IsOwn (leaf me p tree) p n d) (ap (λ s. s.newest) (sym adds) ∙ sym makes.newest)
+          subst (λ n. IsOwn (leaf_place me p tree) p n d) (ap (λ s. s.newest) (sym adds) ∙ sym makes.newest)
           (left.live d v (sym (makes.branches.others d e ∙ ap (λ s. branch_in s.branches d) adds) ∙ at))
 
   -- a record of a case of the process's own that an operator decided
   decided : (l : LogRecord) (new : Cases) (told : Option Outcome) (o : Option Case)
-      → One (leaf me p tree) l o (λ m. mark_told told)
+      → One (leaf_place me p tree) l o (λ m. mark_told told)
       → ReadsBack l → boot_after old.boot l.entry ≡ old.boot → DecidesBy old new told o
-      → Leaves (leaf me p tree) p (ls ++ l ∷ []) new
+      → Leaves (leaf_place me p tree) p (ls ++ l ∷ []) new
   decided l new told None reads back boot made = quiet l new (λ m. mark_told told) reads back boot made
   decided l new told (Some c) reads back boot made =
       let adds = made.1 in
       let makes = made.2 in
-      leaves_more (leaf me p tree) p ls l (Some c) (λ m. mark_told told) reads old new left back
+      leaves_more (leaf_place me p tree) p ls l (Some c) (λ m. mark_told told) reads old new left back
       (makes.boot ∙ ap (λ s. s.boot) adds.0 ∙ sym boot) (ap (λ s. s.keys) makes.order ∙ adds.1)
       (λ d. ap (λ ts. ticket_in (record { tickets = ts; branches = new.branches.branches }) d) makes.tickets
       ∙ ap (λ s. ticket_in s.branches d) adds.0 ∙ left.tickets d)
@@ -267,7 +268,7 @@ module _ (me p : ProcessId) (tree : List TreeEntry) (ls : List LogRecord) (old :
 
       xid_is : made.0 ≡ record old { order = made.0.order } → (m : DecidesCase made.0 new c told)
           → m.branch.xid ≡ name_xid (Some p) (CaseBranch c)
-      xid_is adds m = left_xid p c m.branch (mark_of (CaseBranch c) (own_records (leaf me p tree) ls))
+      xid_is adds m = left_xid p c m.branch (mark_of (CaseBranch c) (own_records (leaf_place me p tree) ls))
           (sym (left.branches c) ∙ stood adds m)
 
       by_case : (d : Case) (t : Bool) → same_case c d ≡ t → made.0 ≡ record old { order = made.0.order }
@@ -281,48 +282,48 @@ module _ (me p : ProcessId) (tree : List TreeEntry) (ls : List LogRecord) (old :
 
       by_live : (d : Case) (v : Branch) (t : Bool) → same_case c d ≡ t
           → made.0 ≡ record old { order = made.0.order } → DecidesCase made.0 new c told
-          → branch_in new.branches d ≡ Some v → IsOwn (leaf me p tree) p new.newest d
+          → branch_in new.branches d ≡ Some v → IsOwn (leaf_place me p tree) p new.newest d
       by_live d v true e adds makes at =
-          subst (λ k. IsOwn (leaf me p tree) p new.newest k) (one c d e)
-          (subst (λ n. IsOwn (leaf me p tree) p n c) (ap (λ s. s.newest) (sym adds) ∙ sym makes.newest)
+          subst (λ k. IsOwn (leaf_place me p tree) p new.newest k) (one c d e)
+          (subst (λ n. IsOwn (leaf_place me p tree) p n c) (ap (λ s. s.newest) (sym adds) ∙ sym makes.newest)
           (left.live c makes.branch (stood adds makes)))
       by_live d v false e adds makes at =
-          subst (λ n. IsOwn (leaf me p tree) p n d) (ap (λ s. s.newest) (sym adds) ∙ sym makes.newest)
+          subst (λ n. IsOwn (leaf_place me p tree) p n d) (ap (λ s. s.newest) (sym adds) ∙ sym makes.newest)
           (left.live d v (sym (makes.branches.others d e ∙ ap (λ s. branch_in s.branches d) adds) ∙ at))
 
   by_entry : (new : Cases) (q : Option ProcessId) (r : Record)
-      → Takes (leaf me p tree) p old new (record { entry = r; parent = q })
-      → Leaves (leaf me p tree) p (ls ++ record { entry = r; parent = q } ∷ []) new
+      → Takes (leaf_place me p tree) p old new (record { entry = r; parent = q })
+      → Leaves (leaf_place me p tree) p (ls ++ record { entry = r; parent = q } ∷ []) new
   by_entry new q (Opened n) made =
       stays (record { entry = Opened n; parent = q }) new (λ m. m) (one_opened me p tree q n) tt
       (ap (λ s. s.branches) made) (ap (λ s. s.order) made) (ap (λ s. s.newest) made) (ap (λ s. s.boot) made)
   by_entry new q (Base n) made = quiet _ new (λ m. m) (one_base me p tree q n) tt refl made
   by_entry new q (Pair k v) made = quiet _ new (λ m. m) (one_pair me p tree q k v) tt refl made
   by_entry new q (PreparedRecord b ws) made =
-      promised _ new new q b (own_case (leaf me p tree) q b) refl
+      promised _ new new q b (own_case (leaf_place me p tree) q b) refl
       (one_prepared me p tree q b ws) made.0 made.0 refl made.1
-  by_entry new q (Committed b) made = ended _ new new (own_case (leaf me p tree) q b)
+  by_entry new q (Committed b) made = ended _ new new (own_case (leaf_place me p tree) q b)
       (one_committed me p tree q b) made.0 refl made.1
-  by_entry new q (RolledBack b) made = ended _ new new (own_case (leaf me p tree) q b)
+  by_entry new q (RolledBack b) made = ended _ new new (own_case (leaf_place me p tree) q b)
       (one_rolled_back me p tree q b) made.0 refl made.1
-  by_entry new q (Direct b ws) made = ended _ new new (own_case (leaf me p tree) q b)
+  by_entry new q (Direct b ws) made = ended _ new new (own_case (leaf_place me p tree) q b)
       (one_direct me p tree q b ws) made.0 refl made.1
-  by_entry new q (Forgot b) made = ended _ new new (own_case (leaf me p tree) q b)
+  by_entry new q (Forgot b) made = ended _ new new (own_case (leaf_place me p tree) q b)
       (one_forgot me p tree q b) made.0 refl made.1
   by_entry new q (HeurCommit b) made =
-      decided _ new None (own_case (leaf me p tree) q b) (one_committed_so me p tree q b) made.0 refl made.1
+      decided _ new None (own_case (leaf_place me p tree) q b) (one_committed_so me p tree q b) made.0 refl made.1
   by_entry new q (HeurRollback b) made =
-      decided _ new None (own_case (leaf me p tree) q b) (one_rolled_back_so me p tree q b) made.0 refl made.1
+      decided _ new None (own_case (leaf_place me p tree) q b) (one_rolled_back_so me p tree q b) made.0 refl made.1
   by_entry new q (Told b o) made =
-      decided _ new (Some o) (own_case (leaf me p tree) q b) (one_told me p tree q b o) made.0 refl made.1
+      decided _ new (Some o) (own_case (leaf_place me p tree) q b) (one_told me p tree q b o) made.0 refl made.1
   by_entry new q (Collecting c ts) made = absurd made
   by_entry new q (Prepare c ts) made = absurd made
   by_entry new q (Commit c ts) made = absurd made
   by_entry new q (Abort c ts) made = absurd made
   by_entry new q (End c) made = absurd made
 
-  pub taken : (new : Cases) (l : LogRecord) → Takes (leaf me p tree) p old new l
-      → Leaves (leaf me p tree) p (ls ++ l ∷ []) new
+  pub taken : (new : Cases) (l : LogRecord) → Takes (leaf_place me p tree) p old new l
+      → Leaves (leaf_place me p tree) p (ls ++ l ∷ []) new
   taken new l made = by_entry new l.parent l.entry made
 
 -- no record leaves nothing

@@ -12,10 +12,9 @@ use Rattle.tree_model.specs.declared.records.Branch.TheVariants.{Case as CaseBra
 use Rattle.tree_model.specs.declared.records.LogRecord.{LogRecord}
 use Rattle.tree_model.specs.declared.records.Record.{Record}
 use Rattle.tree_model.specs.declared.records.Record.TheVariants.{Opened, Prepared as PreparedRecord, Committed, RolledBack, Direct, HeurCommit, HeurRollback, Told, Forgot, Base, Pair}
-use Rattle.tree_model.specs.declared.trees.TreeEntry.{TreeEntry}
 use Rattle.tree_model.specs.CoordinatorRows.{post}
 use Rattle.tree_model.specs.LogNames.{is_own, name_xid, own_records}
-use Rattle.tree_model.specs.Nodes.{AtLeaf, Place}
+use Rattle.tree_model.specs.Nodes.{Place}
 use Rattle.tree_model.specs.Records.{boot_of, cases_in, record_branch, with_case}
 use Rattle.tree_model.specs.Restarts.{manager_resumes, recorded_branch}
 use Rattle.tree_model.specs.Standings.{Decided, Mark, Promised, ToldOf, mark_of}
@@ -30,10 +29,6 @@ use Rattle.sub_table.specs.declared.names.Saying.{Saying}
 use Rattle.sub_table.specs.declared.names.Saying.TheVariants.{Nothing, Boot, Promises as PromisesOf, Ends as EndsOf, Decides, Coordinates}
 use Rattle.sub_table.specs.declared.cases.Cases.{Cases}
 use Rattle.sub_table.specs.declared.rebuilt.Rebuilt.{Rebuilt}
-
--- where a subordinate sits
-abbrev pub leaf : ProcessId → ProcessId → List TreeEntry → Place
-leaf me p tree = record { me = me; role = AtLeaf p; tree = tree }
 
 -- Names.
 

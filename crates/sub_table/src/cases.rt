@@ -1,7 +1,8 @@
 //! The cases of the records that were read so far.
 
 ghost use Rattle.std.specs.Prelude.{◌≡◌, [], OnOk};
-ghost use Rattle.sub_table.specs.Rebuilt.{AddsCase, DecidesCase, Ends, Promises, Takes, leaf};
+ghost use Rattle.sub_table.specs.Rebuilt.{AddsCase, DecidesCase, Ends, Promises, Takes};
+ghost use Rattle.tree_model.specs.Views.{leaf_place};
 
 use crate::names::{RebuildError, Saying, own_case, saying_of};
 use crate::table::Branches;
@@ -100,7 +101,7 @@ impl Cases {
         tree: &Tree,
         next: &LogRecord,
     ) -> Result<(), RebuildError>
-        ensures { OnOk result (Takes (leaf me parent tree.now) parent self.old self.new next.now) }
+        ensures { OnOk result (Takes (leaf_place me parent tree.now) parent self.old self.new next.now) }
     {
         match saying_of(&next.entry) {
             Saying::Nothing => Ok(()),

@@ -2,7 +2,8 @@
 
 ghost use Rattle.std.specs.Prelude.{◌≡◌, Some, IfOk, IsTrue};
 ghost use Rattle.tree_model.specs.LogNames.{is_own};
-ghost use Rattle.sub_table.specs.Rebuilt.{NameReads, leaf, own_case, saying_of};
+ghost use Rattle.sub_table.specs.Rebuilt.{NameReads, own_case, saying_of};
+ghost use Rattle.tree_model.specs.Views.{leaf_place};
 
 use log_text::{name_in, name_xid};
 use std::alloc::AllocError;
@@ -75,7 +76,7 @@ fn is_own(
     named: Option<ProcessId>,
     case: &Case,
 ) -> bool
-    ensures { result ≡ is_own (leaf me parent tree.now) named case.now }
+    ensures { result ≡ is_own (leaf_place me parent tree.now) named case.now }
 {
     case.txn.root == tree.root()
         && case.ticket.is_some()
@@ -126,7 +127,7 @@ pub(crate) fn own_case(
     named: Option<ProcessId>,
     branch: Branch,
 ) -> Result<Option<Case>, RebuildError>
-    ensures own { IfOk result (λ own. own ≡ own_case (leaf me parent tree.now) named branch) }
+    ensures own { IfOk result (λ own. own ≡ own_case (leaf_place me parent tree.now) named branch) }
     ensures reads { IfOk result (λ own. NameReads named branch) }
 {
     if !reads_back(named, branch) {

@@ -3,7 +3,8 @@
 ghost use Rattle.std.specs.Prelude.{◌≡◌, IfOk};
 ghost use Rattle.std.specs.List.{flat_map};
 ghost use Rattle.sub_table.specs.Tables.{branch_in};
-ghost use Rattle.sub_table.specs.Rebuilt.{Leaves, Rebuilds, asks, is_asked, leaf};
+ghost use Rattle.sub_table.specs.Rebuilt.{Leaves, Rebuilds, asks, is_asked};
+ghost use Rattle.tree_model.specs.Views.{leaf_place};
 
 use crate::cases::Cases;
 use crate::names::RebuildError;
@@ -32,7 +33,7 @@ fn read(
     records: &[LogRecord],
     alloc: Global,
 ) -> Result<Cases, RebuildError>
-    ensures { IfOk result (Leaves (leaf me parent tree.now) parent records.now) }
+    ensures { IfOk result (Leaves (leaf_place me parent tree.now) parent records.now) }
 {
     let mut cases = Cases::new(alloc);
     for next in records {
@@ -86,7 +87,7 @@ pub fn rebuild(
     records: &[LogRecord],
     alloc: Global,
 ) -> Result<Rebuilt, RebuildError>
-    ensures { IfOk result (Rebuilds (leaf me parent tree.now) parent records.now) }
+    ensures { IfOk result (Rebuilds (leaf_place me parent tree.now) parent records.now) }
 {
     let Cases {
         branches,

@@ -1,8 +1,18 @@
 -- The text of a trace.
-use Rattle.std.specs.Prelude.{ℕ, ◌+◌, List, [], ◌∷◌, ◌++◌, length}
+use Rattle.std.specs.Prelude.{ℕ, ◌+◌, List, [], ◌∷◌, ◌++◌, codes, length}
 use Rattle.std.specs.List.{flat_map}
+use Rattle.std.specs.Fmt.{decimal}
+use Rattle.tree_model.specs.declared.names.Case.{Case}
 use Rattle.tree_model.specs.declared.events.Entry.{Entry}
-use Rattle.tree_model.specs.Texts.{reaction_lines}
+use Rattle.tree_model.specs.Texts.{case_text, reaction_lines}
+
+-- a number, behind a space
+abbrev pub number_word : ℕ → List ℕ
+number_word n = codes " " ++ decimal n
+
+-- the name of a case, behind a space
+abbrev pub case_word : Case → List ℕ
+case_word c = codes " " ++ case_text c
 
 -- lines, each with its end
 abbrev pub line_text : List ℕ → List ℕ

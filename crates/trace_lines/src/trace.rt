@@ -20,7 +20,7 @@ ghost use Rattle.tree_model.specs.Texts.{
   envelope_lines,
   kept_lines,
 };
-ghost use Rattle.trace_lines.specs.Trace.{lines_text};
+ghost use Rattle.trace_lines.specs.Trace.{case_word, lines_text, number_word};
 
 use itoa::Buffer;
 use std::alloc::{AllocError, Global};
@@ -144,12 +144,20 @@ fn push_named(out: &mut Vec<u8>, word: &str, case: &Case) -> Result<(), AllocErr
     push_case(out, case)
 }
 
-/// A space, and a number behind it.
-fn push_space_number(out: &mut Vec<u8>, number: u64) -> Result<(), AllocError>
-    ensures { OnOk result (out.new.items ≡ out.old.items ++ (codes " " ++ decimal number)) }
+/// Adds a space and a number.
+pub fn push_number_word(out: &mut Vec<u8>, number: u64) -> Result<(), AllocError>
+    ensures { OnOk result (out.new.items ≡ out.old.items ++ number_word number) }
 {
     push_byte(out, b' ')?;
     push_number(out, number)
+}
+
+/// Adds a space and a case.
+pub fn push_case_word(out: &mut Vec<u8>, case: &Case) -> Result<(), AllocError>
+    ensures { OnOk result (out.new.items ≡ out.old.items ++ case_word case.now) }
+{
+    push_byte(out, b' ')?;
+    push_case(out, case)
 }
 
 fn push_message(out: &mut Vec<u8>, message: &Message) -> Result<(), AllocError>
@@ -164,13 +172,13 @@ fn push_message(out: &mut Vec<u8>, message: &Message) -> Result<(), AllocError>
         }
         Message::Work(case, index, op) => {
             push_named(out, "WORK ", case)?;
-            push_space_number(out, *index)?;
+            push_number_word(out, *index)?;
             push_byte(out, b' ')?;
             push_op(out, op)
         }
         Message::Prepare(case, count) => {
             push_named(out, "PREPARE ", case)?;
-            push_space_number(out, *count)
+            push_number_word(out, *count)
         }
         Message::Yes(case) => push_named(out, "YES ", case),
         Message::No(case) => push_named(out, "NO ", case),
@@ -190,7 +198,7 @@ fn push_envelope(out: &mut Vec<u8>, number: u64, envelope: &Envelope) -> Result<
     ensures { OnOk result (out.new.items ≡ out.old.items ++ envelope_text number envelope.now) }
 {
     push_number(out, number)?;
-    push_space_number(out, u64::from(envelope.from.0))?;
+    push_number_word(out, u64::from(envelope.from.0))?;
     push(out, "->")?;
     push_number(out, u64::from(envelope.to.0))?;
     push_byte(out, b' ')?;
@@ -225,7 +233,7 @@ fn push_subject(out: &mut Vec<u8>, subject: &Subject) -> Result<(), AllocError>
     ensures { OnOk result (out.new.items ≡ out.old.items ++ subject_text subject.now) }
 {
     match subject {
-        Subject::Boot(boot) => push_space_number(out, *boot),
+        Subject::Boot(boot) => push_number_word(out, *boot),
         Subject::Case(case) => push_named(out, " ", case),
         Subject::Other => Ok(()),
     }
@@ -322,7 +330,7 @@ pub fn push_kept(out: &mut Vec<u8>, process: u32, kept: &Option<u64>) -> Result<
         Some(count) => {
             push(out, "trim ")?;
             push_number(out, u64::from(process))?;
-            push_space_number(out, *count)?;
+            push_number_word(out, *count)?;
             push_byte(out, b'\n')
         }
     }

@@ -10,7 +10,8 @@ use Rattle.tree_model.specs.declared.records.Record.TheVariants.{Opened, Prepare
 use Rattle.tree_model.specs.declared.records.Write.{Write}
 use Rattle.log_text.specs.Frames.{Cut, first_frame}
 use Rattle.log_text.specs.Parts.{Front, Name, key_at, name_at, value_at, writes_of}
-use Rattle.log_text.specs.Reading.{bare, below, branch_record, manager_record, of_branch, named, pair_by, pair_of, read_record, told, unnamed, writing}
+use Rattle.log_text.specs.Reading.{bare, below, branch_record, manager_record, of_branch, named, pair_by, pair_of, read_record, told, writing}
+use Rattle.tree_model.specs.LogNames.{unnamed}
 use Rattle.log_rules.specs.order.Logs.{Whole, read_log}
 use Rattle.logs_script.specs.Places.{Placed, and_placed, placed_by, placed_in}
 use Rattle.logs_script.proofs.PlaceLaws.{places_tell}

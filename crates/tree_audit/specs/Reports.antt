@@ -68,7 +68,7 @@ line_of tree logs c = record {
   mismatch = is_against tree logs c (audited tree logs c);
 }
 
--- the lines of a process's cases, in order of the first records that are read of them
+-- the lines of a process's cases, in the order in which an audit lists them
 abbrev pub lines_at : List TreeEntry → Logs → ProcessId → List Line
 lines_at tree logs q =
     map (line_of tree logs) (filter (has_line tree logs) (listed_cases (role_of tree q) (logs q)))

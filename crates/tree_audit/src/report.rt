@@ -19,8 +19,8 @@ pub struct Line {
     pub mismatch: bool,
 }
 
-/// A line for each case that is told of, in the order of the tree and of first records; and how many show a
-/// mismatch.
+/// A line for each case that is told of, in the order of the tree; in a coordinator of first records, in a
+/// manager of last promises; and how many show a mismatch.
 #[derive(Drop)]
 pub struct Report {
     pub lines: Vec<Line>,

@@ -4,7 +4,7 @@ use Rattle.tree_model.specs.declared.messages.Envelope.{Envelope}
 use Rattle.tree_model.specs.declared.names.ProcessId.{ProcessId}
 use Rattle.tree_model.specs.declared.trees.TreeEntry.{TreeEntry}
 use Rattle.tree_model.specs.Names.{process_of}
-use Rattle.tree_model.specs.Nodes.{AtLeaf, AtRoot, Below, Effect, Node, Place, Role, place_of, role_of}
+use Rattle.tree_model.specs.Nodes.{AtLeaf, AtRoot, Below, Effect, Node, Place, Role, place_of, role_of, IsCoordinator}
 use Rattle.tree_model.specs.Outcomes.{Headline}
 use Rattle.tree_model.specs.Trees.{IsTree}
 use Rattle.tree_model.specs.World.{IsRun, Made, Move, Stands, World, makes, world_makes}
@@ -16,7 +16,8 @@ use Rattle.tree_nodes.specs.WorldHolds.{IsChildRole, Issues, NodeHolds, RoleHold
 use Rattle.tree_nodes.proofs.BootsHold.{all_booted, boots_of}
 use Rattle.tree_nodes.proofs.ManagersHold.{numbers_are_given_once, same_self}
 use Rattle.tree_nodes.proofs.Worlds.{all_last}
-use Rattle.tree_headline.specs.ProcessLaws.{AllFrom, CoordinatorLaws, IsCoordinator, StepKeeps}
+use Rattle.tree_headline.specs.ProcessLaws.{CoordinatorLaws, StepKeeps}
+use Rattle.tree_steps.specs.cascades.Messages.{AllSentBy}
 use Rattle.tree_headline.specs.CoordinatorLaws.{CascadedKeeps, CascadedLaws, GivesCases, RootKeeps, RootLaws}
 use Rattle.tree_headline.proofs.Managers.{headline_from_coordinators}
 use Rattle.tree_headline.proofs.Quiet.{elsewhere}
@@ -64,8 +65,8 @@ module _ (tree : List TreeEntry) (es : List Made) (w : World) (run : IsRun tree 
     role = h;
   }
 
-  -- a coordinator sends each of its letters itself
-  sent : IsCoordinator (role_of tree m.step.process) → AllFrom m.step.process e.messages
+  -- a coordinator sends each of its messages itself
+  sent : IsCoordinator (role_of tree m.step.process) → AllSentBy m.step.process e.messages
   sent is =
       let at = makes_at tree w m e w' made in
       step_from (place_of tree q) (w.at q) m is e at.node

@@ -7,17 +7,17 @@ use Rattle.tree_model.specs.declared.standings.Vote.{Vote}
 use Rattle.tree_model.specs.declared.standings.Vote.TheVariants.{Yes as VoteYes, No as VoteNo, Read as VoteRead}
 use Rattle.tree_model.specs.Names.{same_case, same_ticket}
 use Rattle.tree_model.specs.Outcomes.{consents, first_vote, vote_in}
-use Rattle.tree_pairs.specs.readings.ReadingOf.{is_vote}
+use Rattle.tree_model.specs.Memory.{same_vote}
 use Rattle.tree_nodes.proofs.Tests.{left, right}
 
 vote_is : (u v : Vote) → Some u ≡ Some v → u ≡ v
 vote_is u v e = cc
 
 abbrev heard_such : List (Case × (Ticket × Vote)) → Case → Ticket → Vote → Bool
-heard_such vs c t v = list_any (λ a. same_case a.0 c && (same_ticket a.1.0 t && is_vote v a.1.1)) vs
+heard_such vs c t v = list_any (λ a. same_case a.0 c && (same_ticket a.1.0 t && same_vote v a.1.1)) vs
 
 module _ (c : Case) (t : Ticket) where
-  vote_itself : (v : Vote) → is_vote v v ≡ true
+  vote_itself : (v : Vote) → same_vote v v ≡ true
   vote_itself VoteYes = refl
   vote_itself VoteNo = refl
   vote_itself VoteRead = refl
@@ -39,7 +39,7 @@ module _ (c : Case) (t : Ticket) where
           → vote_in a c t (first_vote vs c t) ≡ None → heard_such (a ∷ vs) c t v ≡ false
       by_rest (Some u) f g e = absurd (let y = sym (ap (vote_in a c t) f) ∙ e in cc)
       by_rest None f g e =
-          by_test (same_case a.0 c) (same_ticket a.1.0 t) (is_vote v a.1.1) (heard_such vs c t v) (g f v)
+          by_test (same_case a.0 c) (same_ticket a.1.0 t) (same_vote v a.1.1) (heard_such vs c t v) (g f v)
           (sym (ap (vote_in a c t) f) ∙ e)
 
   some_heard : (vs : List (Case × (Ticket × Vote))) (v : Vote) → first_vote vs c t ≡ Some v
@@ -49,8 +49,8 @@ module _ (c : Case) (t : Ticket) where
   some_heard (a ∷ vs) v e = by_rest (first_vote vs c t) refl (some_heard vs v) e
     where
       by_test : (x y : Bool) (u : Vote) (s : Bool) → (if x && y then Some u else None) ≡ Some v
-          → ((x && (y && is_vote v u)) || s) ≡ true
-      by_test true true u s e = left _ _ (subst (λ (z : Vote). is_vote v z
+          → ((x && (y && same_vote v u)) || s) ≡ true
+      by_test true true u s e = left _ _ (subst (λ (z : Vote). same_vote v z
           ≡ true) (sym (vote_is u v e)) (vote_itself v))
       by_test true false u s e = absurd (cc)
       by_test false y u s e = absurd (cc)

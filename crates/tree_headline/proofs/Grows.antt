@@ -23,7 +23,7 @@ use Rattle.tree_pairs.specs.turns.Steps.{StepOf, handled, failed_in, passed, fai
 use Rattle.tree_nodes.specs.WorldHolds.{AllGo, Cascades, Coordinates, GoesBy, IsFree, Issues, NodeHolds, RoleHolds, gives_other}
 use Rattle.tree_nodes.proofs.Tests.{both, either, in_second, right}
 use Rattle.tree_nodes.proofs.GivenCases.{same_of}
-use Rattle.tree_headline.specs.ProcessLaws.{AllFrom}
+use Rattle.tree_steps.specs.cascades.Messages.{AllSentBy}
 
 -- The net.
 
@@ -47,32 +47,32 @@ go_on tree (l ∷ net) ls g h = (g.0, go_on tree net ls g.1 h)
 
 -- Who sends.
 
--- a letter that this process sends passes the test
+-- a message that this process sends passes the test
 pub record SentHere (tree : List TreeEntry) (q : ProcessId) (test : Message → Bool) : Type 0 where
-  pub letter : Envelope
-  pub here : letter.from ≡ q
-  pub goes : GoesBy tree letter letter.message
-  pub passes : test letter.message ≡ true
+  pub envelope : Envelope
+  pub here : envelope.from ≡ q
+  pub goes : GoesBy tree envelope envelope.message
+  pub passes : test envelope.message ≡ true
 
-pub some_letter : (tree : List TreeEntry) (q : ProcessId) (test : Message → Bool) (ls : List Envelope)
-    → AllFrom q ls
+pub some_message : (tree : List TreeEntry) (q : ProcessId) (test : Message → Bool) (ls : List Envelope)
+    → AllSentBy q ls
     → AllGo tree ls → sent test ls ≡ true → SentHere tree q test
 unfolding sent
-some_letter tree q test [] f g e = absurd (cc)
-some_letter tree q test (l ∷ ls) f g e = elim (either (test l.message) (sent test ls) e) [
-  | inl now ↦ record { letter = l; here = f.0; goes = g.0; passes = now }
-  | inr rest ↦ some_letter tree q test ls f.1 g.1 rest
+some_message tree q test [] f g e = absurd (cc)
+some_message tree q test (l ∷ ls) f g e = elim (either (test l.message) (sent test ls) e) [
+  | inl now ↦ record { envelope = l; here = f.0; goes = g.0; passes = now }
+  | inr rest ↦ some_message tree q test ls f.1 g.1 rest
 ]
 
 pub ticket_is : (c d : Ticket) → same_ticket c d ≡ true → c ≡ d
 ticket_is c d e = elim (same_ticket_tells c d) [ inl t ↦ t.1 | inr g ↦ absurd (let k = g.0 in cc) ]
 
 -- it gave each ticket that it tells of
-pub joined_here : (tree : List TreeEntry) (q : ProcessId) (ls : List Envelope) → AllFrom q ls → AllGo tree ls
+pub joined_here : (tree : List TreeEntry) (q : ProcessId) (ls : List Envelope) → AllSentBy q ls → AllGo tree ls
     → (d : Case) (t : Ticket) → sent (is_joined_message d t) ls ≡ true → t.child ≡ q
 joined_here tree q ls f g d t e =
-    let s = some_letter tree q (is_joined_message d t) ls f g e in
-    by_message s.letter s.letter.message s.here s.goes s.passes
+    let s = some_message tree q (is_joined_message d t) ls f g e in
+    by_message s.envelope s.envelope.message s.here s.goes s.passes
   where
     by_message : (l : Envelope) (m : Message) → l.from ≡ q → GoesBy tree l m → is_joined_message d t m
         ≡ true → t.child ≡ q
@@ -90,11 +90,11 @@ joined_here tree q ls f g d t e =
     by_message l (Inquire c) here goes e = absurd (cc)
 
 -- it votes for its own cases
-pub yes_here : (tree : List TreeEntry) (q : ProcessId) (ls : List Envelope) → AllFrom q ls → AllGo tree ls
+pub yes_here : (tree : List TreeEntry) (q : ProcessId) (ls : List Envelope) → AllSentBy q ls → AllGo tree ls
     → (d : Case) → sent (is_yes_message d) ls ≡ true → process_of d ≡ q
 yes_here tree q ls f g d e =
-    let s = some_letter tree q (is_yes_message d) ls f g e in
-    by_message s.letter s.letter.message s.here s.goes s.passes
+    let s = some_message tree q (is_yes_message d) ls f g e in
+    by_message s.envelope s.envelope.message s.here s.goes s.passes
   where
     by_message : (l : Envelope) (m : Message) → l.from ≡ q → GoesBy tree l m → is_yes_message d m ≡ true
         → process_of d ≡ q
@@ -110,11 +110,11 @@ yes_here tree q ls f g d e =
     by_message l (Ack c o) here goes e = absurd (cc)
     by_message l (Inquire c) here goes e = absurd (cc)
 
-pub read_here : (tree : List TreeEntry) (q : ProcessId) (ls : List Envelope) → AllFrom q ls → AllGo tree ls
+pub read_here : (tree : List TreeEntry) (q : ProcessId) (ls : List Envelope) → AllSentBy q ls → AllGo tree ls
     → (d : Case) → sent (is_read_message d) ls ≡ true → process_of d ≡ q
 read_here tree q ls f g d e =
-    let s = some_letter tree q (is_read_message d) ls f g e in
-    by_message s.letter s.letter.message s.here s.goes s.passes
+    let s = some_message tree q (is_read_message d) ls f g e in
+    by_message s.envelope s.envelope.message s.here s.goes s.passes
   where
     by_message : (l : Envelope) (m : Message) → l.from ≡ q → GoesBy tree l m → is_read_message d m ≡ true
         → process_of d ≡ q

@@ -14,7 +14,7 @@ pub mod Steps
 pub mod Doubts
 pub mod Opened
 pub mod Headline
-pub mod ManagerLetters
+pub mod ManagerMessages
 pub mod Managers
 pub mod Quiet
 pub mod Coordinators

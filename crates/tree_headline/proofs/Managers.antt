@@ -3,7 +3,7 @@ use Rattle.std.proofs.Common.{◌≡◌, Some, List, ◌∷◌, ◌++◌, refl, 
 use Rattle.tree_model.specs.declared.messages.Envelope.{Envelope}
 use Rattle.tree_model.specs.declared.names.ProcessId.{ProcessId}
 use Rattle.tree_model.specs.declared.trees.TreeEntry.{TreeEntry}
-use Rattle.tree_model.specs.Nodes.{AtLeaf, AtRoot, Below, Effect, Place, Role, place_of, role_of}
+use Rattle.tree_model.specs.Nodes.{AtLeaf, AtRoot, Below, Effect, Place, Role, place_of, role_of, IsCoordinator}
 use Rattle.tree_model.specs.Outcomes.{Headline}
 use Rattle.tree_model.specs.Trees.{IsTree}
 use Rattle.tree_model.specs.World.{IsRun, Made, Move, Stands, World, makes, world_makes}
@@ -15,10 +15,10 @@ use Rattle.tree_nodes.specs.WorldHolds.{Issues, NodeHolds, WorldHolds}
 use Rattle.tree_nodes.proofs.ManagersHold.{managers_hold}
 use Rattle.tree_nodes.proofs.Unlisted.{makes_listed}
 use Rattle.tree_steps.proofs.children.ManagerProcess.{manager_process}
-use Rattle.tree_headline.specs.ProcessLaws.{CoordinatorLaws, IsCoordinator, ProcessLaws, StepKeeps}
+use Rattle.tree_headline.specs.ProcessLaws.{CoordinatorLaws, ProcessLaws, StepKeeps}
 use Rattle.tree_headline.proofs.Ends.{issues_in}
 use Rattle.tree_headline.proofs.Headline.{headline}
-use Rattle.tree_headline.proofs.ManagerLetters.{about_given, all_go, from_here, letters_fit}
+use Rattle.tree_headline.proofs.ManagerMessages.{about_given, all_go, from_here, messages_fit}
 
 manager_keeps : (tree : List TreeEntry) (es : List Made) (w : World) → IsRun tree es w → WorldHolds tree w
     → (m : Move) (e : Effect) (w' : World) (p : ProcessId) → role_of tree m.step.process ≡ AtLeaf p
@@ -36,7 +36,7 @@ manager_keeps tree es w run h m e w' p leaf stands made =
     (issues_in (role_of tree q) (place_of tree q) w.net (w.at q) (subst IsIssuer (sym leaf) tt) node.role) in
     let s = subst (λ (r : Role). StepOf (place r) (w.at q) m e at.node) leaf
     (step_of (place_of tree q) (w.at q) m e at.node at.made) in
-    let fit = letters_fit tree q p leaf listed w.net h.net h.about_given (w.at q) node.lasts.nested issues m
+    let fit = messages_fit tree q p leaf listed w.net h.net h.about_given (w.at q) node.lasts.nested issues m
     stands e at.node s in
     let pairs = manager_process tree es w run m e w' p leaf stands made in
     record {

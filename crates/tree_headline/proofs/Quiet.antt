@@ -1,4 +1,4 @@
--- A process's letters are of no pair of others.
+-- A process's messages are of no pair of others.
 use Rattle.std.proofs.Common.{◌≡◌, ◌∙◌, ◌&&◌, Bool, true, false, List, refl, sym, ap, subst}
 use Rattle.tree_model.specs.declared.names.Case.{Case}
 use Rattle.tree_model.specs.declared.names.Outcome.TheVariants.{Committed as CommittedOutcome, Aborted as AbortedOutcome}
@@ -16,8 +16,8 @@ use Rattle.tree_nodes.specs.ProcessSteps.{Elsewhere}
 use Rattle.tree_nodes.specs.WorldHolds.{AllGo, GoesBy, GoesDown, GoesUp, IsChildRole, IsPair}
 use Rattle.tree_nodes.proofs.GivenCases.{same_of}
 use Rattle.tree_nodes.proofs.Tests.{both}
-use Rattle.tree_headline.specs.ProcessLaws.{AllFrom}
-use Rattle.tree_headline.proofs.Grows.{some_letter, ticket_is}
+use Rattle.tree_steps.specs.cascades.Messages.{AllSentBy}
+use Rattle.tree_headline.proofs.Grows.{some_message, ticket_is}
 use Rattle.tree_headline.proofs.PartSteps.{not_true}
 
 one_parent : (role : Role) (p r : ProcessId) → IsChildRole role p → IsChildRole role r → p ≡ r
@@ -25,7 +25,7 @@ one_parent (Below q) p r f g = sym f ∙ g
 one_parent (AtLeaf q) p r f g = sym f ∙ g
 one_parent AtRoot p r f g = absurd (f)
 
-module _ (tree : List TreeEntry) (me : ProcessId) (ls : List Envelope) (here : AllFrom me ls)
+module _ (tree : List TreeEntry) (me : ProcessId) (ls : List Envelope) (here : AllSentBy me ls)
     (go : AllGo tree ls)
     (c : Case) (t : Ticket) (pair : IsPair tree c t) (parent : process_of c ≡ me → ⊥)
     (child : t.child ≡ me → ⊥) where
@@ -47,11 +47,11 @@ module _ (tree : List TreeEntry) (me : ProcessId) (ls : List Envelope) (here : A
       (subst (λ (q : ProcessId). IsChildRole (role_of tree t.child) q) f
       (subst (λ (q : ProcessId). IsChildRole (role_of tree q) l.from) (sym at) g.1))
 
-  -- no letter passes a test that no letter of this process passes
+  -- no message passes a test that no message of this process passes
   none : (q : Message → Bool)
       → ((l : Envelope) (m : Message) → l.from ≡ me → GoesBy tree l m → q m ≡ true → ⊥) → sent q ls ≡ false
-  none q f = not_true (sent q ls) (λ e. let s = some_letter tree me q ls here go e in
-      f s.letter s.letter.message s.here s.goes s.passes)
+  none q f = not_true (sent q ls) (λ e. let s = some_message tree me q ls here go e in
+      f s.envelope s.envelope.message s.here s.goes s.passes)
 
   -- what one message tells the pair
   abbrev heard : Message → Wire
@@ -108,8 +108,8 @@ module _ (tree : List TreeEntry) (me : ProcessId) (ls : List Envelope) (here : A
   none_by q field same silent = none q (λ l m f g e.
       let x = sym silent ∙ (sym (ap field (message_quiet l m f g)) ∙ (same m ∙ e)) in cc)
 
-  pub letters_quiet : wire c t ls ≡ no_wire
-  letters_quiet = rw (
+  pub messages_quiet : wire c t ls ≡ no_wire
+  messages_quiet = rw (
     none_by (is_joined_message c t) (λ v. v.issued) (λ m. refl) refl,
     none_by (gives_case c) (λ v. v.given) (λ m. refl) refl,
     none_by (is_read_message c) (λ v. v.read_up) (λ m. refl) refl,
@@ -123,8 +123,8 @@ module _ (tree : List TreeEntry) (me : ProcessId) (ls : List Envelope) (here : A
     none_by (is_inquiry_message (child_case c.txn t)) (λ v. v.inquire) (λ m. refl) refl,
   ) refl
 
-pub elsewhere : (place : Place) (ls : List Envelope) → AllFrom place.me ls → AllGo place.tree ls
+pub elsewhere : (place : Place) (ls : List Envelope) → AllSentBy place.me ls → AllGo place.tree ls
     → Elsewhere place ls
 elsewhere place ls here go = record {
-  quiet = λ c t pair parent child. letters_quiet place.tree place.me ls here go c t pair parent child;
+  quiet = λ c t pair parent child. messages_quiet place.tree place.me ls here go c t pair parent child;
 }

@@ -1,4 +1,4 @@
--- A coordinator sends each of its letters itself.
+-- A coordinator sends each of its messages itself.
 use Rattle.std.proofs.Common.{◌≡◌, Option, Some, None, List, [], ◌∷◌, ◌++◌, refl, sym, subst}
 use Rattle.std.specs.List.{flat_map}
 use Rattle.tree_model.specs.declared.names.Case.{Case}
@@ -12,7 +12,7 @@ use Rattle.tree_model.specs.declared.records.Record.{Record}
 use Rattle.tree_model.specs.declared.standings.Standing.{Standing}
 use Rattle.tree_model.specs.declared.standings.Standing.TheVariants.{Unknown, Active, Collecting, Prepared, Committing, Aborting, Heuristic}
 use Rattle.tree_model.specs.CoordinatorRows.{Seat, each, up}
-use Rattle.tree_model.specs.Nodes.{AtLeaf, AtRoot, Below, Effect, Heard, Node, Place, Role, Written}
+use Rattle.tree_model.specs.Nodes.{AtLeaf, AtRoot, Below, Effect, Heard, Node, Place, Role, Written, IsCoordinator}
 use Rattle.tree_model.specs.Restarts.{coordinator_resumes, left_of, recorded_view, reopens, resumes, resumes_by}
 use Rattle.tree_model.specs.Records.{cases_in}
 use Rattle.tree_model.specs.Standings.{CoordinatorView}
@@ -20,26 +20,26 @@ use Rattle.tree_model.specs.World.{Move}
 use Rattle.tree_pairs.specs.turns.Steps.{StepOf, TurnAt, heard_in, handled, failed_in, passed, failed_passing, reopened, failed_reopening, trimmed, failed_trimming}
 use Rattle.tree_pairs.specs.turns.Written.{AllSent, Sends, Writes, down, for_act, for_child, for_parent, gives, invites, presumes, upward, writes_nothing}
 use Rattle.tree_pairs.proofs.turns.Steps.{turn_of}
-use Rattle.tree_headline.specs.ProcessLaws.{AllFrom, IsCoordinator}
+use Rattle.tree_steps.specs.cascades.Messages.{AllSentBy}
 
 sent_from : (s : Seat) (l : Envelope) → Sends s l → l.from ≡ s.me
 sent_from s _ (down t m i) = refl
 sent_from s _ (upward p m e i) = refl
 sent_from s _ (invites q) = refl
 
-all_from : (s : Seat) (ls : List Envelope) → AllSent s ls → AllFrom s.me ls
+all_from : (s : Seat) (ls : List Envelope) → AllSent s ls → AllSentBy s.me ls
 all_from s [] a = tt
 all_from s (l ∷ ls) a = (sent_from s l a.0, all_from s ls a.1)
 
-none_from : (me : ProcessId) (ls : List Envelope) → ls ≡ [] → AllFrom me ls
-none_from me ls e = subst (AllFrom me) (sym e) tt
+none_from : (me : ProcessId) (ls : List Envelope) → ls ≡ [] → AllSentBy me ls
+none_from me ls e = subst (AllSentBy me) (sym e) tt
 
-one_from : (me : ProcessId) (l : Envelope) (ls : List Envelope) → ls ≡ l ∷ [] → l.from ≡ me → AllFrom me ls
-one_from me l ls e f = subst (AllFrom me) (sym e) (f, tt)
+one_from : (me : ProcessId) (l : Envelope) (ls : List Envelope) → ls ≡ l ∷ [] → l.from ≡ me → AllSentBy me ls
+one_from me l ls e f = subst (AllSentBy me) (sym e) (f, tt)
 
 writes_from : (place : Place) (parent : Option ProcessId) (n : Node) (i : Input) (ws : List Written)
     (ls : List Envelope)
-    → Writes place parent n i ws ls → AllFrom place.me ls
+    → Writes place parent n i ws ls → AllSentBy place.me ls
 writes_from place parent n i ws ls (writes_nothing e f) = none_from place.me ls f
 writes_from place parent n i ws ls (for_act a c e k o s) = all_from _ ls s
 writes_from place parent n i ws ls (for_child c x t e o s) = all_from _ ls s
@@ -48,28 +48,28 @@ writes_from place parent n i ws ls (presumes x t o e f) = one_from place.me _ ls
 writes_from place parent n i ws ls (gives p d t e f k g a) = one_from place.me _ ls f refl
 
 turn_from : (role : Role) (place : Place) (n : Node) (h : Heard) (e : Effect) → IsCoordinator role
-    → TurnAt role place n h e → AllFrom place.me e.messages
+    → TurnAt role place n h e → AllSentBy place.me e.messages
 turn_from AtRoot place n h e i t = writes_from place None n h.input e.written e.messages t
 turn_from (Below p) place n h e i t = writes_from place (Some p) n h.input e.written e.messages t
 turn_from (AtLeaf p) place n h e i t = absurd (i)
 
 -- A restart.
 
-both_from : (me : ProcessId) (xs ys : List Envelope) → AllFrom me xs → AllFrom me ys → AllFrom me (xs ++ ys)
+both_from : (me : ProcessId) (xs ys : List Envelope) → AllSentBy me xs → AllSentBy me ys → AllSentBy me (xs ++ ys)
 both_from me [] ys a b = b
 both_from me (x ∷ xs) ys a b = (a.0, both_from me xs ys a.1 b)
 
-each_from : (s : Seat) (m : Case → Message) (ts : List Ticket) → AllFrom s.me (each s m ts)
+each_from : (s : Seat) (m : Case → Message) (ts : List Ticket) → AllSentBy s.me (each s m ts)
 each_from s m [] = tt
 each_from s m (t ∷ ts) = (refl, each_from s m ts)
 
 up_from : (me : ProcessId) (parent : Option ProcessId) (c : Case) (m : Message)
-    → AllFrom me (up (record { me = me; parent = parent; own = c }) m)
+    → AllSentBy me (up (record { me = me; parent = parent; own = c }) m)
 up_from me None c m = tt
 up_from me (Some p) c m = (refl, tt)
 
 resumed_from : (me : ProcessId) (parent : Option ProcessId) (c : Case) (v : CoordinatorView) (s : Standing)
-    → AllFrom me (resumes_by (record { me = me; parent = parent; own = c }) v s)
+    → AllSentBy me (resumes_by (record { me = me; parent = parent; own = c }) v s)
 resumed_from me parent c v Committing = each_from (record { me = me; parent = parent; own = c }) Commit v.owed
 resumed_from me parent c v Aborting = each_from (record { me = me; parent = parent; own = c }) Abort v.owed
 resumed_from me parent c v Prepared = up_from me parent c (Inquire c)
@@ -79,19 +79,19 @@ resumed_from me parent c v Collecting = tt
 resumed_from me parent c v Heuristic = tt
 
 flat_from : (me : ProcessId) (parent : Option ProcessId) (rs : List Record) (cs : List Case)
-    → AllFrom me (flat_map (coordinator_resumes me parent rs) cs)
+    → AllSentBy me (flat_map (coordinator_resumes me parent rs) cs)
 flat_from me parent rs [] = tt
 flat_from me parent rs (c ∷ cs) = both_from me (coordinator_resumes me parent rs c) _
     (resumed_from me parent c (recorded_view rs c) (recorded_view rs c).standing) (flat_from me parent rs cs)
 
 resumes_from : (role : Role) (me : ProcessId) (rs : List Record) → IsCoordinator role
-    → AllFrom me (resumes role me rs)
+    → AllSentBy me (resumes role me rs)
 resumes_from AtRoot me rs i = flat_from me None rs (cases_in rs)
 resumes_from (Below p) me rs i = flat_from me (Some p) rs (cases_in rs)
 resumes_from (AtLeaf p) me rs i = absurd (i)
 
 pub step_from : (place : Place) (n : Node) (m : Move) → IsCoordinator place.role → (e : Effect) (k : Node)
-    → StepOf place n m e k → AllFrom place.me e.messages
+    → StepOf place n m e k → AllSentBy place.me e.messages
 step_from place n m is _ _ (handled i g hp np r) =
     turn_from place.role place n (heard_in m i) g is (turn_of place n (heard_in m i) g r).turn
 step_from place n m is _ _ (failed_in i f g fl hp np r) = tt

@@ -1,9 +1,9 @@
-pub mod CoordinatorLetters
+pub mod CoordinatorMessages
 pub mod TreeChildren
-pub mod TurnLetters
-pub mod LettersHold
+pub mod TurnMessages
+pub mod MessagesHold
 pub mod NetsHold
 pub mod Born
-pub mod JoinLetters
+pub mod JoinMessages
 pub mod BornHolds
 pub mod Headline

@@ -1,23 +1,18 @@
 -- What the steps of single processes keep, from which the world's invariant follows.
-use Rattle.std.specs.Prelude.{◌≡◌, Some, List, [], ◌∷◌, ◌++◌}
-use Rattle.tree_model.specs.declared.names.ProcessId.{ProcessId}
+use Rattle.std.specs.Prelude.{◌≡◌, Some, List, [], ◌++◌}
 use Rattle.tree_model.specs.declared.messages.Envelope.{Envelope}
 use Rattle.tree_model.specs.declared.trees.TreeEntry.{TreeEntry}
-use Rattle.tree_model.specs.Nodes.{AtLeaf, AtRoot, Below, Effect, Node, Place, Role, place_of, role_of}
+use Rattle.tree_model.specs.Nodes.{Effect, Node, Place, place_of, role_of, IsCoordinator}
 use Rattle.tree_model.specs.World.{IsRun, Made, Move, Stands, World, world_makes}
 use Rattle.tree_nodes.specs.ProcessSteps.{ChildStep, Elsewhere, ParentStep}
 use Rattle.tree_nodes.specs.WorldHolds.{AboutGiven, AllGo, NodeHolds, WorldHolds}
+use Rattle.tree_steps.specs.cascades.Messages.{AllSentBy}
 
--- this process sends each of the letters
-abbrev pub AllFrom : ProcessId → List Envelope → Type 0
-AllFrom q [] = Unit {0}
-AllFrom q (l ∷ ls) = (l.from ≡ q) × AllFrom q ls
-
--- What one step of a process keeps: the process's own part of the world's invariant, where its letters go and
+-- What one step of a process keeps: the process's own part of the world's invariant, where its messages go and
 -- of which cases they are, and the invariant of each pair of which it has a half.
 pub record StepKeeps (place : Place) (net ls : List Envelope) (n n' : Node) : Type 0 where
   pub holds : NodeHolds place (net ++ ls) n'
-  pub sent_here : AllFrom place.me ls
+  pub sent_here : AllSentBy place.me ls
   pub go : AllGo place.tree ls
   pub about_given : AboutGiven (net ++ ls)
   pub pairs_below : ParentStep place net ls n n'
@@ -31,12 +26,6 @@ ProcessLaws tree = (es : List Made) (w : World) → IsRun tree es w → WorldHol
     → (m : Move) (e : Effect) (w' : World) → Stands w.net m.step.process m.step.happening
     → world_makes tree w m ≡ Some (e, w')
     → StepKeeps (place_of tree m.step.process) w.net e.messages (w.at m.step.process) (w'.at m.step.process)
-
--- the role is a coordinator's
-abbrev pub IsCoordinator : Role → Type 0
-IsCoordinator AtRoot = Unit {0}
-IsCoordinator (Below p) = Unit {0}
-IsCoordinator (AtLeaf p) = ⊥
 
 -- The same of coordinators alone.
 abbrev pub CoordinatorLaws : List TreeEntry → Type 0

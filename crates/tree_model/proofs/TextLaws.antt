@@ -100,12 +100,12 @@ unfolding letter_code
 case_parts PresumeAbort root boot sequence o = simp append_assoc
 case_parts PresumeCommit root boot sequence o = simp append_assoc
 
-messages_told : (p q : Presumption) → letter_code p ≡ letter_code q → p ≡ q
+letters_told : (p q : Presumption) → letter_code p ≡ letter_code q → p ≡ q
 unfolding letter_code
-messages_told PresumeAbort PresumeAbort e = refl
-messages_told PresumeCommit PresumeCommit e = refl
-messages_told PresumeAbort PresumeCommit e = absurd (omega arith)
-messages_told PresumeCommit PresumeAbort e = absurd (omega arith)
+letters_told PresumeAbort PresumeAbort e = refl
+letters_told PresumeCommit PresumeCommit e = refl
+letters_told PresumeAbort PresumeCommit e = absurd (omega arith)
+letters_told PresumeCommit PresumeAbort e = absurd (omega arith)
 
 owners_told : (s s' : ℕ) (o o' : Option Ticket) → s < 2 ^ 64 → s' < 2 ^ 64 → FitsOwner o → FitsOwner o'
     → decimal s ++ ticket_part o ≡ decimal s' ++ ticket_part o' → (s ≡ s') × (o ≡ o')
@@ -137,7 +137,7 @@ pub cases_told : (c d : Case) → TellsCases c d
 cases_told c d h k root e =
     let whole = sym (case_parts c.txn.presumption c.txn.root c.txn.boot c.txn.sequence c.ticket)
     ∙ (e ∙ case_parts d.txn.presumption d.txn.root d.txn.boot d.txn.sequence d.ticket) in
-    let letter = messages_told c.txn.presumption d.txn.presumption (head_same _ _ _ _ whole) in
+    let letter = letters_told c.txn.presumption d.txn.presumption (head_same _ _ _ _ whole) in
     let boots = split 46 full_stop _ _ _ _ (decimal_digits c.txn.boot h.0.boot_fits)
     (decimal_digits d.txn.boot k.0.boot_fits) (tail_same _ _ _ _ whole) in
     let rest = owners_told c.txn.sequence d.txn.sequence c.ticket d.ticket h.0.number_fits k.0.number_fits h.1

@@ -84,6 +84,10 @@ case_parent p (Some c) = ticket_parent p c.ticket
 abbrev pub in_log : Option ProcessId → Record → LogRecord
 in_log p r = record { entry = r; parent = case_parent p (record_case r) }
 
+-- a record of the process itself, under no parent
+abbrev pub unnamed : Record → LogRecord
+unnamed r = record { entry = r; parent = None }
+
 -- From a log to the records as its process reads them.
 
 -- the parent of a process with this role
@@ -116,6 +120,15 @@ renamed b (HeurRollback d) = HeurRollback b
 renamed b (Told d o) = Told b o
 renamed b (Forgot d) = Forgot b
 renamed b r = r
+
+-- a record whose branch is named by its XID; one without a branch stays
+abbrev pub renamed_by : Option ProcessId → Option Branch → Record → Record
+renamed_by p None r = r
+renamed_by p (Some b) r = renamed (Foreign (name_xid p b)) r
+
+-- a record of a log, its branch named by its XID: so a branch is the same whoever reads the log
+abbrev pub by_xid : LogRecord → Record
+by_xid l = renamed_by l.parent (record_branch l.entry) l.entry
 
 -- a coordinator leaves out what is not its own; a manager reads it as a foreign XID
 abbrev pub foreign_to : Role → Option ProcessId → Case → Record → List Record

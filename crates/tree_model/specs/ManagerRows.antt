@@ -11,7 +11,7 @@ use Rattle.tree_model.specs.declared.messages.Message.{Message}
 use Rattle.tree_model.specs.declared.messages.Message.TheVariants.{Yes, No, Read, Ack, Inquire}
 use Rattle.tree_model.specs.declared.messages.Envelope.{Envelope}
 use Rattle.tree_model.specs.declared.records.Branch.{Branch}
-use Rattle.tree_model.specs.declared.records.Branch.TheVariants.{Case as CaseBranch}
+use Rattle.tree_model.specs.declared.records.Branch.TheVariants.{Case as CaseBranch, Foreign}
 use Rattle.tree_model.specs.declared.records.Record.{Record}
 use Rattle.tree_model.specs.declared.records.Record.TheVariants.{Prepared as PreparedRecord, Committed, RolledBack, HeurCommit, HeurRollback, Told, Forgot}
 use Rattle.tree_model.specs.declared.standings.Standing.{Standing}
@@ -50,6 +50,17 @@ abbrev pub is_acknowledged : Presumption → Outcome → Bool
 is_acknowledged PresumeAbort CommittedOutcome = true
 is_acknowledged PresumeCommit AbortedOutcome = true
 is_acknowledged _ _ = false
+
+-- the presumption of a branch: that of its case; one that is no case's is under Presumed Abort
+abbrev pub presumption_of : Branch → Presumption
+presumption_of (CaseBranch c) = c.txn.presumption
+presumption_of (Foreign x) = PresumeAbort
+
+-- whether the record of what a decided branch is told is forced: as its outcome would be; of a branch that is
+-- no case's always
+abbrev pub is_told_forced : Branch → Outcome → Bool
+is_told_forced (CaseBranch c) o = is_acknowledged c.txn.presumption o
+is_told_forced (Foreign x) o = true
 
 -- ACK of the outcome to the parent, unless the presumption covers the outcome
 abbrev pub acknowledgement : Leaf → Outcome → List Envelope

@@ -57,6 +57,12 @@ role_by Coordinator (Some p) = Below p
 role_by Manager None = AtRoot
 role_by Manager (Some p) = AtLeaf p
 
+-- the role is a coordinator's
+abbrev pub IsCoordinator : Role → Type 0
+IsCoordinator AtRoot = Unit {0}
+IsCoordinator (Below p) = Unit {0}
+IsCoordinator (AtLeaf p) = ⊥
+
 -- the role is a resource manager's
 abbrev pub is_leaf : Role → Bool
 is_leaf (AtLeaf p) = true

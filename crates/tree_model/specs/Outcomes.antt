@@ -59,8 +59,7 @@ is_outcome_message AbortedOutcome c _ = false
 abbrev pub has_accepted : Node → Case → Ticket → Bool
 has_accepted n c t = list_any (λ a. same_case a.0 c && same_ticket a.1 t) n.accepted
 
--- the first vote of the ticket that the case has heard, at some step of the run; the list has the newest
--- first
+-- the vote that was found, or else this one, where it is of this case and ticket
 abbrev pub vote_in : Case × (Ticket × Vote) → Case → Ticket → Option Vote → Option Vote
 vote_in a c t (Some v) = Some v
 vote_in a c t None = if same_case a.0 c && same_ticket a.1.0 t then Some a.1.1 else None

@@ -321,7 +321,7 @@ hears AtRoot place n a m = hears_from_child place None n m
 hears (Below p) place n a m = cascaded_hears place p n m
 hears (AtLeaf p) place n a m = manager_hears place p n a m
 
--- an act names a process that is listed: its case's, and a child
+-- the child that an act names is listed; an act without one names none
 abbrev pub names_listed : List TreeEntry → Act → Bool
 names_listed tree (JoinAct c q) = is_listed tree q
 names_listed tree (WorkAct c q op) = is_listed tree q

@@ -154,7 +154,7 @@ promised_by c rs = flat_map (promised_in c) rs
 unfoldable pub owing_by : Case → List Record → List Ticket
 owing_by c rs = flat_map (owing_in c) rs
 
--- the boot of the last Opened record, or 0
+-- the boot behind one more record: an Opened sets it
 abbrev pub boot_after : ℕ → Record → ℕ
 boot_after b (Opened n) = n
 boot_after b _ = b

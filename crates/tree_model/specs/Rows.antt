@@ -26,13 +26,13 @@ abbrev pub ticket : ℕ → ℕ → ℕ → Ticket
 ticket child boot number = record { child = process child; boot = boot; number = number }
 
 -- a tree, events, and the lines of the run
-pub record Worked : Type 0 where
+pub record WorkedRun : Type 0 where
   pub tree : List TreeEntry
   pub events : List Play
   pub lines : List (List ℕ)
 
 -- the events lead to the lines; every tree has process 1 as its root
-abbrev pub Runs : Worked → Type 0
+abbrev pub Runs : WorkedRun → Type 0
 Runs w = played_lines (plays_all w.tree (process 1) w.events) ≡ w.lines
 
 -- root 1 with managers 2 and 3

@@ -1,6 +1,6 @@
 -- Where a case stands at a process, and the process's view of it: read off its kept records and the heard
 -- inputs.
-use Rattle.std.specs.Prelude.{ℕ, Bool, true, false, not, ◌||◌, if◌then◌else◌, Option, Some, None, List, [], ◌∷◌, ◌++◌, filter, find, fold}
+use Rattle.std.specs.Prelude.{ℕ, Bool, true, false, not, ◌||◌, if◌then◌else◌, Option, Some, None, List, [], ◌∷◌, ◌++◌, filter, find, fold, map}
 use Rattle.tree_model.specs.declared.names.Case.{Case}
 use Rattle.tree_model.specs.declared.names.Ticket.{Ticket}
 use Rattle.tree_model.specs.declared.names.Txn.{Txn}
@@ -9,7 +9,7 @@ use Rattle.tree_model.specs.declared.names.Outcome.TheVariants.{Committed as Com
 use Rattle.tree_model.specs.declared.names.Presumption.{Presumption}
 use Rattle.tree_model.specs.declared.names.Presumption.TheVariants.{PresumeAbort}
 use Rattle.tree_model.specs.declared.records.Branch.{Branch}
-use Rattle.tree_model.specs.declared.records.Branch.TheVariants.{Case as CaseBranch}
+use Rattle.tree_model.specs.declared.records.Branch.TheVariants.{Case as CaseBranch, Foreign}
 use Rattle.tree_model.specs.declared.records.Record.{Record}
 use Rattle.tree_model.specs.declared.records.Record.TheVariants.{Prepared as PreparedRecord, Committed, RolledBack, Direct, HeurCommit, HeurRollback, Told, Forgot}
 use Rattle.tree_model.specs.declared.standings.Standing.{Standing}
@@ -19,6 +19,9 @@ use Rattle.tree_model.specs.Names.{same_txn, root_case}
 use Rattle.tree_model.specs.Records.{has, in_list, none_of, same_branch, is_collecting, is_prepare, is_commit, is_abort, is_end, named_by, promised_by, owing_by, cases_in}
 use Rattle.tree_model.specs.Nodes.{Place, Role, AtRoot, AtLeaf, Node, kept}
 use Rattle.tree_model.specs.Memory.{Memory, Phase, Open, Asked, memory_of, has_acked}
+use Rattle.tree_model.specs.declared.records.LogRecord.{LogRecord}
+use Rattle.tree_model.specs.LogNames.{by_xid}
+use Rattle.xa_xid.specs.declared.xid.Xid.{Xid}
 
 -- A coordinator.
 
@@ -175,7 +178,11 @@ mark_after b m _ = m
 unfoldable pub mark_of : Branch → List Record → Mark
 mark_of b rs = fold (mark_after b) Unmarked rs
 
--- a branch that is Active has its works; one that is Heuristic has what it was told
+-- what the last record of a branch says in a log, by its XID
+abbrev pub mark_at : List LogRecord → Xid → Mark
+mark_at ls x = mark_of (Foreign x) (map by_xid ls)
+
+-- a branch that is Active has its works
 abbrev pub active_branch : Memory → ManagerView
 active_branch m = record { standing = Active; done = m.done; spoiled = m.spoiled; told = None }
 

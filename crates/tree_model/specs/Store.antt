@@ -5,6 +5,8 @@ use Rattle.tree_model.specs.declared.records.Record.{Record}
 use Rattle.tree_model.specs.declared.records.Record.TheVariants.{Prepared, Committed, Direct, HeurCommit, Base, Pair}
 use Rattle.tree_model.specs.declared.records.Write.{Write}
 use Rattle.tree_model.specs.Records.{same_bytes, same_branch}
+use Rattle.tree_model.specs.LogNames.{by_xid}
+use Rattle.tree_model.specs.declared.records.LogRecord.{LogRecord}
 
 -- Keys, in the order of their bytes.
 
@@ -71,6 +73,10 @@ stored_after d _ = d
 -- the data that these records make
 unfoldable pub stored : List Record → Data
 stored rs = fold stored_after no_data rs
+
+-- the data that the records of a log make
+abbrev pub data_of : List LogRecord → Data
+data_of ls = stored (map by_xid ls)
 
 -- a pair as a record
 abbrev pub pair_record : List ℕ × List ℕ → Record

@@ -30,7 +30,7 @@ abbrev pub presumption_letter : Presumption → List ℕ
 presumption_letter PresumeAbort = codes "a"
 presumption_letter PresumeCommit = codes "c"
 
--- a transaction: its presumption's envelope, its boot and its number
+-- a transaction: its presumption's letter, its boot and its number
 abbrev pub txn_text : Txn → List ℕ
 txn_text x = presumption_letter x.presumption ++ decimal x.boot ++ codes "." ++ decimal x.sequence
 

@@ -21,12 +21,11 @@ use Rattle.tree_model.specs.Names.{same_case, same_ticket, root_case, child_case
 use Rattle.tree_model.specs.NameLaws.{same_case-refl}
 use Rattle.tree_model.specs.Records.{has}
 use Rattle.tree_model.specs.Nodes.{Place, Node, Heard, Effect, entries_written}
-use Rattle.tree_model.specs.Memory.{Memory, Open}
+use Rattle.tree_model.specs.Memory.{Memory, Open, same_vote}
 use Rattle.tree_model.specs.Standings.{case_of_child}
 use Rattle.tree_model.specs.CoordinatorRows.{Row, tells_outcome}
 use Rattle.tree_model.specs.Reactions.{row_effect}
 use Rattle.tree_model.specs.Views.{vote_message}
-use Rattle.tree_pairs.specs.readings.ReadingOf.{is_vote}
 use Rattle.tree_pairs.specs.turns.CoordinatorTurns.{IsToCommit, commit_act, prepare_comes, IsToAbort, abort_act, abort_comes, HearsChild, HearsParent, Rests, invited_already, takes_nobody, counts_nothing, owes_nothing, knows_nothing, prepares_nothing, commits_nothing, aborts_nothing, CaseTurn, rests, invites, accepts, sends_work, finds_nobody, asks_for_votes, gives_up, counts_vote, reads_only, commits, promises, hears_no, aborts, passes_commit, passes_abort, repeats_yes, asks as asks_parent, refuses, acknowledges, waits_for_acks, ends, answers, ChildSays, votes, acknowledged, inquires}
 use Rattle.tree_nodes.specs.WorldHolds.{is_record_of}
 use Rattle.tree_nodes.proofs.Remembering.{Opens, Asks, by_commit, by_prepare, Ends, by_act, by_abort, CountedVote, SameLists, Moves, keeps, asks, closes, takes, counts, opens}
@@ -156,7 +155,7 @@ module _ (place : Place) (parent : Option ProcessId) (n : Node) (h : Heard) (d :
 -- Silence.
 
 abbrev pub heard_so : Case → Ticket → Vote → List (Case × (Ticket × Vote)) → Bool
-heard_so c t v vs = list_any (λ a. same_case a.0 c && (same_ticket a.1.0 t && is_vote v a.1.1)) vs
+heard_so c t v vs = list_any (λ a. same_case a.0 c && (same_ticket a.1.0 t && same_vote v a.1.1)) vs
 
 -- the effect is none of the case's
 pub record Silent (c : Case) (e : Effect) : Type 0 where

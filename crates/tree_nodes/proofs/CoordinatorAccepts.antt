@@ -17,12 +17,11 @@ use Rattle.tree_model.specs.Names.{same_case, same_ticket}
 use Rattle.tree_model.specs.NameLaws.{same_ticket_tells, same_case-refl}
 use Rattle.tree_model.specs.Records.{in_list, boot_of}
 use Rattle.tree_model.specs.Nodes.{Place, Node, kept, Heard, Effect}
-use Rattle.tree_model.specs.Memory.{Memory, Open, memory_of, has_child, has_voted, is_counted}
+use Rattle.tree_model.specs.Memory.{Memory, Open, memory_of, has_child, has_voted, is_counted, same_vote}
 use Rattle.tree_model.specs.Standings.{CoordinatorView, coordinator_view}
 use Rattle.tree_model.specs.CoordinatorRows.{on_joined}
 use Rattle.tree_model.specs.Reactions.{Refused, Does, reacts, handles, act_is_listed, row_effect}
 use Rattle.tree_model.specs.Outcomes.{has_accepted}
-use Rattle.tree_pairs.specs.readings.ReadingOf.{is_vote}
 use Rattle.tree_pairs.specs.turns.CoordinatorTurns.{CountsVote, CoordinatorTurn}
 use Rattle.tree_pairs.proofs.turns.CoordinatorReactions.{coordinator_turn_of}
 use Rattle.tree_nodes.proofs.Cases.{viewed}
@@ -172,7 +171,7 @@ module _ (me : ProcessId) (parent : Option ProcessId) (tree : List TreeEntry) (n
       voted_then w f =
           took_before c t e.accepts n.accepted (elim
           (either _ _ (sym (list_any-append _ e.counts n.voted) ∙ f)) [
-            | inl now ↦ effect_counts place parent n h c t (is_vote w) (has_accepted n c t ≡ true)
-                (counts_one (is_vote w)) e (turn_here me parent tree n h e r) now
+            | inl now ↦ effect_counts place parent n h c t (same_vote w) (has_accepted n c t ≡ true)
+                (counts_one (same_vote w)) e (turn_here me parent tree n h e r) now
             | inr before ↦ old.voted_accepted c t w before
           ])

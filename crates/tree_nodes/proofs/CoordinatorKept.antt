@@ -14,9 +14,8 @@ use Rattle.tree_model.specs.declared.standings.Vote.{Vote}
 use Rattle.tree_model.specs.declared.trees.TreeEntry.{TreeEntry}
 use Rattle.tree_model.specs.Records.{has, in_list, is_end, is_commit, is_abort, is_prepare, is_collecting, owing_by, owing_in, boot_of}
 use Rattle.tree_model.specs.Nodes.{Place, Node, Heard, kept}
-use Rattle.tree_model.specs.Memory.{Memory, Phase, Idle, Open, Asked, Over, memory_of, remembers, fresh_memory, voted_so}
+use Rattle.tree_model.specs.Memory.{Memory, Phase, Idle, Open, Asked, Over, memory_of, remembers, fresh_memory, voted_so, same_vote}
 use Rattle.tree_model.specs.Outcomes.{has_accepted, has_heard_vote}
-use Rattle.tree_pairs.specs.readings.ReadingOf.{is_vote}
 use Rattle.tree_nodes.specs.WorldHolds.{is_record_of, is_naming}
 use Rattle.tree_nodes.proofs.CaseSteps.{heard_so}
 use Rattle.tree_nodes.proofs.Phases.{standing_at, Together, unrecorded_stands}
@@ -40,7 +39,7 @@ pub record Coordinated (place : Place) (n : Node) : Type 0 where
   pub needless : has is_needless (kept n) ≡ false
   pub remembered_accepted : (c : Case) (t : Ticket) → in_list (memory_of place n c).accepted t ≡ true
       → has_accepted n c t ≡ true
-  pub voted_accepted : (c : Case) (t : Ticket) (v : Vote) → has_heard_vote n c t (is_vote v) ≡ true
+  pub voted_accepted : (c : Case) (t : Ticket) (v : Vote) → has_heard_vote n c t (same_vote v) ≡ true
       → has_accepted n c t ≡ true
   pub named_accepted : (c : Case) (t : Ticket) → has (is_naming c t) n.life ≡ true → has_accepted n c t ≡ true
   pub votes : n.failed ≡ false → (c : Case) → IsLive (memory_of place n c).phase → (t : Ticket) (v : Vote)

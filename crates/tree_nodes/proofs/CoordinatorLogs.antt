@@ -13,7 +13,7 @@ use Rattle.tree_model.specs.declared.standings.Standing.TheVariants.{Unknown, Ac
 use Rattle.tree_model.specs.declared.trees.TreeEntry.{TreeEntry}
 use Rattle.tree_model.specs.Names.{same_case}
 use Rattle.tree_model.specs.Records.{has, has_case, none_of, is_collecting, is_prepare, is_commit, is_abort, is_end, promised_by, owing_by, boot_of, cases_in}
-use Rattle.tree_model.specs.Nodes.{Role, AtRoot, Below, AtLeaf, Place, place_of, role_of, Node, kept, Heard, Effect, entries_written, is_any_forced, after}
+use Rattle.tree_model.specs.Nodes.{Role, AtRoot, Below, AtLeaf, Place, place_of, role_of, Node, kept, Heard, Effect, entries_written, is_any_forced, after, IsCoordinator}
 use Rattle.tree_model.specs.Memory.{Idle, memory_of}
 use Rattle.tree_model.specs.Standings.{CoordinatorView, coordinator_view, phase_standing, standing_by, view_at}
 use Rattle.tree_model.specs.CoordinatorRows.{Row}
@@ -27,7 +27,7 @@ use Rattle.tree_pairs.specs.turns.Steps.{StepOf, heard_in, handled, failed_in, p
 use Rattle.tree_pairs.proofs.turns.Steps.{step_of}
 use Rattle.tree_pairs.proofs.turns.CoordinatorReactions.{CoordinatorTurnAt, coordinator_turn_of}
 use Rattle.tree_nodes.specs.Lasts.{Logs, logs_of, standing}
-use Rattle.tree_nodes.specs.CaseOrder.{IsCoordinator, CaseInOrder}
+use Rattle.tree_nodes.specs.CaseOrder.{CaseInOrder}
 use Rattle.tree_nodes.proofs.LoggedCases.{AllNew, each_once, seen_more, seen_last}
 use Rattle.tree_nodes.proofs.Tests.{case_is, has-nil, has-cons, has-append, neither, first_false, second_false, in_none}
 use Rattle.tree_nodes.proofs.Appends.{loses, either_logs, breaks_keeps}

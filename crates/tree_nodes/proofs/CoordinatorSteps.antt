@@ -14,12 +14,11 @@ use Rattle.tree_model.specs.declared.trees.TreeEntry.{TreeEntry}
 use Rattle.tree_model.specs.Names.{root_case}
 use Rattle.tree_model.specs.Records.{has, in_list, is_commit, is_opened, boot_of}
 use Rattle.tree_model.specs.Nodes.{Place, Node, kept, Heard, Effect, entries_written, is_any_forced, after, fails_in}
-use Rattle.tree_model.specs.Memory.{Memory, Phase, Idle, Open, Asked, Over, memory_of, voted_so}
+use Rattle.tree_model.specs.Memory.{Memory, Phase, Idle, Open, Asked, Over, memory_of, voted_so, same_vote}
 use Rattle.tree_model.specs.Standings.{coordinator_view}
 use Rattle.tree_model.specs.Reactions.{Does, reacts}
 use Rattle.tree_model.specs.Outcomes.{has_accepted, has_heard_vote}
 use Rattle.tree_model.proofs.ListLaws.{kept-after}
-use Rattle.tree_pairs.specs.readings.ReadingOf.{is_vote}
 use Rattle.tree_pairs.specs.turns.Steps.{TurnOf}
 use Rattle.tree_nodes.specs.Lasts.{Logs, logs_of, Nested}
 use Rattle.tree_nodes.specs.WorldHolds.{is_record_of, is_naming}
@@ -204,7 +203,7 @@ module _ (me : ProcessId) (parent : Option ProcessId) (tree : List TreeEntry) (n
             (ap (λ (x : Memory). in_list x.accepted u) (sym (memory_behind me parent tree n h k c i b)) ∙ f)
 
         voted_of : (k : Node) → k.accepted ≡ e.accepts ++ n.accepted → k.voted ≡ e.counts ++ n.voted
-            → (c : Case) (u : Ticket) (v : Vote) → has_heard_vote k c u (is_vote v) ≡ true
+            → (c : Case) (u : Ticket) (v : Vote) → has_heard_vote k c u (same_vote v) ≡ true
             → has_accepted k c u ≡ true
         voted_of k a w c u v f =
             ap (took c u) a ∙ voted_then me parent tree n old h e t.up r c u v

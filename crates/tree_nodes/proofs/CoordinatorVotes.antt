@@ -23,7 +23,6 @@ use Rattle.tree_model.specs.CoordinatorRows.{on_vote}
 use Rattle.tree_model.specs.Outcomes.{has_accepted}
 use Rattle.tree_model.specs.Reactions.{Refused, Does, reacts, handles, act_is_listed, row_effect, seat_of, vote_for}
 use Rattle.tree_model.specs.Views.{vote_message}
-use Rattle.tree_pairs.specs.readings.ReadingOf.{is_vote}
 use Rattle.tree_pairs.specs.turns.CoordinatorTurns.{CountsVote}
 use Rattle.tree_nodes.specs.WorldHolds.{is_record_of}
 use Rattle.tree_nodes.proofs.Cases.{viewed}
@@ -42,18 +41,6 @@ use Rattle.tree_nodes.proofs.Tests.{both, case_is}
 pub record IsNew (n : Node) (c : Case) : Type 0 where
   pub unrecorded : has (is_record_of c) n.life ≡ false
   pub unaccepted : (t : Ticket) → has_accepted n c t ≡ false
-
--- the two tests of votes are one
-one_test : (v w : Vote) → is_vote v w ≡ same_vote v w
-one_test VoteYes VoteYes = refl
-one_test VoteYes VoteNo = refl
-one_test VoteYes VoteRead = refl
-one_test VoteNo VoteYes = refl
-one_test VoteNo VoteNo = refl
-one_test VoteNo VoteRead = refl
-one_test VoteRead VoteYes = refl
-one_test VoteRead VoteNo = refl
-one_test VoteRead VoteRead = refl
 
 -- A vote is answered by its row, at any coordinator.
 
@@ -136,18 +123,18 @@ module _ (me : ProcessId) (parent : Option ProcessId) (tree : List TreeEntry) (n
     counts_nothing f t v = by_test (heard_so c t v e.counts) refl
       where
         one : (d : Case) (u : Ticket) (w : Vote) → CountsVote (coordinator_place me parent tree) n h d u w
-            → HeardSo c t (is_vote v) ((d, (u, w)) ∷ []) → ⊥
+            → HeardSo c t (same_vote v) ((d, (u, w)) ∷ []) → ⊥
         one d u w i g =
             f u w (counted_of u w
             (subst (λ (x : Case). CountsVote (coordinator_place me parent tree) n h x u w)
-            (case_is d c (both (same_case d c) (same_ticket u t && is_vote v w) (or_nothing _ g)).0) i))
+            (case_is d c (both (same_case d c) (same_ticket u t && same_vote v w) (or_nothing _ g)).0) i))
           where
             or_nothing : (x : Bool) → (x || false) ≡ true → x ≡ true
             or_nothing x y = grind arith
 
         by_test : (b : Bool) → heard_so c t v e.counts ≡ b → heard_so c t v e.counts ≡ false
         by_test true g = absurd
-            (effect_counts place parent n h c t (is_vote v) ⊥ one e (turn_here me parent tree n h e r) g)
+            (effect_counts place parent n h c t (same_vote v) ⊥ one e (turn_here me parent tree n h e r) g)
         by_test false g = g
 
     -- and the other way round
@@ -253,7 +240,7 @@ module _ (me : ProcessId) (parent : Option ProcessId) (tree : List TreeEntry) (n
         let live : IsLive m.phase = subst IsLive (sym x.asked) tt in
         both_parts t v
         ∙ (ap (λ vs. heard_so c t v vs || heard_so c t v n.voted) (counted_now u w x)
-        ∙ (rw (same_case-refl c, one_test v w) (turned (same_ticket u t) (same_vote v w)
+        ∙ (rw (same_case-refl c) (turned (same_ticket u t) (same_vote v w)
         (heard_so c t v n.voted))
         ∙ (ap (λ b. b || ((same_vote v w && same_ticket u t) || false)) (old.votes up c live t v)
         ∙ (sym (list_any-append _ m.votes ((u, w) ∷ [])) ∙ ap (λ vs. voted_so v vs t) (sym g)))))

@@ -11,7 +11,7 @@ use Rattle.tree_model.specs.declared.standings.Standing.TheVariants.{Unknown}
 use Rattle.tree_model.specs.declared.trees.TreeEntry.{TreeEntry}
 use Rattle.tree_model.specs.Names.{root_case, process_of}
 use Rattle.tree_model.specs.Records.{has, has_case, in_list, named_by, boot_of}
-use Rattle.tree_model.specs.Nodes.{Role, AtRoot, Below, AtLeaf, Place, place_of, role_of, Node, kept}
+use Rattle.tree_model.specs.Nodes.{Role, AtRoot, Below, AtLeaf, Place, place_of, role_of, Node, kept, IsCoordinator}
 use Rattle.tree_model.specs.Memory.{Phase, Open, Asked, memory_of, next_txn, next_ticket}
 use Rattle.tree_model.specs.Outcomes.{sent, has_accepted, is_joined_message}
 use Rattle.tree_model.specs.Standings.{belongs, coordinator_view, own_cases}
@@ -20,7 +20,7 @@ use Rattle.tree_model.proofs.RunLaws.{makes_at}
 use Rattle.tree_pairs.specs.readings.ReadingOf.{gives_case}
 use Rattle.tree_pairs.specs.turns.Steps.{StepOf}
 use Rattle.tree_pairs.proofs.turns.Steps.{step_of}
-use Rattle.tree_nodes.specs.CaseOrder.{CaseInOrder, IsCoordinator}
+use Rattle.tree_nodes.specs.CaseOrder.{CaseInOrder}
 use Rattle.tree_nodes.specs.Lasts.{logs_of, Lasts, Nested}
 use Rattle.tree_nodes.specs.Numbers.{IsIssuer}
 use Rattle.tree_nodes.specs.WorldHolds.{Cascades, Coordinates, Issues, NodeHolds, JoinedOnce, is_record_of, is_naming}

@@ -35,7 +35,7 @@ none_sent : {A : Type 0} (d : Case) (t : Ticket) → sent (is_joined_message d t
 unfolding sent
 none_sent d t e = absurd (cc)
 
--- Letters without JOINED.
+-- Messages without JOINED.
 
 quiet_once : (net ls : List Envelope) → ((d : Case) (t : Ticket) → sent (is_joined_message d t) ls ≡ false)
     → JoinedOnce net → JoinedOnce (net ++ ls)

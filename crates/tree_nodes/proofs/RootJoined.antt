@@ -12,7 +12,7 @@ use Rattle.tree_model.specs.declared.events.Input.{Input}
 use Rattle.tree_model.specs.declared.events.Input.TheVariants.{Message as MessageInput}
 use Rattle.tree_model.specs.declared.trees.TreeEntry.{TreeEntry}
 use Rattle.tree_model.specs.Names.{process_of}
-use Rattle.tree_model.specs.Nodes.{Role, AtRoot, Below, AtLeaf, Place, place_of, role_of, Node, Heard, Effect, after, fails_in}
+use Rattle.tree_model.specs.Nodes.{Role, AtRoot, Below, AtLeaf, Place, place_of, role_of, Node, Heard, Effect, after, fails_in, IsCoordinator}
 use Rattle.tree_model.specs.CoordinatorRows.{Row}
 use Rattle.tree_model.specs.Reactions.{row_effect, reacts, Does}
 use Rattle.tree_model.specs.Restarts.{trim_fails}
@@ -23,7 +23,6 @@ use Rattle.tree_pairs.specs.turns.CoordinatorTurns.{CaseTurn, rests, invites, ac
 use Rattle.tree_pairs.specs.turns.Steps.{StepOf, heard_in, handled, failed_in, passed, failed_passing, reopened, failed_reopening, trimmed as trims_log, failed_trimming}
 use Rattle.tree_pairs.proofs.turns.Steps.{step_of}
 use Rattle.tree_pairs.proofs.turns.CoordinatorReactions.{CoordinatorTurnAt, coordinator_turn_of}
-use Rattle.tree_nodes.specs.CaseOrder.{IsCoordinator}
 use Rattle.tree_nodes.proofs.Tests.{either, right}
 use Rattle.tree_nodes.proofs.Deliveries.{was_sent}
 use Rattle.tree_nodes.proofs.RootCases.{IsRoots, accepted}

@@ -3,14 +3,7 @@ use Rattle.std.specs.Prelude.{◌≡◌, true, false, List}
 use Rattle.tree_model.specs.declared.names.Case.{Case}
 use Rattle.tree_model.specs.declared.records.Record.{Record}
 use Rattle.tree_model.specs.Records.{has, none_of, is_prepare, promised_by}
-use Rattle.tree_model.specs.Nodes.{Role, AtRoot, Below, AtLeaf}
 use Rattle.tree_nodes.specs.WorldHolds.{InOrder, NamesBy}
-
--- the role is a coordinator's
-abbrev pub IsCoordinator : Role → Type 0
-IsCoordinator AtRoot = Unit {0}
-IsCoordinator (Below p) = Unit {0}
-IsCoordinator (AtLeaf p) = ⊥
 
 -- the records of the case stand in the order in which they are written, decisions name whom they should by
 -- the presumption, and a promise names somebody

@@ -17,14 +17,14 @@ use Rattle.tree_model.specs.declared.trees.TreeEntry.{TreeEntry}
 use Rattle.tree_model.specs.Names.{same_txn, same_case, same_ticket, root_case, child_case, process_of}
 use Rattle.tree_model.specs.Records.{has, is_commit, is_abort, boot_of, none_of, in_list, owing_by, promised_by, has_case, record_case}
 use Rattle.tree_model.specs.Nodes.{Role, AtRoot, Below, AtLeaf, Place, place_of, role_of, is_listed, Node, opened_node, kept}
-use Rattle.tree_model.specs.Memory.{Memory, Idle, Open, Asked, memory_of, voted_so, active_ticket}
+use Rattle.tree_model.specs.Memory.{Memory, Idle, Open, Asked, memory_of, voted_so, active_ticket, same_vote}
 use Rattle.tree_model.specs.Standings.{coordinator_view, some_case, mark_of}
 use Rattle.tree_model.specs.World.{World}
 use Rattle.tree_model.specs.Views.{IsOpenAlike}
 use Rattle.tree_pairs.specs.Reading.{Reading}
 use Rattle.tree_pairs.specs.Invariant.{PresumedAbort, PresumedCommit}
 use Rattle.tree_pairs.specs.Keeps.{Later}
-use Rattle.tree_pairs.specs.readings.ReadingOf.{reading_of, is_root_ticket, gives_case, is_promise, is_collecting_naming, is_prepare_naming, is_decision_naming, is_prepare_message, is_vote}
+use Rattle.tree_pairs.specs.readings.ReadingOf.{reading_of, is_root_ticket, gives_case, is_promise, is_collecting_naming, is_prepare_naming, is_decision_naming, is_prepare_message}
 use Rattle.tree_model.specs.declared.records.Branch.TheVariants.{Case as CaseBranch}
 use Rattle.tree_model.specs.Outcomes.{is_told_aborted}
 use Rattle.tree_pairs.specs.Reading.{is_live}
@@ -192,12 +192,12 @@ pub record Coordinates (place : Place) (net : List Envelope) (n : Node) : Type 0
   pub alike : n.failed ≡ false → (c : Case) → IsOpenAlike place n c
   pub votes : n.failed ≡ false → (c : Case) (t : Ticket) (v : Vote)
       → ((memory_of place n c).phase ≡ Open) ⊎ ((memory_of place n c).phase ≡ Asked)
-      → has_heard_vote n c t (is_vote v) ≡ voted_so v (memory_of place n c).votes t
+      → has_heard_vote n c t (same_vote v) ≡ voted_so v (memory_of place n c).votes t
   pub remembered_accepted : (c : Case) (t : Ticket) → in_list (memory_of place n c).accepted t ≡ true
       → has_accepted n c t ≡ true
   pub named_accepted : (c : Case) (t : Ticket) → has (is_naming c t) n.life ≡ true
       → has_accepted n c t ≡ true
-  pub voted_accepted : (c : Case) (t : Ticket) (v : Vote) → has_heard_vote n c t (is_vote v) ≡ true
+  pub voted_accepted : (c : Case) (t : Ticket) (v : Vote) → has_heard_vote n c t (same_vote v) ≡ true
       → has_accepted n c t ≡ true
   pub accepted_was_joined : (c : Case) (t : Ticket) → has_accepted n c t ≡ true
       → (process_of c ≡ place.me) × (sent (is_joined_message c t) net ≡ true)

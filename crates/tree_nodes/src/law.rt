@@ -1,7 +1,7 @@
 //! The laws of single processes.
 ghost use Rattle.std.specs.Prelude.{◌≡◌, List, false, true};
 ghost use Rattle.tree_model.specs.Names.{child_case};
-ghost use Rattle.tree_model.specs.Nodes.{AtLeaf, AtRoot, Below, is_listed, kept, opened_node, place_of, role_of};
+ghost use Rattle.tree_model.specs.Nodes.{AtLeaf, AtRoot, Below, IsCoordinator, is_listed, kept, opened_node, place_of, role_of};
 ghost use Rattle.tree_model.specs.Outcomes.{StandingMismatches, YesIsForced, cascaded_ends, is_commit_outcome, sent};
 ghost use Rattle.tree_model.specs.declared.names.Case.{Case};
 ghost use Rattle.tree_model.specs.declared.names.Outcome.TheVariants.{Committed};
@@ -9,7 +9,7 @@ ghost use Rattle.tree_model.specs.declared.names.ProcessId.{ProcessId};
 ghost use Rattle.tree_model.specs.declared.names.Ticket.{Ticket};
 ghost use Rattle.tree_model.specs.declared.names.Txn.{Txn};
 ghost use Rattle.tree_nodes.specs.Numbers.{IsIssuer, Numbers};
-ghost use Rattle.tree_nodes.specs.CaseOrder.{CaseInOrder, IsCoordinator};
+ghost use Rattle.tree_nodes.specs.CaseOrder.{CaseInOrder};
 ghost use Rattle.tree_nodes.specs.RootBegins.{OwnTransactions};
 ghost use Rattle.tree_nodes.specs.WorldHolds.{Begins, Boots, Cascades, Coordinates, IsPair, Issues, JoinedOnce, NodeHolds, WorldHolds, pair_reading};
 ghost use Rattle.tree_pairs.specs.Invariant.{Common};

@@ -1,6 +1,6 @@
 pub mod Halves
 pub mod Readings
-pub mod Letters
+pub mod Messages
 pub mod Opens
 pub mod Turns
 pub mod Standings

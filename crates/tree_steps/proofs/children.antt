@@ -26,7 +26,7 @@ pub mod TurnsOutcomes
 pub mod TurnsOperators
 pub mod TurnsAcknowledged
 pub mod TurnsOthers
-pub mod OwnLetters
+pub mod OwnMessages
 pub mod ManagerProcess
 pub mod FaultRecords
 pub mod FaultRows

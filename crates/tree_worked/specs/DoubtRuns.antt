@@ -1,4 +1,4 @@
--- Worked runs with restarts, trims, inquiries and heuristic decisions.
+-- WorkedRun runs with restarts, trims, inquiries and heuristic decisions.
 use Rattle.std.specs.Prelude.{[], ◌∷◌, codes}
 use Rattle.tree_model.specs.declared.names.Outcome.TheVariants.{Committed, Aborted}
 use Rattle.tree_model.specs.declared.names.Presumption.TheVariants.{PresumeAbort, PresumeCommit}
@@ -6,10 +6,10 @@ use Rattle.tree_model.specs.declared.messages.Op.TheVariants.{Put}
 use Rattle.tree_model.specs.declared.events.Act.TheVariants.{Begin, Join, Work, Commit, Ask, Decide, Forget}
 use Rattle.tree_model.specs.Names.{root_case, child_case}
 use Rattle.tree_model.specs.Plays.{Acts, Delivers, Settles, Restarts, Trims}
-use Rattle.tree_model.specs.Rows.{process, txn, ticket, Worked, tree_a}
+use Rattle.tree_model.specs.Rows.{process, txn, ticket, tree_a, WorkedRun}
 
 -- the root restarts while it collects votes: it aborts, and tells all that it had asked
-abbrev pub root_restart_collecting_pc : Worked
+abbrev pub root_restart_collecting_pc : WorkedRun
 root_restart_collecting_pc =
     record {
       tree = tree_a;
@@ -60,7 +60,7 @@ root_restart_collecting_pc =
     }
 
 -- an inquiry comes to a root that committed and trimmed: the answer is what is presumed, too late to matter
-abbrev pub late_inquiry_after_trim_pa : Worked
+abbrev pub late_inquiry_after_trim_pa : WorkedRun
 late_inquiry_after_trim_pa =
     record {
       tree = tree_a;
@@ -116,7 +116,7 @@ late_inquiry_after_trim_pa =
     }
 
 -- an operator rolls back a branch that is then committed
-abbrev pub heuristic_rollback_mismatch : Worked
+abbrev pub heuristic_rollback_mismatch : WorkedRun
 heuristic_rollback_mismatch =
     record {
       tree = tree_a;
@@ -161,7 +161,7 @@ heuristic_rollback_mismatch =
     }
 
 -- the root restarts while it waits for acknowledgements: it sends COMMIT again
-abbrev pub root_restart_committing_pa : Worked
+abbrev pub root_restart_committing_pa : WorkedRun
 root_restart_committing_pa =
     record {
       tree = tree_a;
@@ -213,7 +213,7 @@ root_restart_committing_pa =
     }
 
 -- an operator rolls back a branch that is then committed, and forgets it
-abbrev pub heuristic_rollback_forgotten : Worked
+abbrev pub heuristic_rollback_forgotten : WorkedRun
 heuristic_rollback_forgotten =
     record {
       tree = tree_a;
@@ -260,7 +260,7 @@ heuristic_rollback_forgotten =
     }
 
 -- an operator decides and forgets a branch before its YES was heard: it votes NO when it is asked again
-abbrev pub heuristic_forgotten_before_vote : Worked
+abbrev pub heuristic_forgotten_before_vote : WorkedRun
 heuristic_forgotten_before_vote =
     record {
       tree = tree_a;
@@ -301,7 +301,7 @@ heuristic_forgotten_before_vote =
     }
 
 -- a branch that promised nothing has nothing to ask
-abbrev pub ask_before_prepare : Worked
+abbrev pub ask_before_prepare : WorkedRun
 ask_before_prepare =
     record {
       tree = tree_a;
@@ -330,7 +330,7 @@ ask_before_prepare =
     }
 
 -- a branch that committed has nothing to ask
-abbrev pub ask_after_commit : Worked
+abbrev pub ask_after_commit : WorkedRun
 ask_after_commit =
     record {
       tree = tree_a;
@@ -373,7 +373,7 @@ ask_after_commit =
     }
 
 -- a manager trims its log, and trims it again
-abbrev pub trim_manager_twice : Worked
+abbrev pub trim_manager_twice : WorkedRun
 trim_manager_twice =
     record {
       tree = tree_a;
@@ -419,7 +419,7 @@ trim_manager_twice =
     }
 
 -- a promised branch asks while the root collects votes: no answer
-abbrev pub collecting_in_doubt_pc : Worked
+abbrev pub collecting_in_doubt_pc : WorkedRun
 collecting_in_doubt_pc =
     record {
       tree = tree_a;

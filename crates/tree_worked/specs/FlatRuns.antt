@@ -1,14 +1,14 @@
--- Worked runs of flat trees: votes, outcomes and refusals.
+-- WorkedRun runs of flat trees: votes, outcomes and refusals.
 use Rattle.std.specs.Prelude.{[], ◌∷◌, codes}
 use Rattle.tree_model.specs.declared.names.Presumption.TheVariants.{PresumeAbort, PresumeCommit}
 use Rattle.tree_model.specs.declared.messages.Op.TheVariants.{Put}
 use Rattle.tree_model.specs.declared.events.Act.TheVariants.{Begin, Join, Work, Commit}
 use Rattle.tree_model.specs.Names.{root_case}
 use Rattle.tree_model.specs.Plays.{Acts, Delivers, Settles, Restarts}
-use Rattle.tree_model.specs.Rows.{process, txn, Worked, tree_a}
+use Rattle.tree_model.specs.Rows.{process, txn, tree_a, WorkedRun}
 
 -- two managers join, work, promise and commit
-abbrev pub flat_pa_commit : Worked
+abbrev pub flat_pa_commit : WorkedRun
 flat_pa_commit =
     record {
       tree = tree_a;
@@ -50,7 +50,7 @@ flat_pa_commit =
     }
 
 -- the same under Presumed Commit, which needs no acknowledgement
-abbrev pub flat_pc_commit : Worked
+abbrev pub flat_pc_commit : WorkedRun
 flat_pc_commit =
     record {
       tree = tree_a;
@@ -90,7 +90,7 @@ flat_pc_commit =
     }
 
 -- one manager missed its work and votes NO
-abbrev pub late_no_vote_pa : Worked
+abbrev pub late_no_vote_pa : WorkedRun
 late_no_vote_pa =
     record {
       tree = tree_a;
@@ -137,7 +137,7 @@ late_no_vote_pa =
     }
 
 -- the same under Presumed Commit, where the abort is acknowledged
-abbrev pub late_no_vote_pc : Worked
+abbrev pub late_no_vote_pc : WorkedRun
 late_no_vote_pc =
     record {
       tree = tree_a;
@@ -181,7 +181,7 @@ late_no_vote_pc =
     }
 
 -- transactions that wrote nothing
-abbrev pub readonly_transactions : Worked
+abbrev pub readonly_transactions : WorkedRun
 readonly_transactions =
     record {
       tree = tree_a;
@@ -207,7 +207,7 @@ readonly_transactions =
     }
 
 -- PREPARE comes again to a branch that committed: it votes NO, which is ignored
-abbrev pub forgotten_ticket_votes_no : Worked
+abbrev pub forgotten_ticket_votes_no : WorkedRun
 forgotten_ticket_votes_no =
     record {
       tree = tree_a;
@@ -253,7 +253,7 @@ forgotten_ticket_votes_no =
     }
 
 -- the commit act comes again when the transaction is over
-abbrev pub commit_again_after_end : Worked
+abbrev pub commit_again_after_end : WorkedRun
 commit_again_after_end =
     record {
       tree = tree_a;
@@ -296,7 +296,7 @@ commit_again_after_end =
     }
 
 -- the commit act comes again while votes are awaited
-abbrev pub commit_again_before_votes : Worked
+abbrev pub commit_again_before_votes : WorkedRun
 commit_again_before_votes =
     record {
       tree = tree_a;

@@ -1,15 +1,15 @@
--- Worked runs of a tree with a cascaded coordinator.
+-- WorkedRun runs of a tree with a cascaded coordinator.
 use Rattle.std.specs.Prelude.{[], ◌∷◌, codes}
 use Rattle.tree_model.specs.declared.names.Presumption.TheVariants.{PresumeAbort, PresumeCommit}
 use Rattle.tree_model.specs.declared.messages.Op.TheVariants.{Put}
 use Rattle.tree_model.specs.declared.events.Act.TheVariants.{Begin, Join, Work, Commit, Abort, Ask}
 use Rattle.tree_model.specs.Names.{root_case, child_case}
 use Rattle.tree_model.specs.Plays.{Acts, Delivers, Settles, Restarts}
-use Rattle.tree_model.specs.Rows.{process, txn, ticket, Worked, tree_b, tree_c}
+use Rattle.tree_model.specs.Rows.{process, txn, ticket, tree_b, tree_c, WorkedRun}
 
 -- the application gives up behind the promise of a cascaded coordinator, which asks meanwhile: a COMMIT
 -- presumed for its question comes behind the ABORT, and is not obeyed
-abbrev pub cascaded_abort_after_prepare_pc : Worked
+abbrev pub cascaded_abort_after_prepare_pc : WorkedRun
 cascaded_abort_after_prepare_pc =
     record {
       tree = tree_b;
@@ -67,7 +67,7 @@ cascaded_abort_after_prepare_pc =
 
 -- a cascaded coordinator votes READ, and a restart loses its End: it aborts below, and the commit above
 -- stands
-abbrev pub cascaded_readonly_vote_end_lost_pc : Worked
+abbrev pub cascaded_readonly_vote_end_lost_pc : WorkedRun
 cascaded_readonly_vote_end_lost_pc =
     record {
       tree = tree_c;
@@ -122,7 +122,7 @@ cascaded_readonly_vote_end_lost_pc =
 
 -- a cascaded coordinator restarts before its promise: what it asked below is answered ABORT, and it votes
 -- NO
-abbrev pub cascaded_restart_pa : Worked
+abbrev pub cascaded_restart_pa : WorkedRun
 cascaded_restart_pa =
     record {
       tree = tree_b;
@@ -166,7 +166,7 @@ cascaded_restart_pa =
     }
 
 -- a commit through a cascaded coordinator
-abbrev pub cascaded_pa_commit : Worked
+abbrev pub cascaded_pa_commit : WorkedRun
 cascaded_pa_commit =
     record {
       tree = tree_b;
@@ -216,7 +216,7 @@ cascaded_pa_commit =
     }
 
 -- the same, up to where the cascaded coordinator is in doubt and the root has committed
-abbrev pub cascaded_in_doubt_pa : Worked
+abbrev pub cascaded_in_doubt_pa : WorkedRun
 cascaded_in_doubt_pa =
     record {
       tree = tree_b;

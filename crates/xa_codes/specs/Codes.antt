@@ -1,5 +1,5 @@
 -- The answers of a resource manager: their numbers and names (C193, `xa.h`).
-use Rattle.std.specs.Prelude.{ℕ, ℤ, pos, negsuc, List, codes}
+use Rattle.std.specs.Prelude.{ℕ, ℤ, pos, negsuc, List, codes, Bool, true, false}
 use Rattle.xa_codes.specs.declared.code.Code.{Code}
 use Rattle.xa_codes.specs.declared.code.Code.TheVariants.{RbRollback, RbCommFail, RbDeadlock, RbIntegrity, RbOther, RbProto, RbTimeout, RbTransient, NoMigrate, HeurHaz, HeurCom, HeurRb, HeurMix, Retry, RdOnly, Ok, Async, RmErr, NotA, Inval, Proto, RmFail, DupId, Outside}
 
@@ -56,3 +56,9 @@ code_name Proto = codes "XAER_PROTO"
 code_name RmFail = codes "XAER_RMFAIL"
 code_name DupId = codes "XAER_DUPID"
 code_name Outside = codes "XAER_OUTSIDE"
+
+-- an answer that a manager gives whatever its tables say: its device failed, or a limit of its own is met
+abbrev pub is_own : Code → Bool
+is_own RmFail = true
+is_own RmErr = true
+is_own _ = false

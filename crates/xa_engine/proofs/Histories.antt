@@ -21,7 +21,8 @@ use Rattle.xa_assoc.specs.Ready.{is_work_verb}
 use Rattle.xa_assoc.specs.Restored.{Restored}
 use Rattle.xa_assoc.proofs.Finishing.{finishing, refused_call}
 use Rattle.xa_assoc.proofs.Reactions.{stays}
-use Rattle.xa_law.specs.Moves.{Declines, FitsRows, is_own, Leads as LeadsMoves, Makes as MakesMove, Move, Open as OpenMove, Close as CloseMove, Branch as BranchMove, Recover as RecoverMove, Work as WorkMove, Decide as DecideMove, Restart as RestartMove}
+use Rattle.xa_law.specs.Moves.{Declines, FitsRows, Leads as LeadsMoves, Makes as MakesMove, Move, Open as OpenMove, Close as CloseMove, Branch as BranchMove, Recover as RecoverMove, Work as WorkMove, Decide as DecideMove, Restart as RestartMove}
+use Rattle.xa_codes.specs.Codes.{is_own}
 use Rattle.xa_law.proofs.Histories.{legal_history}
 use Rattle.xa_assoc.specs.declared.errors.WorkError.{WorkError}
 use Rattle.xa_assoc.specs.declared.errors.WorkError.TheVariants as work_error
@@ -43,7 +44,8 @@ use Rattle.kv_core.specs.Replays.{seen_after, seen_of}
 use Rattle.kv_turns.specs.declared.entries.Entry.{Entry}
 use Rattle.kv_turns.specs.declared.entries.Entry.TheVariants as entry
 use Rattle.kv_turns.specs.declared.turns.Turn.{Turn}
-use Rattle.kv_turns.specs.Turns.{entry_record, presumption_of, turn_of}
+use Rattle.kv_turns.specs.Turns.{entry_record, turn_of}
+use Rattle.tree_model.specs.ManagerRows.{presumption_of}
 use Rattle.kv_store.specs.writes.Writes.{writes_of}
 use Rattle.kv_core.specs.Stores.{KeySight, MovesTables, state_of}
 use Rattle.kv_core.specs.Works.{IsRefused}

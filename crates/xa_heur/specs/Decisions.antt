@@ -1,5 +1,5 @@
 -- What operators decided of branches, and what these were told since (C193, heuristic branch completion).
-use Rattle.std.specs.Prelude.{if◌then◌else◌, Option, Some, None, List, fold}
+use Rattle.std.specs.Prelude.{if◌then◌else◌, Option, Some, None, List, fold, map}
 use Rattle.xa_codes.specs.declared.code.Code.{Code}
 use Rattle.xa_codes.specs.declared.code.Code.TheVariants.{HeurCom, HeurRb}
 use Rattle.xa_tables.specs.declared.states.BranchState.{BranchState}
@@ -10,7 +10,11 @@ use Rattle.tree_model.specs.declared.records.Branch.{Branch}
 use Rattle.tree_model.specs.declared.records.Record.{Record}
 use Rattle.tree_model.specs.declared.records.Record.TheVariants.{Prepared, HeurCommit, HeurRollback, Told, Forgot}
 use Rattle.tree_model.specs.Records.{same_branch}
+use Rattle.tree_model.specs.declared.records.Branch.TheVariants.{Foreign}
+use Rattle.tree_model.specs.declared.records.LogRecord.{LogRecord}
+use Rattle.tree_model.specs.LogNames.{by_xid}
 use Rattle.xa_heur.specs.declared.decision.Decision.{Decision}
+use Rattle.xa_xid.specs.declared.xid.Xid.{Xid}
 
 -- the answer to an outcome behind a decision
 abbrev pub heur_code : Outcome → Code
@@ -44,6 +48,10 @@ decision_after b d _ = d
 -- says nothing
 unfoldable pub decision_of : Branch → List Record → Decision
 decision_of b rs = fold (decision_after b) (decided_as Aborted) rs
+
+-- what an operator decided of a branch by the records of a log, and what it was told since
+abbrev pub decided_in : List LogRecord → Xid → Decision
+decided_in ls x = decision_of (Foreign x) (map by_xid ls)
 
 -- the decision of a branch in a state: there is one in S5 alone
 abbrev pub decision_at : BranchState → Decision → Option Decision

@@ -3,7 +3,7 @@ use Rattle.std.proofs.Common.{◌≡◌, Bool, true, false, not, List, [], ◌�
 use Rattle.std.specs.Prelude.{◌||◌, ◌&&◌, is_some, unwrap_or, IfOk, IfErr, if◌then◌else◌}
 use Rattle.xa_codes.specs.declared.code.Code.{Code}
 use Rattle.xa_codes.specs.declared.code.Code.TheVariants as code
-use Rattle.xa_tables.specs.Tables.{assoc_rows, branch_rows}
+use Rattle.xa_tables.specs.Tables.{assoc_rows, branch_rows, is_spoiled}
 use Rattle.xa_tables.specs.declared.call.Call.{Call}
 use Rattle.xa_tables.specs.declared.call.Call.TheVariants as call
 use Rattle.xa_tables.specs.declared.states.AssocState.{AssocState}
@@ -12,7 +12,7 @@ use Rattle.xa_tables.specs.declared.states.BranchState.{BranchState}
 use Rattle.xa_tables.specs.declared.states.BranchState.TheVariants.{S0, S1, S2, S3, S4, S5}
 use Rattle.xa_assoc.specs.Associations.{Row, row, own_part}
 use Rattle.xa_assoc.specs.Reacting.{IsAt, end_call, suspend_call}
-use Rattle.xa_law.specs.Refusals.{first_of, naming_check, is_lost, is_refusal}
+use Rattle.xa_law.specs.Refusals.{first_of, naming_check, is_refusal}
 use Rattle.xa_assoc.specs.Ready.{is_start, is_work, has_rows}
 
 -- a branch that is known is in a state but S0
@@ -46,8 +46,8 @@ out_by s c =
 abbrev pub limit_by : Seen → Call → Bool
 limit_by s call.Start = s.full || not s.room
 limit_by s call.StartJoin = not s.room
-limit_by s call.StartResume = not (is_lost (unwrap_or s.state S0)) && not s.seat && not s.room
-limit_by s call.EndMigrate = not (is_lost (unwrap_or s.state S0)) && s.migrates && not s.spare
+limit_by s call.StartResume = not (is_spoiled (unwrap_or s.state S0)) && not s.seat && not s.room
+limit_by s call.EndMigrate = not (is_spoiled (unwrap_or s.state S0)) && s.migrates && not s.spare
 limit_by s _ = false
 
 abbrev pub checks_by : Seen → Call → List (Bool × Code)

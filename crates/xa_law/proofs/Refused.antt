@@ -14,7 +14,8 @@ use Rattle.xa_assoc.specs.Associations.{AssocList, moved_of, own_state}
 use Rattle.xa_branch.specs.Branches.{state_in}
 use Rattle.xa_assoc.specs.declared.states.States.{States}
 use Rattle.xa_assoc.specs.Answers.{Same, state_at}
-use Rattle.xa_law.specs.Moves.{Declines, Move, Open, Close, Branch, Decide, Restart, is_own}
+use Rattle.xa_law.specs.Moves.{Declines, Move, Open, Close, Branch, Decide, Restart}
+use Rattle.xa_codes.specs.Codes.{is_own}
 use Rattle.xa_law.specs.Refusals.{AnswersFirst, Declined, Refused, code_of, first_refusal, is_refusal}
 use Rattle.xa_law.specs.Histories.{BranchStep, InitStep, MigrationStep, OwnStep, is_work_on}
 use Rattle.xa_law.proofs.Reached.{IsReached, same_reached}

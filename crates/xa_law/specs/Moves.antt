@@ -2,6 +2,7 @@
 use Rattle.std.specs.Prelude.{◌≡◌, ◌⊎◌, ℕ, Bool, true, false, List, [], ◌∷◌, Result, IsErrAnd, Contains}
 use Rattle.xa_codes.specs.declared.code.Code.{Code}
 use Rattle.xa_codes.specs.declared.code.Code.TheVariants as code
+use Rattle.xa_codes.specs.Codes.{is_own}
 use Rattle.xa_tables.specs.Tables.{branch_rows}
 use Rattle.xa_tables.specs.declared.call.Call.{Call}
 use Rattle.xa_tables.specs.declared.call.Verb.{Verb}
@@ -30,12 +31,6 @@ pub data Move : Type 0 where
 abbrev pub FitsRows : Wanted → BranchState → Type 0
 FitsRows wanted s = (c : Call) → is_work c ≡ false → has_rows (branch_rows s c) ≡ true
     → Contains (branch_rows s c) (wanted c)
-
--- answers that a manager gives whatever its tables say: its device failed, or a limit of its own is met
-abbrev pub is_own : Code → Bool
-is_own code.RmFail = true
-is_own code.RmErr = true
-is_own _ = false
 
 -- a manager refuses a call by such an answer, and changes nothing
 abbrev pub Declines : States → States → Code → Type 0

@@ -5,13 +5,11 @@ use Rattle.std.specs.Option.{option_map_or}
 use Rattle.xa_codes.specs.declared.code.Code.{Code}
 use Rattle.xa_codes.specs.declared.code.Code.TheVariants as code
 use Rattle.xa_tables.specs.Calls.{legal}
-use Rattle.xa_tables.specs.Tables.{assoc_rows, branch_rows}
+use Rattle.xa_tables.specs.Tables.{assoc_rows, branch_rows, is_spoiled}
 use Rattle.xa_tables.specs.declared.call.Call.{Call}
 use Rattle.xa_tables.specs.declared.call.Call.TheVariants as call
 use Rattle.xa_tables.specs.declared.call.Verb.TheVariants as verb
 use Rattle.xa_tables.specs.declared.states.AssocState.TheVariants.{M}
-use Rattle.xa_tables.specs.declared.states.BranchState.{BranchState}
-use Rattle.xa_tables.specs.declared.states.BranchState.TheVariants.{S4}
 use Rattle.xa_xid.specs.declared.xid.Xid.{Xid}
 use Rattle.xa_xid.specs.Xids.{null_xid}
 use Rattle.xa_assoc.specs.Associations.{AssocList, active_of, has_room, has_seat, moved_of, own_state}
@@ -21,7 +19,8 @@ use Rattle.xa_branch.specs.Scans.{has_scan}
 use Rattle.xa_assoc.specs.declared.states.States.{States}
 use Rattle.xa_assoc.specs.Answers.{Same, is_held, state_at}
 use Rattle.xa_assoc.specs.Ready.{has_rows, is_closed, is_start, is_work}
-use Rattle.xa_law.specs.Moves.{Move, Open, Close, Branch, Recover, is_own}
+use Rattle.xa_law.specs.Moves.{Move, Open, Close, Branch, Recover}
+use Rattle.xa_codes.specs.Codes.{is_own}
 
 -- the answer of the first of some checks that applies
 abbrev pub first_of : List (Bool × Code) → Option Code
@@ -51,19 +50,14 @@ is_out_of_state m c t x =
     not (has_rows (branch_rows (state_at m x) c))
     || (if is_work c then is_unfit m.associations c t x else is_held m.associations x)
 
--- the work of a branch is lost
-abbrev pub is_lost : BranchState → Bool
-is_lost S4 = true
-is_lost _ = false
-
 -- a limit is met: 1,024 branches, 256 threads with associations, or 2^64 - 1 migrations of one branch
 abbrev pub is_at_limit : States → Call → ℕ → Xid → Bool
 is_at_limit m call.Start t x = nat_le 1024 (length m.branches.branches) || not (has_room m.associations t)
 is_at_limit m call.StartJoin t x = not (has_room m.associations t)
 is_at_limit m call.StartResume t x =
-    not (is_lost (state_at m x)) && not (has_seat m.associations t x) && not (has_room m.associations t)
+    not (is_spoiled (state_at m x)) && not (has_seat m.associations t x) && not (has_room m.associations t)
 is_at_limit m call.EndMigrate t x =
-    not (is_lost (state_at m x)) && m.associations.migrates
+    not (is_spoiled (state_at m x)) && m.associations.migrates
     && not (nat_lt (moved_of m.associations x) (2 ^ 64 - 1))
 is_at_limit m _ t x = false
 

@@ -92,6 +92,11 @@ branch_rows S5 call.Rollback = heuristic
 branch_rows S5 call.Forget = one code.Ok S0
 branch_rows _ _ = []
 
+-- a branch can be rolled back alone: its work is lost
+abbrev pub is_spoiled : BranchState → Bool
+is_spoiled S4 = true
+is_spoiled _ = false
+
 -- a branch is in doubt: prepared, or decided by an operator
 abbrev pub is_in_doubt : BranchState → Bool
 is_in_doubt S3 = true

@@ -1,27 +1,18 @@
 -- What a record says behind its kind.
 use Rattle.std.specs.Prelude.{ℕ, List, ◌++◌, codes, Option, Some, None}
 use Rattle.std.specs.List.{flat_map}
-use Rattle.std.specs.Fmt.{decimal}
 use Rattle.hex.specs.Hex.{encode_lower}
 use Rattle.xa_xid.specs.Text.{xid_text}
-use Rattle.tree_model.specs.declared.names.Case.{Case}
 use Rattle.tree_model.specs.declared.names.Ticket.{Ticket}
 use Rattle.tree_model.specs.declared.records.Branch.{Branch}
 use Rattle.tree_model.specs.declared.records.Branch.TheVariants.{Case as CaseBranch, Foreign}
 use Rattle.tree_model.specs.declared.records.Record.{Record}
 use Rattle.tree_model.specs.declared.records.Record.TheVariants.{Opened, Collecting, Prepare, Commit, Abort, End, Prepared, Committed, RolledBack, Direct, HeurCommit, HeurRollback, Told, Forgot, Base, Pair}
 use Rattle.tree_model.specs.declared.records.Write.{Write}
-use Rattle.tree_model.specs.Texts.{case_text, ticket_text, outcome_word}
+use Rattle.tree_model.specs.Texts.{ticket_text, outcome_word}
+use Rattle.trace_lines.specs.Trace.{case_word, number_word}
 
 -- Words, each behind a space.
-
--- a number
-abbrev pub number_word : ℕ → List ℕ
-number_word n = codes " " ++ decimal n
-
--- the name of a case
-abbrev pub case_word : Case → List ℕ
-case_word c = codes " " ++ case_text c
 
 -- bytes in lower-case hexadecimal
 abbrev pub bytes_word : List ℕ → List ℕ

@@ -1,28 +1,12 @@
 //! The line of a record.
 
 ghost use Rattle.std.specs.Prelude.{◌≡◌, ◌++◌, OnOk};
-ghost use Rattle.audit_engine.specs.logs.Lines.{branch_word, case_word, number_word, record_words, ticket_words, write_words, writes_words, bytes_word};
+ghost use Rattle.audit_engine.specs.logs.Lines.{branch_word, record_words, ticket_words, write_words, writes_words, bytes_word};
 
 use spellings::hexadecimal::Hexadecimal;
 use std::alloc::{AllocError, Global};
-use trace_lines::{kind_word, outcome_word, push, push_case, push_number, push_ticket};
+use trace_lines::{kind_word, outcome_word, push, push_case_word, push_number_word, push_ticket};
 use tree_model::{Branch, Case, Record, Ticket, Write};
-
-/// A space and a number.
-fn push_number_word(out: &mut Vec<u8>, number: u64) -> Result<(), AllocError>
-    ensures { OnOk result (out.new.items ≡ out.old.items ++ number_word number) }
-{
-    push(out, " ")?;
-    push_number(out, number)
-}
-
-/// A space and a case.
-fn push_case_word(out: &mut Vec<u8>, case: &Case) -> Result<(), AllocError>
-    ensures { OnOk result (out.new.items ≡ out.old.items ++ case_word case.now) }
-{
-    push(out, " ")?;
-    push_case(out, case)
-}
 
 /// A space and bytes in hexadecimal.
 fn push_bytes_word(alloc: Global, out: &mut Vec<u8>, bytes: &[u8]) -> Result<(), AllocError>

@@ -35,7 +35,8 @@ use Rattle.tree_model.specs.World.{Stands as Happens}
 use Rattle.tree_model.proofs.RunLaws.{makes_at}
 use Rattle.core_model.specs.States.{CoreState}
 use Rattle.core_law.specs.Fits.{NodeFits}
-use Rattle.core_law.specs.Steps.{no_answer, restart_of}
+use Rattle.core_law.specs.Steps.{restart_of}
+use Rattle.core_model.specs.Turns.{no_answer}
 use Rattle.core_law.specs.Ties.{ChildrenFit, Stands}
 use Rattle.core_law.proofs.CascadeQuiet.{cascaded_place}
 use Rattle.core_law.proofs.CascadeSteps.{is_cascaded_place}

@@ -9,7 +9,8 @@ use Rattle.tree_model.specs.Nodes.{is_listed, place_of}
 use Rattle.tree_model.specs.Trees.{IsTree}
 use Rattle.tree_model.specs.World.{Made, Move, World}
 use Rattle.core_model.specs.States.{CoreState}
-use Rattle.core_law.specs.Steps.{no_answer, quiet_move, restart_of, trim_reaction}
+use Rattle.core_law.specs.Steps.{quiet_move, restart_of, trim_reaction}
+use Rattle.core_model.specs.Turns.{no_answer}
 use Rattle.core_law.proofs.Trimming.{trim_done}
 use Rattle.core_law.proofs.worlds.Kept.{all_opened, keeps_own, open_fits}
 use Rattle.core_law.proofs.worlds.RunRestarts.{restarts_move, trims_move}

@@ -13,14 +13,13 @@ use Rattle.tree_model.specs.declared.records.Record.{Record}
 use Rattle.tree_model.specs.declared.records.Record.TheVariants.{Opened, Collecting, Prepare, Commit, Abort, End, Prepared, Committed, RolledBack, Direct, HeurCommit, HeurRollback, Told, Forgot, Base, Pair}
 use Rattle.tree_model.specs.LogNames.{foreign_to, is_own, name_xid, own_by, own_records}
 use Rattle.tree_model.specs.Names.{same_case}
-use Rattle.tree_model.specs.Nodes.{AtLeaf, AtRoot, Below, Place, Role}
+use Rattle.tree_model.specs.Nodes.{AtLeaf, AtRoot, Below, Place, Role, IsCoordinator}
 use Rattle.tree_model.specs.Records.{has, is_abort, is_collecting, is_commit, is_end, is_prepare, none_of, owing_in, record_case}
 use Rattle.log_rules.specs.declared.trim.lives.Said.{Said}
 use Rattle.log_rules.specs.declared.trim.lives.Said.TheVariants.{Nothing, Waits, Settled, Owes, Over}
 use Rattle.log_rules.specs.trim.Tables.{said_after, same}
 use Rattle.log_rules.specs.trim.Trims.{is_of, said_behind}
 use Rattle.log_rules.specs.sound.Sound.{IsSound, IsSoundName}
-use Rattle.log_rules.specs.reads.ReadTrims.{Coordinates}
 use Rattle.log_rules.proofs.reads.OwnNames.{other_is, own_is}
 use Rattle.log_rules.proofs.reads.Sayings.{IsOfCase, behind, decides, ends, owes, said_one, starts}
 
@@ -150,13 +149,13 @@ says_end c d t e = record {
   of_case = λ is. tt;
 }
 
-pub foreign_none : (role : Role) (p : Option ProcessId) (d : Case) (r : Record) → Coordinates role
+pub foreign_none : (role : Role) (p : Option ProcessId) (d : Case) (r : Record) → IsCoordinator role
     → foreign_to role p d r ≡ []
 foreign_none AtRoot p d r h = refl
 foreign_none (Below q) p d r h = refl
 foreign_none (AtLeaf q) p d r h = absurd h
 
-module _ (place : Place) (p : Option ProcessId) (c : Case) (coordinates : Coordinates place.role) (own :
+module _ (place : Place) (p : Option ProcessId) (c : Case) (coordinates : IsCoordinator place.role) (own :
     is_own place p c ≡ true) (sound : IsSoundName p (CaseBranch c)) where
   abbrev pub name : Xid
   name = name_xid p (CaseBranch c)

@@ -18,7 +18,7 @@ use Rattle.tree_model.specs.declared.standings.Standing.TheVariants.{Unknown, Ac
 use Rattle.tree_model.specs.LogNames.{foreign_to, is_own, name_xid, own_by, own_records}
 use Rattle.tree_model.specs.Memory.{fresh_memory, Idle}
 use Rattle.tree_model.specs.Names.{same_case}
-use Rattle.tree_model.specs.Nodes.{AtLeaf, AtRoot, Below, Place, Role}
+use Rattle.tree_model.specs.Nodes.{AtLeaf, AtRoot, Below, Place, Role, IsCoordinator}
 use Rattle.tree_model.specs.Records.{boot_after, boot_of, has, is_abort, is_collecting, is_commit, is_end, is_opened, is_prepare, none_of, owing_by, owing_in, record_case}
 use Rattle.tree_model.specs.Restarts.{case_stays, data_records, is_known, recorded_view, trimmed, stays as model_stays, staying as model_staying}
 use Rattle.tree_model.specs.Standings.{CoordinatorView, coordinator_standing, known_view, phase_standing, standing_by}
@@ -26,7 +26,7 @@ use Rattle.log_rules.specs.declared.trim.lives.Said.TheVariants.{Nothing}
 use Rattle.log_rules.specs.trim.Tables.{is_live, is_prepared, log_name}
 use Rattle.log_rules.specs.trim.Trims.{front_of_trim, is_of, last_opened, opened_after, prepares, said_of, stays, stays_by, staying}
 use Rattle.log_rules.specs.sound.Sound.{IsSound, IsSoundName}
-use Rattle.log_rules.specs.reads.ReadTrims.{Coordinates, CoordinatorsReadTrims}
+use Rattle.log_rules.specs.reads.ReadTrims.{CoordinatorsReadTrims}
 use Rattle.log_rules.proofs.reads.CaseSayings.{decided, foreign_none, owed, says, started}
 use Rattle.log_rules.proofs.reads.LastOpened.{ReadsBoot, opened_last, own_append}
 use Rattle.log_rules.proofs.reads.Sayings.{behind, live_is_known}
@@ -179,13 +179,13 @@ none_prepared x (l ∷ ls) h = ap (λ b. b || list_any (prepares x) ls) (not_pre
         by_entry (Base n) q h = absurd h.1
         by_entry (Pair k v) q h = absurd h.1
 
-model_case_stays : (role : Role) (rs after : List Record) (r : Record) → Coordinates role
+model_case_stays : (role : Role) (rs after : List Record) (r : Record) → IsCoordinator role
     → model_stays role rs after r ≡ case_stays rs (record_case r)
 model_case_stays AtRoot rs after r h = refl
 model_case_stays (Below p) rs after r h = refl
 model_case_stays (AtLeaf p) rs after r h = absurd h
 
-module _ (place : Place) (ls : List LogRecord) (coordinates : Coordinates place.role) (sound : AllByRecursion
+module _ (place : Place) (ls : List LogRecord) (coordinates : IsCoordinator place.role) (sound : AllByRecursion
     (IsSound Coordinator) ls) where
   abbrev pub read : List Record
   read = own_records place ls
@@ -302,7 +302,7 @@ module _ (place : Place) (ls : List LogRecord) (coordinates : Coordinates place.
 
 -- The last Opened.
 
-case_boot : (place : Place) (q : Option ProcessId) (d : Case) (r : Record) → Coordinates place.role
+case_boot : (place : Place) (q : Option ProcessId) (d : Case) (r : Record) → IsCoordinator place.role
     → record_case r ≡ Some d → is_opened r ≡ false
     → ((b : ℕ) → boot_after b r ≡ b) → ReadsBoot place (record { entry = r; parent = q })
 case_boot place q d r coordinates of none leaves = record {
@@ -316,7 +316,7 @@ case_boot place q d r coordinates of none leaves = record {
     by_own b true = leaves b
     by_own b false = ap (fold boot_after b) (foreign_none place.role q d r coordinates)
 
-boot_read : (place : Place) (r : Record) (q : Option ProcessId) → Coordinates place.role
+boot_read : (place : Place) (r : Record) (q : Option ProcessId) → IsCoordinator place.role
     → IsSound Coordinator (record { entry = r; parent = q })
     → ReadsBoot place (record { entry = r; parent = q })
 boot_read place (Opened n) q c s = record { opened = λ is b. refl; other = λ is. absurd (cc) }
@@ -336,12 +336,12 @@ boot_read place (Forgot k) q c s = absurd s.1
 boot_read place (Base n) q c s = absurd s.1
 boot_read place (Pair k v) q c s = absurd s.1
 
-boots_read : (place : Place) (ls : List LogRecord) → Coordinates place.role
+boots_read : (place : Place) (ls : List LogRecord) → IsCoordinator place.role
     → AllByRecursion (IsSound Coordinator) ls → AllByRecursion (ReadsBoot place) ls
 boots_read place [] c h = tt
 boots_read place (l ∷ ls) c h = (boot_read place l.entry l.parent c h.0, boots_read place ls c h.1)
 
-no_data : (role : Role) (rs : List Record) → Coordinates role → data_records role rs ≡ []
+no_data : (role : Role) (rs : List Record) → IsCoordinator role → data_records role rs ≡ []
 no_data AtRoot rs h = refl
 no_data (Below p) rs h = refl
 no_data (AtLeaf p) rs h = absurd h

@@ -17,7 +17,8 @@ use Rattle.tree_model.specs.declared.records.Record.TheVariants.{Opened, Collect
 use Rattle.tree_model.specs.declared.records.Write.{Write}
 use Rattle.log_text.specs.Parts.{Front, Name, key_at, name_at, tickets_of, value_at, writes_of}
 use Rattle.log_text.specs.Payloads.{key_text, kind_byte, name_text, payload_text, tickets_text, value_text, writes_text}
-use Rattle.log_text.specs.Reading.{bare, below, branch_record, case_record, coordinator_record, listing, manager_record, named, of_branch, of_case, of_name, pair_by, pair_of, read_record, told, unnamed, writing}
+use Rattle.log_text.specs.Reading.{bare, below, branch_record, case_record, coordinator_record, listing, manager_record, named, of_branch, of_case, of_name, pair_by, pair_of, read_record, told, writing}
+use Rattle.tree_model.specs.LogNames.{unnamed}
 use Rattle.log_rules.specs.sound.Written.{AreBytes, IsWrittenAs, ReadIsWritten}
 use Rattle.log_rules.proofs.sound.Cuts.{IsCut, both, key_cut, none_some, number_again, passed, some_is, tickets_cut, value_cut, writes_cut}
 use Rattle.log_rules.proofs.sound.CutNames.{name_cut}

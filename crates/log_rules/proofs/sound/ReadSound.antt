@@ -26,7 +26,8 @@ use Rattle.tree_model.specs.declared.records.Record.{Record}
 use Rattle.tree_model.specs.declared.records.Record.TheVariants.{Opened, Collecting, Prepare, Commit, Abort, End, Prepared, Committed, RolledBack, Direct, HeurCommit, HeurRollback, Told, Forgot, Base, Pair}
 use Rattle.tree_model.specs.declared.records.Write.{Write}
 use Rattle.log_text.specs.Parts.{Front, Name, all_of, and_more, fits_ticket, key_at, left_at, name_at, name_in, piece_at, put_of, ticket_at, ticket_in, tickets_of, value_at, write_at, write_by, writes_of, xid_at}
-use Rattle.log_text.specs.Reading.{bare, below, branch_record, case_record, coordinator_record, listing, manager_record, named, of_branch, of_case, of_name, pair_by, pair_of, read_record, told, unnamed, writing}
+use Rattle.log_text.specs.Reading.{bare, below, branch_record, case_record, coordinator_record, listing, manager_record, named, of_branch, of_case, of_name, pair_by, pair_of, read_record, told, writing}
+use Rattle.tree_model.specs.LogNames.{unnamed}
 use Rattle.log_rules.specs.sound.Sound.{AreSoundTickets, AreSoundWrites, IsSound, IsSoundEntry, IsSoundKey, IsSoundName, IsSoundTicket, IsSoundWrite}
 use Rattle.log_rules.specs.sound.Written.{AreBytes, ReadIsSound}
 use Rattle.log_rules.proofs.sound.Cuts.{IsCut, at_most, both, bytes_behind, key_cut, none_some, passed, piece_cut, some_is, tail_bytes, ticket_cut, value_cut, write_cut}

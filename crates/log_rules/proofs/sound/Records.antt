@@ -13,7 +13,8 @@ use Rattle.tree_model.specs.declared.records.Record.{Record}
 use Rattle.tree_model.specs.declared.records.Record.TheVariants.{Opened, Collecting, Prepare, Commit, Abort, End, Prepared, Committed, RolledBack, Direct, HeurCommit, HeurRollback, Told, Forgot, Base, Pair}
 use Rattle.log_text.specs.Parts.{name_at, value_at}
 use Rattle.log_text.specs.Payloads.{kind_byte, name_text, payload_text, tickets_text, value_text, writes_text}
-use Rattle.log_text.specs.Reading.{below, coordinator_record, listing, manager_record, named, of_branch, of_name, pair_by, pair_of, read_record, unnamed, writing}
+use Rattle.log_text.specs.Reading.{below, coordinator_record, listing, manager_record, named, of_branch, of_name, pair_by, pair_of, read_record, writing}
+use Rattle.tree_model.specs.LogNames.{unnamed}
 use Rattle.log_rules.specs.sound.Sound.{IsSoundEntry, IsSoundName, RecordsReadBack}
 use Rattle.log_rules.proofs.sound.Names.{name_back}
 use Rattle.log_rules.proofs.sound.Parts.{key_back, number_back, tickets_back, value_back, writes_back}

@@ -11,7 +11,7 @@ use Rattle.tree_model.specs.declared.records.Record.{Record}
 use Rattle.tree_model.specs.declared.records.Record.TheVariants.{Opened, Collecting, Prepare, Commit, Abort, End, Prepared, Committed, RolledBack, Direct, HeurCommit, HeurRollback, Told as ToldRecord, Forgot, Base as BaseRecord, Pair as PairRecord}
 use Rattle.tree_model.specs.declared.records.Write.{Write}
 use Rattle.tree_model.specs.LogNames.{name_xid}
-use Rattle.tree_model.specs.Records.{same_bytes}
+use Rattle.tree_model.specs.Records.{same_bytes, is_opened}
 use Rattle.tree_model.specs.Store.{key_below}
 use Rattle.log_rules.specs.declared.order.seen.Mark.{Mark}
 use Rattle.log_rules.specs.declared.order.seen.Mark.TheVariants.{Open, Decided, Told}
@@ -224,11 +224,6 @@ abbrev pub IsPlain : Record → Type 0
 IsPlain (Prepared b ws) = ⊥
 IsPlain (PairRecord k v) = ⊥
 IsPlain _ = ⊤
-
--- the record is Opened
-abbrev pub is_opened : Record → Bool
-is_opened (Opened n) = true
-is_opened _ = false
 
 -- what has been seen behind one record more: none where it may not follow, and at first none but behind an
 -- Opened

@@ -5,22 +5,16 @@ use Rattle.tree_model.specs.declared.names.Kind.TheVariants.{Coordinator, Manage
 use Rattle.tree_model.specs.declared.names.ProcessId.{ProcessId}
 use Rattle.tree_model.specs.declared.records.LogRecord.{LogRecord}
 use Rattle.tree_model.specs.LogNames.{own_records}
-use Rattle.tree_model.specs.Nodes.{AtLeaf, AtRoot, Below, Place, Role}
+use Rattle.tree_model.specs.Nodes.{AtLeaf, Place, IsCoordinator}
 use Rattle.tree_model.specs.Records.{is_opened}
 use Rattle.tree_model.specs.Restarts.{data_records, trimmed}
 use Rattle.log_rules.specs.sound.Sound.{IsSound}
 use Rattle.log_rules.specs.trim.Trims.{front_of_trim}
 
--- a process that coordinates
-abbrev pub Coordinates : Role → Type 0
-Coordinates AtRoot = Unit {0}
-Coordinates (Below p) = Unit {0}
-Coordinates (AtLeaf p) = ⊥
-
 -- a coordinator reads of what a trim keeps of its log just what the model's trim leaves of what it read
 -- before
 abbrev pub CoordinatorsReadTrims : Type 0
-CoordinatorsReadTrims = (place : Place) (ls : List LogRecord) → Coordinates place.role
+CoordinatorsReadTrims = (place : Place) (ls : List LogRecord) → IsCoordinator place.role
     → AllByRecursion (IsSound Coordinator) ls
     → list_any (λ l. is_opened l.entry) ls ≡ true
     → own_records place (front_of_trim ls) ≡ trimmed place.role (own_records place ls)

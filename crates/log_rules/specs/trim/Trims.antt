@@ -1,10 +1,12 @@
 -- The records that a trim keeps, under their whole names: the last Opened, and all records of the cases and
 -- branches that are not forgotten.
-use Rattle.std.specs.Prelude.{◌≡◌, ◌&&◌, not, Bool, false, if◌then◌else◌, List, [], ◌∷◌, ◌++◌, fold, Option, Some, None}
+use Rattle.std.specs.Prelude.{◌≡◌, ◌&&◌, not, Bool, false, if◌then◌else◌, List, [], ◌∷◌, ◌++◌, fold, Option, Some, None, map}
 use Rattle.std.specs.List.{list_any}
 use Rattle.xa_xid.specs.declared.xid.Xid.{Xid}
 use Rattle.tree_model.specs.declared.records.LogRecord.{LogRecord}
 use Rattle.tree_model.specs.Records.{is_opened}
+use Rattle.tree_model.specs.LogNames.{unnamed}
+use Rattle.tree_model.specs.Store.{base_records, data_of}
 use Rattle.log_rules.specs.declared.trim.lives.Said.{Said}
 use Rattle.log_rules.specs.declared.trim.lives.Said.TheVariants.{Nothing}
 use Rattle.log_rules.specs.trim.Tables.{is_live, is_prepared, lives_of, log_name, picked, said_after, same}
@@ -56,6 +58,11 @@ last_opened ls = fold opened_after [] ls
 -- what a trim keeps of a log's records
 unfoldable pub front_of_trim : List LogRecord → List LogRecord
 front_of_trim ls = last_opened ls ++ staying ls ls
+
+-- the log that a trim leaves of a manager's: what stays of its records, and its data behind them as a base and
+-- its pairs, keys rising
+abbrev pub trim_of : List LogRecord → List LogRecord
+trim_of ls = front_of_trim ls ++ map unnamed (base_records (data_of ls))
 
 -- what the table of a log picks is what stays
 abbrev pub PicksWhatStays : Type 0

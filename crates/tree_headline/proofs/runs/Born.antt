@@ -30,7 +30,7 @@ use Rattle.tree_nodes.proofs.RootKnown.{known_by}
 use Rattle.tree_nodes.proofs.RootNumbered.{all_root_cases}
 use Rattle.tree_nodes.proofs.RootsHold.{nodes_hold}
 use Rattle.tree_nodes.proofs.Tests.{either}
-use Rattle.tree_headline.proofs.runs.LettersHold.{none_gives}
+use Rattle.tree_headline.proofs.runs.MessagesHold.{none_gives}
 
 -- JOIN of the case
 abbrev pub is_join : Case → Message → Bool

@@ -42,7 +42,7 @@ use Rattle.tree_steps.proofs.crashes.Resumed as resumed
 use Rattle.tree_headline.proofs.Grows.{sent_still, sent_then}
 use Rattle.tree_headline.proofs.runs.Born.{Known, KnownBy, child_known, given_known, is_join, standing_known}
 use Rattle.tree_headline.proofs.runs.NetsHold.{nets_hold}
-use Rattle.tree_headline.proofs.runs.JoinLetters.{about_it, all_answer_none, all_join, ends, first_case, none_at_all, one_alone, told_answers_none, told_joins_none}
+use Rattle.tree_headline.proofs.runs.JoinMessages.{about_it, all_answer_none, all_join, ends, first_case, none_at_all, one_alone, told_answers_none, told_joins_none}
 
 abbrev JoinsKnown : World → List Envelope → Type 0
 JoinsKnown w ls = (c : Case) → sent (is_join c) ls ≡ true → Known w c

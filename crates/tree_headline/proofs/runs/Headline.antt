@@ -4,12 +4,11 @@ use Rattle.tree_model.specs.declared.names.ProcessId.{ProcessId}
 use Rattle.tree_model.specs.declared.events.Happening.{Happening}
 use Rattle.tree_model.specs.declared.events.Happening.TheVariants.{Input as Handles, Restart, Trim}
 use Rattle.tree_model.specs.declared.trees.TreeEntry.{TreeEntry}
-use Rattle.tree_model.specs.Nodes.{AtRoot, Below, Effect, Role, place_of, role_of}
+use Rattle.tree_model.specs.Nodes.{AtRoot, Below, Effect, Role, place_of, role_of, IsCoordinator}
 use Rattle.tree_model.specs.Outcomes.{Headline}
 use Rattle.tree_model.specs.Trees.{IsTree}
 use Rattle.tree_model.specs.World.{IsRun, Made, Move, Stands, World, makes, world_makes}
 use Rattle.tree_model.proofs.RunLaws.{makes_at}
-use Rattle.tree_nodes.specs.CaseOrder.{IsCoordinator}
 use Rattle.tree_nodes.specs.ProcessSteps.{ParentStep}
 use Rattle.tree_nodes.specs.WorldHolds.{Coordinates, NodeHolds, RoleHolds, WorldHolds}
 use Rattle.tree_nodes.proofs.Levels.{parent_elsewhere}
@@ -25,7 +24,7 @@ use Rattle.tree_headline.proofs.Managers.{coordinators_are_enough}
 use Rattle.tree_steps.specs.parents.ParentRows.{NoOwnParent}
 use Rattle.tree_steps.proofs.parents.FaultLaws.{coordinator_inputs}
 use Rattle.tree_headline.proofs.runs.BornHolds.{joined_are_born}
-use Rattle.tree_headline.proofs.runs.LettersHold.{letters_hold}
+use Rattle.tree_headline.proofs.runs.MessagesHold.{messages_hold}
 
 -- no process of a tree is its own parent
 no_own_parent : (tree : List TreeEntry) → IsTree tree → NoOwnParent tree
@@ -71,7 +70,7 @@ module _ (tree : List TreeEntry) (is_tree : IsTree tree) (es : List Made) (w : W
         record {
           coordinates = r.0;
           begins = r.1;
-          sends = letters_hold tree es w run h m e w' None top stands made;
+          sends = messages_hold tree es w run h m e w' None top stands made;
           pairs_below = below (subst IsCoordinator (sym top) tt) r.0;
         }
 
@@ -79,7 +78,7 @@ module _ (tree : List TreeEntry) (is_tree : IsTree tree) (es : List Made) (w : W
         → CascadedKeeps (place_of tree q) w.net e.messages (w.at q) (w'.at q)
     cascaded_keeps p f =
         let r = of_role (Below p) f in
-        let sends = letters_hold tree es w run h m e w' (Some p) f stands made in
+        let sends = messages_hold tree es w run h m e w' (Some p) f stands made in
         record {
           coordinates = r.0;
           cascades = r.1.0;

@@ -1,4 +1,4 @@
--- In every run of a tree each letter goes where it belongs, and each message about a case is of a case that
+-- In every run of a tree each message goes where it belongs, and each that is about a case is of a case that
 -- was given.
 use Rattle.std.proofs.Common.{◌≡◌, true, Option, Some, None, List, [], ◌∷◌, ◌++◌, refl, sym, ap, subst}
 use Rattle.tree_model.specs.declared.names.Case.{Case}
@@ -16,16 +16,16 @@ use Rattle.tree_nodes.specs.WorldHolds.{AboutGiven, AllGo, NodeHolds, RoleHolds,
 use Rattle.tree_nodes.proofs.RootsHold.{nodes_hold}
 use Rattle.tree_nodes.proofs.Remembering.{role_below}
 use Rattle.tree_nodes.proofs.Unlisted.{makes_listed}
-use Rattle.tree_headline.proofs.ManagerLetters as managers
-use Rattle.tree_headline.proofs.runs.CoordinatorLetters.{all_given, all_go}
-use Rattle.tree_headline.proofs.runs.LettersHold.{step_sends}
+use Rattle.tree_headline.proofs.ManagerMessages as managers
+use Rattle.tree_headline.proofs.runs.CoordinatorMessages.{all_given, all_go}
+use Rattle.tree_headline.proofs.runs.MessagesHold.{step_sends}
 
 -- what holds of the net
 pub record NetHolds (tree : List TreeEntry) (net : List Envelope) : Type 0 where
   pub go : AllGo tree net
   pub about_given : AboutGiven net
 
--- letters that go where they belong, behind others that do
+-- messages that go where they belong, behind others that do
 go_both : (tree : List TreeEntry) (xs ys : List Envelope) → AllGo tree xs → AllGo tree ys
     → AllGo tree (xs ++ ys)
 go_both tree [] ys f g = g
@@ -65,7 +65,7 @@ module _ (tree : List TreeEntry) (es : List Made) (w : World) (run : IsRun tree 
     by_role (Below p) f = by_coordinator (Some p) f
     by_role (AtLeaf p) f =
         let listed = makes_listed tree w m e w' made in
-        let fits = managers.letters_fit tree q p f listed w.net h.go h.about_given (w.at q) node.lasts.nested
+        let fits = managers.messages_fit tree q p f listed w.net h.go h.about_given (w.at q) node.lasts.nested
         (subst (λ r. RoleHolds r (at r) w.net (w.at q)) f node.role).1 m stands e
         (makes_at tree w m e w' made).node
         (here (AtLeaf p) f) in (

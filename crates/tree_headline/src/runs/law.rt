@@ -41,8 +41,8 @@ pub fn coordinators_keep_their_pairs()
     ensures cascaded { (tree : List TreeEntry) → IsTree tree → CascadedLaws tree }
 {}
 
-/// In every run each letter goes where it belongs, and each message about a case is of a case that was given.
-pub fn letters_go_where_they_belong()
+/// In every run each message goes where it belongs, and each that is about a case is of a case that was given.
+pub fn messages_go_where_they_belong()
     ensures { (tree : List TreeEntry) (es : List Made) (w : World) → IsRun tree es w
         → AllGo tree w.net × AboutGiven w.net }
 {}

@@ -13,7 +13,6 @@ use Rattle.tree_model.specs.declared.records.Record.{Record}
 use Rattle.tree_model.specs.declared.records.Record.TheVariants.{Collecting as CollectingRecord, Prepare as PrepareRecord, Commit as CommitRecord, Abort as AbortRecord, Told as ToldRecord}
 use Rattle.tree_model.specs.declared.standings.Standing.{Standing}
 use Rattle.tree_model.specs.declared.standings.Standing.TheVariants.{Unknown, Active as ActiveStanding, Collecting as CollectingStanding, Prepared, Committing, Aborting, Heuristic}
-use Rattle.tree_model.specs.declared.standings.Vote.{Vote}
 use Rattle.tree_model.specs.declared.standings.Vote.TheVariants.{Yes as VoteYes, No as VoteNo, Read as VoteRead}
 use Rattle.tree_model.specs.declared.events.Told.{Told}
 use Rattle.tree_model.specs.declared.events.Conclusion.{Conclusion}
@@ -24,7 +23,7 @@ use Rattle.tree_model.specs.declared.trees.TreeEntry.{TreeEntry}
 use Rattle.tree_model.specs.Names.{same_txn, same_case, child_case, process_of}
 use Rattle.tree_model.specs.Records.{has, in_list, is_branch, is_collecting, is_prepare, is_commit, is_abort, is_end, is_prepared, is_committed, is_rolled_back, is_heuristic, is_decided, is_forgot}
 use Rattle.tree_model.specs.Nodes.{Place, place_of, role_of, is_leaf, Node, kept}
-use Rattle.tree_model.specs.Memory.{Memory, Phase as MemoryPhase, Idle, Open, Asked, Over, memory_of, has_acked}
+use Rattle.tree_model.specs.Memory.{Memory, Phase as MemoryPhase, Idle, Open, Asked, Over, memory_of, has_acked, same_vote}
 use Rattle.tree_model.specs.Standings.{standing_of}
 use Rattle.tree_model.specs.World.{World}
 use Rattle.tree_model.specs.Outcomes.{sent, has_accepted, has_heard_vote, is_commit_outcome, is_yes_message, is_read_message, is_outcome_message, is_joined_message, is_told_aborted, follows}
@@ -173,13 +172,6 @@ pub record ParentHalf : Type 0 where
   pub names : Bool
   pub owed : Bool
 
--- the two votes are one
-abbrev pub is_vote : Vote → Vote → Bool
-is_vote VoteYes VoteYes = true
-is_vote VoteNo VoteNo = true
-is_vote VoteRead VoteRead = true
-is_vote _ _ = false
-
 -- by where the case stands, and what the process remembers of it
 abbrev pub parent_half_at : Standing → Memory → Node → Case → Ticket → ParentHalf
 parent_half_at s m n c t =
@@ -189,9 +181,9 @@ parent_half_at s m n c t =
       accepted = in_list m.accepted t;
       acked = has_acked m.acks (acknowledged c.txn.presumption) t;
       took_part = has_accepted n c t;
-      first_yes = has_heard_vote n c t (is_vote VoteYes);
-      first_no = has_heard_vote n c t (is_vote VoteNo);
-      first_read = has_heard_vote n c t (is_vote VoteRead);
+      first_yes = has_heard_vote n c t (same_vote VoteYes);
+      first_no = has_heard_vote n c t (same_vote VoteNo);
+      first_read = has_heard_vote n c t (same_vote VoteRead);
       told_committed = list_any (is_told_committed c.txn) n.told;
       told_aborted = list_any (is_told_aborted c.txn) n.told;
       begun = is_begun m.phase || list_any (is_told_of_txn c.txn) n.told || list_any

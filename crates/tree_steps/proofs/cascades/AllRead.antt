@@ -21,7 +21,7 @@ use Rattle.tree_nodes.specs.WorldHolds.{RoleHolds}
 use Rattle.tree_nodes.proofs.Boots.{trims_memory}
 use Rattle.tree_nodes.proofs.CoordinatorsHold.{cascaded_nodes_hold}
 use Rattle.tree_nodes.proofs.Tests.{both, in_first, in_none, right}
-use Rattle.tree_steps.specs.cascades.Letters.{AllSentBy}
+use Rattle.tree_steps.specs.cascades.Messages.{AllSentBy}
 use Rattle.tree_steps.proofs.cascades.Opens.{live}
 use Rattle.tree_steps.proofs.cascades.ReadCases.{Reads, first_or, none_read, others_unread, said_read}
 use Rattle.tree_steps.proofs.cascades.ReadSteps.{Keeps, handled_reads}

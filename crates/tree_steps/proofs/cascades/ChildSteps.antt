@@ -13,7 +13,7 @@ use Rattle.tree_model.specs.declared.trees.TreeEntry.{TreeEntry}
 use Rattle.tree_model.specs.Names.{child_case}
 use Rattle.tree_model.specs.Records.{is_prepare}
 use Rattle.tree_model.specs.Memory.{Asked, memory_of}
-use Rattle.tree_model.specs.Nodes.{Below, Effect, Heard, Node, Place, Role, after, entries_written, fails_in, is_any_forced, kept, place_of, role_of}
+use Rattle.tree_model.specs.Nodes.{Below, Effect, Heard, Node, Place, Role, after, entries_written, fails_in, is_any_forced, kept, place_of, role_of, IsCoordinator}
 use Rattle.tree_model.specs.Outcomes.{sent}
 use Rattle.tree_model.specs.Reactions.{is_early_ack, passes_at}
 use Rattle.tree_model.specs.Restarts.{restart_fails, trim_fails, trims}
@@ -26,7 +26,7 @@ use Rattle.tree_pairs.specs.readings.ReadingOf.{ChildHalf, ParentHalf, Wire, chi
 use Rattle.tree_pairs.specs.turns.Steps.{StepOf, failed_in, failed_passing, failed_reopening, failed_trimming, handled, heard_in, passed, reopened, trimmed}
 use Rattle.tree_pairs.proofs.turns.CoordinatorReactions.{coordinator_turn_of}
 use Rattle.tree_pairs.proofs.turns.Steps.{step_of, turn_of}
-use Rattle.tree_nodes.specs.CaseOrder.{CaseInOrder, IsCoordinator}
+use Rattle.tree_nodes.specs.CaseOrder.{CaseInOrder}
 use Rattle.tree_nodes.specs.Lasts.{Coordinates as CoordinatorLogs, Lasts, Logs, Nested, logs_of}
 use Rattle.tree_nodes.specs.Numbers.{IsIssuer, Numbers}
 use Rattle.tree_nodes.specs.ProcessSteps.{ChildStep, seen_above}
@@ -47,7 +47,7 @@ use Rattle.tree_steps.proofs.children.Moves as moves
 use Rattle.tree_steps.proofs.children.Moves.{Fits}
 use Rattle.tree_steps.proofs.children.Wires.{wire-none}
 use Rattle.tree_steps.specs.cascades.CascadedSteps.{CascadedChildSteps}
-use Rattle.tree_steps.specs.cascades.Letters.{AllSentBy}
+use Rattle.tree_steps.specs.cascades.Messages.{AllSentBy}
 use Rattle.tree_steps.proofs.cascades.Ends.{EndsDecided}
 use Rattle.tree_steps.proofs.cascades.EndsHold.{all_end}
 use Rattle.tree_steps.proofs.cascades.Fails.{own_breaks}

@@ -8,7 +8,7 @@ use Rattle.tree_model.specs.declared.standings.Standing.TheVariants.{Unknown}
 use Rattle.tree_model.specs.declared.trees.TreeEntry.{TreeEntry}
 use Rattle.tree_model.specs.Records.{has, is_end, is_prepare}
 use Rattle.tree_model.specs.Memory.{Idle}
-use Rattle.tree_model.specs.Nodes.{Below, Effect, Heard, Node, Place, Role, after, entries_written, is_any_forced, kept, opened_node, place_of, role_of}
+use Rattle.tree_model.specs.Nodes.{Below, Effect, Heard, Node, Place, Role, after, entries_written, is_any_forced, kept, opened_node, place_of, role_of, IsCoordinator}
 use Rattle.tree_model.specs.Restarts.{coordinator_reopens, is_known, left_of, recorded_view, trim_fails, trimmed}
 use Rattle.tree_model.specs.World.{IsRun, Made, Move, World, makes, opens}
 use Rattle.tree_model.proofs.RunLaws.{makes_at}
@@ -16,7 +16,6 @@ use Rattle.tree_pairs.specs.turns.CoordinatorTurns.{CoordinatorTurn}
 use Rattle.tree_pairs.specs.turns.Steps.{StepOf, failed_in, failed_passing, failed_reopening, failed_trimming, handled, heard_in, passed, reopened, trimmed as trims_log}
 use Rattle.tree_pairs.proofs.turns.CoordinatorReactions.{coordinator_turn_of}
 use Rattle.tree_pairs.proofs.turns.Steps.{step_of}
-use Rattle.tree_nodes.specs.CaseOrder.{IsCoordinator}
 use Rattle.tree_nodes.specs.Lasts.{Logs, logs_of, standing}
 use Rattle.tree_nodes.proofs.Appends.{breaks_keeps, either_logs, loses}
 use Rattle.tree_nodes.proofs.CaseOrders.{AllFit}

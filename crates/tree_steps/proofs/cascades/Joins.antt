@@ -29,10 +29,10 @@ use Rattle.tree_nodes.proofs.GivenCases.{same_of}
 use Rattle.tree_nodes.proofs.Selves.{Self, self_same}
 use Rattle.tree_steps.proofs.children.Moves as moves
 use Rattle.tree_steps.proofs.children.Moves.{Fits}
-use Rattle.tree_steps.specs.cascades.Letters.{AllSentBy}
+use Rattle.tree_steps.specs.cascades.Messages.{AllSentBy}
 use Rattle.tree_steps.proofs.cascades.Halves.{OwnHalf, as_child, own_half_at, own_silent, stands_so}
-use Rattle.tree_steps.proofs.cascades.Letters as letters
-use Rattle.tree_steps.proofs.cascades.Letters.{hears, nothing, said_by, wire_behind}
+use Rattle.tree_steps.proofs.cascades.Messages as words
+use Rattle.tree_steps.proofs.cascades.Messages.{hears, nothing, said_by, wire_behind}
 use Rattle.tree_steps.proofs.cascades.Opens.{live, open_by_phase}
 use Rattle.tree_steps.proofs.cascades.Readings as readings
 use Rattle.tree_steps.proofs.cascades.Turns.{opens}
@@ -144,13 +144,13 @@ module _ (c : Case) (t : Ticket) (p : ProcessId) (tree : List TreeEntry) (n : No
     abbrev Then : Memory
     Then = joins t.child boot d x m (active_ticket m.active x)
 
-    -- what this letter says
+    -- what this message says
     said : (u : Ticket) → wire c t (net ++ post t.child p (Joined x u) ∷ [])
         ≡ hears (said_by c t (post t.child p (Joined x u) ∷ [])) v
         → wire c t (net ++ post t.child p (Joined x u) ∷ [])
         ≡ record v { issued = (same_case x c && same_ticket u t) || v.issued }
-    said u e = e ∙ ap (λ s. hears s v) (letters.said_first c t (post t.child p (Joined x u)) []
-        (letters.none_silent c t))
+    said u e = e ∙ ap (λ s. hears s v) (words.said_first c t (post t.child p (Joined x u)) []
+        (words.none_silent c t))
 
     record Known (e : Effect) : Type 0 where
       alike_then : IsOpenAlike place (after n h e) d

@@ -16,7 +16,7 @@ use Rattle.tree_model.specs.Nodes.{Node, Place, kept}
 use Rattle.tree_model.specs.Outcomes.{is_read_message, sent}
 use Rattle.tree_pairs.specs.readings.ReadingOf.{gives_case}
 use Rattle.tree_nodes.proofs.Tests.{either, has-reverse, in_either, in_first, in_second, left, neither, not_both, right}
-use Rattle.tree_steps.specs.cascades.Letters.{AllSentBy}
+use Rattle.tree_steps.specs.cascades.Messages.{AllSentBy}
 use Rattle.tree_steps.proofs.cascades.Opens.{live}
 
 -- the process said READ of the case
@@ -37,7 +37,7 @@ pub record Reads (place : Place) (net : List Envelope) (n : Node) : Type 0 where
       ≡ true
       → (has (is_prepare c) (kept n) ≡ true) ⊎ (has (is_prepare c) n.durable ≡ false)
 
--- Letters.
+-- Messages.
 
 pub read_append : (me : ProcessId) (c : Case) (xs ys : List Envelope)
     → said_read me c (xs ++ ys) ≡ (said_read me c xs || said_read me c ys)
@@ -46,7 +46,7 @@ read_append me c xs ys = list_any-append _ xs ys
 second_true : (a b : Bool) → (a && b) ≡ true → b ≡ true
 second_true a b e = grind arith
 
--- a letter that says READ
+-- a message that says READ
 pub read_sent : (me : ProcessId) (c : Case) (ls : List Envelope) → said_read me c ls ≡ true
     → sent (is_read_message c) ls ≡ true
 unfolding sent
@@ -66,7 +66,7 @@ unread me c ls e = by_test (said_read me c ls) refl
     by_test true f = absurd (let x = sym e ∙ read_sent me c ls f in cc)
     by_test false f = f
 
--- letters of another process are none of its words
+-- messages of another process are none of its words
 pub others_unread : (me q : ProcessId) (c : Case) (ls : List Envelope) → (q ≡ me → ⊥) → AllSentBy q ls
     → said_read me c ls ≡ false
 others_unread me q c [] f a = refl

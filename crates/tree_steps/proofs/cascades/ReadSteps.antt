@@ -282,7 +282,7 @@ module _ (me p : ProcessId) (tree : List TreeEntry) (net : List Envelope) (n : N
     open_read f =
         let o = sym phase_after ∙ f in
         none_read me c net e.messages (by_net (said_read me c net) refl (opened o))
-        (by_letters (said_read me c e.messages) refl o)
+        (by_messages (said_read me c e.messages) refl o)
       where
         by_net : (b : Bool) → said_read me c net ≡ b → (live m.phase ≡ true)
             ⊎ (sent (gives_case c) net ≡ true → ⊥)
@@ -291,10 +291,10 @@ module _ (me p : ProcessId) (tree : List TreeEntry) (net : List Envelope) (n : N
         by_net true g (inl was) = old.open_read_nothing up c was
         by_net true g (inr fresh) = absurd (fresh (old.read_is_given c g))
 
-        by_letters : (b : Bool) → said_read me c e.messages ≡ b → live Then.phase ≡ true
+        by_messages : (b : Bool) → said_read me c e.messages ≡ b → live Then.phase ≡ true
             → said_read me c e.messages ≡ false
-        by_letters false g o = g
-        by_letters true g o = absurd (let k = sym o ∙ (read_open g).1.0 in cc)
+        by_messages false g o = g
+        by_messages true g o = absurd (let k = sym o ∙ (read_open g).1.0 in cc)
 
   -- what an input that is handled leaves
   pub handled_reads : (h : Heard) (e : Effect) → reacts place n h ≡ Does e

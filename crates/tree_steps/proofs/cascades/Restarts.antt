@@ -38,12 +38,12 @@ use Rattle.tree_nodes.proofs.Worlds.{has_other}
 use Rattle.tree_steps.proofs.children.FailMoves as fail
 use Rattle.tree_steps.proofs.children.Moves as moves
 use Rattle.tree_steps.proofs.children.Moves.{Fits}
-use Rattle.tree_steps.specs.cascades.Letters.{AllSentBy}
+use Rattle.tree_steps.specs.cascades.Messages.{AllSentBy}
 use Rattle.tree_steps.proofs.cascades.Ends.{EndsDecided, ends_front, ends_more, none_reopens}
 use Rattle.tree_steps.proofs.cascades.Fails.{OwnFront, as_front, front_of}
 use Rattle.tree_steps.proofs.cascades.Faults as faults
 use Rattle.tree_steps.proofs.cascades.Halves.{OwnHalf, as_child, own_half_at}
-use Rattle.tree_steps.proofs.cascades.Letters.{hears, wire_behind}
+use Rattle.tree_steps.proofs.cascades.Messages.{hears, wire_behind}
 use Rattle.tree_steps.proofs.cascades.Opens.{live, open_by_phase}
 use Rattle.tree_steps.proofs.cascades.ReadCases.{Reads, said_read}
 use Rattle.tree_steps.proofs.cascades.ReadSteps.{Keeps}

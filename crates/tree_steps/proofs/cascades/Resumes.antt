@@ -28,7 +28,7 @@ use Rattle.tree_nodes.specs.WorldHolds.{is_record_of}
 use Rattle.tree_nodes.proofs.GivenCases.{same_of}
 use Rattle.tree_nodes.proofs.RootLogs.{recorded_case, recorded_stands}
 use Rattle.tree_nodes.proofs.Worlds.{has_other}
-use Rattle.tree_steps.proofs.cascades.Letters.{nothing, said_by}
+use Rattle.tree_steps.proofs.cascades.Messages.{nothing, said_by}
 
 or-none : (a b : Bool) → a ≡ false → b ≡ false → (a || b) ≡ false
 or-none a b e f = grind arith
@@ -36,7 +36,7 @@ or-none a b e f = grind arith
 or-false : (a : Bool) → (a || false) ≡ a
 or-false a = grind arith
 
--- a test that no letter of a restart passes
+-- a test that no message of a restart passes
 module _ (q : Message → Bool) (no_commit : (x : Case) → q (Commit x) ≡ false)
     (no_abort : (x : Case) → q (Abort x) ≡ false)
     (no_inquiry : (x : Case) → q (Inquire x) ≡ false) (me p : ProcessId) (rs : List Record) where

@@ -67,7 +67,7 @@ root_given y (l ∷ ls) e = elim (either (gives_case (root_case y) l.message) _ 
     no_message m f = absurd (cc)
 
 module _ (c : Case) where
-  -- letters down
+  -- messages down
   pub each_unread : (s : Seat) (o : Outcome) (ts : List Ticket)
       → sent (is_read_message c) (each s (tells_outcome o) ts) ≡ false
   unfolding sent
@@ -82,11 +82,11 @@ module _ (c : Case) where
   prepares_unread s v [] = refl
   prepares_unread s v (t ∷ ts) = prepares_unread s v ts
 
-  letter_unread : (me q : ProcessId) (o : Outcome) (e : Case)
+  message_unread : (me q : ProcessId) (o : Outcome) (e : Case)
       → sent (is_read_message c) (post me q (tells_outcome o e) ∷ []) ≡ false
   unfolding sent
-  letter_unread me q CommittedOutcome e = refl
-  letter_unread me q AbortedOutcome e = refl
+  message_unread me q CommittedOutcome e = refl
+  message_unread me q AbortedOutcome e = refl
 
   ack_unread : (me q : ProcessId) (x : Case) (o : Outcome) (ls : List Envelope)
       → sent (is_read_message c) ls ≡ false
@@ -292,7 +292,7 @@ module _ (me p : ProcessId) (tree : List TreeEntry) (n : Node) (h : Heard) (net 
   row_words x r (acknowledges o i e) = unread (row_effect x r) refl refl refl
   row_words x r (waits_for_acks u o i e f g) = unread (row_effect x r) refl refl refl
   row_words x r (ends u o i e f g) = unread (row_effect x r) refl refl refl
-  row_words x r (answers u o i e) = unread (row_effect x r) (letter_unread c me u.child o _) refl refl
+  row_words x r (answers u o i e) = unread (row_effect x r) (message_unread c me u.child o _) refl refl
 
   pub turn_words : (e : Effect) → CoordinatorTurn place (Some p) n h e → Says e
   unfolding has sent
@@ -301,4 +301,4 @@ module _ (me p : ProcessId) (tree : List TreeEntry) (n : Node) (h : Heard) (net 
   turn_words e (begins q f i) = absurd (cc)
   turn_words e (gives_again q x u f i g) = unread e refl refl refl
   turn_words e (gives_fresh q x f i g) = unread e refl refl refl
-  turn_words e (presumes x u i f) = unread e (letter_unread c me u.child (presumed x.presumption) _) refl refl
+  turn_words e (presumes x u i f) = unread e (message_unread c me u.child (presumed x.presumption) _) refl refl

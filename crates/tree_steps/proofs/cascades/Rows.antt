@@ -20,8 +20,8 @@ use Rattle.tree_model.specs.Reactions.{row_effect, seat_of}
 use Rattle.tree_model.specs.Standings.{CoordinatorView, coordinator_view}
 use Rattle.tree_pairs.specs.turns.CoordinatorTurns.{CaseTurn, CoordinatorTurn, abort_act, abort_comes, accepts, acknowledges, answers, asks, asks_for_votes, aborts, begins, commit_act, commits, counts_vote, does_nothing, ends, finds_nobody, gives_again, gives_fresh, gives_up, hears_no, invites, of_case, passes_abort, passes_commit, prepare_comes, presumes, promises, reads_only, refuses, repeats_yes, rests, sends_work, waits_for_acks}
 use Rattle.tree_steps.proofs.cascades.Halves.{IsAside}
-use Rattle.tree_steps.proofs.cascades.Letters as letters
-use Rattle.tree_steps.proofs.cascades.Letters.{IsSilent, nothing, said_by}
+use Rattle.tree_steps.proofs.cascades.Messages as words
+use Rattle.tree_steps.proofs.cascades.Messages.{IsSilent, nothing, said_by}
 use Rattle.tree_steps.proofs.cascades.Opens.{IsRow}
 use Rattle.tree_steps.proofs.cascades.Turns.{Fine, Then, Turn, d as own_case, forced_aside, place as place_in, plain_aside, quiet_turn}
 use Rattle.tree_steps.proofs.cascades.TurnsDecided.{acknowledges_own, asks_own, passes_abort_own, passes_commit_own, refuses_own, repeats_yes_own}
@@ -43,36 +43,36 @@ module _ (turn : Turn) where
   abbrev view : Case → CoordinatorView
   view x = coordinator_view place n x
 
-  -- One letter down, or JOIN.
+  -- One message down, or JOIN.
 
-  letter_down : (o : Outcome) (x : ProcessId) (e : Case)
+  message_down : (o : Outcome) (x : ProcessId) (e : Case)
       → IsSilent c t (post t.child x (tells_outcome o e) ∷ [])
-  letter_down CommittedOutcome x e = letters.said_first c t _ [] (letters.none_silent c t)
-  letter_down AbortedOutcome x e = letters.said_first c t _ [] (letters.none_silent c t)
+  message_down CommittedOutcome x e = words.said_first c t _ [] (words.none_silent c t)
+  message_down AbortedOutcome x e = words.said_first c t _ [] (words.none_silent c t)
 
-  letter_work : (x : ProcessId) (e : Case) (k : ℕ) (op : Op)
+  message_work : (x : ProcessId) (e : Case) (k : ℕ) (op : Op)
       → IsSilent c t (post t.child x (Work e k op) ∷ [])
-  letter_work x e k op = letters.said_first c t _ [] (letters.none_silent c t)
+  message_work x e k op = words.said_first c t _ [] (words.none_silent c t)
 
   -- Rows of the pair's case.
 
   own_row : (r : Row) → CaseTurn place (Some p) n h d r → Then turn (row_effect d r)
       → Fine turn (row_effect d r)
-  own_row _ (rests i) k = quiet_turn turn _ k refl (letters.none_silent c t)
-  own_row _ (invites x i e f g) k = quiet_turn turn _ k refl (letters.join_silent c t t.child x d)
-  own_row _ (accepts u i e f) k = quiet_turn turn _ k refl (letters.none_silent c t)
-  own_row _ (sends_work x u op i e f g) k = quiet_turn turn _ k refl (letter_work u.child _ _ op)
+  own_row _ (rests i) k = quiet_turn turn _ k refl (words.none_silent c t)
+  own_row _ (invites x i e f g) k = quiet_turn turn _ k refl (words.join_silent c t t.child x d)
+  own_row _ (accepts u i e f) k = quiet_turn turn _ k refl (words.none_silent c t)
+  own_row _ (sends_work x u op i e f g) k = quiet_turn turn _ k refl (message_work u.child _ _ op)
   own_row _ (finds_nobody (commit_act x e i) f g) k = no_root c t x e
   own_row _ (finds_nobody (prepare_comes x j e i) f g) k = finds_nobody_own turn i.0 j i.1 f g k
   own_row _ (asks_for_votes PresumeAbort i e f g) k =
-      quiet_turn turn _ k refl (letters.prepares_silent c t (seat d) (view d) (view d).accepted)
+      quiet_turn turn _ k refl (words.prepares_silent c t (seat d) (view d) (view d).accepted)
   own_row _ (asks_for_votes PresumeCommit i e f g) k =
       forced_aside turn _ k (CollectingRecord d (view d).accepted) refl (λ x. refl)
       (record { no_prepare = refl; no_commit = refl; no_abort = refl })
-      (letters.prepares_silent c t (seat d) (view d) (view d).accepted)
+      (words.prepares_silent c t (seat d) (view d) (view d).accepted)
   own_row _ (gives_up _ x (abort_act y e i) f g) k = no_root c t y e
   own_row _ (gives_up _ x (abort_comes y e i) f g) k = gives_up_own turn i.0 i.1 x g f k
-  own_row _ (counts_vote u w i e f) k = quiet_turn turn _ k refl (letters.none_silent c t)
+  own_row _ (counts_vote u w i e f) k = quiet_turn turn _ k refl (words.none_silent c t)
   own_row _ (reads_only u w ys x i e f) k = reads_only_own turn u w ys x i k
   own_row _ (commits u w ys x i e f g) k = absurd (cc)
   own_row _ (promises u w ys x i e f) k =
@@ -86,11 +86,11 @@ module _ (turn : Turn) where
   own_row _ (asks i e) k = asks_own turn e k
   own_row _ (refuses j i e) k = refuses_own turn i.hears.0 j i.hears.1 e k
   own_row _ (acknowledges o i e) k = acknowledges_own turn i.hears.0 o i.hears.1 e k
-  own_row _ (waits_for_acks u o i e f g) k = quiet_turn turn _ k refl (letters.none_silent c t)
+  own_row _ (waits_for_acks u o i e f g) k = quiet_turn turn _ k refl (words.none_silent c t)
   own_row _ (ends u o i e f g) k =
       plain_aside turn _ k (EndRecord d) refl (λ x. refl)
-      (record { no_prepare = refl; no_commit = refl; no_abort = refl }) (letters.none_silent c t)
-  own_row _ (answers u o i e) k = quiet_turn turn _ k refl (letter_down o u.child _)
+      (record { no_prepare = refl; no_commit = refl; no_abort = refl }) (words.none_silent c t)
+  own_row _ (answers u o i e) k = quiet_turn turn _ k refl (message_down o u.child _)
 
   -- Rows of another case.
 
@@ -99,22 +99,22 @@ module _ (turn : Turn) where
     Silent ls = IsSilent c t ls
 
     up_yes : Silent (post t.child p (Yes x) ∷ [])
-    up_yes = letters.said_first c t _ [] (letters.none_silent c t) ∙ rw other refl
+    up_yes = words.said_first c t _ [] (words.none_silent c t) ∙ rw other refl
 
     up_no : (ls : List Envelope) → Silent ls → Silent (post t.child p (No x) ∷ ls)
-    up_no ls s = letters.said_first c t _ ls s ∙ rw other refl
+    up_no ls s = words.said_first c t _ ls s ∙ rw other refl
 
     up_read : Silent (post t.child p (Read x) ∷ [])
-    up_read = letters.said_first c t _ [] (letters.none_silent c t) ∙ rw other refl
+    up_read = words.said_first c t _ [] (words.none_silent c t) ∙ rw other refl
 
     up_ack : (o : Outcome) (ls : List Envelope) → Silent ls → Silent (post t.child p (Ack x o) ∷ ls)
-    up_ack o ls s = letters.said_first c t _ ls s ∙ rw other refl
+    up_ack o ls s = words.said_first c t _ ls s ∙ rw other refl
 
     up_inquire : Silent (post t.child p (Inquire x) ∷ [])
-    up_inquire = letters.said_first c t _ [] (letters.none_silent c t) ∙ rw other refl
+    up_inquire = words.said_first c t _ [] (words.none_silent c t) ∙ rw other refl
 
     aborts_down : (us : List Ticket) → Silent (each (seat x) Abort us)
-    aborts_down us = letters.each_silent c t (seat x) AbortedOutcome us
+    aborts_down us = words.each_silent c t (seat x) AbortedOutcome us
 
     acknowledged : (q : Presumption) (us : List Ticket)
         → Silent (acknowledges_abort (seat x) q ++ each (seat x) Abort us)
@@ -138,19 +138,19 @@ module _ (turn : Turn) where
 
     other_row : (r : Row) → CaseTurn place (Some p) n h x r → Then turn (row_effect x r)
         → Fine turn (row_effect x r)
-    other_row _ (rests i) k = quiet_turn turn _ k refl (letters.none_silent c t)
-    other_row _ (invites y i e f g) k = quiet_turn turn _ k refl (letters.join_silent c t t.child y x)
-    other_row _ (accepts u i e f) k = quiet_turn turn _ k refl (letters.none_silent c t)
-    other_row _ (sends_work y u op i e f g) k = quiet_turn turn _ k refl (letter_work u.child _ _ op)
+    other_row _ (rests i) k = quiet_turn turn _ k refl (words.none_silent c t)
+    other_row _ (invites y i e f g) k = quiet_turn turn _ k refl (words.join_silent c t t.child y x)
+    other_row _ (accepts u i e f) k = quiet_turn turn _ k refl (words.none_silent c t)
+    other_row _ (sends_work y u op i e f g) k = quiet_turn turn _ k refl (message_work u.child _ _ op)
     other_row _ (finds_nobody i f g) k = quiet_turn turn _ k refl up_read
     other_row _ (asks_for_votes PresumeAbort i e f g) k =
-        quiet_turn turn _ k refl (letters.prepares_silent c t (seat x) (view x) (view x).accepted)
+        quiet_turn turn _ k refl (words.prepares_silent c t (seat x) (view x) (view x).accepted)
     other_row _ (asks_for_votes PresumeCommit i e f g) k =
         forced_aside turn _ k (CollectingRecord x (view x).accepted) refl (λ y. refl)
         (record { no_prepare = refl; no_commit = refl; no_abort = refl })
-        (letters.prepares_silent c t (seat x) (view x) (view x).accepted)
+        (words.prepares_silent c t (seat x) (view x) (view x).accepted)
     other_row _ (gives_up why q i f g) k = quiet_turn turn _ k refl (acknowledged q (view x).accepted)
-    other_row _ (counts_vote u w i e f) k = quiet_turn turn _ k refl (letters.none_silent c t)
+    other_row _ (counts_vote u w i e f) k = quiet_turn turn _ k refl (words.none_silent c t)
     other_row _ (reads_only u w ys PresumeAbort i e f) k = quiet_turn turn _ k refl up_read
     other_row _ (reads_only u w ys PresumeCommit i e f) k =
         plain_aside turn _ k (EndRecord x) refl (λ y. refl)
@@ -169,10 +169,10 @@ module _ (turn : Turn) where
     other_row _ (passes_commit PresumeAbort i e f) k =
         forced_aside turn _ k (CommitRecord x (view x).promised) refl (λ y. refl)
         (aside_commit (view x).promised)
-        (up_ack CommittedOutcome _ (letters.each_silent c t (seat x) CommittedOutcome (view x).promised))
+        (up_ack CommittedOutcome _ (words.each_silent c t (seat x) CommittedOutcome (view x).promised))
     other_row _ (passes_commit PresumeCommit i e f) k =
         plain_aside turn _ k (CommitRecord x []) refl (λ y. refl) (aside_commit [])
-        (letters.each_silent c t (seat x) CommittedOutcome (view x).promised)
+        (words.each_silent c t (seat x) CommittedOutcome (view x).promised)
     other_row _ (passes_abort PresumeAbort i e f) k =
         plain_aside turn _ k (AbortRecord x []) refl (λ y. refl) (aside_abort [])
         (aborts_down (view x).promised)
@@ -182,13 +182,13 @@ module _ (turn : Turn) where
         (up_ack AbortedOutcome _ (aborts_down (view x).promised))
     other_row _ (repeats_yes j i e) k = quiet_turn turn _ k refl up_yes
     other_row _ (asks i e) k = quiet_turn turn _ k refl up_inquire
-    other_row _ (refuses j i e) k = quiet_turn turn _ k refl (up_no [] (letters.none_silent c t))
-    other_row _ (acknowledges o i e) k = quiet_turn turn _ k refl (up_ack o [] (letters.none_silent c t))
-    other_row _ (waits_for_acks u o i e f g) k = quiet_turn turn _ k refl (letters.none_silent c t)
+    other_row _ (refuses j i e) k = quiet_turn turn _ k refl (up_no [] (words.none_silent c t))
+    other_row _ (acknowledges o i e) k = quiet_turn turn _ k refl (up_ack o [] (words.none_silent c t))
+    other_row _ (waits_for_acks u o i e f g) k = quiet_turn turn _ k refl (words.none_silent c t)
     other_row _ (ends u o i e f g) k =
         plain_aside turn _ k (EndRecord x) refl (λ y. refl)
-        (record { no_prepare = refl; no_commit = refl; no_abort = refl }) (letters.none_silent c t)
-    other_row _ (answers u o i e) k = quiet_turn turn _ k refl (letter_down o u.child _)
+        (record { no_prepare = refl; no_commit = refl; no_abort = refl }) (words.none_silent c t)
+    other_row _ (answers u o i e) k = quiet_turn turn _ k refl (message_down o u.child _)
 
   case_row : (x : Case) (r : Row) → CaseTurn place (Some p) n h x r → Then turn (row_effect x r)
       → Fine turn (row_effect x r)
@@ -205,10 +205,10 @@ module _ (turn : Turn) where
   no_join j e r i = absurd (subst IsRow i r)
 
   pub turn_fits : (e : Effect) → CoordinatorTurn place (Some p) n h e → Then turn e → Fine turn e
-  turn_fits _ (does_nothing i) k = quiet_turn turn _ k refl (letters.none_silent c t)
+  turn_fits _ (does_nothing i) k = quiet_turn turn _ k refl (words.none_silent c t)
   turn_fits _ (of_case x r i) k = case_row x r i k
   turn_fits _ (begins q e i) k = absurd (cc)
   turn_fits _ (gives_again q x u e i f) k = no_join i.0 x row i.1
   turn_fits _ (gives_fresh q x e i f) k = no_join i.0 x row i.1
   turn_fits _ (presumes x u i e) k =
-      quiet_turn turn _ k refl (letter_down (presumed x.presumption) u.child _)
+      quiet_turn turn _ k refl (message_down (presumed x.presumption) u.child _)

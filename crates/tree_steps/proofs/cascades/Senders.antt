@@ -1,4 +1,4 @@
--- A process sends each of its letters itself.
+-- A process sends each of its messages itself.
 use Rattle.std.proofs.Common.{◌≡◌, Bool, true, false, Option, Some, None, List, [], ◌∷◌, ◌++◌, refl, sym, subst, if◌then◌else◌}
 use Rattle.std.specs.List.{flat_map}
 use Rattle.tree_model.specs.declared.names.Case.{Case}
@@ -24,7 +24,7 @@ use Rattle.tree_pairs.specs.turns.Steps.{StepOf, TurnAt, failed_in, failed_passi
 use Rattle.tree_pairs.specs.turns.LeafTurns.{LeafTurn, acknowledges, acknowledges_told, asks, decides, does_nothing, drops, forgets, gives_again, gives_fresh, notes, obeys, refuses, repeats_yes, votes_no, votes_read, votes_yes}
 use Rattle.tree_pairs.specs.turns.Written.{AllSent, Sends, Writes, down, for_act, for_child, for_parent, gives, invites, presumes, upward, writes_nothing}
 use Rattle.tree_pairs.proofs.turns.Steps.{turn_of}
-use Rattle.tree_steps.specs.cascades.Letters.{AllSentBy}
+use Rattle.tree_steps.specs.cascades.Messages.{AllSentBy}
 
 sent_by : (s : Seat) (l : Envelope) → Sends s l → l.from ≡ s.me
 sent_by s _ (down t m i) = refl

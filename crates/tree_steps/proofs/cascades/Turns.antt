@@ -26,9 +26,9 @@ use Rattle.tree_nodes.specs.WorldHolds.{AllGo, InvariantOf, IsPair}
 use Rattle.tree_nodes.proofs.Appends.{either_logs}
 use Rattle.tree_steps.proofs.children.Moves as moves
 use Rattle.tree_steps.proofs.children.Moves.{Fits}
-use Rattle.tree_steps.specs.cascades.Letters.{AllSentBy}
+use Rattle.tree_steps.specs.cascades.Messages.{AllSentBy}
 use Rattle.tree_steps.proofs.cascades.Halves.{IsAside, OwnHalf, as_child, aside, hardens, own_forced, own_half_at, own_plain, own_silent, stands_so, wrote}
-use Rattle.tree_steps.proofs.cascades.Letters.{Said, hears, nothing, said_by, wire_behind}
+use Rattle.tree_steps.proofs.cascades.Messages.{Said, hears, nothing, said_by, wire_behind}
 use Rattle.tree_steps.proofs.cascades.Opens.{IsRow, falls, live, open_by_phase}
 use Rattle.tree_steps.proofs.cascades.Readings as readings
 

@@ -13,7 +13,7 @@ use Rattle.tree_model.specs.declared.standings.Standing.TheVariants.{Unknown, Pr
 use Rattle.tree_model.specs.declared.events.Input.TheVariants.{Message as MessageInput}
 use Rattle.tree_model.specs.NameLaws.{same_case-refl}
 use Rattle.tree_model.specs.Records.{has, is_abort, is_commit, is_end, is_prepare}
-use Rattle.tree_model.specs.CoordinatorRows.{Seat, each, post, prepared_abort_by, prepared_commit_by, sends, tells_outcome, up as up_letter}
+use Rattle.tree_model.specs.CoordinatorRows.{Seat, each, post, prepared_abort_by, prepared_commit_by, sends, tells_outcome, up as up_message}
 use Rattle.tree_model.specs.Nodes.{Effect, Place, kept}
 use Rattle.tree_model.specs.Outcomes.{is_outcome_message}
 use Rattle.tree_model.specs.Reactions.{row_effect, seat_of}
@@ -28,8 +28,8 @@ use Rattle.tree_nodes.proofs.Deliveries.{was_sent}
 use Rattle.tree_steps.proofs.children.Moves as moves
 use Rattle.tree_steps.proofs.children.Moves.{Fits}
 use Rattle.tree_steps.proofs.cascades.Halves.{OwnHalf, aborts, aborts_record, commits, commits_record, hardens, stands_so}
-use Rattle.tree_steps.proofs.cascades.Letters as letters
-use Rattle.tree_steps.proofs.cascades.Letters.{Said, hears, nothing, said_by}
+use Rattle.tree_steps.proofs.cascades.Messages as words
+use Rattle.tree_steps.proofs.cascades.Messages.{Said, hears, nothing, said_by}
 use Rattle.tree_steps.proofs.cascades.Opens.{live}
 use Rattle.tree_steps.proofs.cascades.Readings as readings
 use Rattle.tree_steps.proofs.cascades.Standings.{IsOver, aborting_facts, committing_facts, prepared_facts, unknown_facts}
@@ -133,24 +133,24 @@ module _ (turn : Turn) where
 
   pub repeats_yes_own : (j k : ℕ) → h.input ≡ MessageInput j (Prepare d k)
       → (coordinator_view place n d).standing ≡ Prepared
-      → Then turn (row_effect d (sends (up_letter seat (Yes d)) (coordinator_view place n d)))
-      → Fine turn (row_effect d (sends (up_letter seat (Yes d)) (coordinator_view place n d)))
+      → Then turn (row_effect d (sends (up_message seat (Yes d)) (coordinator_view place n d)))
+      → Fine turn (row_effect d (sends (up_message seat (Yes d)) (coordinator_view place n d)))
   repeats_yes_own j k i e next =
-      closed_says (row_effect d (sends (up_letter seat (Yes d)) (coordinator_view place n d))) next refl
+      closed_says (row_effect d (sends (up_message seat (Yes d)) (coordinator_view place n d))) next refl
       (prepared_closed e) (record nothing { yes = true })
-      (letters.said_first c t (post t.child p (Yes d)) [] (letters.none_silent c t)
+      (words.said_first c t (post t.child p (Yes d)) [] (words.none_silent c t)
       ∙ rw (same_case-refl d) refl)
       (move.repeats_yes (r0 turn)) refl
       (moves.repeats_yes pr (r0 turn) inv
       (record { asked = prepare_sent turn j k i; up = up; promised = (prepared_facts place n d e).promised }))
 
   pub asks_own : (coordinator_view place n d).standing ≡ Prepared
-      → Then turn (row_effect d (sends (up_letter seat (Inquire d)) (coordinator_view place n d)))
-      → Fine turn (row_effect d (sends (up_letter seat (Inquire d)) (coordinator_view place n d)))
+      → Then turn (row_effect d (sends (up_message seat (Inquire d)) (coordinator_view place n d)))
+      → Fine turn (row_effect d (sends (up_message seat (Inquire d)) (coordinator_view place n d)))
   asks_own e next =
-      closed_says (row_effect d (sends (up_letter seat (Inquire d)) (coordinator_view place n d))) next refl
+      closed_says (row_effect d (sends (up_message seat (Inquire d)) (coordinator_view place n d))) next refl
       (prepared_closed e) (record nothing { inquire = true })
-      (letters.said_first c t (post t.child p (Inquire d)) [] (letters.none_silent c t)
+      (words.said_first c t (post t.child p (Inquire d)) [] (words.none_silent c t)
       ∙ rw (same_case-refl d) refl)
       (move.asks (r0 turn)) refl
       (moves.asks pr (r0 turn) inv (record { up = up; in_doubt = doubt_at e }))
@@ -158,8 +158,8 @@ module _ (turn : Turn) where
   ack_said : (o x : Outcome) (us : List Ticket)
       → said_by c t (post t.child p (Ack (own_case turn) o) ∷ each seat (tells_outcome x) us)
       ≡ record nothing { ack = true }
-  ack_said o x us = letters.said_first c t (post t.child p (Ack d o)) (each seat (tells_outcome x) us)
-      (letters.each_silent c t seat x us)
+  ack_said o x us = words.said_first c t (post t.child p (Ack d o)) (each seat (tells_outcome x) us)
+      (words.each_silent c t seat x us)
       ∙ rw (same_case-refl d) refl
 
   -- COMMIT comes.
@@ -197,7 +197,7 @@ module _ (turn : Turn) where
       let closed = prepared_closed e in
       let doubt = doubt_at e in
       plain_fine turn (row_effect d (prepared_commit_by seat (coordinator_view place n d) PresumeCommit)) next
-      (CommitRecord d []) refl (λ x. refl) nothing (letters.each_silent c t seat CommittedOutcome ts)
+      (CommitRecord d []) refl (λ x. refl) nothing (words.each_silent c t seat CommittedOutcome ts)
       (λ o g. subst (λ (z : Reading). Fits pr (r0 turn) z)
       (sym (ap (λ (x : OwnHalf). R turn (stands_so o x) v) (commits_record d [] b q)
       ∙ (ap (λ x. R turn (stands_so x (commits q)) v) (g ∙ stays_closed closed)
@@ -215,7 +215,7 @@ module _ (turn : Turn) where
       let closed = prepared_closed e in
       let doubt = doubt_at e in
       plain_fine turn (row_effect d (prepared_abort_by seat (coordinator_view place n d) PresumeAbort)) next
-      (AbortRecord d []) refl (λ x. refl) nothing (letters.each_silent c t seat AbortedOutcome ts)
+      (AbortRecord d []) refl (λ x. refl) nothing (words.each_silent c t seat AbortedOutcome ts)
       (λ o g. subst (λ (z : Reading). Fits pr (r0 turn) z)
       (sym (ap (λ (x : OwnHalf). R turn (stands_so o x) v) (aborts_record d [] b q)
       ∙ (ap (λ x. R turn (stands_so o (aborts x q)) v) (promise_written doubt.prepared)
@@ -290,13 +290,13 @@ module _ (turn : Turn) where
 
   pub refuses_own : (j k : ℕ) → h.input ≡ MessageInput j (Prepare d k)
       → Refuses (coordinator_view place n d).standing
-      → Then turn (row_effect d (sends (up_letter seat (No d)) (coordinator_view place n d)))
-      → Fine turn (row_effect d (sends (up_letter seat (No d)) (coordinator_view place n d)))
+      → Then turn (row_effect d (sends (up_message seat (No d)) (coordinator_view place n d)))
+      → Fine turn (row_effect d (sends (up_message seat (No d)) (coordinator_view place n d)))
   refuses_own j k i e next =
       let over = refused_over (coordinator_view place n d).standing refl e in
-      closed_says (row_effect d (sends (up_letter seat (No d)) (coordinator_view place n d))) next refl over.0
+      closed_says (row_effect d (sends (up_message seat (No d)) (coordinator_view place n d))) next refl over.0
       (record nothing { no = true })
-      (letters.said_first c t (post t.child p (No d)) [] (letters.none_silent c t)
+      (words.said_first c t (post t.child p (No d)) [] (words.none_silent c t)
       ∙ rw (same_case-refl d) refl)
       (move.refuses (r0 turn)) refl
       (moves.refuses pr (r0 turn) inv
@@ -305,13 +305,13 @@ module _ (turn : Turn) where
   -- An outcome that it knows, or of which nothing is known, is acknowledged.
 
   acks : (o : Outcome) → q.is_open ≡ false → Fits pr (r0 turn) (move.acknowledges (r0 turn))
-      → Then turn (row_effect d (sends (up_letter seat (Ack d o)) (coordinator_view place n d)))
-      → Fine turn (row_effect d (sends (up_letter seat (Ack d o)) (coordinator_view place n d)))
+      → Then turn (row_effect d (sends (up_message seat (Ack d o)) (coordinator_view place n d)))
+      → Fine turn (row_effect d (sends (up_message seat (Ack d o)) (coordinator_view place n d)))
   acks o closed fits next =
-      closed_says (row_effect d (sends (up_letter seat (Ack d o))
+      closed_says (row_effect d (sends (up_message seat (Ack d o))
       (coordinator_view place n d))) next refl closed
       (record nothing { ack = true })
-      (letters.said_first c t (post t.child p (Ack d o)) [] (letters.none_silent c t)
+      (words.said_first c t (post t.child p (Ack d o)) [] (words.none_silent c t)
       ∙ rw (same_case-refl d) refl)
       (move.acknowledges (r0 turn)) refl fits
 
@@ -374,8 +374,8 @@ module _ (turn : Turn) where
 
   pub acknowledges_own : (j : ℕ) (o : Outcome) → h.input ≡ MessageInput j (tells_outcome o d)
       → Acknowledges o d.txn.presumption (coordinator_view place n d).standing
-      → Then turn (row_effect d (sends (up_letter seat (Ack d o)) (coordinator_view place n d)))
-      → Fine turn (row_effect d (sends (up_letter seat (Ack d o)) (coordinator_view place n d)))
+      → Then turn (row_effect d (sends (up_message seat (Ack d o)) (coordinator_view place n d)))
+      → Fine turn (row_effect d (sends (up_message seat (Ack d o)) (coordinator_view place n d)))
   acknowledges_own j o i a next =
       let f = acknowledges_by j o i d.txn.presumption refl (coordinator_view place n d).standing refl a in
       acks o f.0 f.1 next

@@ -30,8 +30,8 @@ use Rattle.tree_steps.proofs.children.Moves as moves
 use Rattle.tree_steps.proofs.children.Moves.{Fits}
 use Rattle.tree_steps.proofs.cascades.Closings.{first_closes, last_closes, phase_asked}
 use Rattle.tree_steps.proofs.cascades.Halves.{OwnHalf, aborts, aborts_record, aside, hardens, promises, promises_record, stands_so}
-use Rattle.tree_steps.proofs.cascades.Letters as letters
-use Rattle.tree_steps.proofs.cascades.Letters.{Said, hears, nothing, said_by}
+use Rattle.tree_steps.proofs.cascades.Messages as words
+use Rattle.tree_steps.proofs.cascades.Messages.{Said, hears, nothing, said_by}
 use Rattle.tree_steps.proofs.cascades.Opens as opens
 use Rattle.tree_steps.proofs.cascades.Opens.{live}
 use Rattle.tree_steps.proofs.cascades.Readings as readings
@@ -94,7 +94,7 @@ module _ (turn : Turn) where
   -- The promise.
 
   yes_said : said_by c t (post t.child p (Yes (own_case turn)) ∷ []) ≡ record nothing { yes = true }
-  yes_said = letters.said_first c t (post t.child p (Yes d)) [] (letters.none_silent c t)
+  yes_said = words.said_first c t (post t.child p (Yes d)) [] (words.none_silent c t)
       ∙ rw (same_case-refl d) refl
 
   pub promises_own : (u : Ticket) (w : Vote) (ys : List Ticket) → CountsLast place n h d u w ys
@@ -145,15 +145,15 @@ module _ (turn : Turn) where
 
   no_said : (us : List Ticket) → said_by c t (post t.child p (No (own_case turn)) ∷ each seat Abort us)
       ≡ record nothing { no = true }
-  no_said us = letters.said_first c t (post t.child p (No d)) (each seat Abort us)
-      (letters.each_silent c t seat AbortedOutcome us)
+  no_said us = words.said_first c t (post t.child p (No d)) (each seat Abort us)
+      (words.each_silent c t seat AbortedOutcome us)
       ∙ rw (same_case-refl d) refl
 
   ack_said : (us : List Ticket) → said_by c t (post t.child p
       (Ack (own_case turn) AbortedOutcome) ∷ each seat Abort us)
       ≡ record nothing { ack = true }
-  ack_said us = letters.said_first c t (post t.child p (Ack d AbortedOutcome)) (each seat Abort us)
-      (letters.each_silent c t seat AbortedOutcome us)
+  ack_said us = words.said_first c t (post t.child p (Ack d AbortedOutcome)) (each seat Abort us)
+      (words.each_silent c t seat AbortedOutcome us)
       ∙ rw (same_case-refl d) refl
 
   -- the first NO
@@ -207,7 +207,7 @@ module _ (turn : Turn) where
       (coordinator_view place n d) us PresumeAbort))
       next [] refl (abort_heard j i) nothing
       (ap (λ (y : Presumption). said_by c t (acknowledges_abort seat y ++ each seat Abort us)) f
-      ∙ letters.each_silent c t seat AbortedOutcome us) (move.drops (r0 turn))
+      ∙ words.each_silent c t seat AbortedOutcome us) (move.drops (r0 turn))
       (readings.reading-aborted root outcome above half q v is_open s.issued s.none_kept s.none_ever
       s.no_read b)
       (moves.drops pr (r0 turn) inv (record { is_open = rw (s.issued, is_open) refl }))
@@ -238,7 +238,7 @@ module _ (turn : Turn) where
       let is_open = open_at turn Active e (inl refl) in
       let s = silent_aborted j i is_open in
       silent_fine turn (row_effect d (GivesUp PresumeAbort)) next refl nothing
-      (letters.each_silent c t seat AbortedOutcome (coordinator_view place n d).accepted)
+      (words.each_silent c t seat AbortedOutcome (coordinator_view place n d).accepted)
       (λ o g. subst (λ (z : Reading). Fits pr (r0 turn) z)
       (sym (ap (λ x. R turn (stands_so x q) v) (g ∙ abort_heard j i)
       ∙ readings.reading-dropped root outcome above half q v is_open s.issued s.none_kept s.none_ever

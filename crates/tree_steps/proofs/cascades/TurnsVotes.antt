@@ -25,8 +25,8 @@ use Rattle.tree_steps.proofs.children.Moves as moves
 use Rattle.tree_steps.proofs.children.Moves.{Fits}
 use Rattle.tree_steps.proofs.cascades.Closings as closings
 use Rattle.tree_steps.proofs.cascades.Halves.{OwnHalf, stands_so}
-use Rattle.tree_steps.proofs.cascades.Letters as letters
-use Rattle.tree_steps.proofs.cascades.Letters.{Said, nothing, said_by}
+use Rattle.tree_steps.proofs.cascades.Messages as words
+use Rattle.tree_steps.proofs.cascades.Messages.{Said, nothing, said_by}
 use Rattle.tree_steps.proofs.cascades.Readings as readings
 use Rattle.tree_steps.proofs.cascades.Turns.{Fine, R, Then, Turn, d as own_case, place as place_in, q as half_in, r0, silent_fine, v as wire_in}
 
@@ -111,7 +111,7 @@ module _ (turn : Turn) where
   said_read = record nothing { read = true }
 
   pub read_said : said_by c t (post t.child p (Read (child_case c.txn t)) ∷ []) ≡ said_read
-  read_said = letters.said_first c t (post t.child p (Read d)) [] (letters.none_silent c t)
+  read_said = words.said_first c t (post t.child p (Read d)) [] (words.none_silent c t)
       ∙ rw (same_case-refl d) refl
 
   pub read_moves : v.prepare ≡ true → q.is_open ≡ true → (o : Bool) → o ≡ false

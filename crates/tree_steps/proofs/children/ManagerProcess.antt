@@ -37,7 +37,7 @@ use Rattle.tree_nodes.proofs.Yesses.{nets_go}
 use Rattle.tree_steps.specs.children.ManagerProcess.{ManagerProcess}
 use Rattle.tree_steps.proofs.children.ManagerSteps.{step_fits}
 use Rattle.tree_steps.proofs.children.Moves.{Fits}
-use Rattle.tree_steps.proofs.children.OwnLetters.{AllOwnLetters, quiet_letters, resumes_letters, turn_letters}
+use Rattle.tree_steps.proofs.children.OwnMessages.{AllOwnMessages, quiet_messages, resumes_messages, turn_messages}
 
 -- a manager has no case of a parent
 no_parent : {A : Type 0} (tree : List TreeEntry) (c : Case) (q p : ProcessId) → role_of tree q ≡ AtLeaf p
@@ -117,19 +117,19 @@ module _ (q p : ProcessId) (tree : List TreeEntry) (n : Node) (net : List Envelo
         | inr new ↦ opened_none d j new
       ]
 
-  letters : (e : Effect) (k : Node) → StepOf place n m e k → AllOwnLetters q e.messages
-  letters _ _ (handled i g hp np r) =
-      turn_letters q p tree n open_own (heard_in m i) net goes
+  own_messages : (e : Effect) (k : Node) → StepOf place n m e k → AllOwnMessages q e.messages
+  own_messages _ _ (handled i g hp np r) =
+      turn_messages q p tree n open_own (heard_in m i) net goes
       (subst (λ (x : Happening). Stands net q x) hp stands) g
       (turn_of place n (heard_in m i) g r).turn
-  letters _ _ (failed_in i f g fl hp np r) = tt
-  letters _ _ (passed i hp r) = tt
-  letters _ _ (failed_passing i f fl hp r) = tt
-  letters _ _ (reopened j hp) = resumes_letters q p (left_of n j ++ reopens (AtLeaf p) (left_of n j))
+  own_messages _ _ (failed_in i f g fl hp np r) = tt
+  own_messages _ _ (passed i hp r) = tt
+  own_messages _ _ (failed_passing i f fl hp r) = tt
+  own_messages _ _ (reopened j hp) = resumes_messages q p (left_of n j ++ reopens (AtLeaf p) (left_of n j))
       (left_own j)
-  letters _ _ (failed_reopening j f fl hp) = tt
-  letters _ _ (trimmed hp up) = tt
-  letters _ _ (failed_trimming f fl hp up) = tt
+  own_messages _ _ (failed_reopening j f fl hp) = tt
+  own_messages _ _ (trimmed hp up) = tt
+  own_messages _ _ (failed_trimming f fl hp up) = tt
 
   pub process_step : (e : Effect) (k : Node) → StepOf place n m e k
       → ChildStep place net e.messages n k
@@ -138,7 +138,7 @@ module _ (q p : ProcessId) (tree : List TreeEntry) (n : Node) (net : List Envelo
     child_step e k s,
     (
       record { follows = λ c t pair same. no_parent tree c q p leaf pair.parent.role same },
-      record { quiet = λ c t pair parent child. quiet_letters q c t parent child e.messages (letters e k s) },
+      record { quiet = λ c t pair parent child. quiet_messages q c t parent child e.messages (own_messages e k s) },
     ),
   )
 

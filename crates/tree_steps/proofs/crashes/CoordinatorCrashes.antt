@@ -8,18 +8,17 @@ use Rattle.tree_model.specs.declared.standings.Vote.TheVariants.{Yes as VoteYes}
 use Rattle.tree_model.specs.declared.trees.TreeEntry.{TreeEntry}
 use Rattle.tree_model.specs.Names.{process_of}
 use Rattle.tree_model.specs.Records.{has, is_prepare}
-use Rattle.tree_model.specs.Nodes.{AtLeaf, AtRoot, Below, Effect, Node, Place, Role, place_of, role_of}
+use Rattle.tree_model.specs.Nodes.{AtLeaf, AtRoot, Below, Effect, Node, Place, Role, place_of, role_of, IsCoordinator}
 use Rattle.tree_model.specs.Outcomes.{has_accepted, has_heard_vote, is_read_message, sent}
 use Rattle.tree_model.specs.Restarts.{trim_fails}
 use Rattle.tree_model.specs.Trees.{IsTree}
 use Rattle.tree_model.specs.Views.{root_place}
 use Rattle.tree_model.specs.World.{IsRun, Made, Move, Stands, World, makes, put_at, world_makes}
 use Rattle.tree_model.proofs.RunLaws.{makes_at}
-use Rattle.tree_pairs.specs.readings.ReadingOf.{is_vote}
+use Rattle.tree_model.specs.Memory.{same_vote}
 use Rattle.tree_pairs.proofs.readings.ReadingSteps.{same_process-refl}
 use Rattle.tree_pairs.specs.turns.Steps.{StepOf, handled, failed_in, passed, failed_passing, reopened, failed_reopening, trimmed, failed_trimming}
 use Rattle.tree_pairs.proofs.turns.Steps.{step_of}
-use Rattle.tree_nodes.specs.CaseOrder.{IsCoordinator}
 use Rattle.tree_nodes.specs.ProcessSteps.{ParentStep}
 use Rattle.tree_nodes.specs.WorldHolds.{Coordinates, RoleHolds, WorldHolds, has_begun, pair_reading}
 use Rattle.tree_nodes.proofs.CoordinatorLogs.{all_fit}
@@ -46,7 +45,7 @@ reads_not : (tree : List TreeEntry) (w : World) → WorldHolds tree w → (me : 
     → (c : Case) → sent (is_read_message c) w.net ≡ true → has (is_prepare c) (w.at me).life ≡ false
 reads_not tree w h me co voted c read = by_test (has (is_prepare c) (w.at me).life) refl
   where
-    contradicts : (t : Ticket) → has_heard_vote (w.at me) c t (is_vote VoteYes) ≡ true
+    contradicts : (t : Ticket) → has_heard_vote (w.at me) c t (same_vote VoteYes) ≡ true
         → has (is_prepare c) (w.at me).life ≡ false
     contradicts t yes' =
         let accepted = co.voted_accepted c t VoteYes yes' in
@@ -58,7 +57,7 @@ reads_not tree w h me co voted c read = by_test (has (is_prepare c) (w.at me).li
         (sym joined.0) p in
         let first = common.read_has_reads read (here (λ n. has_accepted n c t ≡ true) accepted) in
         ends (sym first ∙ (common.yes_was_sent
-        (here (λ n. has_heard_vote n c t (is_vote VoteYes) ≡ true) yes')).1)
+        (here (λ n. has_heard_vote n c t (same_vote VoteYes) ≡ true) yes')).1)
 
     by_test : (b : Bool) → has (is_prepare c) (w.at me).life ≡ b → has (is_prepare c) (w.at me).life ≡ false
     by_test true e = let v = voted c e in contradicts v.ticket v.heard

@@ -18,22 +18,20 @@ use Rattle.tree_model.specs.declared.trees.TreeEntry.{TreeEntry}
 use Rattle.tree_model.specs.Names.{same_case, same_ticket}
 use Rattle.tree_model.specs.NameLaws.{same_case-refl, same_ticket-refl}
 use Rattle.tree_model.specs.Records.{has, in_list, is_prepare, none_of}
-use Rattle.tree_model.specs.Nodes.{AtLeaf, AtRoot, Below, Effect, Heard, Node, Place, Role, after, entries_written, fails_in, kept, place_of, role_of}
-use Rattle.tree_model.specs.Memory.{memory_of, voted_so, yes_of}
+use Rattle.tree_model.specs.Nodes.{AtLeaf, AtRoot, Below, Effect, Heard, Node, Place, Role, after, entries_written, fails_in, kept, place_of, role_of, IsCoordinator}
+use Rattle.tree_model.specs.Memory.{memory_of, voted_so, yes_of, same_vote}
 use Rattle.tree_model.specs.Standings.{coordinator_view, view_at}
 use Rattle.tree_model.specs.CoordinatorRows.{Row}
 use Rattle.tree_model.specs.Reactions.{Does, reacts, row_effect}
 use Rattle.tree_model.specs.Restarts.{reopens, restart_fails, restarted, trim_fails, trims}
 use Rattle.tree_model.specs.World.{IsRun, Made, Move, World, makes, opens}
 use Rattle.tree_model.proofs.RunLaws.{makes_at}
-use Rattle.tree_pairs.specs.readings.ReadingOf.{is_vote}
 use Rattle.tree_pairs.proofs.readings.Named.{in_list-yes}
 use Rattle.tree_pairs.specs.turns.CoordinatorTurns.{Consents, votes_yes, votes_read, CountsLast, CaseTurn, rests, invites, accepts, sends_work, finds_nobody, asks_for_votes, gives_up, counts_vote, reads_only, commits, promises, hears_no, aborts, passes_commit, passes_abort, repeats_yes, asks, refuses, acknowledges, waits_for_acks, ends, answers, CoordinatorTurn, does_nothing, of_case, begins, gives_again, gives_fresh, presumes}
 use Rattle.tree_pairs.specs.turns.Steps.{StepOf, heard_in, handled, failed_in, passed, failed_passing, reopened, failed_reopening, trimmed, failed_trimming}
 use Rattle.tree_pairs.proofs.turns.CoordinatorReactions.{CoordinatorTurnAt, coordinator_turn_of}
 use Rattle.tree_pairs.proofs.turns.Operators.{reopens_none}
 use Rattle.tree_pairs.proofs.turns.Steps.{step_of, turn_of}
-use Rattle.tree_nodes.specs.CaseOrder.{IsCoordinator}
 use Rattle.tree_nodes.specs.WorldHolds.{Coordinates}
 use Rattle.tree_nodes.proofs.Cases.{viewed}
 use Rattle.tree_nodes.proofs.CoordinatorsHold.{coordinators_hold}
@@ -45,7 +43,7 @@ use Rattle.tree_steps.proofs.crashes.Trimmed.{no_data}
 -- a YES of a ticket was counted in the case
 pub record VotedYes (c : Case) (votes : List (Case × (Ticket × Vote))) : Type 0 where
   pub ticket : Ticket
-  pub heard : list_any (λ a. same_case a.0 c && (same_ticket a.1.0 ticket && is_vote VoteYes a.1.1)) votes
+  pub heard : list_any (λ a. same_case a.0 c && (same_ticket a.1.0 ticket && same_vote VoteYes a.1.1)) votes
       ≡ true
 
 more_votes : (c : Case) (us vs : List (Case × (Ticket × Vote))) → VotedYes c vs → VotedYes c (us ++ vs)

@@ -7,13 +7,12 @@ use Rattle.tree_model.specs.declared.names.Ticket.{Ticket}
 use Rattle.tree_model.specs.declared.records.Record.{Record}
 use Rattle.tree_model.specs.declared.records.Record.TheVariants.{Opened}
 use Rattle.tree_model.specs.Records.{has, none_of, boot_of, owing_by, record_case, is_collecting, is_prepare, is_commit, is_abort, is_end}
-use Rattle.tree_model.specs.Nodes.{Role, AtRoot, Below, AtLeaf}
+use Rattle.tree_model.specs.Nodes.{Role, AtRoot, Below, AtLeaf, IsCoordinator}
 use Rattle.tree_model.specs.Memory.{Idle}
 use Rattle.tree_model.specs.Standings.{phase_standing, standing_by}
 use Rattle.tree_model.specs.Restarts.{case_stays, data_records, is_known, recorded_view, staying, trimmed}
 use Rattle.tree_pairs.specs.readings.ReadingOf.{is_collecting_naming, is_prepare_naming, is_decision_naming}
 use Rattle.tree_pairs.proofs.readings.Trimmed.{Gone}
-use Rattle.tree_nodes.specs.CaseOrder.{IsCoordinator}
 use Rattle.tree_nodes.specs.WorldHolds.{is_record_of}
 use Rattle.tree_nodes.proofs.Tests.{has-nil, not_both}
 use Rattle.tree_nodes.proofs.RootLogs.{known_stays, recorded_stands}

@@ -9,7 +9,7 @@ use Rattle.tree_model.specs.declared.events.Happening.TheVariants.{Input as Hand
 use Rattle.tree_model.specs.declared.events.Input.{Input}
 use Rattle.tree_model.specs.declared.events.Input.TheVariants.{Act as ActInput, Message as MessageInput}
 use Rattle.tree_model.specs.declared.trees.TreeEntry.{TreeEntry}
-use Rattle.tree_model.specs.Nodes.{Place, Role, AtRoot, Below, AtLeaf, Node, Heard, Effect, fails_in, is_listed, place_of, role_of}
+use Rattle.tree_model.specs.Nodes.{Place, Role, AtRoot, Below, AtLeaf, Node, Heard, Effect, fails_in, is_listed, place_of, role_of, IsCoordinator}
 use Rattle.tree_model.specs.Memory.{memory_of}
 use Rattle.tree_model.specs.Reactions.{is_early_ack, passes_at}
 use Rattle.tree_model.specs.World.{World, Made, Move, IsRun, Stands, InputStands}
@@ -18,7 +18,6 @@ use Rattle.tree_pairs.specs.readings.ReadingOf.{ChildHalf, ParentHalf, Wire, is_
 use Rattle.tree_pairs.specs.turns.Steps.{StepOf, heard_in, handled, failed_in, passed, failed_passing, reopened, failed_reopening, trimmed, failed_trimming}
 use Rattle.tree_pairs.proofs.turns.Steps.{step_of, turn_of}
 use Rattle.tree_pairs.proofs.turns.CoordinatorReactions.{CoordinatorTurnAt, coordinator_turn_of}
-use Rattle.tree_nodes.specs.CaseOrder.{IsCoordinator}
 use Rattle.tree_nodes.specs.ProcessSteps.{outcome_in, ParentStep}
 use Rattle.tree_nodes.specs.WorldHolds.{Coordinates, WorldHolds}
 use Rattle.tree_nodes.proofs.Unlisted.{makes_listed}

@@ -16,14 +16,14 @@ use Rattle.tree_model.specs.declared.standings.Vote.TheVariants.{Yes as VoteYes,
 use Rattle.tree_model.specs.Names.{same_case, child_case, root_case}
 use Rattle.tree_model.specs.NameLaws.{same_case_tells}
 use Rattle.tree_model.specs.Nodes.{Effect, entries_written, fails_in, kept, no_effect}
-use Rattle.tree_model.specs.Memory.{Phase, Open, Asked, Over, active_ticket, all_voted, has_child, memory_of}
+use Rattle.tree_model.specs.Memory.{Phase, Open, Asked, Over, active_ticket, all_voted, has_child, memory_of, same_vote}
 use Rattle.tree_model.specs.CoordinatorRows.{Row}
 use Rattle.tree_model.specs.Reactions.{row_effect}
 use Rattle.tree_model.specs.Views.{begin_effect}
 use Rattle.tree_pairs.specs.Reading.{is_live}
 use Rattle.tree_pairs.specs.RootMoves as at_top
 use Rattle.tree_pairs.specs.ParentCrash as crash
-use Rattle.tree_pairs.specs.readings.ReadingOf.{ParentHalf, ChildHalf, Wire, reading_from, is_begun, is_dead, is_vote}
+use Rattle.tree_pairs.specs.readings.ReadingOf.{ParentHalf, ChildHalf, Wire, reading_from, is_begun, is_dead}
 use Rattle.tree_pairs.specs.turns.CoordinatorTurns.{CaseTurn, CoordinatorTurn}
 use Rattle.tree_pairs.specs.turns.CoordinatorTurns as turns
 use Rattle.tree_pairs.specs.turns.LeafTurns.{Hears as HearsMessage}
@@ -172,9 +172,9 @@ module _ (turn : Turn) where
     heard_nothing row =
         rw (
           elsewhere.other_accepts c d t row.accepts other,
-          elsewhere.other_counts c d t (is_vote VoteYes) row.counts other,
-          elsewhere.other_counts c d t (is_vote VoteNo) row.counts other,
-          elsewhere.other_counts c d t (is_vote VoteRead) row.counts other,
+          elsewhere.other_counts c d t (same_vote VoteYes) row.counts other,
+          elsewhere.other_counts c d t (same_vote VoteNo) row.counts other,
+          elsewhere.other_counts c d t (same_vote VoteRead) row.counts other,
         )
         refl
 

@@ -10,14 +10,13 @@ use Rattle.tree_model.specs.declared.standings.Standing.TheVariants.{Unknown, Ac
 use Rattle.tree_model.specs.declared.standings.Vote.TheVariants.{Yes as VoteYes, No as VoteNo, Read as VoteRead}
 use Rattle.tree_model.specs.Names.{same_txn}
 use Rattle.tree_model.specs.Records.{has, in_list, is_collecting, is_prepare, is_commit, is_abort, is_end}
-use Rattle.tree_model.specs.Nodes.{Place, Role, AtRoot, Below, AtLeaf, Node, kept}
-use Rattle.tree_model.specs.Memory.{Memory, Phase as MemoryPhase, Idle, Open, Asked, Over, memory_of, has_acked}
+use Rattle.tree_model.specs.Nodes.{Place, Role, AtRoot, Below, AtLeaf, Node, kept, IsCoordinator}
+use Rattle.tree_model.specs.Memory.{Memory, Phase as MemoryPhase, Idle, Open, Asked, Over, memory_of, has_acked, same_vote}
 use Rattle.tree_model.specs.Outcomes.{has_accepted, has_heard_vote, follows, is_told_aborted}
 use Rattle.tree_model.specs.Standings.{coordinator_view, standing_in, standing_of, phase_standing}
 use Rattle.tree_model.specs.Views.{IsOpenAlike}
 use Rattle.tree_pairs.specs.Reading.{Phase, Active, Collecting, Closed}
-use Rattle.tree_pairs.specs.readings.ReadingOf.{ParentHalf, parent_half, parent_half_at, phase_by, is_begun, is_vote, acknowledged, is_told_committed, is_told_of_txn, is_collecting_naming, is_prepare_naming, is_decision_naming}
-use Rattle.tree_nodes.specs.CaseOrder.{IsCoordinator}
+use Rattle.tree_pairs.specs.readings.ReadingOf.{ParentHalf, parent_half, parent_half_at, phase_by, is_begun, acknowledged, is_told_committed, is_told_of_txn, is_collecting_naming, is_prepare_naming, is_decision_naming}
 use Rattle.tree_nodes.proofs.Cases.{viewed}
 use Rattle.tree_nodes.proofs.Phases.{standing_at, active_unrecorded, unrecorded_stands}
 
@@ -40,9 +39,9 @@ half_of ph accepted acked n c t = record {
   accepted = accepted;
   acked = acked;
   took_part = has_accepted n c t;
-  first_yes = has_heard_vote n c t (is_vote VoteYes);
-  first_no = has_heard_vote n c t (is_vote VoteNo);
-  first_read = has_heard_vote n c t (is_vote VoteRead);
+  first_yes = has_heard_vote n c t (same_vote VoteYes);
+  first_no = has_heard_vote n c t (same_vote VoteNo);
+  first_read = has_heard_vote n c t (same_vote VoteRead);
   told_committed = list_any (is_told_committed c.txn) n.told;
   told_aborted = list_any (is_told_aborted c.txn) n.told;
   begun = is_begun ph || list_any (is_told_of_txn c.txn) n.told || list_any

@@ -16,14 +16,14 @@ use Rattle.tree_model.specs.Names.{same_case, same_ticket, same_txn, root_case}
 use Rattle.tree_model.specs.NameLaws.{same_case-refl, same_txn-refl, names}
 use Rattle.tree_model.specs.Records.{has, in_list, is_commit, none_of}
 use Rattle.tree_model.specs.Nodes.{Role, Effect, kept}
-use Rattle.tree_model.specs.Memory.{Memory, Phase, Idle, Open, Asked, Over, memory_of, asks_votes, closes, retires}
+use Rattle.tree_model.specs.Memory.{Memory, Phase, Idle, Open, Asked, Over, memory_of, asks_votes, closes, retires, same_vote}
 use Rattle.tree_model.specs.CoordinatorRows.{Reason, told_by}
 use Rattle.tree_model.specs.Outcomes.{is_told_aborted}
 use Rattle.tree_model.specs.Reactions.{told_of}
 use Rattle.tree_model.specs.Standings.{CoordinatorView, coordinator_view, case_of_child, belongs, own_cases}
 use Rattle.tree_pairs.specs.Reading as pair
 use Rattle.tree_pairs.specs.Invariant.{Common}
-use Rattle.tree_pairs.specs.readings.ReadingOf.{ParentHalf, is_root_ticket, is_told_committed, is_told_of_txn, is_begun, is_vote}
+use Rattle.tree_pairs.specs.readings.ReadingOf.{ParentHalf, is_root_ticket, is_told_committed, is_told_of_txn, is_begun}
 use Rattle.tree_pairs.specs.turns.CoordinatorTurns.{IsToCommit, IsToAbort, HearsChild, CountsVote, voted}
 use Rattle.tree_pairs.specs.turns.CoordinatorTurns as turns
 use Rattle.tree_steps.proofs.children.Moves.{common_of}
@@ -47,9 +47,9 @@ or-false a = grind arith
 -- the ticket's first vote was heard
 abbrev pub heard : Vote → Bool → ParentHalf → ParentHalf
 heard w b p = record p {
-  first_yes = (b && is_vote VoteYes w) || p.first_yes;
-  first_no = (b && is_vote VoteNo w) || p.first_no;
-  first_read = (b && is_vote VoteRead w) || p.first_read;
+  first_yes = (b && same_vote VoteYes w) || p.first_yes;
+  first_no = (b && same_vote VoteNo w) || p.first_no;
+  first_read = (b && same_vote VoteRead w) || p.first_read;
 }
 
 abbrev pub told_so : Bool → Bool → ParentHalf → ParentHalf

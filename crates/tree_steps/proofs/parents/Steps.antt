@@ -10,7 +10,7 @@ use Rattle.tree_model.specs.declared.events.Input.{Input}
 use Rattle.tree_model.specs.declared.trees.TreeEntry.{TreeEntry}
 use Rattle.tree_model.specs.Names.{process_of, same_case}
 use Rattle.tree_model.specs.NameLaws.{same_case_tells}
-use Rattle.tree_model.specs.Nodes.{Place, Role, AtRoot, Below, AtLeaf, Node, Heard, Effect, after, entries_written, is_any_forced, is_listed, place_of, role_of}
+use Rattle.tree_model.specs.Nodes.{Place, Role, AtRoot, Below, AtLeaf, Node, Heard, Effect, after, entries_written, is_any_forced, is_listed, place_of, role_of, IsCoordinator}
 use Rattle.tree_model.specs.Memory.{memory_of}
 use Rattle.tree_model.specs.Outcomes.{sent}
 use Rattle.tree_model.specs.Reactions.{row_effect}
@@ -24,7 +24,6 @@ use Rattle.tree_pairs.specs.turns.CoordinatorTurns as turns
 use Rattle.tree_pairs.specs.turns.Steps.{StepOf, heard_in, handled, failed_in, passed, failed_passing, reopened, failed_reopening, trimmed, failed_trimming}
 use Rattle.tree_pairs.proofs.turns.Steps.{step_of, turn_of}
 use Rattle.tree_pairs.proofs.turns.CoordinatorReactions.{CoordinatorTurnAt, coordinator_turn_of}
-use Rattle.tree_nodes.specs.CaseOrder.{IsCoordinator}
 use Rattle.tree_nodes.specs.ProcessSteps.{Above, outcome_in, ParentStep}
 use Rattle.tree_nodes.specs.WorldHolds.{Coordinates, InvariantOf, IsChildRole, IsFree, IsPair, IsParentRole, NodeHolds, RoleHolds, WorldHolds, gives_other}
 use Rattle.tree_nodes.specs.Lasts.{Logs}

@@ -7,7 +7,7 @@ use Rattle.tree_model.specs.declared.messages.Envelope.{Envelope}
 use Rattle.tree_model.specs.declared.records.Record.{Record}
 use Rattle.tree_model.specs.Names.{process_of}
 use Rattle.tree_model.specs.Records.{has, in_list, is_commit, is_prepare, boot_of, boot_after}
-use Rattle.tree_model.specs.Nodes.{Place, Role, AtRoot, Below, AtLeaf, Node, Heard, Effect, after, kept, entries_written, is_any_forced}
+use Rattle.tree_model.specs.Nodes.{Place, Role, AtRoot, Below, AtLeaf, Node, Heard, Effect, after, kept, entries_written, is_any_forced, IsCoordinator}
 use Rattle.tree_model.specs.Memory.{Memory, Phase, memory_of, remembers}
 use Rattle.tree_model.specs.CoordinatorRows.{forced, plain}
 use Rattle.tree_model.specs.Outcomes.{is_joined_message, sent as ever_sent}
@@ -18,7 +18,6 @@ use Rattle.tree_pairs.specs.Reading.{Reading}
 use Rattle.tree_pairs.specs.readings.ReadingOf.{reading_from, is_root_ticket, is_born, gives_case, ChildHalf, ParentHalf, Wire, parent_half, wire}
 use Rattle.tree_pairs.proofs.readings.Lists.{has-cons, has-history}
 use Rattle.tree_pairs.proofs.readings.Memories.{memory_of-nothing, memory_of-forced, memory_of-plain}
-use Rattle.tree_nodes.specs.CaseOrder.{IsCoordinator}
 use Rattle.tree_nodes.specs.Lasts.{Logs, logs_of, Nested}
 use Rattle.tree_nodes.specs.Owns.{AllGoToOwners}
 use Rattle.tree_nodes.specs.ProcessSteps.{Above, outcome_in}

@@ -16,7 +16,7 @@ use Rattle.tree_model.specs.Views.{vote_message}
 use Rattle.tree_pairs.specs.Reading as pair
 use Rattle.tree_pairs.specs.Reading.{Reading}
 use Rattle.tree_pairs.specs.Standing.{HasVote}
-use Rattle.tree_pairs.specs.readings.ReadingOf.{ParentHalf, is_vote, is_no_message}
+use Rattle.tree_pairs.specs.readings.ReadingOf.{ParentHalf, is_no_message}
 use Rattle.tree_pairs.specs.turns.CoordinatorTurns.{CountsVote, HearsChild, Consents, voted}
 use Rattle.tree_pairs.specs.turns.CoordinatorTurns as turns
 use Rattle.tree_nodes.proofs.Deliveries.{was_sent}
@@ -53,17 +53,6 @@ unvoted x (v ∷ vs) t e =
     none_of_both true false d y g f = f g
     none_of_both false true d y g f = absurd (cc)
     none_of_both false false d y g f = f g
-
-same_is_vote : (x w : Vote) → same_vote x w ≡ is_vote x w
-same_is_vote VoteYes VoteYes = refl
-same_is_vote VoteYes VoteNo = refl
-same_is_vote VoteYes VoteRead = refl
-same_is_vote VoteNo VoteYes = refl
-same_is_vote VoteNo VoteNo = refl
-same_is_vote VoteNo VoteRead = refl
-same_is_vote VoteRead VoteYes = refl
-same_is_vote VoteRead VoteNo = refl
-same_is_vote VoteRead VoteRead = refl
 
 -- who has voted has voted so, or so
 voted_some : (vs : List (Ticket × Vote)) (t : Ticket) → has_voted vs t ≡ true
@@ -217,10 +206,10 @@ module _ (turn : Turn) where
         flip false x = refl
         flip true x = absurd (cc)
 
-    pub votes_now : (x : Vote) → has_heard_vote n c t (is_vote x) ≡ voted_so x m.votes t
+    pub votes_now : (x : Vote) → has_heard_vote n c t (same_vote x) ≡ voted_so x m.votes t
     votes_now x = holds.votes up c t x (inr asked)
 
-    pub its_first : its ≡ true → (x : Vote) → has_heard_vote n c t (is_vote x) ≡ false
+    pub its_first : its ≡ true → (x : Vote) → has_heard_vote n c t (same_vote x) ≡ false
     its_first e x = votes_now x ∙ unvoted x m.votes t (its_unvoted e)
 
     its_said : (q : Message → Bool) → its ≡ true
@@ -234,13 +223,12 @@ module _ (turn : Turn) where
         ∙ rw (own.of_txn turn i.hears.txn u i.hears.belongs, e) refl))
 
     -- what was heard then
-    pub heard_now : (x : Vote) → ((its && is_vote x w) || has_heard_vote n c t (is_vote x))
+    pub heard_now : (x : Vote) → ((its && same_vote x w) || has_heard_vote n c t (same_vote x))
         ≡ voted_so x votes t
     heard_now x =
-        ap (λ b. (its && is_vote x w) || b) (votes_now x)
-        ∙ (turned its (is_vote x w) (voted_so x m.votes t)
-        ∙ (ap (λ b. voted_so x m.votes t || (b && its)) (sym (same_is_vote x w))
-        ∙ sym (voted_so-push x w m.votes u t)))
+        ap (λ b. (its && same_vote x w) || b) (votes_now x)
+        ∙ (turned its (same_vote x w) (voted_so x m.votes t)
+        ∙ sym (voted_so-push x w m.votes u t))
       where
         turned : (a b d : Bool) → ((a && b) || d) ≡ (d || (b && a))
         turned a b d = grind arith

@@ -12,10 +12,10 @@ use Rattle.tree_model.specs.declared.events.Told.{Told}
 use Rattle.tree_model.specs.Names.{same_txn, same_case, same_ticket}
 use Rattle.tree_model.specs.Records.{has, is_collecting, is_prepare, is_commit, is_abort, is_end}
 use Rattle.tree_model.specs.Nodes.{Node, Heard, Effect, after, told_first}
-use Rattle.tree_model.specs.Memory.{Phase}
+use Rattle.tree_model.specs.Memory.{Phase, same_vote}
 use Rattle.tree_model.specs.CoordinatorRows.{forced, plain}
 use Rattle.tree_model.specs.Outcomes.{is_told_aborted}
-use Rattle.tree_pairs.specs.readings.ReadingOf.{ParentHalf, is_begun, is_vote, is_told_committed, is_told_of_txn, is_collecting_naming, is_prepare_naming, is_decision_naming}
+use Rattle.tree_pairs.specs.readings.ReadingOf.{ParentHalf, is_begun, is_told_committed, is_told_of_txn, is_collecting_naming, is_prepare_naming, is_decision_naming}
 use Rattle.tree_pairs.proofs.readings.Lists.{has-push, has-push_behind, has-nil, has-nil_behind, has-cons, has-history}
 use Rattle.tree_steps.proofs.parents.Halves.{half_of, phase_of}
 
@@ -50,7 +50,7 @@ abbrev pub accepts_so : Case → Ticket → Effect → Bool
 accepts_so c t e = list_any (λ a. same_case a.0 c && same_ticket a.1 t) e.accepts
 
 abbrev pub counts_so : Case → Ticket → Vote → Effect → Bool
-counts_so c t v e = list_any (λ a. same_case a.0 c && (same_ticket a.1.0 t && is_vote v a.1.1)) e.counts
+counts_so c t v e = list_any (λ a. same_case a.0 c && (same_ticket a.1.0 t && same_vote v a.1.1)) e.counts
 
 -- what the event accepted, counted and told
 abbrev pub did : Effect → Case → Ticket → ParentHalf → ParentHalf

@@ -3,10 +3,9 @@ use Rattle.std.specs.Prelude.{◌≡◌, Some, List}
 use Rattle.tree_model.specs.declared.events.Happening.{Happening}
 use Rattle.tree_model.specs.declared.events.Happening.TheVariants.{Input as Handles, Restart, Trim}
 use Rattle.tree_model.specs.declared.trees.TreeEntry.{TreeEntry}
-use Rattle.tree_model.specs.Nodes.{Effect, place_of, role_of}
+use Rattle.tree_model.specs.Nodes.{Effect, place_of, role_of, IsCoordinator}
 use Rattle.tree_model.specs.Trees.{IsTree}
 use Rattle.tree_model.specs.World.{IsRun, Made, Move, Stands, World, world_makes}
-use Rattle.tree_nodes.specs.CaseOrder.{IsCoordinator}
 use Rattle.tree_nodes.specs.ProcessSteps.{ParentStep}
 use Rattle.tree_nodes.specs.WorldHolds.{WorldHolds}
 

@@ -7,11 +7,10 @@ use Rattle.tree_model.specs.declared.events.Happening.TheVariants.{Input as Hand
 use Rattle.tree_model.specs.declared.events.Input.{Input}
 use Rattle.tree_model.specs.declared.trees.TreeEntry.{TreeEntry}
 use Rattle.tree_model.specs.Names.{process_of}
-use Rattle.tree_model.specs.Nodes.{Effect, is_listed, place_of, role_of}
+use Rattle.tree_model.specs.Nodes.{Effect, is_listed, place_of, role_of, IsCoordinator}
 use Rattle.tree_model.specs.Outcomes.{is_joined_message, sent}
 use Rattle.tree_model.specs.World.{IsRun, Made, Move, Stands, World, world_makes}
 use Rattle.tree_pairs.specs.readings.ReadingOf.{gives_case, is_born, is_root_ticket, parent_half}
-use Rattle.tree_nodes.specs.CaseOrder.{IsCoordinator}
 use Rattle.tree_nodes.specs.ProcessSteps.{ParentStep}
 use Rattle.tree_nodes.specs.WorldHolds.{Coordinates, IsChildRole, IsPair, WorldHolds}
 

@@ -281,7 +281,7 @@ fn decision_of(rest: &str) -> Option<(Xid, Outcome)>
     Some((xid, outcome))
 }
 
-/// Whether a word is an information text: 1 to 32 ASCII messages.
+/// Whether a word is an information text: 1 to 32 ASCII letters.
 fn is_info(word: &str) -> bool
     ensures { IsTrue result ↔ IsInfo word.now }
 {

@@ -1,7 +1,7 @@
 use Rattle.std.proofs.Common.{rules, arith, refl}
 use Rattle.tree_model.specs.Store.{pair_record}
 use Rattle.log_text.specs.Made.{frame_record}
-use Rattle.kv_core.specs.Keeping.{unnamed}
+use Rattle.tree_model.specs.LogNames.{unnamed}
 use Rattle.kv_core.proofs.Spelt.{begun, followed}
 use Rattle.kv_core.proofs.frames.base_frames.Goals as goal
 

@@ -4,7 +4,7 @@ use Rattle.tree_model.specs.declared.records.Record.TheVariants as entry
 use Rattle.tree_model.specs.Store.{pair_record}
 use Rattle.log_text.specs.Made.{frame_record}
 use Rattle.rec_log.specs.Sights.{AreRecords}
-use Rattle.kv_core.specs.Keeping.{unnamed}
+use Rattle.tree_model.specs.LogNames.{unnamed}
 use Rattle.kv_core.proofs.frames.base_frames.Given as goal
 
 abbrev pub invariant-loop-key : goal.invariant-loop-key

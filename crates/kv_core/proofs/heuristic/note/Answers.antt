@@ -6,7 +6,7 @@ use Rattle.xa_heur.specs.Cases.{Notes, decision_in, decision_or}
 use Rattle.tree_model.specs.declared.names.Outcome.TheVariants.{Aborted, Committed}
 use Rattle.tree_model.specs.declared.records.Branch.TheVariants.{Foreign}
 use Rattle.kv_core.specs.Decisions.{known_after}
-use Rattle.kv_core.specs.Folds.{renamed_by}
+use Rattle.tree_model.specs.LogNames.{renamed_by}
 use Rattle.tree_model.specs.Records.{record_branch}
 use Rattle.kv_core.proofs.Noting.{noted_record}
 use Rattle.kv_core.proofs.heuristic.note.Goals as goal

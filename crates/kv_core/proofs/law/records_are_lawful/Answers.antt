@@ -1,5 +1,5 @@
 use Rattle.kv_core.proofs.Lawful.{IsLawful, lawful_of}
-use Rattle.kv_core.specs.Folds.{data_of}
+use Rattle.tree_model.specs.Store.{data_of}
 use Rattle.kv_core.proofs.law.records_are_lawful.Goals as goal
 
 pub returns : goal.returns

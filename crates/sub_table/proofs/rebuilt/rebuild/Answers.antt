@@ -1,6 +1,7 @@
 use Rattle.std.proofs.Common.{◌∙◌, ap, arith}
 use Rattle.std.specs.List.{flat_map}
-use Rattle.sub_table.specs.Rebuilt.{asks, leaf}
+use Rattle.sub_table.specs.Rebuilt.{asks}
+use Rattle.tree_model.specs.Views.{leaf_place}
 use Rattle.sub_table.proofs.Rebuilding.{rebuilds}
 use Rattle.sub_table.proofs.rebuilt.rebuild.Goals as goal
 
@@ -9,7 +10,7 @@ returns c =
     let s = c.in_ok-branches.field-0 in
     let low = c.if-boot-gt-LAST_BOOT.false in
     let within = c.if-newest-boot.false in
-    rebuilds (leaf c.args.me c.args.parent c.args.tree.now) c.args.parent c.args.records.now s
+    rebuilds (leaf_place c.args.me c.args.parent c.args.tree.now) c.args.parent c.args.records.now s
     c.in_ok-branches.ensures c.in_ok-messages.messages
     (c.in_ok-messages.ensures ∙ ap (flat_map (asks c.args.me c.args.parent s.branches))
     c.as_slice.ensures.keys) (omega arith) (omega arith)

@@ -1,5 +1,5 @@
 use Rattle.std.proofs.Common.{sym, subst}
-use Rattle.tree_nodes.specs.CaseOrder.{IsCoordinator}
+use Rattle.tree_model.specs.Nodes.{IsCoordinator}
 use Rattle.tree_nodes.proofs.CoordinatorsHold as runs
 use Rattle.tree_nodes.proofs.law.roots_hold.Goals as goal
 

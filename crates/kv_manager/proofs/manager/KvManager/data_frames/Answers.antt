@@ -1,12 +1,12 @@
 use Rattle.std.proofs.Common.{◌≡◌, ◌∙◌, ◌∷◌, List, map, sym, ap, subst}
 use Rattle.tree_model.specs.declared.records.LogRecord.{LogRecord}
 use Rattle.tree_model.specs.declared.records.Record.TheVariants.{Base}
-use Rattle.tree_model.specs.Store.{base_records, pair_record}
+use Rattle.tree_model.specs.Store.{base_records, pair_record, data_of}
 use Rattle.log_text.specs.Made.{frame_record}
 use Rattle.rec_log.specs.Sights.{records_of}
 use Rattle.kv_store.specs.Pairs.{keys_rise}
-use Rattle.kv_core.specs.Folds.{AreData, data_of}
-use Rattle.kv_core.specs.Keeping.{unnamed}
+use Rattle.kv_core.specs.Folds.{AreData}
+use Rattle.tree_model.specs.LogNames.{unnamed}
 use Rattle.kv_manager.proofs.Keeping.{map_ok}
 use Rattle.kv_manager.proofs.Trimmed.{of_data, rise_left}
 use Rattle.kv_manager.proofs.manager.KvManager.data_frames.Goals as goal

@@ -6,7 +6,7 @@ use Rattle.log_text.specs.Made.{frame_record}
 use Rattle.log_rules.specs.sound.Sound.{IsSound}
 use Rattle.rec_log.specs.Sights.{records_of}
 use Rattle.rec_log.specs.Trimming.{Trimmed}
-use Rattle.kv_core.specs.Keeping.{unnamed}
+use Rattle.tree_model.specs.LogNames.{unnamed}
 use Rattle.kv_manager.specs.Sights.{KvSight, logged}
 use Rattle.kv_manager.proofs.Trimmed.{AreOfData, kept_trimmed}
 use Rattle.kv_manager.proofs.manager.KvManager.trim.Goals as goal

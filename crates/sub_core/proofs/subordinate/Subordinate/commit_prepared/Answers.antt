@@ -1,7 +1,7 @@
 use Rattle.std.proofs.Common.{ap, sym, subst}
 use Rattle.xa_tables.specs.declared.call.Call.TheVariants as call
 use Rattle.tree_model.specs.declared.messages.Message.TheVariants.{Commit}
-use Rattle.sub_deeds.specs.Deeds.{can_commit}
+use Rattle.xa_tables.specs.Tables.{is_in_doubt}
 use Rattle.manager_model.specs.Sights.{ManagerSight}
 use Rattle.sub_branch.specs.declared.branch.Branch.{Branch}
 use Rattle.sub_table.specs.Tables.{IsKept}
@@ -30,7 +30,7 @@ commit-requires-clause-state g c =
     let b : Branch = prepared c.args.xid in
     let at : IsAt c.self.inside.branches c.args.key c.args.case b =
     subst (λ v. IsAt v.table c.args.key c.args.case b) (sym c.self.view_is) c.requires.at in
-    ap can_commit (c.self.invariant.stands c.args.case b at.live)
+    ap is_in_doubt (c.self.invariant.stands c.args.case b at.live)
 
 pub invariant_of-self : goal.invariant_of-self
 invariant_of-self g c =

@@ -7,7 +7,8 @@ use Rattle.tree_model.specs.declared.events.StepError.TheVariants.{Device}
 use Rattle.manager_model.specs.Sights.{ManagerSight}
 use Rattle.manager_model.specs.Restarting.{NotRestarted as NotRestartedBy, writes_left}
 use Rattle.sub_table.specs.declared.rebuilt.Rebuilt.{Rebuilt}
-use Rattle.sub_table.specs.Rebuilt.{Rebuilds, leaf}
+use Rattle.sub_table.specs.Rebuilt.{Rebuilds}
+use Rattle.tree_model.specs.Views.{leaf_place}
 use Rattle.sub_core.specs.Subordinates.{SubState, core_of}
 use Rattle.sub_core.specs.Steps.{Reopens, state}
 use Rattle.sub_core.proofs.Restarted.{broken, broken_tied, reopened_tied, restarted}
@@ -28,8 +29,8 @@ invariant_of-self g c =
     let re : Reopens s.manager (g.M.ResourceManager.sight c.reopen.new.manager)
     c.args.keep = c.in-Ok.ensures.ok in
     let m : ManagerSight = g.M.ResourceManager.sight c.reopen.new.manager in
-    let made : Rebuilds (leaf s.me s.parent s.tree) s.parent (left_by s.manager.log c.args.keep) r =
-    subst (λ v. Rebuilds (leaf v.me v.parent v.tree) v.parent (left_by (g.M.ResourceManager.sight
+    let made : Rebuilds (leaf_place s.me s.parent s.tree) s.parent (left_by s.manager.log c.args.keep) r =
+    subst (λ v. Rebuilds (leaf_place v.me v.parent v.tree) v.parent (left_by (g.M.ResourceManager.sight
     v.manager).log c.args.keep) r) (sym c.self.view_is) c.in_ok-rebuilt.ensures.ok in
     reopened_tied s c.args.keep r re.mid m (λ answer. answer ≡ code.RmFail)
     re.answer made re.restarts re.calls
@@ -56,8 +57,8 @@ returns-in-Ok-clause-ok g c =
       table = r.branches;
       manager = m;
     } in
-    let made : Rebuilds (leaf s.me s.parent s.tree) s.parent (left_by s.manager.log c.args.keep) r =
-    subst (λ v. Rebuilds (leaf v.me v.parent v.tree) v.parent (left_by (g.M.ResourceManager.sight
+    let made : Rebuilds (leaf_place s.me s.parent s.tree) s.parent (left_by s.manager.log c.args.keep) r =
+    subst (λ v. Rebuilds (leaf_place v.me v.parent v.tree) v.parent (left_by (g.M.ResourceManager.sight
     v.manager).log c.args.keep) r) (sym c.self.view_is) c.in_ok-rebuilt.ensures.ok in
     subst (λ v. Restarts (state g.M.ResourceManager.sight v) c.args.keep (core_of n)
     (record {

@@ -30,8 +30,8 @@ use Rattle.tree_nodes.proofs.Remembering.{coordinator_place, role_below}
 use Rattle.tree_nodes.proofs.Tests.{case_is, either}
 use Rattle.tree_nodes.proofs.Unlisted.{makes_listed}
 use Rattle.tree_headline.specs.CoordinatorLaws.{SendsWell}
-use Rattle.tree_headline.proofs.runs.CoordinatorLetters.{AllWell, Own, all_given, all_go}
-use Rattle.tree_headline.proofs.runs.TurnLetters as turns
+use Rattle.tree_headline.proofs.runs.CoordinatorMessages.{AllWell, Own, all_given, all_go}
+use Rattle.tree_headline.proofs.runs.TurnMessages as turns
 
 -- a case without a ticket is given by no JOINED
 none_gives_now : (x : Txn) (m : Message) → gives_case (record { txn = x; ticket = None }) m ≡ true → ⊥
@@ -165,12 +165,12 @@ module _ (me : ProcessId) (parent : Option ProcessId) (tree : List TreeEntry) (n
     step_sends m stands _ _ (trimmed hp up) = tt
     step_sends m stands _ _ (failed_trimming f fl hp up) = tt
 
-pub letters_hold : (tree : List TreeEntry) (es : List Made) (w : World) → IsRun tree es w → WorldHolds tree w
+pub messages_hold : (tree : List TreeEntry) (es : List Made) (w : World) → IsRun tree es w → WorldHolds tree w
     → (m : Move) (e : Effect) (w' : World) (parent : Option ProcessId)
     → role_of tree m.step.process ≡ role_below parent
     → Stands w.net m.step.process m.step.happening → world_makes tree w m ≡ Some (e, w')
     → SendsWell (place_of tree m.step.process) w.net e.messages
-letters_hold tree es w run h m e w' parent role stands made =
+messages_hold tree es w run h m e w' parent role stands made =
     let q = m.step.process in
     let n = w.at q in
     let listed = makes_listed tree w m e w' made in

@@ -42,11 +42,11 @@ IsOwnMessage me (Ack d o) = process_of d ≡ me
 IsOwnMessage me (Inquire d) = process_of d ≡ me
 IsOwnMessage me _ = ⊥
 
-abbrev pub AllOwnLetters : ProcessId → List Envelope → Type 0
-AllOwnLetters me [] = Unit {0}
-AllOwnLetters me (l ∷ ls) = IsOwnMessage me l.message × AllOwnLetters me ls
+abbrev pub AllOwnMessages : ProcessId → List Envelope → Type 0
+AllOwnMessages me [] = Unit {0}
+AllOwnMessages me (l ∷ ls) = IsOwnMessage me l.message × AllOwnMessages me ls
 
--- Such letters are of no pair of others.
+-- Such messages are of no pair of others.
 
 module _ (me : ProcessId) (c : Case) (t : Ticket) (parent : process_of c ≡ me → ⊥)
     (child : t.child ≡ me → ⊥) where
@@ -101,12 +101,12 @@ module _ (me : ProcessId) (c : Case) (t : Ticket) (parent : process_of c ≡ me 
   none_own q j y n r a i (Abort d) own = absurd own
 
   none_sent : (q : Message → Bool) → ((m : Message) → IsOwnMessage me m → q m ≡ false) → (ls : List Envelope)
-      → AllOwnLetters me ls → sent q ls ≡ false
+      → AllOwnMessages me ls → sent q ls ≡ false
   unfolding sent
   none_sent q f [] a = refl
   none_sent q f (l ∷ ls) a = neither (q l.message) (sent q ls) (f l.message a.0) (none_sent q f ls a.1)
 
-  module _ (ls : List Envelope) (a : AllOwnLetters me ls) where
+  module _ (ls : List Envelope) (a : AllOwnMessages me ls) where
     abbrev d' : Case
     d' = child_case c.txn t
 
@@ -116,8 +116,8 @@ module _ (me : ProcessId) (c : Case) (t : Ticket) (parent : process_of c ≡ me 
         → ((d : Case) → Own d → q (Inquire d) ≡ false) → sent q ls ≡ false
     quiet_by q j y n r k i = none_sent q (none_own q j y n r k i) ls a
 
-    pub quiet_letters : wire c t ls ≡ no_wire
-    quiet_letters = rw (
+    pub quiet_messages : wire c t ls ≡ no_wire
+    quiet_messages = rw (
       quiet_by (is_joined_message c t) (λ d u e. and-false _ _ (not_ticket u e)) (λ d e. refl) (λ d e. refl)
           (λ d e. refl) (λ d o e. refl) (λ d e. refl),
       quiet_by (gives_case c) (λ d u e. not_parents (child_case d.txn u) e) (λ d e. refl) (λ d e. refl)
@@ -147,7 +147,7 @@ module _ (me : ProcessId) (c : Case) (t : Ticket) (parent : process_of c ≡ me 
           (λ d o e. refl) not_childs,
     ) refl
 
--- A manager's letters are its own.
+-- A manager's messages are its own.
 
 module _ (me p : ProcessId) (tree : List TreeEntry) (n : Node)
     (known : (d : Case) → is_open (mark_at n d) ≡ true
@@ -169,66 +169,66 @@ module _ (me p : ProcessId) (tree : List TreeEntry) (n : Node)
     prepared_own d k i = own_case d (Prepare d k) i (λ e. e)
 
     acknowledged : (l : Leaf) (o : Outcome) (b : Bool) → process_of l.own ≡ me
-        → AllOwnLetters me (if b then post l.me l.parent (Ack l.own o) ∷ [] else [])
+        → AllOwnMessages me (if b then post l.me l.parent (Ack l.own o) ∷ [] else [])
     acknowledged l o true e = (e, tt)
     acknowledged l o false e = tt
 
     answers : (d : Case) (o : Outcome) → Hears h (tells_outcome o d)
-        → AllOwnLetters me (acknowledgement (leaf_of place p d) o)
+        → AllOwnMessages me (acknowledgement (leaf_of place p d) o)
     answers d o i = acknowledged (leaf_of place p d) o (is_acknowledged d.txn.presumption o) (told_own d o i)
 
     waits_open : (x : Mark) → Waits x → is_open x ≡ true
     waits_open _ promised = refl
     waits_open _ decided = refl
 
-    pub turn_letters : (e : Effect) → LeafTurn place p n h e → AllOwnLetters me e.messages
-    turn_letters _ does_nothing = tt
-    turn_letters _ (gives_again d t i a) = (active_is_own place n d d t a, tt)
-    turn_letters _ (gives_fresh d i a s) = (refl, tt)
-    turn_letters _ (votes_yes d k ws i a) = (prepared_own d k i, tt)
-    turn_letters _ (votes_read d k i a) = (prepared_own d k i, tt)
-    turn_letters _ (votes_no d k i a) = (prepared_own d k i, tt)
-    turn_letters _ (repeats_yes d k i a) = (prepared_own d k i, tt)
-    turn_letters _ (refuses d k i a) = (prepared_own d k i, tt)
-    turn_letters _ (obeys d o i e) = answers d o i
-    turn_letters _ (notes d o i e) = answers d o i
-    turn_letters _ (acknowledges_told d o i e) = answers d o i
-    turn_letters _ (acknowledges d o i e) = answers d o i
-    turn_letters _ (drops d i a) = answers d AbortedOutcome i
-    turn_letters _ (asks d i k) = (known d (waits_open (mark_at n d) k), tt)
-    turn_letters _ (decides d o i e) = tt
-    turn_letters _ (forgets d i k) = tt
+    pub turn_messages : (e : Effect) → LeafTurn place p n h e → AllOwnMessages me e.messages
+    turn_messages _ does_nothing = tt
+    turn_messages _ (gives_again d t i a) = (active_is_own place n d d t a, tt)
+    turn_messages _ (gives_fresh d i a s) = (refl, tt)
+    turn_messages _ (votes_yes d k ws i a) = (prepared_own d k i, tt)
+    turn_messages _ (votes_read d k i a) = (prepared_own d k i, tt)
+    turn_messages _ (votes_no d k i a) = (prepared_own d k i, tt)
+    turn_messages _ (repeats_yes d k i a) = (prepared_own d k i, tt)
+    turn_messages _ (refuses d k i a) = (prepared_own d k i, tt)
+    turn_messages _ (obeys d o i e) = answers d o i
+    turn_messages _ (notes d o i e) = answers d o i
+    turn_messages _ (acknowledges_told d o i e) = answers d o i
+    turn_messages _ (acknowledges d o i e) = answers d o i
+    turn_messages _ (drops d i a) = answers d AbortedOutcome i
+    turn_messages _ (asks d i k) = (known d (waits_open (mark_at n d) k), tt)
+    turn_messages _ (decides d o i e) = tt
+    turn_messages _ (forgets d i k) = tt
 
 -- A restart asks about branches that are open in what is left.
 
 module _ (me p : ProcessId) (rs : List Record)
     (known : (d : Case) → is_open (mark_of (CaseBranch d) rs) ≡ true
     → process_of d ≡ me) where
-  own_both : (xs ys : List Envelope) → AllOwnLetters me xs → AllOwnLetters me ys → AllOwnLetters me (xs ++ ys)
+  own_both : (xs ys : List Envelope) → AllOwnMessages me xs → AllOwnMessages me ys → AllOwnMessages me (xs ++ ys)
   own_both [] ys a b = b
   own_both (x ∷ xs) ys a b = (a.0, own_both xs ys a.1 b)
 
   untold_own : (d : Case) (o : Option Outcome) → process_of d ≡ me
-      → AllOwnLetters me (untold_inquiry me p d o)
+      → AllOwnMessages me (untold_inquiry me p d o)
   untold_own d None e = (e, tt)
   untold_own d (Some o) e = tt
 
   by_mark : (d : Case) (x : Mark) → mark_of (CaseBranch d) rs ≡ x
-      → (let v = marked_branch fresh_memory x in AllOwnLetters me (inquires_by me p d v v.standing))
+      → (let v = marked_branch fresh_memory x in AllOwnMessages me (inquires_by me p d v v.standing))
   by_mark d Unmarked e = tt
   by_mark d Finished e = tt
   by_mark d Promised e = (known d (ap is_open e), tt)
   by_mark d Decided e = (known d (ap is_open e), tt)
   by_mark d (ToldOf o) e = tt
 
-  resumed_own : (d : Case) → AllOwnLetters me (manager_resumes me p rs d)
+  resumed_own : (d : Case) → AllOwnMessages me (manager_resumes me p rs d)
   unfolding recorded_branch
   resumed_own d = by_mark d (mark_of (CaseBranch d) rs) refl
 
-  flat_own : (cs : List Case) → AllOwnLetters me (flat_map (manager_resumes me p rs) cs)
+  flat_own : (cs : List Case) → AllOwnMessages me (flat_map (manager_resumes me p rs) cs)
   flat_own [] = tt
   flat_own (d ∷ cs) = own_both (manager_resumes me p rs d) (flat_map (manager_resumes me p rs) cs)
       (resumed_own d) (flat_own cs)
 
-  pub resumes_letters : AllOwnLetters me (flat_map (manager_resumes me p rs) (cases_in rs))
-  resumes_letters = flat_own (cases_in rs)
+  pub resumes_messages : AllOwnMessages me (flat_map (manager_resumes me p rs) (cases_in rs))
+  resumes_messages = flat_own (cases_in rs)

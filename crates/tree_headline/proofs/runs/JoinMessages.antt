@@ -1,4 +1,4 @@
--- Which letters are JOIN, and which answer it.
+-- Which messages are JOIN, and which answer it.
 use Rattle.std.proofs.Common.{◌≡◌, ◌∙◌, inl, inr, ◌||◌, ◌&&◌, Bool, true, false, List, [], ◌∷◌, sym, ap, arith}
 use Rattle.tree_model.specs.declared.names.Case.{Case}
 use Rattle.tree_model.specs.declared.names.Outcome.{Outcome}
@@ -19,7 +19,7 @@ use Rattle.tree_headline.proofs.runs.Born.{is_join}
 pub ends : {A : Type 0} → (b : Bool) → b ≡ true → b ≡ false → A
 ends b e f = absurd (cc)
 
--- Letters of a coordinator's case.
+-- Messages of a coordinator's case.
 
 pub down_joins_none : {A : Type 0} → (c : Case) → (d : Case) (m : Message) → IsForCase d m → is_join c m
     ≡ true → A

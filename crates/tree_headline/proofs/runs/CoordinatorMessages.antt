@@ -1,4 +1,4 @@
--- Where a coordinator's letters go, and of which cases they are.
+-- Where a coordinator's messages go, and of which cases they are.
 use Rattle.std.proofs.Common.{◌≡◌, inl, inr, ◌||◌, ℕ, Bool, true, List, [], ◌∷◌, ◌++◌, map, refl, sym, subst, arith}
 use Rattle.tree_model.specs.declared.names.Case.{Case}
 use Rattle.tree_model.specs.declared.names.Outcome.{Outcome}
@@ -55,7 +55,7 @@ module _ (tree : List TreeEntry) (me : ProcessId) (net : List Envelope) where
   well_both [] ys f g = g
   well_both (x ∷ xs) ys f g = (f.0, well_both xs ys f.1 g)
 
-  -- A letter down, of a ticket that JOINED named to a case of this process.
+  -- A message down, of a ticket that JOINED named to a case of this process.
 
   -- the ticket is of the case, which is the process's own
   pub record Mine (c : Case) (t : Ticket) : Type 0 where
@@ -136,7 +136,7 @@ module _ (tree : List TreeEntry) (me : ProcessId) (net : List Envelope) where
       each_prepare c works ws ts (λ u g. f u (listed_rest t u ts g)),
     )
 
-    -- A letter up, of an own case.
+    -- A message up, of an own case.
 
     pub record Own (c : Case) : Type 0 where
       pub own : process_of c ≡ me

@@ -1,4 +1,4 @@
--- A manager's letters go to its parent, and are of its own tickets and of cases that it gave.
+-- A manager's messages go to its parent, and are of its own tickets and of cases that it gave.
 use Rattle.std.proofs.Common.{◌≡◌, ◌∙◌, ◌-◌, inl, inr, ℕ, zero, suc, Bool, true, false, Option, Some, None, List, [], ◌∷◌, ◌++◌, take, refl, sym, ap, subst, if◌then◌else◌}
 use Rattle.std.specs.List.{flat_map}
 use Rattle.std.specs.Prelude.{slice_get}
@@ -38,7 +38,7 @@ use Rattle.tree_nodes.proofs.GivenCases.{branch_record, same_of, unmarked_so}
 use Rattle.tree_nodes.proofs.Tests.{either, in_either, in_first, in_front, in_second}
 use Rattle.tree_nodes.proofs.Tickets.{active_is_own}
 use Rattle.tree_nodes.proofs.Worlds.{has_other}
-use Rattle.tree_headline.specs.ProcessLaws.{AllFrom}
+use Rattle.tree_steps.specs.cascades.Messages.{AllSentBy}
 use Rattle.tree_headline.proofs.Grows.{sent_still, sent_then}
 
 pub goes_at : (tree : List TreeEntry) (net : List Envelope) (k : ℕ) (l : Envelope) → AllGo tree net
@@ -72,9 +72,9 @@ module _ (tree : List TreeEntry) (me p : ProcessId) (leaf : role_of tree me
   AllFit [] = Unit {0}
   AllFit (l ∷ ls) = ((l.from ≡ me) × ((l.to ≡ p) × Fits l.message)) × AllFit ls
 
-  -- What it says of such letters.
+  -- What it says of such messages.
 
-  pub from_here : (ls : List Envelope) → AllFit ls → AllFrom me ls
+  pub from_here : (ls : List Envelope) → AllFit ls → AllSentBy me ls
   from_here [] f = tt
   from_here (l ∷ ls) f = (f.0.0, from_here ls f.1)
 
@@ -139,7 +139,7 @@ module _ (tree : List TreeEntry) (me p : ProcessId) (leaf : role_of tree me
     | inr before ↦ old d before
   ])
 
-  -- Its letters are such.
+  -- Its messages are such.
   module _ (goes : AllGo tree net) (given : AboutGiven net) (n : Node) (nested : Nested (logs_of n))
       (issues : Issues (record { me = me; role = AtLeaf p; tree = tree }) net n) where
     abbrev place : Place
@@ -278,17 +278,17 @@ module _ (tree : List TreeEntry) (me p : ProcessId) (leaf : role_of tree me
           | inr new ↦ reopened_none d j new
         ]
 
-    pub letters_fit : (m : Move) → Stands net me m.step.happening → (e : Effect) (k : Node)
+    pub messages_fit : (m : Move) → Stands net me m.step.happening → (e : Effect) (k : Node)
         → StepOf place n m e k
         → AllFit e.messages
-    letters_fit m stands _ _ (handled i g hp np r) =
+    messages_fit m stands _ _ (handled i g hp np r) =
         turn_fits (heard_in m i) (subst (λ (x : Happening). Stands net me x) hp stands) g (turn_of place n
         (heard_in m i) g r).turn
-    letters_fit m stands _ _ (failed_in i f g fl hp np r) = tt
-    letters_fit m stands _ _ (passed i hp r) = tt
-    letters_fit m stands _ _ (failed_passing i f fl hp r) = tt
-    letters_fit m stands _ _ (reopened j hp) =
+    messages_fit m stands _ _ (failed_in i f g fl hp np r) = tt
+    messages_fit m stands _ _ (passed i hp r) = tt
+    messages_fit m stands _ _ (failed_passing i f fl hp r) = tt
+    messages_fit m stands _ _ (reopened j hp) =
         let rs = left_of n j ++ reopens (AtLeaf p) (left_of n j) in resumes_fit rs (left_own j) (cases_in rs)
-    letters_fit m stands _ _ (failed_reopening j f fl hp) = tt
-    letters_fit m stands _ _ (trimmed hp up) = tt
-    letters_fit m stands _ _ (failed_trimming f fl hp up) = tt
+    messages_fit m stands _ _ (failed_reopening j f fl hp) = tt
+    messages_fit m stands _ _ (trimmed hp up) = tt
+    messages_fit m stands _ _ (failed_trimming f fl hp up) = tt

@@ -1,4 +1,4 @@
--- What the letters of a cascaded coordinator say to the pair of one of its cases and its parent.
+-- What the messages of a cascaded coordinator say to the pair of one of its cases and its parent.
 use Rattle.std.proofs.Common.{◌≡◌, ◌∙◌, ◌||◌, Bool, true, false, List, [], ◌∷◌, ◌++◌, map, refl, sym, ap, subst, arith}
 use Rattle.tree_model.specs.declared.names.Case.{Case}
 use Rattle.tree_model.specs.declared.names.Outcome.{Outcome}
@@ -19,7 +19,7 @@ use Rattle.tree_pairs.specs.readings.ReadingOf.{gives_case, is_ack_message, is_i
 use Rattle.tree_pairs.proofs.readings.Lists.{sent-append}
 use Rattle.tree_nodes.specs.WorldHolds.{AllGo, GoesBy, GoesDown, IsChildRole, IsPair}
 use Rattle.tree_nodes.proofs.GivenCases.{same_of}
-use Rattle.tree_steps.specs.cascades.Letters.{AllSentBy}
+use Rattle.tree_steps.specs.cascades.Messages.{AllSentBy}
 
 -- What is said up about the pair's ticket: JOINED of it, and a child's words.
 pub record Said : Type 0 where
@@ -33,7 +33,7 @@ pub record Said : Type 0 where
 abbrev pub nothing : Said
 nothing = record { joined = false; yes = false; no = false; read = false; ack = false; inquire = false }
 
--- what these letters say
+-- what these messages say
 abbrev pub said_by : Case → Ticket → List Envelope → Said
 said_by c t ls =
     let d = child_case c.txn t in
@@ -73,7 +73,7 @@ unless_true : (b : Bool) → (b ≡ true → ⊥) → b ≡ false
 unless_true true f = absurd (f refl)
 unless_true false f = refl
 
--- A letter of the process itself tells the pair nothing else.
+-- A message of the process itself tells the pair nothing else.
 
 module _ (tree : List TreeEntry) (me p : ProcessId) (below : role_of tree me ≡ Below p) (apart : p ≡ me → ⊥)
     (c : Case) (t : Ticket) (pair : IsPair tree c t) (child : t.child ≡ me) where
@@ -157,7 +157,7 @@ module _ (tree : List TreeEntry) (me p : ProcessId) (below : role_of tree me ≡
       let u = unsaid ls f g in
       simp (sent-append, u.given, u.read_up, u.prepare, u.commit, u.abort)
 
--- What lists of letters say.
+-- What lists of messages say.
 
 module _ (c : Case) (t : Ticket) where
   abbrev own : Case
@@ -177,7 +177,7 @@ module _ (c : Case) (t : Ticket) where
     sent-none (is_inquiry_message own),
   ) refl
 
-  -- one more letter
+  -- one more message
   module _ (l : Envelope) (ls : List Envelope) (rest : IsSilent ls) where
     field : (q : Message → Bool) (get : Said → Bool) → get (said_by c t ls) ≡ sent q ls → get nothing ≡ false
         → sent q (l ∷ ls) ≡ q l.message
@@ -201,7 +201,7 @@ module _ (c : Case) (t : Ticket) where
       field (is_inquiry_message own) (λ s. s.inquire) refl refl,
     ) refl
 
-  -- letters down
+  -- messages down
   pub each_silent : (s : Seat) (o : Outcome) (ts : List Ticket) → IsSilent (each s (tells_outcome o) ts)
   each_silent s o [] = none_silent
   each_silent s CommittedOutcome (u ∷ ts) =
