@@ -36,7 +36,7 @@ same_as_before old new is =
     })
 
 -- an error that is passed on
-pub passed_on : (r : Result (Unit {0}) StepError) (e : StepError) (P : StepError → Type 0)
+pub passed_on : {T E : Type 0} (r : Result T E) (e : E) (P : E → Type 0)
     → IsErrAnd r (λ y. y ≡ e) → P e → IfErr r P
 passed_on (Ok x) e P is p = tt
 passed_on (Err y) e P is p = subst P (sym is) p

@@ -3,10 +3,13 @@ pub mod Handling
 pub mod LastRecords
 pub mod Logs
 pub mod LogsLeft
+pub mod MemoryAlone
 pub mod Modelled
 pub mod OpenNodes
 pub mod Processes
+pub mod Refusals
 pub mod Restarted
 pub mod Running
 pub mod Settling
 pub mod Steps
+pub mod StorePlaces

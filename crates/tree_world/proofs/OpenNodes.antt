@@ -1,5 +1,5 @@
 -- The processes of a tree, opened one after another.
-use Rattle.std.proofs.Common.{◌≡◌, ◌≢◌, ◌∙◌, sym, ap, subst, ℕ, zero, suc, ◌+◌, ◌<◌, Bool, true, false, if◌then◌else◌, ◌||◌, Option, Some, None, is_some, option_map, IsSomeAnd, List, [], ◌∷◌, ◌++◌, length, get_or, take, refl, ◌⊎◌, inl, inr, arith}
+use Rattle.std.proofs.Common.{◌≡◌, ◌≢◌, ◌∙◌, sym, ap, subst, ℕ, zero, suc, ◌+◌, ◌<◌, Bool, true, false, if◌then◌else◌, ◌||◌, Option, Some, None, is_some, IsSomeAnd, List, [], ◌∷◌, ◌++◌, length, get_or, take, refl, ◌⊎◌, inl, inr, arith}
 use Rattle.std.specs.List.{list_any}
 use Rattle.std.proofs.lemmas.List.{take_more}
 use Rattle.tree_model.specs.declared.names.ProcessId.{ProcessId}
@@ -10,10 +10,9 @@ use Rattle.tree_model.specs.Nodes.{is_listed, role_by, role_of}
 use Rattle.core_model.specs.States.{CoreState}
 use Rattle.core_law.specs.worlds.Runs.{IsOpened, NodeOpened}
 use Rattle.world_journal.specs.Journals.{JournalState}
-use Rattle.tree_world.specs.declared.node.Node.{Node}
-use Rattle.tree_world.specs.Nodes.{core_of}
 use Rattle.tree_world.specs.Openings.{AreOpened, OpenedAs}
 use Rattle.tree_world.proofs.Handling.{world}
+use Rattle.tree_world.proofs.Processes.{itself}
 
 listed_more : (es : List TreeEntry) (e : TreeEntry) (q : ProcessId)
     → is_listed (es ++ e ∷ []) q ≡ (is_listed es q || same_process e.id q)
@@ -29,9 +28,6 @@ listed_more (x ∷ es) e q = by_test (same_process x.id q) (list_any (λ e. same
     by_test : (b r s t : Bool) → r ≡ (s || t) → (b || r) ≡ ((b || s) || t)
     by_test true r s t h = refl
     by_test false r s t h = h
-
-itself : (p : ProcessId) → same_process p p ≡ true
-itself p = grind (arith, same_process_tells)
 
 -- the role of a process is that of the entry that lists it first
 first_role : (es : List TreeEntry) (i : ℕ) (e : TreeEntry) → i < length es → e ≡ get_or es i e
@@ -77,28 +73,10 @@ none tree node_at empty = record {
     no_some : (o : Option CoreState) (s : CoreState) → o ≡ None → o ≡ Some s → ⊥
     no_some o s e f = absurd (cc)
 
--- a process that is open already is passed over
-pub passes : (es : List TreeEntry) (i : ℕ) (e : TreeEntry)
-    (node_at : ProcessId → Option CoreState) → i < length es
-    → e ≡ get_or es i e → is_some (node_at e.id) ≡ true → AreOpened es (take i es) node_at
-    → AreOpened es (take (i + 1) es) node_at
-passes es i e node_at lt is there h = rw (take_more es i e lt, ← is) (record {
-  opened = h.opened;
-  listed_are = λ q. by_name q (same_process_tells e.id q) ∙ sym (listed_more (take i es) e q);
-})
-  where
-    by_name : (q : ProcessId) → ((same_process e.id q ≡ true) × (e.id ≡ q)) ⊎
-        ((same_process e.id q ≡ false) × (e.id ≢ q))
-        → is_some (node_at q) ≡ (is_listed (take i es) q || same_process e.id q)
-    by_name q (inl here) = subst (λ p. is_some (node_at p) ≡ true) here.1 there
-        ∙ sym (or_true (is_listed (take i es) q) (same_process e.id q) here.0)
-    by_name q (inr apart) = h.listed_are q ∙ sym
-        (or_false (is_listed (take i es) q) (same_process e.id q) apart.0)
-
 -- a process more
 pub opens_more : (es : List TreeEntry) (i : ℕ) (e : TreeEntry)
     (old new : ProcessId → Option CoreState) → i < length es
-    → e ≡ get_or es i e → is_some (old e.id) ≡ false → IsSomeAnd (new e.id) (OpenedAs es e)
+    → e ≡ get_or es i e → is_listed (take i es) e.id ≡ false → IsSomeAnd (new e.id) (OpenedAs es e)
     → ((q : ProcessId) → same_process e.id q ≡ false → new q ≡ old q)
     → AreOpened es (take i es) old → AreOpened es (take (i + 1) es) new
 opens_more es i e old new lt is fresh own others h = rw (take_more es i e lt, ← is) (record {
@@ -107,7 +85,7 @@ opens_more es i e old new lt is fresh own others h = rw (take_more es i e lt, �
 })
   where
     role : role_of es e.id ≡ role_by e.kind e.parent
-    role = first_role es i e lt is (sym (h.listed_are e.id) ∙ fresh)
+    role = first_role es i e lt is fresh
 
     here_opened : (s : CoreState) → OpenedAs es e s → NodeOpened es e.id s
     here_opened s o = subst (λ r. NodeOpened es e.id s) role (record {
@@ -133,11 +111,6 @@ opens_more es i e old new lt is fresh own others h = rw (take_more es i e lt, �
     listed_by q (inr there) =
         ap is_some (others q there.0) ∙ h.listed_are q
         ∙ sym (or_false (is_listed (take i es) q) (same_process e.id q) there.0)
-
--- a process is open where it has a node
-pub some_core : {L : Type 0} (o : Option (Node L)) → is_some (option_map core_of o) ≡ is_some o
-some_core None = refl
-some_core (Some n) = refl
 
 -- a tree of which every process is open, and that has done nothing
 pub opened_tree : (tree : List TreeEntry) (node_at : ProcessId → Option CoreState) (j : JournalState)

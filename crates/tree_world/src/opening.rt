@@ -1,6 +1,6 @@
 //! Opening a tree over empty stores.
 
-ghost use Rattle.std.specs.Prelude.{◌≡◌, [], false, IfOk, IsSomeAnd, OnOk, Some};
+ghost use Rattle.std.specs.Prelude.{◌≡◌, [], All, false, IfErr, IfOk, IsSomeAnd, length, OnOk, Some};
 ghost use Rattle.std.specs.Map.{lookup};
 ghost use Rattle.tree_model.specs.contracts.names.ProcessIdPartialEq.TheImpl as processes;
 ghost use Rattle.rec_log.specs.Sights.{records_of};
@@ -11,7 +11,17 @@ ghost use Rattle.tree_model.specs.Nodes.{Role, role_by};
 ghost use Rattle.tree_model.specs.Trees.{IsTree};
 ghost use Rattle.core_law.specs.worlds.Runs.{IsOpened};
 ghost use Rattle.core_law.specs.worlds.Modelled.{KeepsHeadline};
-ghost use Rattle.tree_world.specs.Openings.{AreOpened, OpenedAs, OpenedAt};
+ghost use Rattle.log_store.specs.Memory.{memory_bytes};
+ghost use Rattle.tree_world.specs.Openings.{
+  AreOpened,
+  NotOpened,
+  OpenedAs,
+  OpenedAt,
+  ProcessNotOpened,
+  error_of_log,
+  error_of_manager,
+  error_of_step,
+};
 ghost use Rattle.tree_world.specs.Nodes.{core_of, nodes_at};
 ghost use Rattle.tree_world.specs.Worlds.{state};
 
@@ -58,7 +68,9 @@ fn refused<T: Drop>(_left: T, why: OpenError) -> OpenError
     why
 }
 
-fn of_log(me: ProcessId, error: LogOpenError) -> OpenError {
+fn of_log(me: ProcessId, error: LogOpenError) -> OpenError
+    ensures { result ≡ error_of_log me error }
+{
     match error {
         LogOpenError::Memory => OpenError::Memory,
         LogOpenError::Device => OpenError::Device(me),
@@ -66,14 +78,18 @@ fn of_log(me: ProcessId, error: LogOpenError) -> OpenError {
     }
 }
 
-fn of_step(me: ProcessId, error: StepError) -> OpenError {
+fn of_step(me: ProcessId, error: StepError) -> OpenError
+    ensures { result ≡ error_of_step me error }
+{
     match error {
         StepError::Memory => OpenError::Memory,
         _ => OpenError::Device(me),
     }
 }
 
-fn of_manager(me: ProcessId, error: RestoreError) -> OpenError {
+fn of_manager(me: ProcessId, error: RestoreError) -> OpenError
+    ensures { result ≡ error_of_manager me error }
+{
     match error {
         RestoreError::Log(error) => of_log(me, error),
         RestoreError::Records(RestartError::Memory) => OpenError::Memory,
@@ -118,6 +134,8 @@ fn empty_log<L: LogStore + Drop>(
     ensures kind { IfOk result (λ log. log.kind ≡ kind.Coordinator) }
     ensures works { IfOk result (λ log. log.sight.failed ≡ false) }
     ensures empty { IfOk result (λ log. records_of log.sight.kept ≡ []) }
+    ensures failures { IfOk result (λ log. log.sight.failures ≡ L.failures store) }
+    ensures err { IfErr result (ProcessNotOpened L.bytes L.failures me (Some store)) }
 {
     match RecLog::open(store, Kind::Coordinator, alloc) {
         Ok(log) => Ok(log),
@@ -134,13 +152,14 @@ fn open_coordinator<L: LogStore + Drop>(
     store: L,
 ) -> Result<Node<L>, OpenError>
     requires { L.bytes store ≡ [] }
-    ensures { IfOk result (λ node. OpenedAt
+    ensures ok { IfOk result (λ node. OpenedAt
         (record { me = me; role = role_by kind.Coordinator parent; tree = tree }) (core_of node)) }
+    ensures err { IfErr result (ProcessNotOpened L.bytes L.failures me (Some store)) }
 {
     let log = empty_log(alloc, me, store)?;
     match Coordinator::open(alloc, me, parent, tree, log) {
         Ok(coordinator) => Ok(Node::Coordinator(coordinator)),
-        Err((error, log)) => Err(refused(log, of_step(me, error))),
+        Err((error, log)) => Err(refused(log.into_store(), of_step(me, error))),
     }
 }
 
@@ -153,8 +172,9 @@ fn open_manager<L: LogStore + Drop>(
     store: L,
 ) -> Result<Node<L>, OpenError>
     requires { L.bytes store ≡ [] }
-    ensures { IfOk result
+    ensures ok { IfOk result
         (λ node. OpenedAt (record { me = me; role = Role.AtLeaf parent; tree = tree }) (core_of node)) }
+    ensures err { IfErr result (ProcessNotOpened L.bytes L.failures me (Some store)) }
 {
     match KvManager::create(store, alloc) {
         Ok(manager) => Ok(Node::Manager(Subordinate::open(alloc, me, parent, tree, manager))),
@@ -170,7 +190,8 @@ fn open_node<L: LogStore + Drop>(
     store: L,
 ) -> Result<Node<L>, OpenError>
     requires { L.bytes store ≡ [] }
-    ensures { IfOk result (λ node. OpenedAs tree entry.now (core_of node)) }
+    ensures ok { IfOk result (λ node. OpenedAs tree entry.now (core_of node)) }
+    ensures err { IfErr result (ProcessNotOpened L.bytes L.failures entry.now.id (Some store)) }
 {
     match (entry.kind, entry.parent) {
         (Kind::Manager, Some(parent)) => open_manager(alloc, entry.id, parent, tree, store),
@@ -207,6 +228,7 @@ fn open_more<L: LogStore + Drop>(
         (OpenedAs tree.now entry.now)) }
     ensures others { OnOk result ((q : AnyProcess) → same_process entry.now.id q ≡ false
         → nodes_at nodes.new.entries q ≡ nodes_at nodes.old.entries q) }
+    ensures err { IfErr result (ProcessNotOpened L.bytes L.failures entry.now.id store) }
 {
     let Some(store) = store else {
         return Err(OpenError::Store(entry.id));
@@ -219,27 +241,29 @@ fn open_more<L: LogStore + Drop>(
     Ok(())
 }
 
-/// Opens every process of the tree, each over its store. A process that is listed twice is opened as it is
-/// listed first.
+/// Opens every process of the tree, each over its store.
 fn opened_over<L: LogStore + Drop>(
     alloc: Global,
     tree: &[TreeEntry],
     stores: Vec<L>,
 ) -> Result<IndexMap<ProcessId, Node<L>>, OpenError>
-    ensures { IfOk result (λ nodes. AreOpened tree.now tree.now (nodes_at nodes.entries)) }
+    requires { IsTree tree.now }
+    ensures ok { IfOk result (λ nodes. AreOpened tree.now tree.now (nodes_at nodes.entries)) }
+    ensures err { IfErr result (NotOpened L.bytes L.failures tree.now stores.items) }
 {
     let mut stores = stores.into_iter();
     let mut nodes = IndexMap::new(alloc);
     for entry in tree {
-        if !nodes.contains_key(&entry.id) {
-            open_more(alloc, tree, entry, stores.next(), &mut nodes)?;
-        }
+        open_more(alloc, tree, entry, stores.next(), &mut nodes)?;
     }
     Ok(nodes)
 }
 
 /// So many stores in memory, without bytes.
-fn memory_stores(alloc: Global, count: usize) -> Result<Vec<MemoryStore>, AllocError> {
+fn memory_stores(alloc: Global, count: usize) -> Result<Vec<MemoryStore>, AllocError>
+    ensures count { IfOk result (λ stores. length stores.items ≡ count) }
+    ensures empty { IfOk result (λ stores. All (λ store. memory_bytes store ≡ []) stores.items) }
+{
     let mut stores = Vec::new(alloc);
     for _ in 0..count {
         stores.push(MemoryStore::new(alloc))?;
@@ -258,6 +282,7 @@ impl<L: LogStore + Drop> World<L> {
         requires { IsTree tree }
         ensures opened { IfOk result (λ world. IsOpened (state world) tree) }
         ensures headline { IfOk result (λ world. KeepsHeadline (state world)) }
+        ensures err { IfErr result (NotOpened L.bytes L.failures tree stores.items) }
     {
         let nodes = opened_over(alloc, tree.entries(), stores)?;
         Ok(World {
@@ -277,6 +302,7 @@ impl World<MemoryStore> {
         requires { IsTree tree }
         ensures opened { IfOk result (λ world. IsOpened (state world) tree) }
         ensures headline { IfOk result (λ world. KeepsHeadline (state world)) }
+        ensures err { IfErr result (λ e. e ≡ OpenError.Memory) }
     {
         let stores = memory_stores(alloc, tree.entries().len())?;
         World::with_stores(alloc, tree, stores)

@@ -9,7 +9,7 @@ pub returns-clause-opened : goal.returns-clause-opened
 returns-clause-opened g c =
     let nodes = nodes_at c.in_ok-nodes.nodes.entries in
     opened_tree c.args.tree nodes c.new.result
-    (subst (λ tree. AreOpened tree tree nodes) c.entries.ensures c.in_ok-nodes.ensures)
+    (subst (λ tree. AreOpened tree tree nodes) c.entries.ensures c.in_ok-nodes.ensures.ok)
     c.new.ensures.net c.new.ensures.delivered c.new.ensures.entries
 
 pub invariant_of-result : goal.invariant_of-result
