@@ -1,4 +1,4 @@
--- WorkedRun runs with restarts, trims, inquiries and heuristic decisions.
+-- Worked runs with restarts, trims, inquiries and heuristic decisions.
 use Rattle.std.specs.Prelude.{[], ◌∷◌, codes}
 use Rattle.tree_model.specs.declared.names.Outcome.TheVariants.{Committed, Aborted}
 use Rattle.tree_model.specs.declared.names.Presumption.TheVariants.{PresumeAbort, PresumeCommit}

@@ -1,4 +1,4 @@
--- WorkedRun runs of flat trees: votes, outcomes and refusals.
+-- Worked runs of flat trees: votes, outcomes and refusals.
 use Rattle.std.specs.Prelude.{[], ◌∷◌, codes}
 use Rattle.tree_model.specs.declared.names.Presumption.TheVariants.{PresumeAbort, PresumeCommit}
 use Rattle.tree_model.specs.declared.messages.Op.TheVariants.{Put}

@@ -1,4 +1,4 @@
--- WorkedRun runs of a tree with a cascaded coordinator.
+-- Worked runs of a tree with a cascaded coordinator.
 use Rattle.std.specs.Prelude.{[], ◌∷◌, codes}
 use Rattle.tree_model.specs.declared.names.Presumption.TheVariants.{PresumeAbort, PresumeCommit}
 use Rattle.tree_model.specs.declared.messages.Op.TheVariants.{Put}
