@@ -11,7 +11,6 @@ use Rattle.tree_model.specs.declared.events.Input.TheVariants.{Message as Messag
 use Rattle.tree_model.specs.declared.standings.Standing.TheVariants.{Active as ActiveStanding}
 use Rattle.tree_model.specs.ManagerRows.{on_work, unmoved}
 use Rattle.tree_model.specs.Standings.{ManagerView}
-use Rattle.core_model.specs.States.{SameCore}
 use Rattle.core_model.specs.Turns.{Handles, Turn}
 use Rattle.core_model.specs.Makes.{retired_by}
 use Rattle.live_table.specs.Tables.{Moves}
@@ -22,10 +21,10 @@ use Rattle.sub_branch.specs.declared.branch.Branch.{Branch}
 use Rattle.sub_branch.specs.declared.branch.Stage.{Stage}
 use Rattle.sub_branch.specs.declared.branch.Stage.TheVariants.{Active}
 use Rattle.sub_table.specs.Tables.{BranchTable, Notes, kept_view, stage_view, ticket_in}
-use Rattle.sub_core.specs.Subordinates.{Hears, IsAt, IsTied, SubState, Turns, active, core_of, takes_work, turn_for, written_behind, xid_of}
+use Rattle.sub_core.specs.Subordinates.{Hears, IsAt, IsTied, SubState, Turns, active, takes_work, turn_for, written_behind, xid_of}
 use Rattle.sub_deeds.specs.Replies.{shown}
 use Rattle.sub_core.proofs.Ties.{behind, moved_tied}
-use Rattle.sub_core.proofs.Rows.{handled, no_view}
+use Rattle.sub_core.proofs.Rows.{handled}
 use Rattle.sub_core.proofs.Staying.{no_record}
 use Rattle.sub_core.proofs.Votes.{same_number}
 
@@ -133,18 +132,3 @@ module _ (s : SubState) (key : ℕ) (c g : Case) (n i : ℕ) (x : Xid) (op : Op)
   idles_tied m w =
       moved_tied s s.table m c (active x g n false) (Some (active x g n false)) S2 tied at.live
       (record { own = at.live; others = λ d apart. refl }) (refl, refl, tt) w.comes
-
-  pub idles_core : (m : ManagerSight) → Idles s.manager m x
-      → SameCore (core_of s) (core_of (behind s s.table m))
-  idles_core m w = record {
-    log = w.log;
-    rest = record {
-      place = refl;
-      boot = w.comes.boot;
-      begun = refl;
-      given = refl;
-      tickets = λ d. refl;
-      views = λ d. no_view;
-      branches = λ d. refl;
-    };
-  }

@@ -29,7 +29,7 @@ use Rattle.sub_branch.specs.declared.branch.Branch.{Branch}
 use Rattle.sub_table.specs.Tables.{BranchTable, Retires, retired_at, ticket_in}
 use Rattle.sub_core.specs.Subordinates.{IsAt, IsGiven, IsNamed, IsTied, NotTurned, SubState, core_of}
 use Rattle.sub_core.proofs.Ties.{behind, same_tied, still_tied}
-use Rattle.sub_core.proofs.Rows.{same_core}
+use Rattle.sub_core.proofs.Rows.{same_keeps}
 
 some_same : {A : Type 0} (a b : A) → Some a ≡ Some b → a ≡ b
 some_same a b e = cc
@@ -83,7 +83,7 @@ module _ (s : SubState) (c : Case) (x : Xid) (named : IsNamed s.parent c x) (giv
   pub not_done : (m : ManagerSight) (vs : List Written) (row : LeafRow) (e : StepError)
       → vs ≡ row.written → AreOf c row.written
       → NotDone s.manager m (logged_under x vs) e → NotTurned s (behind s s.table m) (Handles c row) e
-  not_done m vs row Memory is of h = same_core s m h
+  not_done m vs row Memory is of h = same_keeps s m h
   not_done m vs row Device is of h = (
     leaf_effect row,
     refl,

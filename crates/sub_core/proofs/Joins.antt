@@ -25,8 +25,9 @@ use Rattle.manager_model.specs.Sights.{ManagerSight, SameManager}
 use Rattle.sub_deeds.specs.Deeds.{Begins, HasBegun, starts}
 use Rattle.sub_branch.specs.declared.branch.Branch.{Branch}
 use Rattle.sub_table.specs.Tables.{BranchTable, Opens, SameTable, branch_in, kept_view, opened, ticket_in}
-use Rattle.sub_core.specs.Subordinates.{AgreesWith, Hears, IsGiven, IsNamed, IsTied, Joins, SubState, Turns, core_of, next_case, stage_state, xid_of}
+use Rattle.sub_core.specs.Subordinates.{AgreesWith, Hears, IsGiven, IsNamed, IsTied, Joins, Keeps, SubState, Turns, core_of, next_case, stage_state, xid_of}
 use Rattle.sub_deeds.specs.Replies.{shown}
+use Rattle.sub_deeds.proofs.Kept.{same_kept}
 use Rattle.sub_core.proofs.Ties.{apart_xids, behind, one, same_tied}
 use Rattle.sub_core.proofs.Rows.{no_view}
 
@@ -54,6 +55,16 @@ stays_core s = record {
     views = λ d.
         no_view;
     branches = λ d. refl;
+  };
+}
+
+pub stays : (s : SubState) → Keeps s s
+stays s = record {
+  core = stays_core s;
+  manager = record {
+    branches = refl;
+    spent = refl;
+    rest = record { writes = λ x. refl; obstacles = λ x op. refl; decided = λ x. refl };
   };
 }
 
@@ -219,7 +230,7 @@ pub undone_tied : (s : SubState) (t : BranchTable) (m : ManagerSight) → IsTied
     → SameManager s.manager m → IsTied (behind s t m)
 undone_tied s t m tied same stays = same_tied (behind s t s.manager) m (table_tied s t tied same) stays
 
-pub undone_core : (s : SubState) (t : BranchTable) (m : ManagerSight) → SameTable s.table t
+undone_core : (s : SubState) (t : BranchTable) (m : ManagerSight) → SameTable s.table t
     → SameManager s.manager m → SameCore (core_of s) (core_of (behind s t m))
 undone_core s t m same stays = record {
   log = stays.log;
@@ -232,6 +243,13 @@ undone_core s t m same stays = record {
     views = λ c. no_view;
     branches = λ c. ap kept_view (same.branches c);
   };
+}
+
+pub undone_keeps : (s : SubState) (t : BranchTable) (m : ManagerSight) → SameTable s.table t
+    → SameManager s.manager m → Keeps s (behind s t m)
+undone_keeps s t m same still = record {
+  core = undone_core s t m same still;
+  manager = same_kept s.manager m still;
 }
 
 pub not_begun : (s : SubState) (d : Case) (t : BranchTable) (m : ManagerSight) (x : Xid)

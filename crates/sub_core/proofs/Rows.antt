@@ -12,7 +12,8 @@ use Rattle.core_model.specs.Turns.{Handles}
 use Rattle.core_model.specs.Makes.{retired_by}
 use Rattle.manager_model.specs.Sights.{ManagerSight, SameManager}
 use Rattle.sub_table.specs.Tables.{BranchTable, ticket_in, view_in}
-use Rattle.sub_core.specs.Subordinates.{SubState, Turns, core_of}
+use Rattle.sub_deeds.proofs.Kept.{same_kept}
+use Rattle.sub_core.specs.Subordinates.{Keeps, SubState, Turns, core_of}
 use Rattle.sub_deeds.specs.Replies.{shown}
 use Rattle.sub_core.proofs.Ties.{behind}
 
@@ -49,7 +50,7 @@ handled s t m i c row log own others tickets boot = record {
 }
 
 -- nothing changed but room
-pub same_core : (s : SubState) (m : ManagerSight) → SameManager s.manager m
+same_core : (s : SubState) (m : ManagerSight) → SameManager s.manager m
     → SameCore (core_of s) (core_of (behind s s.table m))
 same_core s m stays = record {
   log = stays.log;
@@ -63,3 +64,7 @@ same_core s m stays = record {
     branches = λ c. refl;
   };
 }
+
+pub same_keeps : (s : SubState) (m : ManagerSight) → SameManager s.manager m
+    → Keeps s (behind s s.table m)
+same_keeps s m stays = record { core = same_core s m stays; manager = same_kept s.manager m stays }

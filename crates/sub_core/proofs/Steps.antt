@@ -1,5 +1,5 @@
 -- What an input makes of a subordinate.
-use Rattle.std.proofs.Common.{◌≡◌, ◌∙◌, ℕ, Bool, true, false, Option, Some, None, [], ◌∷◌, Result, Ok, Err, IfOk, IfErr, refl, sym, ap, subst, if◌then◌else◌}
+use Rattle.std.proofs.Common.{◌≡◌, ◌≢◌, ◌∙◌, ℕ, Bool, true, false, Option, Some, None, [], ◌∷◌, Result, Ok, Err, IfOk, IfErr, refl, sym, ap, subst, if◌then◌else◌}
 use Rattle.std.specs.Prelude.{◌&&◌, OnOk}
 use Rattle.tree_model.specs.declared.names.Case.{Case}
 use Rattle.tree_model.specs.declared.names.Ticket.{Ticket}
@@ -28,8 +28,9 @@ use Rattle.sub_branch.specs.Stages.{awaits}
 use Rattle.sub_table.specs.Tables.{branch_in, kept_view, stage_view, ticket_in}
 use Rattle.sub_core.specs.Subordinates.{Hears, NotHeard, NotTurned, SubState, Turns, Writes, core_of, turn_for}
 use Rattle.sub_deeds.specs.Replies.{shown}
+use Rattle.sub_deeds.specs.Deeds.{KeepsManager}
 use Rattle.sub_core.specs.Steps.{Acts, Leaves, NotActed, data_answer, turn_at}
-use Rattle.sub_core.proofs.Joins.{stays_core}
+use Rattle.sub_core.proofs.Joins.{stays, stays_core}
 use Rattle.sub_core.proofs.Rows.{handled}
 use Rattle.sub_core.proofs.Staying.{no_record}
 use Rattle.sub_core.proofs.Decisions.{no_retire}
@@ -40,14 +41,14 @@ use Rattle.sub_core.proofs.Decisions.{no_retire}
 pub refuses : (s : SubState) (turn : Turn) (e : StepError) → turn ≡ Refuses e
     → is_refusal e ≡ true → NotTurned s s turn e
 refuses s turn Device is no_device = absurd cc
-refuses s turn Memory is ok = stays_core s
-refuses s turn UnknownTxn is ok = (stays_core s, is)
-refuses s turn NotAChild is ok = (stays_core s, is)
-refuses s turn Closed is ok = (stays_core s, is)
-refuses s turn Failed is ok = (stays_core s, is)
-refuses s turn NotInDoubt is ok = (stays_core s, is)
-refuses s turn NothingToForget is ok = (stays_core s, is)
-refuses s turn NoSuch is ok = (stays_core s, is)
+refuses s turn Memory is ok = stays s
+refuses s turn UnknownTxn is ok = (stays s, is)
+refuses s turn NotAChild is ok = (stays s, is)
+refuses s turn Closed is ok = (stays s, is)
+refuses s turn Failed is ok = (stays s, is)
+refuses s turn NotInDoubt is ok = (stays s, is)
+refuses s turn NothingToForget is ok = (stays s, is)
+refuses s turn NoSuch is ok = (stays s, is)
 
 -- an ask of a case at a stage
 asks_at : (l : Leaf) (st : Stage) → awaits st ≡ true
@@ -143,46 +144,53 @@ made old new a i turn reaction is t = record {
 pub not_made : (old new : SubState) (a : DataAnswer) (i : Input) (turn : Turn) (e : StepError)
     → turn_of (core_of old) a None i ≡ turn
     → NotTurned old new turn e → NotMade (core_of old) (core_of new) a i e
-not_made old new a i turn Memory is t = t
+not_made old new a i turn Memory is t = t.core
 not_made old new a i turn Device is t = record { found = None; finds = none_found old i; breaks = rw is t }
 not_made old new a i turn UnknownTxn is t = record {
-  same = t.0;
+  same = t.0.core;
   found = None;
   finds = none_found old i;
   refuses = is ∙ t.1;
 }
 not_made old new a i turn NotAChild is t = record {
-  same = t.0;
+  same = t.0.core;
   found = None;
   finds = none_found old i;
   refuses = is ∙ t.1;
 }
 not_made old new a i turn Closed is t = record {
-  same = t.0;
+  same = t.0.core;
   found = None;
   finds = none_found old i;
   refuses = is ∙ t.1;
 }
 not_made old new a i turn Failed is t = record {
-  same = t.0;
+  same = t.0.core;
   found = None;
   finds = none_found old i;
   refuses = is ∙ t.1;
 }
 not_made old new a i turn NotInDoubt is t = record {
-  same = t.0;
+  same = t.0.core;
   found = None;
   finds = none_found old i;
   refuses = is ∙ t.1;
 }
 not_made old new a i turn NothingToForget is t =
-    record { same = t.0; found = None; finds = none_found old i; refuses = is ∙ t.1 }
+    record { same = t.0.core; found = None; finds = none_found old i; refuses = is ∙ t.1 }
 not_made old new a i turn NoSuch is t = record {
-  same = t.0;
+  same = t.0.core;
   found = None;
   finds = none_found old i;
   refuses = is ∙ t.1;
 }
+
+-- an error but the device's leaves the manager as it was
+kept_by : (old new : SubState) (turn : Turn) (e : StepError) → NotTurned old new turn e
+    → e ≢ Device → KeepsManager old.manager new.manager
+kept_by old new turn Memory t other = t.manager
+kept_by old new turn Device t other = absurd (other refl)
+kept_by old new turn _ t other = t.0.manager
 
 -- Results.
 
@@ -206,6 +214,11 @@ act_err s t a (Ok reaction) listed works acts = acts
 act_err s t a (Err e) listed works acts = not_made s t _ (ActInput a) (turn_at s a) e
     (up s _ (ActInput a) listed works) acts
 
+pub act_kept : (s t : SubState) (a : Act) (r : Result Reaction StepError) → IfErr r (NotActed s t a)
+    → IfErr r (λ e. e ≢ Device → KeepsManager s.manager t.manager)
+act_kept s t a (Ok reaction) acts = acts
+act_kept s t a (Err e) acts = kept_by s t (turn_at s a) e acts
+
 pub hear_ok : (old new : SubState) (k : ℕ) (m : Message) (r : Result Reaction StepError)
     → old.manager.log.failed ≡ false → IfOk r (Hears old new m)
     → IfOk r (Makes (core_of old) (core_of new) (data_answer old (MessageInput k m)) (MessageInput k m))
@@ -224,6 +237,11 @@ pub hear_err : (old new : SubState) (k : ℕ) (m : Message) (r : Result Reaction
 hear_err old new k m (Ok reaction) works h = h
 hear_err old new k m (Err e) works h = not_made old new _ (MessageInput k m) (turn_for old m) e
     (up old _ (MessageInput k m) refl works) h
+
+pub hear_kept : (old new : SubState) (m : Message) (r : Result Reaction StepError)
+    → IfErr r (NotHeard old new m) → IfErr r (λ e. e ≢ Device → KeepsManager old.manager new.manager)
+hear_kept old new m (Ok reaction) h = h
+hear_kept old new m (Err e) h = kept_by old new (turn_for old m) e h
 
 -- a message that says nothing to a manager
 pub unheard : (s : SubState) (m : Message) → turn_for s m ≡ Says [] → Writes s s m → Hears s s m (shown [] [])

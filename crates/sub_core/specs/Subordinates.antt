@@ -37,11 +37,10 @@ use Rattle.tree_model.specs.Reactions.{Does}
 use Rattle.tree_model.specs.Standings.{unknown_view}
 use Rattle.log_text.specs.Parts.{name_in}
 use Rattle.core_model.specs.States.{CoreState, SameCore}
-use Rattle.sub_deeds.specs.Replies.{shown}
 use Rattle.core_model.specs.Turns.{Refuses, Turn, manager_turn, next_ticket, reacted}
 use Rattle.core_model.specs.Makes.{BreaksIn, IssuesTicket, Moves}
 use Rattle.manager_model.specs.Sights.{ManagerSight}
-use Rattle.sub_deeds.specs.Deeds.{IsIdle, Wrote, starts}
+use Rattle.sub_deeds.specs.Deeds.{IsIdle, KeepsManager, Wrote, starts}
 use Rattle.sub_branch.specs.declared.branch.Branch.{Branch}
 use Rattle.sub_branch.specs.declared.branch.Stage.{Stage}
 use Rattle.sub_branch.specs.declared.branch.Stage.TheVariants.{Active, Heuristic, Prepared}
@@ -162,11 +161,16 @@ pub record Turns (old new : SubState) (i : Input) (turn : Turn) (reaction : Reac
   pub does : reacted turn ≡ Does effect
   pub shown : reaction ≡ reaction_of effect
 
+-- nothing changed: the process is as it was, as any process is seen, and so is its manager
+pub record Keeps (old new : SubState) : Type 0 where
+  pub core : SameCore (core_of old) (core_of new)
+  pub manager : KeepsManager old.manager new.manager
+
 -- why a turn was not made, and what that leaves
 abbrev pub NotTurned : SubState → SubState → Turn → StepError → Type 0
-NotTurned old new turn Memory = SameCore (core_of old) (core_of new)
+NotTurned old new turn Memory = Keeps old new
 NotTurned old new turn Device = BreaksIn (core_of old) (core_of new) turn
-NotTurned old new turn e = SameCore (core_of old) (core_of new) × (turn ≡ Refuses e)
+NotTurned old new turn e = Keeps old new × (turn ≡ Refuses e)
 
 -- what a message meets
 abbrev pub turn_for : SubState → Message → Turn

@@ -3,10 +3,10 @@
 ghost use Rattle.std.specs.Prelude.{◌≡◌, false, None, IfErr, IfOk, OnErr};
 ghost use Rattle.tree_model.specs.Names.{child_case};
 ghost use Rattle.tree_model.specs.declared.messages.Message.TheVariants as message;
-ghost use Rattle.core_model.specs.States.{HasNumbers, SameCore};
+ghost use Rattle.core_model.specs.States.{HasNumbers};
 ghost use Rattle.core_model.specs.Turns.{next_ticket};
 ghost use Rattle.sub_table.specs.Tables.{IsKept, ticket_in};
-ghost use Rattle.sub_core.specs.Subordinates.{Hears, IsNamed, Joins, NotHeard, core_of, seen};
+ghost use Rattle.sub_core.specs.Subordinates.{Hears, IsNamed, Joins, Keeps, NotHeard, core_of, seen};
 
 use crate::subordinate::Subordinate;
 use log_text::name_xid;
@@ -46,8 +46,7 @@ impl<M: ResourceManager> Subordinate<M> {
         requires ungiven { ticket_in self.old.table case ≡ None }
         requires kept { IsKept self.old.table }
         ensures ok { IfOk result (Joins (seen M.sight self.old) (seen M.sight self.new) case) }
-        ensures err { OnErr result (SameCore (core_of (seen M.sight self.old))
-            (core_of (seen M.sight self.new))) }
+        ensures err { OnErr result (Keeps (seen M.sight self.old) (seen M.sight self.new)) }
     {
         let xid = child_xid(self.parent, case.txn, ticket);
         let key = self.branches.open(case, ticket, xid)?;

@@ -1,10 +1,11 @@
 //! Restart: what a crash left of the log stands, and the cases that were not told their outcomes ask. And
 //! trim.
 
-ghost use Rattle.std.specs.Prelude.{◌≡◌, ◌∷◌, ◌+◌, [], true, IfErr, IfOk, OnOk};
+ghost use Rattle.std.specs.Prelude.{◌≡◌, ◌≢◌, ◌∷◌, ◌+◌, [], true, IfErr, IfOk, OnOk};
 ghost use Rattle.core_model.specs.Restarting.{NotRestarted, NotTrimmed, Restarts, Trims};
 ghost use Rattle.manager_model.specs.Restarting.{NotRestarted as NotReopened};
 ghost use Rattle.rec_log.specs.Sights.{left_by};
+ghost use Rattle.sub_deeds.specs.Deeds.{KeepsManager};
 ghost use Rattle.sub_table.specs.Rebuilt.{Rebuilds};
 ghost use Rattle.tree_model.specs.Views.{leaf_place};
 ghost use Rattle.sub_core.specs.Subordinates.{seen};
@@ -81,6 +82,8 @@ impl<M: ResourceManager> Subordinate<M> {
         ensures ok { IfOk result (Restarts (state M.sight self.old) keep (state M.sight self.new)) }
         ensures writes { OnOk result (LeavesPromises (seen M.sight self.old) keep (seen M.sight self.new)) }
         ensures err { IfErr result (NotRestarted (state M.sight self.old) keep (state M.sight self.new)) }
+        ensures kept { IfErr result (λ e. e ≢ StepError.Device
+            → KeepsManager (M.sight self.old.manager) (M.sight self.new.manager)) }
     {
         let (rebuilt, written) = self.ready(keep)?;
         match reopen(&mut self.manager, keep) {
@@ -110,7 +113,10 @@ impl<M: ResourceManager> Subordinate<M> {
     /// changed. Device: the log stands as it was or trimmed, and it has failed until it is restarted.
     pub fn trim(&mut self) -> Result<u64, StepError>
         ensures ok { IfOk result (Trims (state M.sight self.old) (state M.sight self.new)) }
+        ensures data { OnOk result (KeepsManager (M.sight self.old.manager) (M.sight self.new.manager)) }
         ensures err { IfErr result (NotTrimmed (state M.sight self.old) (state M.sight self.new)) }
+        ensures kept { IfErr result (λ e. e ≢ StepError.Device
+            → KeepsManager (M.sight self.old.manager) (M.sight self.new.manager)) }
     {
         self.manager.records_are_sound();
         match self.manager.trim() {

@@ -1,8 +1,9 @@
 //! What an input makes of a subordinate.
 
-ghost use Rattle.std.specs.Prelude.{◌≡◌, ◌↔◌, false, true, IfErr, IfOk, IsTrue, OnOk};
+ghost use Rattle.std.specs.Prelude.{◌≡◌, ◌≢◌, ◌↔◌, false, true, IfErr, IfOk, IsTrue, OnOk};
 ghost use Rattle.core_model.specs.States.{HasNumbers};
 ghost use Rattle.core_model.specs.Makes.{Makes, NotMade};
+ghost use Rattle.sub_deeds.specs.Deeds.{KeepsManager};
 ghost use Rattle.sub_core.specs.Subordinates.{Hears, NotHeard, seen};
 ghost use Rattle.sub_core.specs.Steps.{Leaves, data_answer, state};
 
@@ -40,6 +41,8 @@ impl<M: ResourceManager> Subordinate<M> {
         ensures writes { OnOk result (Leaves input.now (seen M.sight self.old) (seen M.sight self.new)) }
         ensures err { IfErr result (NotMade (state M.sight self.old) (state M.sight self.new)
             (data_answer (seen M.sight self.old) input.now) input.now) }
+        ensures kept { IfErr result (λ e. e ≢ StepError.Device
+            → KeepsManager (M.sight self.old.manager) (M.sight self.new.manager)) }
     {
         if !is_listed(&self.tree, input) {
             return Err(StepError::NoSuch);

@@ -1,5 +1,6 @@
 pub mod Quiet
 pub mod Ends
 pub mod Turning
+pub mod Kept
 pub mod Works
 pub mod Deciding

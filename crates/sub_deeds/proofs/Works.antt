@@ -15,7 +15,7 @@ use Rattle.xa_xid.specs.declared.xid.Xid.{Xid}
 use Rattle.xa_xid.specs.Xids.{null_xid}
 use Rattle.xa_assoc.specs.Associations.{AssocList, Moves, Row, active_of, end_plan, has_room, has_seat, is_active, row, start_plan}
 use Rattle.xa_assoc.proofs.Sound.{is_active-T1}
-use Rattle.xa_branch.specs.Branches.{is_known, state_in}
+use Rattle.xa_branch.specs.Branches.{is_known, placed, state_in}
 use Rattle.xa_branch.specs.Names.{same}
 use Rattle.xa_assoc.specs.declared.states.States.{States}
 use Rattle.xa_assoc.specs.Answers.{Answers, ByState, Checked, Ends, Reacts, Refuses, Same, Walks, Wanted, left_state, start_reaction, state_at}
@@ -29,6 +29,7 @@ use Rattle.tree_model.specs.Plays.{op_writes}
 use Rattle.rec_log.specs.Sights.{LogSight}
 use Rattle.manager_model.specs.Works.{WorkRefused, Works as Does, refusal_by, state_refusal, work_refusal}
 use Rattle.sub_deeds.specs.Deeds.{Comes, HasBegun, Idles, IsIdle, IsQuiet, Works, starts}
+use Rattle.sub_deeds.proofs.Kept.{idle_again}
 use Rattle.sub_deeds.proofs.Turning.{no_seat, none_active, not_busy, quiet_again, with_room}
 
 -- any rows: a start and an end do not ask for them
@@ -40,6 +41,7 @@ pub record IsAtWork (base mid : States) (x : Xid) : Type 0 where
   pub opened : mid.init ≡ R1
   pub quiet : IsQuiet base.associations
   pub begins : Moves base.associations mid.associations 0 x T0 T1
+  pub order : mid.branches.branches ≡ placed base.branches.branches x S1
   pub state : state_at mid x ≡ S1
   pub others : (y : Xid) → same x y ≡ false → state_at mid y ≡ state_at base y
 
@@ -117,6 +119,7 @@ walks_work old new x c r answer opened quiet is w = record {
   opened = w.init ∙ opened;
   quiet = quiet;
   begins = subst (λ (q : Row). Moves old.associations new.associations 0 x q.0 q.2) (sym is) w.association;
+  order = w.branch.order;
   state = w.branch.own;
   others = w.branch.others;
 }
@@ -233,6 +236,21 @@ ended base mid new x succeeds flags answer up work named boot decided is calls =
       boot = calls.boot ∙ boot;
     }
 
+-- and where the branch was idle before, each branch stands where it stood
+known_again : (base mid new : ManagerSight) (x : Xid) (answer : Code) → mid.log.failed ≡ false
+    → IsAtWork base.tables mid.tables x → x ≢ null_xid → state_at base.tables x ≡ S2
+    → Calls mid new (answer ≡ code.RmFail) (λ m n. Answers any m n verb.End 0 x 0x0400_0000 answer)
+    → new.tables.branches.branches ≡ base.tables.branches.branches
+known_again base mid new x answer up work named at calls =
+    let w = walks_end base.tables mid.tables new.tables x true answer work
+    (ends_of true mid.tables new.tables x 0x0400_0000 answer refl work.opened named (calls.works up)) in
+    let quiet = quiet_again base.tables.associations mid.tables.associations new.tables.associations 0 x
+    work.quiet work.begins w.association in
+    w.branch.order
+    ∙ ap (λ (s : BranchState). placed mid.tables.branches.branches x s) (left_is true new.tables x quiet)
+    ∙ ap (λ (bs : List (Xid × BranchState)). placed bs x S2) work.order
+    ∙ idle_again base.tables.branches.branches x at
+
 -- Whole pieces.
 
 rest_through : (base mid new : ManagerSight) → SameData base mid → SameData mid new → SameData base new
@@ -266,6 +284,7 @@ same_work base mid new x stays work = record {
   quiet = work.quiet;
   begins = subst (λ (a : AssocList). Moves base.associations a 0 x T0 T1)
       (sym stays.associations) work.begins;
+  order = stays.branches.branches ∙ work.order;
   state = ap (λ (bs : List (Xid × BranchState)). state_in bs x) stays.branches.branches ∙ work.state;
   others = λ y apart. ap (λ (bs : List (Xid × BranchState)). state_in bs y)
       stays.branches.branches ∙ work.others y apart;
@@ -356,5 +375,10 @@ module _ (old mid back new : ManagerSight) (x : Xid) (op : Op) (start : Code)
         (stays.boot ∙ starting.boot)
         (λ y. stays.rest.decided y ∙ starting.rest.decided y) refl ending;
     log = ending.log ∙ stays.log ∙ starting.log;
-    writes = λ y. ending.rest.writes y ∙ stays.rest.writes y ∙ starting.rest.writes y;
+    kept = record {
+      branches = known_again old back new x end (still_up back stays.log)
+          (same_work old.tables mid.tables back.tables x stays.tables at_work) named at ending;
+      spent = ending.spent ∙ stays.spent ∙ starting.spent;
+      rest = rest_through old mid new starting.rest (rest_through mid back new stays.rest ending.rest);
+    };
   }

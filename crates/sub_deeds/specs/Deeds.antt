@@ -46,6 +46,14 @@ pub record Comes (old new : ManagerSight) (x : Xid) (s : BranchState) : Type 0 w
   pub idle : IsIdle new
   pub boot : new.boot ≡ old.boot
 
+-- but for its log, a manager between two pieces of work is as it was: which branches it knows and their states,
+-- what each has written, what is in the way of its work, what operators decided, and whether a limit of its
+-- own is met
+pub record KeepsManager (old new : ManagerSight) : Type 0 where
+  pub branches : new.tables.branches.branches ≡ old.tables.branches.branches
+  pub spent : new.spent ≡ old.spent
+  pub rest : SameData old new
+
 -- Work.
 
 -- a start of a branch, which is then left idle, is answered by XA_OK
@@ -75,11 +83,11 @@ pub record Works (old new : ManagerSight) (x : Xid) (op : Op) (done : Bool) : Ty
   pub log : new.log ≡ old.log
   pub wrote : Wrote old new x (if done then op_writes (old.writes x) op else old.writes x)
 
--- an operation that wanted memory: the branch is idle as before
+-- an operation that wanted memory: the branch is idle as before, and the manager as it was
 pub record Idles (old new : ManagerSight) (x : Xid) : Type 0 where
   pub comes : Comes old new x S2
   pub log : new.log ≡ old.log
-  pub writes : (y : Xid) → new.writes y ≡ old.writes y
+  pub kept : KeepsManager old new
 
 -- Ends.
 

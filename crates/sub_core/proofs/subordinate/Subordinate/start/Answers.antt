@@ -3,13 +3,12 @@ use Rattle.tree_model.specs.declared.names.Ticket.{Ticket}
 use Rattle.tree_model.specs.Names.{child_case}
 use Rattle.manager_model.specs.Sights.{ManagerSight}
 use Rattle.sub_deeds.specs.Deeds.{HasBegun}
-use Rattle.core_model.specs.States.{SameCore}
 use Rattle.core_model.specs.Turns.{next_ticket}
 use Rattle.sub_table.specs.Tables.{IsKept, Opens, SameTable, branch_in, ticket_in}
 use Rattle.sub_table.proofs.Undoing.{undone}
-use Rattle.sub_core.specs.Subordinates.{IsNamed, IsTied, Joins, SubState, core_of, next_case, seen}
+use Rattle.sub_core.specs.Subordinates.{IsNamed, IsTied, Joins, Keeps, SubState, core_of, next_case, seen}
 use Rattle.sub_core.proofs.Ties.{behind}
-use Rattle.sub_core.proofs.Joins.{begun, begun_tied, is_fresh, not_begun, numbered, table_tied, undone_core, undone_tied}
+use Rattle.sub_core.proofs.Joins.{begun, begun_tied, is_fresh, not_begun, numbered, table_tied, undone_keeps, undone_tied}
 use Rattle.sub_core.proofs.subordinate.Subordinate.start.Goals as goal
 
 pub invariant_of-self : goal.invariant_of-self
@@ -181,6 +180,5 @@ returns-in-Err-clause-err g c =
     undone s.table c.open.new.self c.remove-in-Err.new.self c.in_ok-key.key c.args.case c.args.ticket
     c.child_xid-xid.result kept vacant ungiven c.in_ok-key.ensures.ok
     c.in_ok-key.ensures.at c.remove-in-Err.ensures in
-    subst (λ v. SameCore (core_of (seen g.M.ResourceManager.sight v))
-    (core_of (behind s c.remove-in-Err.new.self m))) c.self.view_is
-    (undone_core s c.remove-in-Err.new.self m same c.in-Err.ensures.err)
+    subst (λ v. Keeps (seen g.M.ResourceManager.sight v) (behind s c.remove-in-Err.new.self m)) c.self.view_is
+    (undone_keeps s c.remove-in-Err.new.self m same c.in-Err.ensures.err)

@@ -8,8 +8,8 @@ use Rattle.core_model.specs.Makes.{Makes, NotMade}
 use Rattle.sub_core.specs.Subordinates.{SubState, core_of, seen}
 use Rattle.std.specs.Prelude.{OnOk}
 use Rattle.sub_core.specs.Steps.{Leaves, data_answer}
-use Rattle.sub_core.proofs.Joins.{stays_core}
-use Rattle.sub_core.proofs.Steps.{act_err, act_ok, act_writes, has_failed, hear_err, hear_ok, not_made, unlisted}
+use Rattle.sub_core.proofs.Joins.{stays}
+use Rattle.sub_core.proofs.Steps.{act_err, act_kept, act_ok, act_writes, has_failed, hear_err, hear_kept, hear_ok, not_made, unlisted}
 use Rattle.sub_core.proofs.subordinate.Subordinate.step.Goals as goal
 
 pub returns-then-not-is_listed-clause-err : goal.returns-then-not-is_listed-clause-err
@@ -18,7 +18,7 @@ returns-then-not-is_listed-clause-err g c =
     let i : Input = c.args.input.now in
     let unknown : act_is_listed s.tree i ≡ false = search rules in
     not_made s s (data_answer s i) i (Refuses NoSuch) NoSuch
-    (unlisted s (data_answer s i) i unknown) (stays_core s, refl)
+    (unlisted s (data_answer s i) i unknown) (stays s, refl)
 
 pub returns-then-has_failed-clause-err : goal.returns-then-has_failed-clause-err
 returns-then-has_failed-clause-err g c =
@@ -27,7 +27,7 @@ returns-then-has_failed-clause-err g c =
     let listed : act_is_listed s.tree i ≡ true = search rules in
     let failed : s.manager.log.failed ≡ true = search rules in
     not_made s s (data_answer s i) i (Refuses Failed) Failed
-    (has_failed s (data_answer s i) i listed failed) (stays_core s, refl)
+    (has_failed s (data_answer s i) i listed failed) (stays s, refl)
 
 pub returns-in-Act-clause-ok : goal.returns-in-Act-clause-ok
 returns-in-Act-clause-ok g c =
@@ -73,3 +73,13 @@ returns-in-Message-clause-err g c =
     subst (λ (i : Input). IfErr c.hear.result
     (NotMade (core_of s) (core_of t) (data_answer s i) i)) (sym c.in-Message.is)
     (hear_err s t c.in-Message.field-0 c.in-Message.message c.hear.result works c.hear.ensures.err)
+
+pub returns-in-Act-clause-kept : goal.returns-in-Act-clause-kept
+returns-in-Act-clause-kept g c =
+    act_kept (seen g.M.ResourceManager.sight c.args.self.now) (seen g.M.ResourceManager.sight c.act.new.self)
+    c.in-Act.act c.act.result c.act.ensures.err
+
+pub returns-in-Message-clause-kept : goal.returns-in-Message-clause-kept
+returns-in-Message-clause-kept g c =
+    hear_kept (seen g.M.ResourceManager.sight c.args.self.now) (seen g.M.ResourceManager.sight c.hear.new.self)
+    c.in-Message.message c.hear.result c.hear.ensures.err
