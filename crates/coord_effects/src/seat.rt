@@ -6,10 +6,11 @@ ghost use Rattle.tree_model.specs.Reactions.{told_of};
 ghost use Rattle.tree_model.specs.Standings.{CoordinatorView};
 ghost use Rattle.coord_effects.specs.Rows.{reason as reason_meant, seat as seat_meant};
 
+use core_model::one_message;
 use std::alloc::{AllocError, Global};
 use tree_model::{
     Case, Conclusion, Envelope, Envelopes, Message, Outcome, Presumption, ProcessId, Sequence,
-    Ticket, Told, one_message,
+    Ticket, Told,
 };
 
 /// A coordinator in one of its cases; the root has no parent.

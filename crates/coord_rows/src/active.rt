@@ -15,9 +15,10 @@ ghost use Rattle.coord_effects.specs.Rows.{Does, seat as seat_meant};
 
 use coord_case::Live;
 use coord_effects::{RowEffect, Seat, Written, acknowledge_abort, tell_each, up};
+use core_model::one_message;
 use std::alloc::{AllocError, Global};
 use tree_model::{
-    Conclusion, Message, Op, Outcome, Presumption, ProcessId, Record, Sequence, Ticket, one_message,
+    Conclusion, Message, Op, Outcome, Presumption, ProcessId, Record, Sequence, Ticket,
 };
 
 /// Active, the join act: a child that is not accepted is invited.

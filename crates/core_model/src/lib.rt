@@ -4,5 +4,7 @@
 
 mod acts;
 pub mod law;
+mod messages;
 
 pub use acts::is_listed;
+pub use messages::one_message;

@@ -9,12 +9,12 @@ ghost use Rattle.sub_core.specs.Subordinates.{Hears, IsAt, NotHeard, acknowledge
 ghost use Rattle.sub_deeds.specs.Replies.{shown};
 
 use crate::subordinate::Subordinate;
+use core_model::one_message;
 use manager_model::ResourceManager;
 use std::alloc::{AllocError, Global};
 use sub_deeds::{commit, logged, reply, roll_back, silence};
 use tree_model::{
     Case, Envelopes, Message, Outcome, ProcessId, Reaction, RecordKind, Sequence, StepError,
-    one_message,
 };
 use xa_xid::Xid;
 

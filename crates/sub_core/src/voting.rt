@@ -7,10 +7,11 @@ ghost use Rattle.tree_model.specs.declared.records.RecordKind.TheVariants as kin
 ghost use Rattle.sub_core.specs.Subordinates.{Hears, IsAt, NotHeard, active, logged_reply, seen};
 
 use crate::subordinate::Subordinate;
+use core_model::one_message;
 use manager_model::ResourceManager;
 use std::alloc::{AllocError, Global};
 use sub_deeds::{logged, promise, reply, silence};
-use tree_model::{Case, Message, ProcessId, Reaction, RecordKind, StepError, Vote, one_message};
+use tree_model::{Case, Message, ProcessId, Reaction, RecordKind, StepError, Vote};
 use xa_xid::Xid;
 
 /// YES with its record.

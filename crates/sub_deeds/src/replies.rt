@@ -5,10 +5,9 @@ ghost use Rattle.tree_model.specs.CoordinatorRows.{post};
 ghost use Rattle.tree_model.specs.declared.records.Subject.TheVariants as subject;
 ghost use Rattle.sub_deeds.specs.Replies.{shown};
 
+use core_model::one_message;
 use std::alloc::{AllocError, Global};
-use tree_model::{
-    Case, Logged, Message, ProcessId, Reaction, RecordKind, Sequence, Subject, one_message,
-};
+use tree_model::{Case, Logged, Message, ProcessId, Reaction, RecordKind, Sequence, Subject};
 
 /// A reaction that shows nothing. It takes no memory.
 pub fn silence(alloc: Global) -> Reaction

@@ -13,7 +13,7 @@ pub use events::{
     Act, Conclusion, Entry, Event, Fault, Happening, Input, Reaction, Step, StepError, Told,
 };
 pub use lists::Sequence;
-pub use messages::{Bytes, Envelope, Envelopes, Message, Op, one_message};
+pub use messages::{Bytes, Envelope, Envelopes, Message, Op};
 pub use names::{Case, Kind, Outcome, Presumption, ProcessId, Ticket, Tickets, Txn};
 pub use records::{Branch, LogRecord, Logged, Record, RecordKind, Subject, Write, Writes};
 pub use standings::{Standing, Vote};

@@ -1,7 +1,6 @@
 //! What a parent and its child say to one another.
 
-ghost use Rattle.std.specs.Prelude.{◌≡◌, IfOk, [], ◌∷◌};
-ghost use Rattle.tree_model.specs.CoordinatorRows.{post};
+ghost use Rattle.std.specs.Prelude.{◌≡◌, IfOk};
 
 use crate::lists::Sequence;
 use crate::names::{Case, Outcome, ProcessId, Ticket};
@@ -98,17 +97,3 @@ impl Envelope {
 
 /// Messages, in the order in which they were sent.
 pub type Envelopes = Sequence<Envelope>;
-
-/// One message from the first process to the second.
-pub fn one_message(
-    alloc: Global,
-    from: ProcessId,
-    to: ProcessId,
-    message: Message,
-) -> Result<Envelopes, AllocError>
-    ensures { IfOk result (λ messages. messages ≡ post from to message ∷ []) }
-{
-    let mut messages = Sequence::new(alloc);
-    messages.push(Envelope { from, to, message })?;
-    Ok(messages)
-}

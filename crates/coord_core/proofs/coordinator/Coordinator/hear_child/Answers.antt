@@ -25,7 +25,8 @@ returns-in-Yes g c =
     subst (λ (m : Message). Hears c.args.self.now (MessageInput c.args.number m)
     (λ found. child_says (state c.args.self.now) found m) c.hear_vote.result) (sym is)
     (heard_from c.args.self.now (MessageInput c.args.number (Yes c.in-Yes.case)) c.in-Yes.case
-    (λ found. child_says (state c.args.self.now) found (Yes c.in-Yes.case)) c.hear_vote.result refl (λ d u. refl) hears)
+    (λ found. child_says (state c.args.self.now) found (Yes c.in-Yes.case)) c.hear_vote.result
+    refl (λ d u. refl) hears)
 
 pub returns-in-No : goal.returns-in-No
 returns-in-No g c =
@@ -35,7 +36,8 @@ returns-in-No g c =
     subst (λ (m : Message). Hears c.args.self.now (MessageInput c.args.number m)
     (λ found. child_says (state c.args.self.now) found m) c.hear_vote-in-No.result) (sym is)
     (heard_from c.args.self.now (MessageInput c.args.number (No c.in-No.case)) c.in-No.case
-    (λ found. child_says (state c.args.self.now) found (No c.in-No.case)) c.hear_vote-in-No.result refl (λ d u. refl) hears)
+    (λ found. child_says (state c.args.self.now) found (No c.in-No.case)) c.hear_vote-in-No.result
+    refl (λ d u. refl) hears)
 
 pub returns-in-Read : goal.returns-in-Read
 returns-in-Read g c =
@@ -45,7 +47,8 @@ returns-in-Read g c =
     subst (λ (m : Message). Hears c.args.self.now (MessageInput c.args.number m)
     (λ found. child_says (state c.args.self.now) found m) c.hear_vote-in-Read.result) (sym is)
     (heard_from c.args.self.now (MessageInput c.args.number (Read c.in-Read.case)) c.in-Read.case
-    (λ found. child_says (state c.args.self.now) found (Read c.in-Read.case)) c.hear_vote-in-Read.result refl (λ d u. refl) hears)
+    (λ found. child_says (state c.args.self.now) found (Read c.in-Read.case)) c.hear_vote-in-Read.result
+    refl (λ d u. refl) hears)
 
 pub returns-in-Ack : goal.returns-in-Ack
 returns-in-Ack g c =
@@ -54,15 +57,19 @@ returns-in-Ack g c =
     (λ t. ack_turn (state c.args.self.now) c.in-Ack.outcome t found)) c.hear_ack.result = search rules in
     subst (λ (m : Message). Hears c.args.self.now (MessageInput c.args.number m)
     (λ found. child_says (state c.args.self.now) found m) c.hear_ack.result) (sym is)
-    (heard_from c.args.self.now (MessageInput c.args.number (Ack c.in-Ack.case c.in-Ack.outcome)) c.in-Ack.case
-    (λ found. child_says (state c.args.self.now) found (Ack c.in-Ack.case c.in-Ack.outcome)) c.hear_ack.result refl (λ d u. refl) hears)
+    (heard_from c.args.self.now (MessageInput c.args.number (Ack c.in-Ack.case c.in-Ack.outcome))
+    c.in-Ack.case
+    (λ found. child_says (state c.args.self.now) found (Ack c.in-Ack.case c.in-Ack.outcome)) c.hear_ack.result
+    refl (λ d u. refl) hears)
 
 pub returns-in-Inquire : goal.returns-in-Inquire
 returns-in-Inquire g c =
     let is : c.args.message.now ≡ Inquire c.in-Inquire.case = search rules in
     let hears : HearsFrom c.args.self.now c.in-Inquire.case (λ found. child_turn c.in-Inquire.case
-    (λ t. inquiry_turn (state c.args.self.now) c.in-Inquire.case.txn t found)) c.hear_inquiry.result = search rules in
+    (λ t. inquiry_turn (state c.args.self.now) c.in-Inquire.case.txn t found)) c.hear_inquiry.result =
+    search rules in
     subst (λ (m : Message). Hears c.args.self.now (MessageInput c.args.number m)
     (λ found. child_says (state c.args.self.now) found m) c.hear_inquiry.result) (sym is)
     (heard_from c.args.self.now (MessageInput c.args.number (Inquire c.in-Inquire.case)) c.in-Inquire.case
-    (λ found. child_says (state c.args.self.now) found (Inquire c.in-Inquire.case)) c.hear_inquiry.result refl (λ d u. refl) hears)
+    (λ found. child_says (state c.args.self.now) found (Inquire c.in-Inquire.case)) c.hear_inquiry.result
+    refl (λ d u. refl) hears)
