@@ -9,7 +9,7 @@ use Rattle.log_rules.specs.order.Orders.{nothing_seen}
 use Rattle.log_rules.specs.order.Logs.{LogReading, Whole, Damaged, read_frames, read_log}
 use Rattle.rec_log.specs.Texts.{is_whole, records_in, whole_size}
 use Rattle.rec_log.specs.Sights.{body, bytes_behind, front, kept_of, log_state}
-use Rattle.rec_log.specs.Openings.{Ends, IsFound, IsRefused, NotOpened, Opens, Settles, StaysForced}
+use Rattle.rec_log.specs.Openings.{Ends, IsFound, IsRefused, IsWrittenAnew, NotOpened, Opens, Settles, StaysForced}
 use Rattle.rec_log.specs.declared.opening.OpenError.{OpenError}
 use Rattle.rec_log.specs.declared.opening.OpenError.TheVariants.{Memory, Device, Damaged as DamagedError}
 use Rattle.rec_log.specs.declared.opening.Found.TheVariants.{Empty, Sound}
@@ -40,29 +40,29 @@ found_sound p bytes torn h b e = (
 )
 
 pub settles_empty : (p : Kind) (bytes text : List ℕ) (before failures forced failures' : ℕ)
-    → IsFound p bytes Empty → text ≡ header → forced ≡ length header → failures' ≡ failures
-    → Settles p bytes before failures text forced failures'
-settles_empty p bytes text before failures forced failures' found e f g = record {
+    → IsFound p bytes Empty → before ≤ length bytes → text ≡ header → forced ≡ length header
+    → failures' ≡ failures → Settles p bytes before failures text forced failures'
+settles_empty p bytes text before failures forced failures' found within e f g = record {
   begins = ap (take 5) e;
   header_forced = omega (arith, f);
-  front = inr (f ∙ ap length (sym e));
-  whole = ap (λ t. is_whole p 0 (drop 5 t)) e ∙ nothing_whole p;
   torn = 0;
-  read = found ∙ ap (λ ls. Whole ls 0) (sym (ap (λ t. records_in p 0 (drop 5 t)) e ∙ no_records p));
+  front = inr (f ∙ ap length (sym e), inr (omega (arith, within, found.0)));
+  whole = ap (λ t. is_whole p 0 (drop 5 t)) e ∙ nothing_whole p;
+  read = found.1 ∙ ap (λ ls. Whole ls 0) (sym (ap (λ t. records_in p 0 (drop 5 t)) e ∙ no_records p));
   failures_stay = g;
 }
 
 settles_sound : (p : Kind) (bytes text sound : List ℕ) (before failures forced failures' torn : ℕ)
     → text ≡ header ++ sound → is_whole p 0 sound ≡ true
     → read_log p bytes ≡ Whole (records_in p 0 sound) torn → 5 ≤ forced
-    → ((text ≡ bytes) × (forced ≡ before)) ⊎ (forced ≡ length text) → failures' ≡ failures
-    → Settles p bytes before failures text forced failures'
+    → ((text ≡ bytes) × (forced ≡ before)) ⊎ ((forced ≡ length text) × IsWrittenAnew torn before)
+    → failures' ≡ failures → Settles p bytes before failures text forced failures'
 settles_sound p bytes text sound before failures forced failures' torn e w r f k g = record {
   begins = ap (take 5) e;
   header_forced = f;
+  torn = torn;
   front = k;
   whole = ap (λ t. is_whole p 0 (drop 5 t)) e ∙ w;
-  torn = torn;
   read = r ∙ ap (λ ls. Whole ls torn) (sym (ap (λ t. records_in p 0 (drop 5 t)) e));
   failures_stay = g;
 }
@@ -74,9 +74,9 @@ joined p bytes torn e h =
     ∙ sym (append_assoc header e.sound e.tail)
 
 pub settles_front : (p : Kind) (bytes text : List ℕ) (before failures forced failures' torn : ℕ)
-    → IsFound p bytes (Sound torn) → text ≡ take (length bytes - torn) bytes
+    → IsFound p bytes (Sound torn) → IsWrittenAnew torn before → text ≡ take (length bytes - torn) bytes
     → forced ≡ length text → failures' ≡ failures → Settles p bytes before failures text forced failures'
-settles_front p bytes text before failures forced failures' torn found e f g =
+settles_front p bytes text before failures forced failures' torn found anew e f g =
     let n = found.2 in
     let j = joined p bytes torn n found.0 in
     let size : length bytes - torn ≡ length (header ++ n.sound) =
@@ -84,7 +84,7 @@ settles_front p bytes text before failures forced failures' torn found e f g =
     let text_is : text ≡ header ++ n.sound = e ∙ ap (λ k. take k bytes) size
     ∙ ap (take (length (header ++ n.sound))) j ∙ take-append_seam (header ++ n.sound) n.tail in
     settles_sound p bytes text n.sound before failures forced failures' torn text_is n.whole
-    (found.3 ∙ n.read) (omega (arith, f, ap length text_is, length-append header n.sound)) (inr f) g
+    (found.3 ∙ n.read) (omega (arith, f, ap length text_is, length-append header n.sound)) (inr (f, anew)) g
 
 no_tail : (xs tail : List ℕ) → length tail ≡ 0 → xs ++ tail ≡ xs
 no_tail xs [] h = append-nil xs
@@ -100,22 +100,23 @@ settles_same p bytes text before failures forced failures' torn found z e f b g 
     settles_sound p bytes text n.sound before failures forced failures' torn (e ∙ j) n.whole
     (found.3 ∙ n.read) f (inl (e, b)) g
 
-stays_forced : (p : Kind) (bytes text : List ℕ) (before forced failures room : ℕ)
+stays_forced : (p : Kind) (bytes text : List ℕ) (before forced failures room torn : ℕ)
     → is_whole p 0 (body text) ≡ true
-    → ((text ≡ bytes) × (forced ≡ before)) ⊎ (forced ≡ length text)
-    → StaysForced p bytes before ((log_state p text forced failures room false).sight)
-stays_forced p bytes text before forced failures room w (inl e) =
+    → ((text ≡ bytes) × (forced ≡ before)) ⊎ ((forced ≡ length text) × IsWrittenAnew torn before)
+    → StaysForced p bytes before torn ((log_state p text forced failures room false).sight)
+stays_forced p bytes text before forced failures room torn w (inl e) =
     inl (
       ap (λ t. kept_of p t forced) e.0 ∙ ap (kept_of p bytes) e.1,
       ap (λ t. bytes_behind p t forced) e.0
           ∙ ap (bytes_behind p bytes) e.1,
     )
-stays_forced p bytes text before forced failures room w (inr f) =
-    let all : front text forced ≡ body text = all_front text forced f in
+stays_forced p bytes text before forced failures room torn w (inr f) =
+    let all : front text forced ≡ body text = all_front text forced f.0 in
     inr (
       ap (λ t. drop (length (records_in p 0 t)) (records_in p 0 (body text))) all
           ∙ drop_all (records_in p 0 (body text)),
       ap (λ t. length t - whole_size p 0 t) all ∙ whole_is_full p (body text) w,
+      f.1,
     )
 
 pub opens : (p : Kind) (bytes text : List ℕ) (before failures forced failures' room : ℕ)
@@ -125,7 +126,7 @@ opens p bytes text before failures forced failures' room s = record {
   kind = refl;
   torn = s.torn;
   read = s.read ∙ ap (λ ls. Whole ls s.torn) (sym (records_stand p text forced));
-  front = stays_forced p bytes text before forced failures' room s.whole s.front;
+  front = stays_forced p bytes text before forced failures' room s.torn s.whole s.front;
   works = refl;
   failures_stay = s.failures_stay;
 }

@@ -36,7 +36,7 @@ IsFault p bytes (DamagedError place) = read_frames p 5 nothing_seen 0 bytes ≡ 
 -- the bytes are an empty log without its header; or a header and sound frames, and a torn tail of so many
 -- bytes
 abbrev pub IsFound : Kind → List ℕ → Found → Type 0
-IsFound p bytes Empty = read_log p bytes ≡ Whole [] 0
+IsFound p bytes Empty = (length bytes < 5) × (read_log p bytes ≡ Whole [] 0)
 IsFound p bytes (Sound torn) =
     (take 5 bytes ≡ header) × (5 ≤ length bytes) × Ends p (drop 5 bytes) torn
     × (read_log p bytes ≡ read_frames p 5 nothing_seen 0 (drop 5 bytes))
@@ -47,30 +47,35 @@ IsNoLog p bytes Memory = ⊤
 IsNoLog p bytes Device = ⊥
 IsNoLog p bytes (DamagedError place) = read_log p bytes ≡ Damaged place
 
--- what is forced of the records of these bytes is forced as it was, or all of them are
-abbrev pub StaysForced : Kind → List ℕ → ℕ → LogSight → Type 0
-StaysForced p bytes forced s =
+-- a log is written anew where it is opened: a torn tail of so many bytes stands behind its frames, or its
+-- header is not forced whole
+abbrev pub IsWrittenAnew : ℕ → ℕ → Type 0
+IsWrittenAnew torn forced = (0 < torn) ⊎ (forced < 5)
+
+-- what is forced of the records of these bytes is forced as it was; or they are written anew, all of them forced
+abbrev pub StaysForced : Kind → List ℕ → ℕ → ℕ → LogSight → Type 0
+StaysForced p bytes forced torn s =
     ((s.kept ≡ kept_of p bytes forced) × (s.behind ≡ bytes_behind p bytes forced))
-    ⊎ ((s.kept.unforced ≡ []) × (s.behind ≡ 0))
+    ⊎ ((s.kept.unforced ≡ []) × (s.behind ≡ 0) × IsWrittenAnew torn forced)
 
 -- the log of these bytes: their records, a torn tail gone, and what was forced of them
 pub record Opens (p : Kind) (bytes : List ℕ) (forced failures : ℕ) (log : LogState) : Type 0 where
   pub kind : log.kind ≡ p
   pub torn : ℕ
   pub read : read_log p bytes ≡ Whole (records_of log.sight.kept) torn
-  pub front : StaysForced p bytes forced log.sight
+  pub front : StaysForced p bytes forced torn log.sight
   pub works : log.sight.failed ≡ false
   pub failures_stay : log.sight.failures ≡ failures
 
 -- a text of the records that these bytes are, whole, with its header forced: the bytes as they were, or a
--- text that is all forced
+-- text that is written anew, all forced
 pub record Settles (p : Kind) (bytes : List ℕ) (forced failures : ℕ) (text : List ℕ)
     (forced' failures' : ℕ) : Type 0 where
   pub begins : take 5 text ≡ header
   pub header_forced : 5 ≤ forced'
-  pub front : ((text ≡ bytes) × (forced' ≡ forced)) ⊎ (forced' ≡ length text)
-  pub whole : is_whole p 0 (drop 5 text) ≡ true
   pub torn : ℕ
+  pub front : ((text ≡ bytes) × (forced' ≡ forced)) ⊎ ((forced' ≡ length text) × IsWrittenAnew torn forced)
+  pub whole : is_whole p 0 (drop 5 text) ≡ true
   pub read : read_log p bytes ≡ Whole (records_in p 0 (drop 5 text)) torn
   pub failures_stay : failures' ≡ failures
 

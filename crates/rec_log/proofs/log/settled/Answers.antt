@@ -1,6 +1,6 @@
-use Rattle.std.proofs.Common.{◌≡◌, ◌∙◌, ◌-◌, refl, sym, ap, subst, take, length}
+use Rattle.std.proofs.Common.{rules, ◌≡◌, ◌∙◌, ◌-◌, refl, sym, ap, subst, take, length}
 use Rattle.std.proofs.lemmas.Result.{IfErr-weaker, IfOk-weaker}
-use Rattle.rec_log.specs.Openings.{IsFound}
+use Rattle.rec_log.specs.Openings.{IsFound, IsWrittenAnew}
 use Rattle.rec_log.specs.declared.opening.Found.TheVariants.{Empty, Sound}
 use Rattle.rec_log.proofs.Settling.{not_opened, settles_empty, settles_front}
 use Rattle.rec_log.proofs.log.settled.Goals as goal
@@ -10,8 +10,8 @@ returns-in-Ok-Empty-clause-ok g c =
     let found : IsFound c.args.kind (g.L.LogStore.bytes c.args.store) Empty =
     subst (λ xs. IsFound c.args.kind xs Empty) c.bytes.ensures
     (subst (IsFound c.args.kind c.bytes.result.now) c.in-Ok-Empty.field-0-is c.in-Ok-Empty.ensures.ok) in
-    IfOk-weaker c.replaced.result _ _ (λ new r. settles_empty _ _ _ _ _ _ _ found r.text_stands r.all
-    r.failures_stay) c.replaced.ensures.ok
+    IfOk-weaker c.replaced.result _ _ (λ new r. settles_empty _ _ _ _ _ _ _ found (g.met.L.LogStore.front c.args.store)
+    r.text_stands r.all r.failures_stay) c.replaced.ensures.ok
 
 pub returns-in-Ok-clause-ok : goal.returns-in-Ok-clause-ok
 returns-in-Ok-clause-ok g c =
@@ -19,12 +19,13 @@ returns-in-Ok-clause-ok g c =
     let found : IsFound c.args.kind (g.L.LogStore.bytes c.args.store) (Sound torn) =
     subst (λ xs. IsFound c.args.kind xs (Sound torn)) c.bytes.ensures
     (subst (IsFound c.args.kind c.bytes.result.now) c.in-Ok-Sound.field-0-is c.in-Ok-Sound.ensures.ok) in
+    let anew : IsWrittenAnew torn (g.L.LogStore.forced c.args.store) = search rules in
     let front : c.deref.result.now ≡ take (length (g.L.LogStore.bytes c.args.store) - torn)
     (g.L.LogStore.bytes c.args.store) =
     c.deref.ensures.value ∙ c.in-Ok.ensures ∙ ap
     (λ t. take (length t - torn) c.bytes-3.result.now) c.bytes-2.ensures
     ∙ ap (take (length (g.L.LogStore.bytes c.args.store) - torn)) c.bytes-3.ensures in
-    IfOk-weaker c.replaced-in-Ok.result _ _ (λ new r. settles_front _ _ _ _ _ _ _ torn found
+    IfOk-weaker c.replaced-in-Ok.result _ _ (λ new r. settles_front _ _ _ _ _ _ _ torn found anew
     (r.text_stands ∙ front) (r.all ∙ ap length (sym r.text_stands)) r.failures_stay)
     c.replaced-in-Ok.ensures.ok
 
@@ -35,7 +36,7 @@ returns-in-Ok-Empty-clause-err g c =
     (subst (IsFound c.args.kind c.bytes.result.now) c.in-Ok-Empty.field-0-is c.in-Ok-Empty.ensures.ok) in
     IfErr-weaker c.replaced.result _ _ (λ e refused. not_opened g.L.LogStore.bytes g.L.LogStore.forced
     g.L.LogStore.failures c.args.kind c.args.store e.1 _
-    (settles_empty _ _ _ _ _ _ _ found refl refl refl) e.0 refused) c.replaced.ensures.err
+    (settles_empty _ _ _ _ _ _ _ found (g.met.L.LogStore.front c.args.store) refl refl refl) e.0 refused) c.replaced.ensures.err
 
 pub returns-in-Ok-clause-err : goal.returns-in-Ok-clause-err
 returns-in-Ok-clause-err g c =
@@ -43,6 +44,7 @@ returns-in-Ok-clause-err g c =
     let found : IsFound c.args.kind (g.L.LogStore.bytes c.args.store) (Sound torn) =
     subst (λ xs. IsFound c.args.kind xs (Sound torn)) c.bytes.ensures
     (subst (IsFound c.args.kind c.bytes.result.now) c.in-Ok-Sound.field-0-is c.in-Ok-Sound.ensures.ok) in
+    let anew : IsWrittenAnew torn (g.L.LogStore.forced c.args.store) = search rules in
     let front : c.deref.result.now ≡ take (length (g.L.LogStore.bytes c.args.store) - torn)
     (g.L.LogStore.bytes c.args.store) =
     c.deref.ensures.value ∙ c.in-Ok.ensures ∙ ap
@@ -50,4 +52,4 @@ returns-in-Ok-clause-err g c =
     ∙ ap (take (length (g.L.LogStore.bytes c.args.store) - torn)) c.bytes-3.ensures in
     IfErr-weaker c.replaced-in-Ok.result _ _ (λ e refused. not_opened g.L.LogStore.bytes g.L.LogStore.forced
     g.L.LogStore.failures c.args.kind c.args.store e.1 _
-    (settles_front _ _ _ _ _ _ _ torn found front refl refl) e.0 refused) c.replaced-in-Ok.ensures.err
+    (settles_front _ _ _ _ _ _ _ torn found anew front refl refl) e.0 refused) c.replaced-in-Ok.ensures.err
