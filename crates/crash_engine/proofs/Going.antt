@@ -12,7 +12,7 @@ use Rattle.core_law.specs.worlds.Runs.{IsOpened, Leads, LeadsUntil}
 use Rattle.core_law.specs.worlds.Worlds.{WorldState}
 use Rattle.core_law.proofs.worlds.Whole.{run_of}
 use Rattle.crash_engine.specs.Runs.{ComesTo}
-use Rattle.crash_engine.specs.Trials.{Ran}
+use Rattle.tree_engine.specs.Trees.{Plays}
 
 leads_on : (s m e : WorldState) (xs ys : List Event) → Leads s xs m → Leads m ys e → Leads s (xs ++ ys) e
 leads_on s m e [] ys same led = subst (λ w. Leads w ys e) same led
@@ -103,7 +103,7 @@ one_refused s now new given events None n k m e is h until sum memory device = r
 -- what a run comes to is a run of the model
 pub ran : (tree : List TreeEntry) (s now : WorldState) (given : List Event)
     (refusal : Refusal) (n : ℕ) → IsTree tree
-    → IsOpened s tree → ComesTo s given refusal n now → Ran tree given refusal now
+    → IsOpened s tree → ComesTo s given refusal n now → Plays tree given refusal now
 ran tree s now given refusal n is opens h = record {
   start = s;
   opens = opens;

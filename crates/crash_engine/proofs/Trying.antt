@@ -18,12 +18,13 @@ use Rattle.crash_engine.proofs.Going.{ran}
 use Rattle.crash_engine.specs.declared.points.Point.{Point}
 use Rattle.crash_engine.specs.declared.trial.Trial.{Trial}
 use Rattle.crash_engine.specs.Points.{crash_of, points_in}
-use Rattle.crash_engine.specs.Trials.{Adds, AddsTrials, AreTried, EndsWith, Ran, Tries}
+use Rattle.tree_engine.specs.Trees.{Plays}
+use Rattle.crash_engine.specs.Trials.{Adds, AddsTrials, AreTried, EndsWith, Tries}
 
 -- what a run comes to is a run of the model
 pub comes_to : (tree : List TreeEntry) (start : WorldState) (given : List Event) (run : Run)
     → IsTree tree → IsOpened start tree
-    → HasCome start given run → Ran tree given run.refusal (state run.world)
+    → HasCome start given run → Plays tree given run.refusal (state run.world)
 comes_to tree start given run is opens h = ran tree start (state run.world) given
     run.refusal run.given is opens h
 
@@ -88,7 +89,7 @@ tried_more tree events ps i p t old mid new within is pushed count at tries befo
 -- all points behind these events were tried
 pub all_tried : (tree : List TreeEntry) (events : List Event) (now : WorldState) (refusal : Refusal)
     (ps : List Point) (old new : List Trial)
-    → is_some refusal ≡ false → Ran tree events refusal now → ps ≡ points_in now
+    → is_some refusal ≡ false → Plays tree events refusal now → ps ≡ points_in now
     → AddsTrials tree events ps old new → Adds tree events None old new
 all_tried tree events now (Some r) ps old new is ran points tried = absurd (cc)
 all_tried tree events now None ps old new is ran points tried = (
@@ -104,7 +105,7 @@ all_tried tree events now None ps old new is ran points tried = (
 -- an event was refused
 pub refused_adds : (tree : List TreeEntry) (events : List Event) (now : WorldState)
     (refusal : Refusal) (old : List Trial)
-    → is_some refusal ≡ true → Ran tree events refusal now → Adds tree events refusal old old
+    → is_some refusal ≡ true → Plays tree events refusal now → Adds tree events refusal old old
 refused_adds tree events now None old is ran = absurd (cc)
 refused_adds tree events now (Some r) old is ran = (refl, (now, ran))
 

@@ -4,9 +4,9 @@ use Rattle.tree_model.specs.declared.events.Event.{Event}
 use Rattle.tree_model.specs.declared.events.Event.TheVariants.{Settle}
 use Rattle.tree_model.specs.declared.events.StepError.{StepError}
 use Rattle.tree_model.specs.declared.trees.TreeEntry.{TreeEntry}
-use Rattle.core_law.specs.worlds.Refusals.{IsRunOf, LeadsTo, Refusal}
-use Rattle.core_law.specs.worlds.Runs.{IsOpened}
+use Rattle.core_law.specs.worlds.Refusals.{Refusal}
 use Rattle.core_law.specs.worlds.Worlds.{WorldState}
+use Rattle.tree_engine.specs.Trees.{Plays}
 use Rattle.crash_engine.specs.Audits.{Audits, asks_by, doubts_in, mismatched_in}
 use Rattle.crash_engine.specs.Points.{crash_of, points_in}
 use Rattle.crash_engine.specs.declared.auditing.Audited.{Audited}
@@ -15,15 +15,6 @@ use Rattle.crash_engine.specs.declared.points.Point.{Point}
 use Rattle.crash_engine.specs.declared.trial.Found.{Found}
 use Rattle.crash_engine.specs.declared.trial.Found.TheVariants as found
 use Rattle.crash_engine.specs.declared.trial.Trial.{Trial}
-
--- a tree opened, and these events led it, up to the refused one, if one was, to this state, which stands for
--- a run of the model of which the headline holds
-pub record Ran (tree : List TreeEntry) (events : List Event) (refusal : Refusal)
-    (end : WorldState) : Type 0 where
-  pub start : WorldState
-  pub opens : IsOpened start tree
-  pub leads : LeadsTo start events refusal end
-  pub run : IsRunOf tree events refusal end
 
 -- what an audit leaves
 abbrev pub Leaves : Audited → Found → Type 0
@@ -46,12 +37,12 @@ tried_events events p a = ((events ++ crash_of p) ++ asks_by a) ++ Settle ∷ []
 pub record Tries (tree : List TreeEntry) (events : List Event) (p : Point) (f : Found) : Type 0 where
   pub early : Refusal
   pub middle : WorldState
-  pub crashes : Ran tree (events ++ crash_of p) early middle
+  pub crashes : Plays tree (events ++ crash_of p) early middle
   pub audit : Audited
   pub audits : Audits middle audit
   pub refusal : Refusal
   pub end : WorldState
-  pub ran : Ran tree (tried_events events p audit) refusal end
+  pub ran : Plays tree (tried_events events p audit) refusal end
   pub ends : EndsWith end refusal f
 
 -- a crash behind so many events, and what it ends with
@@ -73,7 +64,7 @@ AddsTrials tree events ps old new = (behind : List Trial) × (new ≡ old ++ beh
 -- these events lead to a state of which each point was tried
 pub record TriesAll (tree : List TreeEntry) (events : List Event) (ts : List Trial) : Type 0 where
   pub state : WorldState
-  pub ran : Ran tree events None state
+  pub ran : Plays tree events None state
   pub tried : AreTried tree events (points_in state) ts
 
 -- each point was tried behind the first event, behind the first two, and so on to so many
@@ -85,7 +76,7 @@ GoesThrough tree events (suc n) ts =
 
 -- one of these events is refused
 abbrev pub IsRefused : List TreeEntry → List Event → ℕ × StepError → Type 0
-IsRefused tree events refused = (end : WorldState) × Ran tree events (Some refused) end
+IsRefused tree events refused = (end : WorldState) × Plays tree events (Some refused) end
 
 -- each point was tried behind these events, or one of them is refused, and none was
 abbrev pub Adds : List TreeEntry → List Event → Refusal → List Trial → List Trial → Type 0
