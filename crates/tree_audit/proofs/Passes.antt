@@ -71,7 +71,7 @@ pub empty_notes : (tree : List TreeEntry) (e : TreeEntry) (bytes : List ℕ) (fo
     → IsLogFound e.kind bytes found
     → found ≡ Empty → NotesLog tree e bytes no_notes
 unfolding own_records
-empty_notes tree e bytes Empty h is = record { records = []; torn = 0; read = h; notes = noted_all [] }
+empty_notes tree e bytes Empty h is = record { records = []; torn = 0; read = h.1; notes = noted_all [] }
 empty_notes tree e bytes (Sound torn) h is = absurd (cc)
 
 pub sound_notes : (tree : List TreeEntry) (e : TreeEntry) (bytes : List ℕ)

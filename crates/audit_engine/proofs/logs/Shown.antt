@@ -73,7 +73,7 @@ held_some q p bytes ls torn is = ap (λ r. heading_text q ++ records_text (place
 
 pub held_empty : (q : ProcessId) (p : Kind) (bytes : List ℕ) (found : Found) → IsFound p bytes found
     → found ≡ Empty → held_text q p bytes ≡ heading_text q
-held_empty q p bytes Empty h e = held_none q p bytes h
+held_empty q p bytes Empty h e = held_none q p bytes h.1
 held_empty q p bytes (Sound torn) h e = absurd (cc)
 
 sound_torn : (a b : ℕ) → Sound a ≡ Sound b → a ≡ b
@@ -93,7 +93,7 @@ held_sound q p bytes (Sound found) torn h e =
 
 pub sound_found : (p : Kind) (bytes : List ℕ) (found : Found) → IsFound p bytes found
     → (ls : List LogRecord) × (torn : ℕ) × (read_log p bytes ≡ Whole ls torn)
-sound_found p bytes Empty h = ([], 0, h)
+sound_found p bytes Empty h = ([], 0, h.1)
 sound_found p bytes (Sound torn) h = (_, torn, h.3 ∙ h.2.read)
 
 pub no_log : (p : Kind) (bytes : List ℕ) (error : OpenError) (place : ℕ) → IsNoLog p bytes error
