@@ -1,2 +1,4 @@
+pub mod Spans
 pub mod Steps
+pub mod Kept
 pub mod Shown

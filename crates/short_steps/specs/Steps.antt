@@ -1,5 +1,5 @@
 -- A step as the journal keeps it, and the entry that it stands for.
-use Rattle.std.specs.Prelude.{◌≡◌, ℕ, zero, suc, Bool, true, false, Option, Some, None, List, [], ◌∷◌, ◌++◌, map, option_map, slice_get, if◌then◌else◌}
+use Rattle.std.specs.Prelude.{◌≡◌, ℕ, Bool, true, false, Option, Some, None, List, [], ◌∷◌, ◌++◌, length, map, option_map, slice_get, if◌then◌else◌}
 use Rattle.tree_model.specs.declared.names.ProcessId.{ProcessId}
 use Rattle.tree_model.specs.declared.names.Txn.{Txn}
 use Rattle.tree_model.specs.declared.messages.Envelope.{Envelope}
@@ -10,60 +10,32 @@ use Rattle.tree_model.specs.declared.events.Happening.TheVariants.{Input as Hand
 use Rattle.tree_model.specs.declared.events.Reaction.{Reaction}
 use Rattle.tree_model.specs.declared.events.Told.{Told}
 use Rattle.tree_model.specs.declared.events.Input.TheVariants.{Act as ActInput, Message as MessageInput}
+use Rattle.tree_model.specs.declared.records.Logged.{Logged}
+use Rattle.tree_model.specs.Plays.{sent_as}
 use Rattle.core_law.specs.worlds.Worlds.{step_entry}
 use Rattle.short_steps.specs.declared.short_step.Aside.{Aside}
 use Rattle.short_steps.specs.declared.short_step.Cause.{Cause}
 use Rattle.short_steps.specs.declared.short_step.Cause.TheVariants.{Act as ActCause, Message as MessageCause, Restart as RestartCause, Trim as TrimCause}
-use Rattle.short_steps.specs.declared.short_step.Posted.{Posted}
 use Rattle.short_steps.specs.declared.short_step.ShortStep.{ShortStep}
-
--- The messages.
-
--- so far into the messages of a step, if there is one
-abbrev pub message_in : Option ShortStep → ℕ → Option Envelope
-message_in None n = None
-message_in (Some e) n = slice_get e.messages n
-
--- the message that stands there
-abbrev pub message_at : List ShortStep → Posted → Option Envelope
-message_at es p = message_in (slice_get es p.entry) p.nth
-
--- the names of so many messages of this step
-abbrev pub names : ℕ → ℕ → List Posted
-names entry zero = []
-names entry (suc n) = names entry n ++ record { entry = entry; nth = n } ∷ []
-
--- the name of the message with this number, from 1
-abbrev pub named_by : List Posted → ℕ → Option Posted
-named_by ps zero = None
-named_by ps (suc k) = slice_get ps k
-
--- the message that has a name, if there is one
-abbrev pub message_with : List ShortStep → Option Posted → Option Envelope
-message_with es None = None
-message_with es (Some p) = message_at es p
-
--- the message with this number
-abbrev pub message_by : List ShortStep → List Posted → ℕ → Option Envelope
-message_by es ps k = message_with es (named_by ps k)
+use Rattle.short_steps.specs.declared.short_step.WholeStep.{WholeStep}
+use Rattle.short_steps.specs.Spans.{part_in, span_behind}
 
 -- The steps.
 
--- what the journal keeps of its steps: the acts, what few reactions have, the steps, and the names of
+-- the lists in which the parts of all steps stand: the acts, what few reactions have, the records, and the
 -- messages
-pub record Stock : Type 0 where
+pub record Parts : Type 0 where
   pub acts : List Act
   pub asides : List Aside
-  pub steps : List ShortStep
-  pub posted : List Posted
+  pub records : List Logged
+  pub sent : List Envelope
 
 -- what happened, of a step with this cause
-abbrev pub happening_in : List Act → List ShortStep → List Posted → Cause → Option Happening
-happening_in acts es ps (ActCause k) = option_map (λ a. Handles (ActInput a)) (slice_get acts k)
-happening_in acts es ps (MessageCause k) =
-    option_map (λ l. Handles (MessageInput k l.message)) (message_by es ps k)
-happening_in acts es ps (RestartCause k) = Some (Restarting k)
-happening_in acts es ps TrimCause = Some Trimming
+abbrev pub happening_in : Parts → Cause → Option Happening
+happening_in ps (ActCause k) = option_map (λ a. Handles (ActInput a)) (slice_get ps.acts k)
+happening_in ps (MessageCause k) = option_map (λ l. Handles (MessageInput k l.message)) (sent_as ps.sent k)
+happening_in ps (RestartCause k) = Some (Restarting k)
+happening_in ps TrimCause = Some Trimming
 
 -- a reaction has nothing of what few have
 abbrev pub no_aside : Aside
@@ -74,24 +46,31 @@ abbrev pub aside_in : List Aside → Option ℕ → Option Aside
 aside_in asides None = Some no_aside
 aside_in asides (Some k) = slice_get asides k
 
+-- the reaction with these records and messages, and with what few have
+abbrev pub reaction_by : List Logged → List Envelope → Aside → Reaction
+reaction_by ws ls a =
+    record { begun = a.begun; written = ws; told = a.told; messages = ls; kept = a.kept }
+
+-- likewise, where all of it is there
+abbrev pub reaction_with : Option (List Logged) → Option (List Envelope) → Option Aside → Option Reaction
+reaction_with None ls a = None
+reaction_with (Some ws) None a = None
+reaction_with (Some ws) (Some ls) a = option_map (reaction_by ws ls) a
+
 -- the reaction of a step
-abbrev pub reaction_by : ShortStep → Aside → Reaction
-reaction_by x a =
-    record { begun = a.begun; written = x.written; told = a.told; messages = x.messages; kept = a.kept }
+abbrev pub reaction_in : Parts → ShortStep → Option Reaction
+reaction_in ps x =
+    reaction_with (part_in ps.records x.written.start x.written.end)
+    (part_in ps.sent x.messages.start x.messages.end) (aside_in ps.asides x.aside)
 
--- the process of a step, and its reaction
-abbrev pub step_part : ShortStep → Aside → ProcessId × Reaction
-step_part x a = (x.process, reaction_by x a)
-
--- the journal's entry of a step, where it is known what happened and what else it showed
-abbrev pub entry_by : ShortStep → Option Happening → Option Aside → Option Entry
-entry_by x None a = None
-entry_by x (Some h) None = None
-entry_by x (Some h) (Some a) = Some (step_entry x.process h (reaction_by x a))
+-- the journal's entry of a step, where it is known what happened and what that led to
+abbrev pub entry_by : ProcessId → Option Happening → Option Reaction → Option Entry
+entry_by q None r = None
+entry_by q (Some h) r = option_map (step_entry q h) r
 
 -- the journal's entry of a step
-abbrev pub entry_in : Stock → ShortStep → Option Entry
-entry_in s x = entry_by x (happening_in s.acts s.steps s.posted x.cause) (aside_in s.asides x.aside)
+abbrev pub entry_in : Parts → ShortStep → Option Entry
+entry_in ps x = entry_by x.process (happening_in ps x.cause) (reaction_in ps x)
 
 -- those that are there
 abbrev pub somes : {A : Type 0} → List (Option A) → List A
@@ -100,13 +79,24 @@ somes (None ∷ os) = somes os
 somes (Some a ∷ os) = a ∷ somes os
 
 -- the journal's entries of all steps
-abbrev pub entries_of : Stock → List Entry
-entries_of s = somes (map (entry_in s) s.steps)
+abbrev pub entries_of : Parts → List ShortStep → List Entry
+entries_of ps xs = somes (map (entry_in ps) xs)
 
--- each step has its entry: the act, the message and all else that it names are there
-pub record IsWhole (s : Stock) : Type 0 where
+-- each step has its entry: all that it names is there
+pub record IsWhole (ps : Parts) (xs : List ShortStep) : Type 0 where
   pub entries : List Entry
-  pub read : map (entry_in s) s.steps ≡ map Some entries
+  pub read : map (entry_in ps) xs ≡ map Some entries
+
+-- One step more.
+
+-- the journal's entry of a step that is whole
+abbrev pub entry_of : WholeStep → Entry
+entry_of x = step_entry x.process x.happening x.reaction
+
+-- the message that was handled, if one was, was sent with this number
+abbrev pub IsSent : List Envelope → Happening → Type 0
+IsSent sent (Handles (MessageInput k m)) = option_map (λ l. l.message) (sent_as sent k) ≡ Some m
+IsSent sent _ = Unit {0}
 
 -- the cause of what happened, where there are so many acts
 abbrev pub cause_by : ℕ → Happening → Cause
@@ -136,3 +126,22 @@ asides_by a = if is_bare a.begun a.told a.kept then [] else a ∷ []
 -- what few reactions have, of this one
 abbrev pub aside_of : Reaction → Aside
 aside_of r = record { begun = r.begun; told = r.told; kept = r.kept }
+
+-- the parts once a step is kept
+abbrev pub parts_behind : Parts → WholeStep → Parts
+parts_behind ps x = record {
+  acts = ps.acts ++ act_by x.happening;
+  asides = ps.asides ++ asides_by (aside_of x.reaction);
+  records = ps.records ++ x.reaction.written;
+  sent = ps.sent ++ x.reaction.messages;
+}
+
+-- the step once its parts are kept
+abbrev pub short_step : Parts → WholeStep → ShortStep
+short_step ps x = record {
+  process = x.process;
+  cause = cause_by (length ps.acts) x.happening;
+  written = span_behind ps.records x.reaction.written;
+  messages = span_behind ps.sent x.reaction.messages;
+  aside = aside_by (length ps.asides) (aside_of x.reaction);
+}

@@ -1,11 +1,15 @@
-//! A step as the journal of a tree keeps it: what stands elsewhere too is named by its place, and the step
-//! that was made is read back from it.
+//! The steps of a journal, kept short: what stands elsewhere too is named by its place, and the step that was
+//! made is read back from it.
 #![tactic(auto)]
 
+mod copies;
+mod parts;
 mod short_step;
+mod short_steps;
 mod shown;
+mod span;
 
-pub use short_step::{
-    Aside, Cause, Posted, ShortStep, copy_to, entry_of, keep_act, keep_aside, message_of, shown_of,
-};
+pub use copies::copy_to;
+pub use short_step::WholeStep;
+pub use short_steps::ShortSteps;
 pub use shown::Shown;

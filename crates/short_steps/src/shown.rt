@@ -1,8 +1,13 @@
 //! What a step shows.
 
-use tree_model::{Envelope, Logged, ProcessId, Told, Txn};
+ghost use Rattle.std.specs.Prelude.{◌≡◌, IfOk};
+ghost use Rattle.short_steps.specs.Shown.{shown_part};
 
-/// A step's process and its reaction, as the journal has them: nothing is copied.
+use crate::copies::copied_messages;
+use std::alloc::{AllocError, Global};
+use tree_model::{Envelope, Logged, ProcessId, Reaction, Sequence, Told, Txn};
+
+/// A step's process and its reaction, lent: nothing is copied.
 #[derive(Clone, Copy)]
 pub struct Shown<'a> {
     /// The process that made the step.
@@ -17,4 +22,19 @@ pub struct Shown<'a> {
     pub messages: &'a [Envelope],
     /// How many records a trim kept, if it was one.
     pub kept: Option<u64>,
+}
+
+impl Shown<'_> {
+    /// The reaction once more.
+    pub(crate) fn reaction(&self, alloc: Global) -> Result<Reaction, AllocError>
+        ensures { IfOk result (λ copy. copy ≡ (shown_part self.now).1) }
+    {
+        Ok(Reaction {
+            begun: self.begun,
+            written: Sequence::from_vec(Vec::from_slice(alloc, self.written)?),
+            told: self.told,
+            messages: copied_messages(alloc, self.messages)?,
+            kept: self.kept,
+        })
+    }
 }

@@ -43,6 +43,13 @@ impl<T> Sequence<T> {
         &self.items
     }
 
+    /// The values, as a vector.
+    pub fn into_vec(self) -> Vec<T>
+        ensures { result.items ≡ self }
+    {
+        self.items
+    }
+
     /// How many there are.
     pub fn len(&self) -> usize
         ensures { result ≡ length self.now }

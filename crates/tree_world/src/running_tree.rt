@@ -5,7 +5,8 @@ ghost use Rattle.tree_model.specs.Plays.{process_of_act};
 ghost use Rattle.core_law.specs.Steps.{trim_reaction};
 ghost use Rattle.core_law.specs.worlds.Worlds.{Applies, Stops, Steps};
 ghost use Rattle.core_law.specs.worlds.Runs.{Leads, LeadsUntil};
-ghost use Rattle.world_journal.specs.Journals.{IsReady, IsSent, marked_by};
+ghost use Rattle.short_steps.specs.Steps.{IsSent};
+ghost use Rattle.world_journal.specs.Journals.{IsReady, marked_by};
 ghost use Rattle.tree_world.specs.Worlds.{NotTaken, logs_at, running_state};
 
 use crate::nodes::Nodes;
