@@ -97,6 +97,13 @@ impl Associations {
         self.active.contains_key(&thread)
     }
 
+    /// Whether a thread is active in any branch.
+    fn is_at_work(&self, thread: u32) -> bool
+        ensures { result ≡ is_some (active_of self.now thread) }
+    {
+        matches!(self.active.get(&thread), Some(Some(_)))
+    }
+
     /// Whether a thread has suspended any branch.
     fn has_suspended(&self, thread: u32) -> bool
         ensures { result ≡ has_some self.now.seats thread }
@@ -108,14 +115,14 @@ impl Associations {
     fn has_room(&self, thread: u32) -> bool
         ensures { result ≡ has_room self.now thread }
     {
-        self.holds(thread) || self.active.len() < THREADS
+        self.active.len() < THREADS || self.holds(thread)
     }
 
     /// Whether a thread may not start in a branch: it is active in one, or has suspended this one.
     pub fn is_busy(&self, thread: u32, xid: &Xid) -> bool
         ensures { result ≡ (is_some (active_of self.now thread) || has_seat self.now thread xid.now) }
     {
-        self.active(thread).is_some() || self.has_seat(thread, xid)
+        self.is_at_work(thread) || self.has_seat(thread, xid)
     }
 
     /// A start without TMRESUME. Proto: the thread is active in a branch, or has suspended this one. RmErr:
@@ -144,7 +151,7 @@ impl Associations {
             (resume_plan self.old thread xid.now lost)) }
         ensures err { OnErr result (self.new ≡ self.old) }
     {
-        if self.active(thread).is_some() {
+        if self.is_at_work(thread) {
             return Ok(Code::Proto);
         }
         if !self.has_seat(thread, xid) {
@@ -240,7 +247,10 @@ impl Associations {
     fn is_active(&self, thread: u32, xid: &Xid) -> bool
         ensures { result ≡ is_active self.now thread xid.now }
     {
-        self.active(thread) == Some(*xid)
+        match self.active.get(&thread) {
+            Some(Some(own)) => own == xid,
+            _ => false,
+        }
     }
 
     /// Whether a thread has suspended a branch.
@@ -299,7 +309,7 @@ impl Associations {
         requires listed { is_holder self.old thread ≡ true }
         ensures { Settles self.old self.new thread }
     {
-        if self.active(thread).is_none() && !self.has_suspended(thread) {
+        if !self.is_at_work(thread) && !self.has_suspended(thread) {
             let _ = self.active.swap_remove(&thread);
         }
     }
@@ -320,17 +330,29 @@ impl Associations {
         requires from { own_state self.old thread xid.now ≡ AssocState.T1 }
         ensures { Moves self.old self.new thread xid.now AssocState.T1 AssocState.T0 }
     {
-        self.clear_active(thread, xid);
-        self.settle(thread);
+        if self.has_suspended(thread) {
+            self.clear_active(thread, xid);
+        } else {
+            self.remove_active(thread, xid);
+        }
     }
 
-    /// T1 to T0, where the thread stays listed.
+    /// T1 to T0, where the thread has suspended a branch and stays listed.
     fn clear_active(&mut self, thread: u32, xid: &Xid)
         requires from { own_state self.old thread xid.now ≡ AssocState.T1 }
-        ensures turns { Turns self.old self.new thread xid.now AssocState.T1 AssocState.T0 }
-        ensures holder { is_holder self.new thread ≡ true }
+        requires suspends { has_some self.old.seats thread ≡ true }
+        ensures { Moves self.old self.new thread xid.now AssocState.T1 AssocState.T0 }
     {
         let _ = self.active.insert(thread, None).unwrap();
+    }
+
+    /// T1 to T0, where the thread has suspended nothing and is listed no longer.
+    fn remove_active(&mut self, thread: u32, xid: &Xid)
+        requires from { own_state self.old thread xid.now ≡ AssocState.T1 }
+        requires alone { has_some self.old.seats thread ≡ false }
+        ensures { Moves self.old self.new thread xid.now AssocState.T1 AssocState.T0 }
+    {
+        let _ = self.active.swap_remove(&thread);
     }
 
     /// T1 to T2.

@@ -57,7 +57,7 @@ impl Seats {
     pub(crate) fn has_thread(&self, thread: u32) -> bool
         ensures { result ≡ has_some self.now thread }
     {
-        count(&self.by_thread, &thread) > 0
+        !self.taken.is_empty() && count(&self.by_thread, &thread) > 0
     }
 
     /// Whether any thread has suspended a branch.

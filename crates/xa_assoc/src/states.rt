@@ -178,10 +178,10 @@ impl States {
         if xid.is_null() {
             return Err(Code::Inval);
         }
-        if !self.branches.is_known(xid) {
+        let Some(state) = self.branches.get(xid) else {
             return Err(Code::NotA);
-        }
-        if self.is_held(xid) || !has_rows(self.branches.state(xid), call) {
+        };
+        if self.is_held(xid) || !has_rows(state, call) {
             return Err(Code::Proto);
         }
         Ok(call)

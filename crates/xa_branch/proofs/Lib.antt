@@ -1,3 +1,4 @@
 pub mod Rows
 pub mod Lists
 pub mod Placed
+pub mod Moved

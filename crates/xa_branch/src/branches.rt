@@ -1,7 +1,9 @@
 //! The state of each known branch.
 
-ghost use Rattle.std.specs.Prelude.{◌≡◌, ◌≢◌, ◌⊎◌, ◌≤◌, ◌<◌, ◌+◌, [], length, IfOk, OnOk, OnErr, MatchResult, IsOk, Contains, IsTrue, ◌↔◌, Some, None, Bool, true, false, nat_le};
+ghost use Rattle.std.specs.Prelude.{◌≡◌, ◌≢◌, ◌⊎◌, ◌≤◌, ◌<◌, ◌+◌, [], length, IfOk, OnOk, OnErr, MatchResult, IsOk, Contains, IsTrue, ◌↔◌, Some, None, Bool, true, false, nat_le, position};
+ghost use Rattle.std.specs.Map.{keys_of, lookup};
 ghost use Rattle.xa_tables.specs.Tables.{branch_rows};
+ghost use Rattle.xa_branch.specs.Names.{same};
 ghost use Rattle.xa_branch.specs.Branches.{BranchList, Moves, Begins, Scans as Scanned, is_known, state_in, off_row, Stays, in_doubt, starts_scan, ends_scan, scan_refusal};
 
 use crate::scans::Scans;
@@ -84,11 +86,18 @@ impl Branches {
         self.scans.clear();
     }
 
+    /// The state of a branch, where it is known.
+    pub fn get(&self, xid: &Xid) -> Option<BranchState>
+        ensures { result ≡ lookup (same xid.now) self.now.branches }
+    {
+        self.states.get(xid).copied()
+    }
+
     /// The state of a branch: S0 where it is not known.
     pub fn state(&self, xid: &Xid) -> BranchState
         ensures { result ≡ state_in self.now.branches xid.now }
     {
-        self.states.get(xid).copied().unwrap_or(BranchState::S0)
+        self.get(xid).unwrap_or(BranchState::S0)
     }
 
     /// Whether a branch is known.
@@ -154,11 +163,11 @@ impl Branches {
         ensures unknown { is_known self.old.branches xid.now ≡ false
             → (result ≡ Code.NotA) × (self.new ≡ self.old) }
     {
-        let Some(from) = self.states.get(xid).copied() else {
+        let Some((index, _, from)) = self.states.get_full(xid) else {
             return Code::NotA;
         };
-        if is_listed(next_branch(from, call), row) {
-            self.place(xid, row.1);
+        if is_listed(next_branch(*from, call), row) {
+            self.place(index, row.1);
             return row.0;
         }
         if call == Call::Start {
@@ -176,22 +185,26 @@ impl Branches {
         ensures refused { result ≡ false → (state_in self.old.branches xid.now
             ≢ BranchState.S3) × (self.new ≡ self.old) }
     {
-        if self.state(xid) != BranchState::S3 {
+        let Some((index, _, state)) = self.states.get_full(xid) else {
+            return false;
+        };
+        if *state != BranchState::S3 {
             return false;
         }
-        self.place(xid, BranchState::S5);
+        self.place(index, BranchState::S5);
         true
     }
 
-    /// Moves a known branch.
-    fn place(&mut self, xid: &Xid, to: BranchState)
-        requires { is_known self.old.branches xid.now ≡ true }
-        ensures { Moves self.old self.new xid.now to }
+    /// Moves the known branch at an index.
+    fn place(&mut self, index: usize, to: BranchState)
+        requires { index < length self.old.branches }
+        ensures { (x : Xid) → position (same x) (keys_of self.old.branches) ≡ Some index
+            → Moves self.old self.new x to }
     {
         if to == BranchState::S0 {
-            let _ = self.states.shift_remove(xid);
+            let _ = self.states.shift_remove_index(index);
         } else {
-            let _ = self.states.insert(*xid, to).unwrap();
+            self.states[index] = to;
         }
     }
 

@@ -1,0 +1,25 @@
+use Rattle.std.proofs.Common.{◌≡◌, ◌≢◌, rules, subst, sym}
+use Rattle.xa_tables.specs.declared.states.BranchState.TheVariants.{S0}
+use Rattle.xa_branch.specs.Branches.{Moves}
+use Rattle.xa_branch.specs.contracts.branches.Branches.{the_view}
+use Rattle.xa_branch.proofs.Moved.{goes_at, moves_at}
+use Rattle.xa_branch.proofs.branches.Branches.place.Goals as goal
+
+pub returns-then-eq : goal.returns-then-eq
+returns-then-eq c = λ x at.
+    let old = c.args.self.now in
+    let new = the_view (record {
+      alloc = c.self.inside.alloc;
+      states = c.shift_remove_index.new.self;
+      scans = c.self.inside.scans;
+    }) in
+    let gone : c.args.to ≡ S0 = search rules in
+    subst (λ s. Moves old new x s) (sym gone)
+    (goes_at c.self.inside.states c.shift_remove_index.new.self old new x c.args.index
+    c.shift_remove_index.result (search rules) (search rules) at c.shift_remove_index.ensures.entry
+    c.shift_remove_index.ensures.entries c.shift_remove_index.ensures.updates (search rules))
+
+pub returns-else-eq : goal.returns-else-eq
+returns-else-eq c = λ x at.
+    let stays : c.args.to ≢ S0 = search rules in
+    moves_at _ _ x c.args.index c.args.to stays at (search rules) (search rules)
