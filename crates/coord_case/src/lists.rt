@@ -12,8 +12,8 @@ use smallvec::SmallVec;
 use std::alloc::{AllocError, Global};
 use tree_model::{ProcessId, Ticket, Vote};
 
-/// The accepted children, in order of acceptance.
-pub(crate) type Children = SmallVec<Child, 8>;
+/// The accepted children, in order of acceptance: mostly one or two.
+pub(crate) type Children = SmallVec<Child, 2>;
 
 /// Whether there is no ticket.
 #[tactic(auto, unfolding(tree_model::specs::Records::none_of))]
