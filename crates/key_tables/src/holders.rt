@@ -1,6 +1,6 @@
 //! The holders of one key.
 
-ghost use Rattle.std.specs.Prelude.{◌≡◌, find, IfOk};
+ghost use Rattle.std.specs.Prelude.{◌≡◌, true, false, [], if◌then◌else◌, find, IfOk};
 ghost use Rattle.std.specs.Option.{option_copied};
 ghost use Rattle.key_tables.specs.Holders.{blocked_by, given, holds, is_exclusive, is_in_way, without};
 
@@ -64,24 +64,42 @@ pub fn holds(holders: &[Holder], xid: &Xid) -> bool
     holders.iter().any(|holder| holder.xid == *xid)
 }
 
-/// The holders once the branch has the key in this mode: it goes last, but where it holds the key already.
+/// The holders that stay beside a branch that gets the key in this mode.
+fn beside(holders: &[Holder], mode: Mode) -> &[Holder]
+    ensures { result.now ≡ (if is_exclusive mode then [] else holders.now) }
+{
+    match mode {
+        Mode::Shared => holders,
+        Mode::Exclusive => &[],
+    }
+}
+
+/// The holders once a branch that is not among them has the key in this mode: it goes last.
 pub fn given(
     alloc: Global,
     holders: &[Holder],
     xid: &Xid,
     mode: Mode,
 ) -> Result<Vec<Holder>, AllocError>
+    requires { holds holders.now xid.now ≡ false }
     ensures { IfOk result (λ list. list.items ≡ given holders.now xid.now mode) }
 {
-    let mut list = Vec::new(alloc);
-    if !mode.is_exclusive() {
-        list.extend_from_slice(holders)?;
-        if holds(holders, xid) {
-            return Ok(list);
-        }
-    }
+    let others = beside(holders, mode);
+    let mut list = Vec::with_capacity(alloc, others.len() + 1)?;
+    list.extend_from_slice(others)?;
     list.push(Holder { xid: *xid, mode })?;
     Ok(list)
+}
+
+/// Gives a branch that is among the holders the key in this mode. It takes no memory.
+pub fn raise(holders: &mut Vec<Holder>, xid: &Xid, mode: Mode)
+    requires { holds holders.old.items xid.now ≡ true }
+    ensures { holders.new.items ≡ given holders.old.items xid.now mode }
+{
+    if mode.is_exclusive() {
+        holders.truncate(1);
+        holders[0] = Holder { xid: *xid, mode };
+    }
 }
 
 /// Takes a branch from the holders. It takes no memory.

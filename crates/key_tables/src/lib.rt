@@ -7,4 +7,4 @@
 
 mod holders;
 
-pub use holders::{Holder, Mode, blocked_by, given, holds, remove};
+pub use holders::{Holder, Mode, blocked_by, given, holds, raise, remove};

@@ -2,12 +2,12 @@
 
 ghost use Rattle.std.specs.Prelude.{◌≡◌, ◌↔◌, ℕ, List, [], true, false, IsTrue, IfErr, OnOk, OnErr, Some, None};
 ghost use Rattle.key_tables.specs.declared.holders.Mode.TheVariants as mode;
-ghost use Rattle.key_tables.specs.Tables.{table_of};
-ghost use Rattle.key_tables.specs.Holders.{blocked_by, keeps_rule};
+ghost use Rattle.key_tables.specs.Tables.{Becomes, table_of};
+ghost use Rattle.key_tables.specs.Holders.{blocked_by, holds, keeps_rule};
 ghost use Rattle.kv_locks.specs.Locks.{Gives, HoldsAtMost, KeepsKeys, LetsGo, Refuses, Releases, Takes, holders_of, keys_of, names_key};
 
 use indexmap::IndexMap;
-use key_tables::{Holder, Mode, blocked_by, given, holds, remove};
+use key_tables::{Holder, Mode, blocked_by, given, holds, raise, remove};
 use std::alloc::{AllocError, Global};
 use std::marker::Model;
 use thiserror::Error;
@@ -23,6 +23,16 @@ pub enum LockError {
     /// first.
     #[error("held by another branch")]
     Held(Xid),
+}
+
+impl From<AllocError> for LockError {
+    ghost use Rattle.kv_locks.specs.declared.locks.LockError.TheVariants as refusal;
+
+    ghost from_gives = { λ _ e. e ≡ refusal.Memory };
+
+    fn from(_error: AllocError) -> LockError {
+        LockError::Memory
+    }
 }
 
 /// The holders of each key that is held.
@@ -104,27 +114,17 @@ impl Locks {
         ensures ok { OnOk result (Gives self.old self.new xid.now key.now mode) }
         ensures err { IfErr result (Refuses self.old self.new xid.now key.now mode) }
     {
-        if let Some(other) = self.blocker(xid, key, mode) {
+        let held = self.holders(key);
+        if let Some(other) = blocked_by(held, xid, mode) {
             return Err(LockError::Held(other));
         }
-        match self.give(xid, key, mode) {
-            Ok(()) => Ok(()),
-            Err(_) => Err(LockError::Memory),
+        if holds(held, xid) {
+            raise_at(&mut self.holders, key, xid, mode);
+            return Ok(());
         }
-    }
-
-    /// Gives a lock that nobody is in the way of.
-    fn give(&mut self, xid: &Xid, key: &[u8], mode: Mode) -> Result<(), AllocError>
-        requires { blocked_by (holders_of self.old key.now) xid.now mode ≡ None }
-        ensures ok { OnOk result (Takes self.old self.new xid.now key.now mode) }
-        ensures err { OnErr result (self.new ≡ self.old) }
-    {
-        let list = given(self.alloc, self.holders(key), xid, mode)?;
-        let is_listed = holds(self.holders(key), xid);
-        note(self.alloc, &mut self.keys, is_listed, xid, key)?;
-        let _ = self
-            .holders
-            .insert(Vec::from_slice(self.alloc, key)?, list)?;
+        let list = given(self.alloc, held, xid, mode)?;
+        add_key(self.alloc, &mut self.keys, xid, key)?;
+        set(self.alloc, &mut self.holders, key, list)?;
         Ok(())
     }
 
@@ -146,22 +146,30 @@ impl Locks {
     }
 }
 
-/// Lists a key for a branch, where it is not listed.
-fn note(
-    alloc: Global,
-    keys: &mut Keys,
-    is_listed: bool,
-    xid: &Xid,
-    key: &[u8],
-) -> Result<(), AllocError>
-    requires { is_listed ≡ true → names_key (keys_of keys.old.entries xid.now) key.now ≡ true }
-    ensures keeps { KeepsKeys keys.old.entries keys.new.entries }
-    ensures listed { OnOk result (names_key (keys_of keys.new.entries xid.now) key.now ≡ true) }
+/// Gives a branch that holds the key the key in this mode. It takes no memory.
+fn raise_at(holders: &mut Holders, key: &[u8], xid: &Xid, mode: Mode)
+    requires { holds (holders_of (table_of holders.old.entries) key.now) xid.now ≡ true }
+    ensures { Takes (table_of holders.old.entries) (table_of holders.new.entries) xid.now key.now mode }
 {
-    if is_listed {
-        return Ok(());
+    match holders.get_mut(key) {
+        Some(list) => raise(list, xid, mode),
+        None => unreachable!(),
     }
-    add_key(alloc, keys, xid, key)
+}
+
+/// Gives a key these holders, in place of those that it has.
+fn set(
+    alloc: Global,
+    holders: &mut Holders,
+    key: &[u8],
+    list: Vec<Holder>,
+) -> Result<(), AllocError>
+    ensures ok { OnOk result (Becomes (table_of holders.old.entries) (table_of holders.new.entries)
+        key.now list.items) }
+    ensures err { OnErr result (holders.new.entries ≡ holders.old.entries) }
+{
+    let _ = holders.insert(Vec::from_slice(alloc, key)?, list)?;
+    Ok(())
 }
 
 /// Lists a key for a branch.
@@ -197,28 +205,22 @@ fn release_each(holders: &mut Holders, keys: &[Vec<u8>], xid: &Xid)
 fn release_key(holders: &mut Holders, key: &[u8], xid: &Xid)
     ensures { LetsGo (table_of holders.old.entries) (table_of holders.new.entries) xid.now key.now }
 {
-    take_out(holders, key, xid);
-    if is_idle(holders, key) {
+    let is_idle = take_out(holders, key, xid);
+    if is_idle {
         let _ = holders.swap_remove(key);
     }
 }
 
-fn take_out(holders: &mut Holders, key: &[u8], xid: &Xid)
-    ensures { LetsGo (table_of holders.old.entries) (table_of holders.new.entries) xid.now key.now }
+/// Takes the branch from the holders of a key, and says whether nobody is left there.
+fn take_out(holders: &mut Holders, key: &[u8], xid: &Xid) -> bool
+    ensures out { LetsGo (table_of holders.old.entries) (table_of holders.new.entries) xid.now key.now }
+    ensures idle { IsTrue result → holders_of (table_of holders.new.entries) key.now ≡ [] }
 {
     match holders.get_mut(key) {
-        Some(list) => remove(list, xid),
-        None => {}
-    }
-}
-
-/// Whether nobody holds the key.
-#[tactic(auto, using(key_tables::proofs::Tables::list_at_key))]
-fn is_idle(holders: &Holders, key: &[u8]) -> bool
-    ensures { IsTrue result → holders_of (table_of holders.now.entries) key.now ≡ [] }
-{
-    match holders.get(key) {
+        Some(list) => {
+            remove(list, xid);
+            list.is_empty()
+        }
         None => false,
-        Some(list) => matches!(list.as_slice(), []),
     }
 }
