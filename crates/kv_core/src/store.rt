@@ -1,11 +1,13 @@
 //! A key store behind XA, without its log.
 
-ghost use Rattle.std.specs.Prelude.{◌≡◌, ◌≤◌, ◌<◌, ◌+◌, ◌^◌, ◌↔◌, not, IsTrue, Contains, MatchResult, IfOk, IfErr, OnOk, OnErr, Some, None, option_map, true, false};
+ghost use Rattle.std.specs.Prelude.{◌≡◌, ◌≤◌, ◌<◌, ◌+◌, ◌^◌, ◌↔◌, ℕ, List, Option, not, IsTrue, Contains, MatchResult, IfOk, IfErr, OnOk, OnErr, Some, None, option_map, true, false};
+ghost use Rattle.key_tables.specs.declared.holders.Mode.{Mode as WorkMode};
 ghost use Rattle.key_tables.specs.declared.holders.Mode.TheVariants as mode;
 ghost use Rattle.kv_store.specs.writes.Writes.{AreWrites, writes_of};
 ghost use Rattle.xa_assoc.specs.Answers.{Answers, Closes, Opens, Recovers, Wanted, map_ok};
 ghost use Rattle.xa_assoc.specs.Ready.{is_closed, is_work_verb, leaves};
 ghost use Rattle.xa_tables.specs.Calls.{legal};
+ghost use Rattle.xa_tables.specs.Tables.{is_spoiled};
 ghost use Rattle.xa_branch.specs.Branches.{in_doubt, is_known};
 ghost use Rattle.xa_assoc.specs.declared.states.States.{States as AnyStates};
 ghost use Rattle.xa_assoc.specs.Restored.{Restored, restore_refusal};
@@ -219,25 +221,31 @@ impl KeyStore {
         self.writes.of(xid)
     }
 
-    /// The branch that a thread works for: the one that it is active in.
-    fn at_work(&self, thread: u32) -> Option<Xid>
-        ensures { result ≡ at_work self.now thread }
+    /// The branch that a thread is active in, which is at work. NotAssociated, RollbackOnly.
+    fn at_work(&self, thread: u32) -> Result<Xid, WorkError>
+        ensures ok { IfOk result (λ xid. (at_work self.now thread ≡ Some xid)
+            × (is_spoiled (state_of self.now xid) ≡ false)) }
+        ensures err { IfErr result (λ e. (key : List ℕ) (value : Option (List ℕ)) (m : WorkMode)
+            → work_refusal self.now thread key value m ≡ Some e) }
     {
-        let xid = self.states.active(thread)?;
+        let Some(xid) = self.states.active(thread) else {
+            return Err(WorkError::NotAssociated);
+        };
         match self.states.state(&xid) {
-            BranchState::S1 | BranchState::S4 => Some(xid),
-            BranchState::S0 | BranchState::S2 | BranchState::S3 | BranchState::S5 => None,
+            BranchState::S1 => Ok(xid),
+            BranchState::S4 => Err(WorkError::RollbackOnly),
+            BranchState::S0 | BranchState::S2 | BranchState::S3 | BranchState::S5 => {
+                Err(WorkError::NotAssociated)
+            }
         }
     }
 
-    /// Why a branch may not do its work at a key.
+    /// Why a branch at work may not do its work at a key.
     fn refusal(&self, xid: &Xid, key: &[u8], value: Option<&[u8]>, mode: Mode) -> Option<WorkError>
+        requires { is_spoiled (state_of self.now xid.now) ≡ false }
         ensures { result ≡ branch_refusal self.now key.now
             (option_map (λ v. v.now) value.entry) mode xid.now }
     {
-        if self.states.state(xid) == BranchState::S4 {
-            return Some(WorkError::RollbackOnly);
-        }
         if is_too_long(key, value) {
             return Some(WorkError::TooLong);
         }
@@ -263,9 +271,7 @@ impl KeyStore {
         ensures err { IfErr result (λ e. work_refusal self.now thread key.now
             (option_map (λ v. v.now) value.entry) mode ≡ Some e) }
     {
-        let Some(xid) = self.at_work(thread) else {
-            return Err(WorkError::NotAssociated);
-        };
+        let xid = self.at_work(thread)?;
         match self.refusal(&xid, key, value, mode) {
             None => Ok(xid),
             Some(refusal) => Err(refusal),

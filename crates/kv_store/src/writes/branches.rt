@@ -66,7 +66,8 @@ impl BranchWrites {
     pub fn is_within_limit(&self, xid: &Xid, key: &[u8]) -> bool
         ensures { result ≡ is_within_limit (writes_of self.now xid.now) key.now }
     {
-        self.of(xid).len() < KEYS || self.find(xid, key).is_some()
+        let writes = self.of(xid);
+        writes.len() < KEYS || find(writes, key).is_some()
     }
 
     /// Makes room for one write more of a branch. Memory: nothing changed.

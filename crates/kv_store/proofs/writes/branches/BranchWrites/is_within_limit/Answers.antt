@@ -6,8 +6,8 @@ use Rattle.kv_store.specs.writes.Writes.{is_of, writes_of}
 use Rattle.kv_store.proofs.writes.Lists.{found_is_named}
 use Rattle.kv_store.proofs.writes.branches.BranchWrites.is_within_limit.Goals as goal
 
-pub returns-else-of-lt-KEYS : goal.returns-else-of-lt-KEYS
-returns-else-of-lt-KEYS c =
+pub returns-else-writes-lt-KEYS : goal.returns-else-writes-lt-KEYS
+returns-else-writes-lt-KEYS c =
     let found : is_some c.find.result ≡ is_some
     (find (is_of c.args.key.now) (writes_of c.args.self.now c.args.xid.now)) = search rules in
     let named : c.is_some.result ≡ names_key (writes_of c.args.self.now c.args.xid.now) c.args.key.now =
