@@ -240,42 +240,30 @@ impl KeyStore {
         }
     }
 
-    /// Why a branch at work may not do its work at a key.
-    fn refusal(&self, xid: &Xid, key: &[u8], value: Option<&[u8]>, mode: Mode) -> Option<WorkError>
-        requires { is_spoiled (state_of self.now xid.now) ≡ false }
-        ensures { result ≡ branch_refusal self.now key.now
-            (option_map (λ v. v.now) value.entry) mode xid.now }
-    {
-        if is_too_long(key, value) {
-            return Some(WorkError::TooLong);
-        }
-        if let Some(other) = self.locks.blocker(xid, key, mode) {
-            return Some(WorkError::Locked(other));
-        }
-        if mode == Mode::Exclusive && !self.writes.is_within_limit(xid, key) {
-            return Some(WorkError::TooManyWrites);
-        }
-        None
-    }
-
-    /// The branch that a thread works for, which may do this work at a key.
-    fn worker(
+    /// Lets a branch at work do this work at a key. TooLong, Locked, TooManyWrites, in this order.
+    fn allow(
         &self,
-        thread: u32,
+        xid: &Xid,
         key: &[u8],
         value: Option<&[u8]>,
         mode: Mode,
-    ) -> Result<Xid, WorkError>
-        ensures ok { IfOk result (λ xid. (at_work self.now thread ≡ Some xid)
-            × (branch_refusal self.now key.now (option_map (λ v. v.now) value.entry) mode xid ≡ None)) }
-        ensures err { IfErr result (λ e. work_refusal self.now thread key.now
-            (option_map (λ v. v.now) value.entry) mode ≡ Some e) }
+    ) -> Result<(), WorkError>
+        requires { is_spoiled (state_of self.now xid.now) ≡ false }
+        ensures ok { OnOk result (branch_refusal self.now key.now
+            (option_map (λ v. v.now) value.entry) mode xid.now ≡ None) }
+        ensures err { IfErr result (λ e. branch_refusal self.now key.now
+            (option_map (λ v. v.now) value.entry) mode xid.now ≡ Some e) }
     {
-        let xid = self.at_work(thread)?;
-        match self.refusal(&xid, key, value, mode) {
-            None => Ok(xid),
-            Some(refusal) => Err(refusal),
+        if is_too_long(key, value) {
+            return Err(WorkError::TooLong);
         }
+        if let Some(other) = self.locks.blocker(xid, key, mode) {
+            return Err(WorkError::Locked(other));
+        }
+        if mode == Mode::Exclusive && !self.writes.is_within_limit(xid, key) {
+            return Err(WorkError::TooManyWrites);
+        }
+        Ok(())
     }
 
     /// What a branch finds at a key: its own write, or else the data.
@@ -298,7 +286,8 @@ impl KeyStore {
         ensures err { IfErr result (λ e. IsRefused self.old self.new
             (work_refusal self.old thread key.now None mode.Shared) e) }
     {
-        let xid = self.worker(thread, key, None, Mode::Shared)?;
+        let xid = self.at_work(thread)?;
+        self.allow(&xid, key, None, Mode::Shared)?;
         let found = copied(self.value(&xid, key), self.alloc)?;
         match self.locks.shared(&xid, key) {
             Ok(()) => Ok(found),
@@ -313,7 +302,8 @@ impl KeyStore {
         ensures err { IfErr result (λ e. IsRefused self.old self.new
             (work_refusal self.old thread key.now (option_map (λ v. v.now) value.entry) mode.Exclusive) e) }
     {
-        let xid = self.worker(thread, key, value, Mode::Exclusive)?;
+        let xid = self.at_work(thread)?;
+        self.allow(&xid, key, value, Mode::Exclusive)?;
         let write = Write {
             key: bytes_of(key, self.alloc)?,
             value: copied(value, self.alloc)?,

@@ -110,6 +110,7 @@ impl Locks {
         self.take(xid, key, Mode::Exclusive)
     }
 
+    /// A lock for a branch. Either refusal changes nothing.
     fn take(&mut self, xid: &Xid, key: &[u8], mode: Mode) -> Result<(), LockError>
         ensures ok { OnOk result (Gives self.old self.new xid.now key.now mode) }
         ensures err { IfErr result (Refuses self.old self.new xid.now key.now mode) }

@@ -1,4 +1,4 @@
-use Rattle.std.proofs.Common.{rules, ◌≡◌, true, false, Some, None, [], ap, sym, ◌∙◌}
+use Rattle.std.proofs.Common.{rules, ◌≡◌, true, Some, None, [], ap, sym, ◌∙◌}
 use Rattle.key_tables.specs.Holders.{given, holds}
 use Rattle.key_tables.proofs.Tables.{becomes, found, items_in, list_at_key}
 use Rattle.kv_locks.proofs.locks.raise_at.Goals as goal
