@@ -1,6 +1,7 @@
 -- Steps are read back as they were kept.
-use Rattle.std.proofs.Common.{◌≡◌, ◌∙◌, sym, ap, refl, ℕ, zero, suc, Option, Some, None, List, [], ◌∷◌, ◌++◌, length, map, option_map}
-use Rattle.std.proofs.lemmas.List.{map_push}
+use Rattle.std.proofs.Common.{◌≡◌, ◌∙◌, sym, ap, refl, ℕ, zero, suc, ◌+◌, ◌≤◌, Option, Some, None, List, [], ◌∷◌, ◌++◌, length, map, option_map, true, arith}
+use Rattle.std.proofs.lemmas.List.{append-nil, length-append, length-map, map_push}
+use Rattle.std.proofs.lemmas.Option.{slice_get_past}
 use Rattle.std.specs.Prelude.{slice_get}
 use Rattle.tree_model.specs.declared.names.ProcessId.{ProcessId}
 use Rattle.tree_model.specs.declared.names.Txn.{Txn}
@@ -18,10 +19,11 @@ use Rattle.short_steps.specs.declared.short_step.Aside.{Aside}
 use Rattle.short_steps.specs.declared.short_step.Cause.{Cause}
 use Rattle.short_steps.specs.declared.short_step.Cause.TheVariants.{Act as ActCause, Message as MessageCause, Restart as RestartCause, Trim as TrimCause}
 use Rattle.short_steps.specs.declared.short_step.ShortStep.{ShortStep}
-use Rattle.short_steps.specs.declared.short_step.WholeStep.{WholeStep}
+use Rattle.short_steps.specs.declared.short_step.LastStep.{LastStep}
 use Rattle.short_steps.specs.Shown.{entry_part}
 use Rattle.short_steps.specs.Spans.{part_in}
-use Rattle.short_steps.specs.Steps.{IsSent, IsWhole, Parts, act_by, aside_by, aside_in, aside_of, asides_by, cause_by, entries_of, entry_by, entry_in, entry_of, happening_in, parts_behind, reaction_by, reaction_in, reaction_with, short_step, somes}
+use Rattle.short_steps.specs.Kept.{is_placed}
+use Rattle.short_steps.specs.Steps.{IsSent, IsWhole, Parts, act_by, all_entries, aside_by, aside_in, aside_of, asides_by, cause_by, entries_of, entry_in, entry_of_part, happening_in, last_entries, last_entry, last_reaction, last_step, parts_begun, parts_placed, reaction_by, reaction_in, reaction_with, short_step, somes}
 use Rattle.short_steps.proofs.Spans.{Finds, finds_mapped, part_behind, part_more}
 
 -- What is found in the parts is found in more of them.
@@ -35,19 +37,27 @@ sent_more : (ls ms : List Envelope) (k : ℕ) → Finds (sent_as ls k) (sent_as 
 sent_more ls ms zero l h = h
 sent_more ls ms (suc k) l h = found_more ls ms k l h
 
-finds_happening : (ps : Parts) (x : WholeStep) (c : Cause)
-    → Finds (happening_in ps c) (happening_in (parts_behind ps x) c)
-finds_happening ps x (ActCause k) = finds_mapped (λ a. Handles (ActInput a)) (slice_get ps.acts k)
-    (slice_get (ps.acts ++ act_by x.happening) k) (found_more ps.acts (act_by x.happening) k)
-finds_happening ps x (MessageCause k) =
-    finds_mapped (λ (l : Envelope). Handles (MessageInput k l.message)) (sent_as ps.sent k)
-    (sent_as (ps.sent ++ x.reaction.messages) k) (sent_more ps.sent x.reaction.messages k)
-finds_happening ps x (RestartCause k) = λ h is. is
-finds_happening ps x TrimCause = λ h is. is
-
 finds_aside : (bs cs : List Aside) (o : Option ℕ) → Finds (aside_in bs o) (aside_in (bs ++ cs) o)
-finds_aside bs cs None = λ a is. is
-finds_aside bs cs (Some k) = found_more bs cs k
+finds_aside bs cs None a is = is
+finds_aside bs cs (Some k) a is = found_more bs cs k a is
+
+-- parts that grew
+pub record Grows (ps qs : Parts) : Type 0 where
+  pub acts : (k : ℕ) → Finds (slice_get ps.acts k) (slice_get qs.acts k)
+  pub asides : (o : Option ℕ) → Finds (aside_in ps.asides o) (aside_in qs.asides o)
+  pub records : (k n : ℕ) → Finds (part_in ps.records k n) (part_in qs.records k n)
+  pub parts : (k n : ℕ) → Finds (part_in ps.sent k n) (part_in qs.sent k n)
+  pub sent : (k : ℕ) → Finds (sent_as ps.sent k) (sent_as qs.sent k)
+
+finds_happening : (ps qs : Parts) → Grows ps qs → (c : Cause)
+    → Finds (happening_in ps c) (happening_in qs c)
+finds_happening ps qs g (ActCause k) =
+    finds_mapped (λ a. Handles (ActInput a)) (slice_get ps.acts k) (slice_get qs.acts k) (g.acts k)
+finds_happening ps qs g (MessageCause k) =
+    finds_mapped (λ (l : Envelope). Handles (MessageInput k l.message)) (sent_as ps.sent k)
+    (sent_as qs.sent k) (g.sent k)
+finds_happening ps qs g (RestartCause k) = λ h is. is
+finds_happening ps qs g TrimCause = λ h is. is
 
 finds_with : (o p : Option (List Logged)) (l m : Option (List Envelope)) (a b : Option Aside)
     → Finds o p → Finds l m → Finds a b → Finds (reaction_with o l a) (reaction_with p m b)
@@ -56,26 +66,25 @@ finds_with (Some ws) p None m a b f g h r is = absurd (cc)
 finds_with (Some ws) p (Some ls) m a b f g h r is =
     rw (f ws refl, g ls refl) (finds_mapped (reaction_by ws ls) a b h r is)
 
-finds_reaction : (ps : Parts) (x : WholeStep) (y : ShortStep)
-    → Finds (reaction_in ps y) (reaction_in (parts_behind ps x) y)
-finds_reaction ps x y =
+finds_reaction : (ps qs : Parts) → Grows ps qs → (y : ShortStep)
+    → Finds (reaction_in ps y) (reaction_in qs y)
+finds_reaction ps qs g y =
     finds_with (part_in ps.records y.written.start y.written.end) _
     (part_in ps.sent y.messages.start y.messages.end) _
     (aside_in ps.asides y.aside) _
-    (part_more ps.records x.reaction.written y.written.start y.written.end)
-    (part_more ps.sent x.reaction.messages y.messages.start y.messages.end)
-    (finds_aside ps.asides (asides_by (aside_of x.reaction)) y.aside)
+    (g.records y.written.start y.written.end) (g.parts y.messages.start y.messages.end) (g.asides y.aside)
 
-finds_entry_by : (q : ProcessId) (h i : Option Happening) (r s : Option Reaction) → Finds h i → Finds r s
-    → Finds (entry_by q h r) (entry_by q i s)
-finds_entry_by q None i r s f g e is = absurd (cc)
-finds_entry_by q (Some h) i r s f g e is = rw (f h refl) (finds_mapped (step_entry q h) r s g e is)
+finds_entry_of : (h i : Option Happening) (p q : Option (ProcessId × Reaction)) → Finds h i → Finds p q
+    → Finds (entry_of_part h p) (entry_of_part i q)
+finds_entry_of None i p q f g e is = absurd (cc)
+finds_entry_of (Some h) i p q f g e is =
+    rw (f h refl) (finds_mapped (λ (p : ProcessId × Reaction). step_entry p.0 h p.1) p q g e is)
 
-finds_entry : (ps : Parts) (x : WholeStep) (y : ShortStep)
-    → Finds (entry_in ps y) (entry_in (parts_behind ps x) y)
-finds_entry ps x y =
-    finds_entry_by y.process (happening_in ps y.cause) _ (reaction_in ps y) _
-    (finds_happening ps x y.cause) (finds_reaction ps x y)
+finds_entry : (ps qs : Parts) → Grows ps qs → (y : ShortStep) → Finds (entry_in ps y) (entry_in qs y)
+finds_entry ps qs g y =
+    finds_entry_of (happening_in ps y.cause) _ (option_map (λ r. (y.process, r)) (reaction_in ps y)) _
+    (finds_happening ps qs g y.cause)
+    (finds_mapped (λ r. (y.process, r)) (reaction_in ps y) (reaction_in qs y) (finds_reaction ps qs g y))
 
 finds_all : {A B : Type 0} (f g : A → Option B) (xs : List A) (ys : List B) → ((x : A) → Finds (f x) (g x))
     → map f xs ≡ map Some ys → map g xs ≡ map Some ys
@@ -87,7 +96,16 @@ finds_all f g (x ∷ xs) (y ∷ ys) h is =
     let same = h x y first in
     let rest = finds_all f g xs ys h others in cc
 
--- What was kept is read back.
+-- A step begins.
+
+begun_grows : (ps : Parts) (h : Happening) (r : Reaction) → Grows ps (parts_begun ps h r)
+begun_grows ps h r = record {
+  acts = λ k. found_more ps.acts (act_by h) k;
+  asides = finds_aside ps.asides (asides_by (aside_of r));
+  records = λ k n a is. is;
+  parts = λ k n a is. is;
+  sent = λ k a is. is;
+}
 
 last_found : {A : Type 0} (xs : List A) (x : A) → slice_get (xs ++ x ∷ []) (length xs) ≡ Some x
 last_found [] x = refl
@@ -99,25 +117,15 @@ mapped_twice f g None = refl
 mapped_twice f g (Some a) = refl
 
 -- what happened is read back from its cause
-cause_back : (ps : Parts) (h : Happening) → IsSent ps.sent h
-    → happening_in (record ps { acts = ps.acts ++ act_by h }) (cause_by (length ps.acts) h) ≡ Some h
-cause_back ps (Handles (ActInput a)) sent =
+cause_back : (ps : Parts) (h : Happening) (r : Reaction) → IsSent ps.sent h
+    → happening_in (parts_begun ps h r) (cause_by (length ps.acts) h) ≡ Some h
+cause_back ps (Handles (ActInput a)) r sent =
     ap (λ o. option_map (λ b. Handles (ActInput b)) o) (last_found ps.acts a)
-cause_back ps (Handles (MessageInput k m)) sent =
+cause_back ps (Handles (MessageInput k m)) r sent =
     mapped_twice (λ n. Handles (MessageInput k n)) (λ (l : Envelope). l.message) (sent_as ps.sent k)
     ∙ ap (λ o. option_map (λ n. Handles (MessageInput k n)) o) sent
-cause_back ps (Restarting k) sent = refl
-cause_back ps Trimming sent = refl
-
-happening_grows : (ps : Parts) (x : WholeStep) (c : Cause)
-    → Finds (happening_in (record ps { acts = ps.acts ++ act_by x.happening }) c)
-    (happening_in (parts_behind ps x) c)
-happening_grows ps x (ActCause k) = λ h is. is
-happening_grows ps x (MessageCause k) =
-    finds_mapped (λ (l : Envelope). Handles (MessageInput k l.message)) (sent_as ps.sent k)
-    (sent_as (ps.sent ++ x.reaction.messages) k) (sent_more ps.sent x.reaction.messages k)
-happening_grows ps x (RestartCause k) = λ h is. is
-happening_grows ps x TrimCause = λ h is. is
+cause_back ps (Restarting k) r sent = refl
+cause_back ps Trimming r sent = refl
 
 -- what few reactions have is read back from its place
 aside_back_of : (asides : List Aside) (b : Option Txn) (t : Option Told) (k : Option ℕ)
@@ -132,25 +140,10 @@ aside_back : (asides : List Aside) (a : Aside)
     → aside_in (asides ++ asides_by a) (aside_by (length asides) a) ≡ Some a
 aside_back asides a = aside_back_of asides a.begun a.told a.kept
 
--- the reaction of a step that was kept
-reaction_back : (ps : Parts) (x : WholeStep)
-    → reaction_in (parts_behind ps x) (short_step ps x) ≡ Some x.reaction
-reaction_back ps x =
-    rw (
-      part_behind ps.records x.reaction.written,
-      part_behind ps.sent x.reaction.messages,
-      aside_back ps.asides (aside_of x.reaction),
-    ) refl
-
--- the entry of a step that was kept
-entry_back : (ps : Parts) (x : WholeStep) → IsSent ps.sent x.happening
-    → entry_in (parts_behind ps x) (short_step ps x) ≡ Some (entry_of x)
-entry_back ps x sent =
-    let happened : happening_in (parts_behind ps x) (cause_by (length ps.acts) x.happening)
-    ≡ Some x.happening =
-    happening_grows ps x (cause_by (length ps.acts) x.happening) x.happening
-    (cause_back ps x.happening sent) in
-    rw (happened, reaction_back ps x) refl
+-- the entry of a step that begins
+begun_entry : (ps : Parts) (q : ProcessId) (h : Happening) (r : Reaction) → IsSent ps.sent h
+    → last_entry (parts_begun ps h r) (last_step ps q h r) ≡ Some (step_entry q h r)
+begun_entry ps q h r sent = rw (cause_back ps h r sent, aside_back ps.asides (aside_of r)) refl
 
 -- The entries of all steps.
 
@@ -159,87 +152,224 @@ somes_all : {A : Type 0} (xs : List A) → somes (map Some xs) ≡ xs
 somes_all [] = refl
 somes_all (x ∷ xs) = ap (λ ys. x ∷ ys) (somes_all xs)
 
-entries_are : (ps : Parts) (xs : List ShortStep) (w : IsWhole ps xs) → entries_of ps xs ≡ w.entries
-entries_are ps xs w = ap somes w.read ∙ somes_all w.entries
+entries_are : (ps : Parts) (xs : List ShortStep) (l : Option LastStep) (w : IsWhole ps xs l)
+    → entries_of ps xs l ≡ w.entries
+entries_are ps xs l w = ap somes w.read ∙ somes_all w.entries
 
 -- with one step more there is one entry more
-pub kept : (ps : Parts) (xs : List ShortStep) (x : WholeStep) → IsWhole ps xs → IsSent ps.sent x.happening
-    → (entries_of (parts_behind ps x) (xs ++ short_step ps x ∷ []) ≡ entries_of ps xs ++ entry_of x ∷ [])
-    × IsWhole (parts_behind ps x) (xs ++ short_step ps x ∷ [])
-kept ps xs x w sent =
-    let whole : IsWhole (parts_behind ps x) (xs ++ short_step ps x ∷ []) = record {
-      entries = w.entries ++ entry_of x ∷ [];
-      read = map_push (entry_in (parts_behind ps x)) xs (short_step ps x)
-          ∙ ap (λ o. map (entry_in (parts_behind ps x)) xs ++ o ∷ []) (entry_back ps x sent)
-          ∙ ap (λ os. os ++ Some (entry_of x) ∷ [])
-          (finds_all (entry_in ps) (entry_in (parts_behind ps x)) xs w.entries (finds_entry ps x) w.read)
-          ∙ sym (map_push Some w.entries (entry_of x));
+pub begun : (ps : Parts) (xs : List ShortStep) (q : ProcessId) (h : Happening) (r : Reaction)
+    → IsWhole ps xs None → IsSent ps.sent h
+    → (entries_of (parts_begun ps h r) xs (Some (last_step ps q h r))
+    ≡ entries_of ps xs None ++ step_entry q h r ∷ [])
+    × IsWhole (parts_begun ps h r) xs (Some (last_step ps q h r))
+begun ps xs q h r w sent =
+    let steps : map (entry_in ps) xs ≡ map Some w.entries = sym (append-nil (map (entry_in ps) xs)) ∙ w.read in
+    let whole : IsWhole (parts_begun ps h r) xs (Some (last_step ps q h r)) = record {
+      entries = w.entries ++ step_entry q h r ∷ [];
+      read = ap (λ o. map (entry_in (parts_begun ps h r)) xs ++ o ∷ []) (begun_entry ps q h r sent)
+          ∙ ap (λ os. os ++ Some (step_entry q h r) ∷ [])
+          (finds_all (entry_in ps) (entry_in (parts_begun ps h r)) xs w.entries
+          (finds_entry ps (parts_begun ps h r) (begun_grows ps h r)) steps)
+          ∙ sym (map_push Some w.entries (step_entry q h r));
     } in (
-      entries_are (parts_behind ps x) (xs ++ short_step ps x ∷ []) whole
-          ∙ ap (λ es. es ++ entry_of x ∷ []) (sym (entries_are ps xs w)),
+      entries_are (parts_begun ps h r) xs (Some (last_step ps q h r)) whole
+          ∙ ap (λ es. es ++ step_entry q h r ∷ []) (sym (entries_are ps xs None w)),
       whole,
     )
 
+-- likewise, where there is no last step
+pub begun_behind : (ps : Parts) (xs : List ShortStep) (l : Option LastStep) (q : ProcessId) (h : Happening)
+    (r : Reaction) → is_placed l ≡ true → IsWhole ps xs l → IsSent ps.sent h
+    → (entries_of (parts_begun ps h r) xs (Some (last_step ps q h r))
+    ≡ entries_of ps xs l ++ step_entry q h r ∷ [])
+    × IsWhole (parts_begun ps h r) xs (Some (last_step ps q h r))
+begun_behind ps xs None q h r is w sent = begun ps xs q h r w sent
+begun_behind ps xs (Some l) q h r is w sent = absurd (cc)
+
+-- The last step is placed.
+
+placed_grows : (ps : Parts) (l : LastStep) → Grows ps (parts_placed ps l)
+placed_grows ps l = record {
+  acts = λ k a is. is;
+  asides = λ o a is. is;
+  records = part_more ps.records l.written;
+  parts = part_more ps.sent l.messages;
+  sent = sent_more ps.sent l.messages;
+}
+
+-- the step shows what it showed before
+placed_reaction : (ps : Parts) (l : LastStep)
+    → reaction_in (parts_placed ps l) (short_step ps l) ≡ last_reaction ps l
+placed_reaction ps l = rw (part_behind ps.records l.written, part_behind ps.sent l.messages) refl
+
+placed_entry : (ps : Parts) (l : LastStep) (e : Entry) → last_entry ps l ≡ Some e
+    → entry_in (parts_placed ps l) (short_step ps l) ≡ Some e
+placed_entry ps l e is =
+    rw (placed_reaction ps l)
+    (finds_entry_of (happening_in ps l.cause) (happening_in (parts_placed ps l) l.cause)
+    (option_map (λ r. (l.process, r)) (last_reaction ps l)) _
+    (finds_happening ps (parts_placed ps l) (placed_grows ps l) l.cause) (λ p h. h) e is)
+
+-- what is read of the steps, and of the last one
+split_last : (os : List (Option Entry)) (o : Option Entry) (es : List Entry) → os ++ o ∷ [] ≡ map Some es
+    → (fs : List Entry) × (f : Entry) × (os ≡ map Some fs) × (o ≡ Some f) × (es ≡ fs ++ f ∷ [])
+split_last [] o [] is = absurd (cc)
+split_last [] o (e ∷ []) is = let same : o ≡ Some e = cc in ([], e, refl, same, refl)
+split_last [] o (e ∷ f ∷ es) is = absurd (cc)
+split_last (p ∷ os) o [] is = absurd (cc)
+split_last (p ∷ os) o (e ∷ es) is =
+    let first : p ≡ Some e = cc in
+    let others : os ++ o ∷ [] ≡ map Some es = cc in
+    let rest = split_last os o es others in (
+      e ∷ rest.0,
+      rest.1,
+      ap (λ (q : Option Entry). q ∷ os) first ∙ ap (λ qs. Some e ∷ qs) rest.2,
+      rest.3,
+      ap (λ fs. e ∷ fs) rest.4,
+    )
+
+-- the entries stay
+pub placed : (ps : Parts) (xs : List ShortStep) (l : LastStep) → IsWhole ps xs (Some l)
+    → (entries_of (parts_placed ps l) (xs ++ short_step ps l ∷ []) None ≡ entries_of ps xs (Some l))
+    × IsWhole (parts_placed ps l) (xs ++ short_step ps l ∷ []) None
+placed ps xs l w =
+    let parts = split_last (map (entry_in ps) xs) (last_entry ps l) w.entries w.read in
+    let whole : IsWhole (parts_placed ps l) (xs ++ short_step ps l ∷ []) None = record {
+      entries = w.entries;
+      read = append-nil (map (entry_in (parts_placed ps l)) (xs ++ short_step ps l ∷ []))
+          ∙ map_push (entry_in (parts_placed ps l)) xs (short_step ps l)
+          ∙ ap (λ o. map (entry_in (parts_placed ps l)) xs ++ o ∷ []) (placed_entry ps l parts.1 parts.3)
+          ∙ ap (λ os. os ++ Some parts.1 ∷ [])
+          (finds_all (entry_in ps) (entry_in (parts_placed ps l)) xs parts.0
+          (finds_entry ps (parts_placed ps l) (placed_grows ps l)) parts.2)
+          ∙ sym (map_push Some parts.0 parts.1) ∙ ap (map Some) (sym parts.4);
+    } in (
+      entries_are (parts_placed ps l) (xs ++ short_step ps l ∷ []) None whole
+          ∙ sym (entries_are ps xs (Some l) w),
+      whole,
+    )
+
+-- likewise, of the step that is the last
+pub placed_last : (ps : Parts) (xs : List ShortStep) (l : Option LastStep) (y : LastStep) → l ≡ Some y
+    → IsWhole ps xs l
+    → (entries_of (parts_placed ps y) (xs ++ short_step ps y ∷ []) None ≡ entries_of ps xs l)
+    × IsWhole (parts_placed ps y) (xs ++ short_step ps y ∷ []) None
+placed_last ps xs None y is w = absurd (cc)
+placed_last ps xs (Some l) y is w = let same : l ≡ y = cc in rw (sym same) (placed ps xs l w)
+
 -- The entry at a place.
 
-mapped_length : {A B : Type 0} (f : A → Option B) (xs : List A) (ys : List B)
-    → map f xs ≡ map Some ys → length ys ≡ length xs
-mapped_length f [] [] h = refl
-mapped_length f [] (y ∷ ys) h = absurd (cc)
-mapped_length f (x ∷ xs) [] h = absurd (cc)
-mapped_length f (x ∷ xs) (y ∷ ys) h = let others : map f xs ≡ map Some ys =
-    cc in ap (λ n. suc n) (mapped_length f xs ys others)
+read_length : (os : List (Option Entry)) (es : List Entry) → os ≡ map Some es → length es ≡ length os
+read_length os [] is = rw is refl
+read_length os (e ∷ es) is = rw is (ap (λ n. suc n) (read_length (map Some es) es refl))
 
 -- there are as many entries as steps
-pub as_many : (ps : Parts) (xs : List ShortStep) → IsWhole ps xs → length (entries_of ps xs) ≡ length xs
-as_many ps xs w = ap length (entries_are ps xs w) ∙ mapped_length (entry_in ps) xs w.entries w.read
+pub as_many : (ps : Parts) (xs : List ShortStep) (l : Option LastStep) → IsWhole ps xs l
+    → length (entries_of ps xs l) ≡ length xs + length (last_entries ps l)
+as_many ps xs l w =
+    ap length (entries_are ps xs l w) ∙ read_length (all_entries ps xs l) w.entries w.read
+    ∙ length-append (map (entry_in ps) xs) (last_entries ps l)
+    ∙ ap (λ n. n + length (last_entries ps l)) (length-map xs (entry_in ps))
 
-mapped_at : {A B : Type 0} (f : A → Option B) (xs : List A) (ys : List B) (k : ℕ)
-    (x : A) → map f xs ≡ map Some ys
-    → slice_get xs k ≡ Some x → (y : B) × (f x ≡ Some y) × (slice_get ys k ≡ Some y)
-mapped_at f [] ys k x h is = absurd (cc)
-mapped_at f (z ∷ xs) [] k x h is = absurd (cc)
-mapped_at f (z ∷ xs) (y ∷ ys) zero x h is =
-    let first : f z ≡ Some y = cc in let same : z ≡ x = cc in (y, rw (sym same) first, refl)
-mapped_at f (z ∷ xs) (y ∷ ys) (suc k) x h is =
-    let others : map f xs ≡ map Some ys = cc in mapped_at f xs ys k x others is
+-- behind the steps comes the last, if there is one
+pub as_many_placed : (ps : Parts) (xs : List ShortStep) (l : Option LastStep) → IsWhole ps xs l → l ≡ None
+    → length (entries_of ps xs l) ≡ length xs
+as_many_placed ps xs None w is = omega (arith, as_many ps xs None w)
+as_many_placed ps xs (Some l) w is = absurd (cc)
 
-mapped_past : {A B : Type 0} (f : A → Option B) (xs : List A) (ys : List B) (k : ℕ) → map f xs ≡ map Some ys
-    → slice_get xs k ≡ None → slice_get ys k ≡ None
-mapped_past f [] [] k h is = refl
-mapped_past f [] (y ∷ ys) k h is = absurd (cc)
-mapped_past f (z ∷ xs) [] k h is = refl
-mapped_past f (z ∷ xs) (y ∷ ys) zero h is = absurd (cc)
-mapped_past f (z ∷ xs) (y ∷ ys) (suc k) h is = let others : map f xs ≡ map Some ys =
-    cc in mapped_past f xs ys k others is
+pub as_many_last : (ps : Parts) (xs : List ShortStep) (l : Option LastStep) (y : LastStep) → IsWhole ps xs l
+    → l ≡ Some y → length (entries_of ps xs l) ≡ length xs + 1
+as_many_last ps xs None y w is = absurd (cc)
+as_many_last ps xs (Some l) y w is = omega (arith, as_many ps xs (Some l) w)
+
+read_at : (os : List (Option Entry)) (es : List Entry) (k : ℕ) (o : Option Entry) → os ≡ map Some es
+    → slice_get os k ≡ Some o → o ≡ slice_get es k
+read_at [] es k o read is = absurd (cc)
+read_at (p ∷ os) [] k o read is = absurd (cc)
+read_at (p ∷ os) (e ∷ es) zero o read is = let first : p ≡ Some e = cc in let same : p ≡ o = cc in sym same ∙ first
+read_at (p ∷ os) (e ∷ es) (suc k) o read is =
+    let others : os ≡ map Some es = cc in read_at os es k o others is
+
+step_at : (xs : List ShortStep) (ps : Parts) (os : List (Option Entry)) (k : ℕ) (x : ShortStep)
+    → slice_get xs k ≡ Some x → slice_get (map (entry_in ps) xs ++ os) k ≡ Some (entry_in ps x)
+step_at [] ps os k x is = absurd (cc)
+step_at (y ∷ xs) ps os zero x is = let same : y ≡ x = cc in rw same refl
+step_at (y ∷ xs) ps os (suc k) x is = step_at xs ps os k x is
 
 -- the entry of a step stands in its place
-pub entry_found : (ps : Parts) (xs : List ShortStep) (k : ℕ) (x : ShortStep) → IsWhole ps xs
-    → slice_get xs k ≡ Some x → entry_in ps x ≡ slice_get (entries_of ps xs) k
-entry_found ps xs k x w is =
-    let found = mapped_at (entry_in ps) xs w.entries k x w.read is in
-    found.1 ∙ sym found.2 ∙ ap (λ es. slice_get es k) (sym (entries_are ps xs w))
+pub entry_found : (ps : Parts) (xs : List ShortStep) (l : Option LastStep) (k : ℕ) (x : ShortStep)
+    → IsWhole ps xs l → slice_get xs k ≡ Some x → entry_in ps x ≡ slice_get (entries_of ps xs l) k
+entry_found ps xs l k x w is =
+    read_at (all_entries ps xs l) w.entries k (entry_in ps x) w.read (step_at xs ps (last_entries ps l) k x is)
+    ∙ ap (λ es. slice_get es k) (sym (entries_are ps xs l w))
 
--- behind the last step there is none
-pub entry_past : (ps : Parts) (xs : List ShortStep) (k : ℕ) → IsWhole ps xs → slice_get xs k ≡ None
-    → slice_get (entries_of ps xs) k ≡ None
-entry_past ps xs k w is =
-    ap (λ es. slice_get es k) (entries_are ps xs w) ∙ mapped_past (entry_in ps) xs w.entries k w.read is
+last_at : (xs : List ShortStep) (ps : Parts) (o : Option Entry)
+    → slice_get (map (entry_in ps) xs ++ o ∷ []) (length xs) ≡ Some o
+last_at [] ps o = refl
+last_at (y ∷ xs) ps o = last_at xs ps o
+
+-- that of the last step stands behind them
+pub last_entry_found : (ps : Parts) (xs : List ShortStep) (l : Option LastStep) (y : LastStep) (k : ℕ)
+    → IsWhole ps xs l → l ≡ Some y → k ≡ length xs → last_entry ps y ≡ slice_get (entries_of ps xs l) k
+last_entry_found ps xs None y k w is at = absurd (cc)
+last_entry_found ps xs (Some l) y k w is at =
+    let same : l ≡ y = cc in
+    rw (at, sym same) (read_at (all_entries ps xs (Some l)) w.entries (length xs) (last_entry ps l) w.read
+    (last_at xs ps (last_entry ps l))
+    ∙ ap (λ es. slice_get es (length xs)) (sym (entries_are ps xs (Some l) w)))
+
+-- behind that there is none
+pub entry_past : (ps : Parts) (xs : List ShortStep) (l : Option LastStep) (k : ℕ) → IsWhole ps xs l
+    → l ≡ None → length xs ≤ k → slice_get (entries_of ps xs l) k ≡ None
+entry_past ps xs l k w is past =
+    slice_get_past (entries_of ps xs l) k (omega (arith, past, as_many_placed ps xs l w is))
+
+pub entry_past_last : (ps : Parts) (xs : List ShortStep) (l : Option LastStep) (y : LastStep) (k : ℕ)
+    → IsWhole ps xs l → l ≡ Some y → length xs ≤ k → (k ≡ length xs → ⊥)
+    → slice_get (entries_of ps xs l) k ≡ None
+entry_past_last ps xs l y k w is past other =
+    slice_get_past (entries_of ps xs l) k (omega (arith, past, other, as_many_last ps xs l y w is))
 
 -- What a step shows.
 
-part_of_entry : (q : ProcessId) (h : Option Happening) (r : Option Reaction)
-    (e : Entry) → entry_by q h r ≡ Some e → option_map (λ s. (q, s)) r ≡ Some (entry_part e)
-part_of_entry q None r e is = absurd (cc)
-part_of_entry q (Some h) None e is = absurd (cc)
-part_of_entry q (Some h) (Some r) e is = ap (option_map entry_part) is
+part_of_entry : (h : Option Happening) (p : Option (ProcessId × Reaction))
+    (o : Option Entry) (e : Entry) → entry_of_part h p ≡ o → o ≡ Some e → p ≡ option_map entry_part o
+part_of_entry None p o e is some = absurd (cc)
+part_of_entry (Some h) None o e is some = absurd (cc)
+part_of_entry (Some h) (Some p) o e is some = ap (option_map entry_part) is
+
+read_some : (os : List (Option Entry)) (es : List Entry) (k : ℕ) (o : Option Entry) → os ≡ map Some es
+    → slice_get os k ≡ Some o → (e : Entry) × (o ≡ Some e)
+read_some [] es k o read is = absurd (cc)
+read_some (p ∷ os) [] k o read is = absurd (cc)
+read_some (p ∷ os) (e ∷ es) zero o read is = let first : p ≡ Some e = cc in let same : p ≡ o = cc in
+    (e, sym same ∙ first)
+read_some (p ∷ os) (e ∷ es) (suc k) o read is =
+    let others : os ≡ map Some es = cc in read_some os es k o others is
 
 -- the part of the entry in its place
-pub part_found : (ps : Parts) (xs : List ShortStep) (k : ℕ) (x : ShortStep) → IsWhole ps xs
-    → slice_get xs k ≡ Some x
+pub part_found : (ps : Parts) (xs : List ShortStep) (l : Option LastStep) (k : ℕ) (x : ShortStep)
+    → IsWhole ps xs l → slice_get xs k ≡ Some x
     → option_map (λ r. (x.process, r)) (reaction_in ps x)
-    ≡ option_map entry_part (slice_get (entries_of ps xs) k)
-part_found ps xs k x w is =
-    let found = mapped_at (entry_in ps) xs w.entries k x w.read is in
-    part_of_entry x.process (happening_in ps x.cause) (reaction_in ps x) found.0 found.1
-    ∙ sym (ap (λ o. option_map entry_part o) (ap (λ es. slice_get es k) (entries_are ps xs w) ∙ found.2))
+    ≡ option_map entry_part (slice_get (entries_of ps xs l) k)
+part_found ps xs l k x w is =
+    let some = read_some (all_entries ps xs l) w.entries k (entry_in ps x) w.read
+    (step_at xs ps (last_entries ps l) k x is) in
+    part_of_entry (happening_in ps x.cause) (option_map (λ r. (x.process, r)) (reaction_in ps x))
+    (slice_get (entries_of ps xs l) k) some.0 (entry_found ps xs l k x w is)
+    (sym (entry_found ps xs l k x w is) ∙ some.1)
+
+pub last_part_found : (ps : Parts) (xs : List ShortStep) (l : Option LastStep) (y : LastStep) (k : ℕ)
+    → IsWhole ps xs l → l ≡ Some y → k ≡ length xs
+    → option_map (λ r. (y.process, r)) (last_reaction ps y)
+    ≡ option_map entry_part (slice_get (entries_of ps xs l) k)
+last_part_found ps xs None y k w is at = absurd (cc)
+last_part_found ps xs (Some l) y k w is at =
+    let same : l ≡ y = cc in
+    let some = read_some (all_entries ps xs (Some l)) w.entries (length xs) (last_entry ps l) w.read
+    (last_at xs ps (last_entry ps l)) in
+    let found : last_entry ps l ≡ slice_get (entries_of ps xs (Some l)) k =
+    last_entry_found ps xs (Some l) l k w refl at in
+    rw (sym same) (part_of_entry (happening_in ps l.cause)
+    (option_map (λ r. (l.process, r)) (last_reaction ps l))
+    (slice_get (entries_of ps xs (Some l)) k) some.0 found (sym found ∙ some.1))

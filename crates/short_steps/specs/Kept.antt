@@ -1,13 +1,13 @@
 -- What the code keeps of steps, as the definitions see it.
-use Rattle.std.specs.Prelude.{◌≡◌, ◌+◌, ◌-◌, ◌<◌, ◌≤◌, ℕ, List, length}
+use Rattle.std.specs.Prelude.{◌≡◌, ◌+◌, ◌-◌, ◌<◌, ◌≤◌, ℕ, Bool, true, false, Option, Some, None, List, [], ◌++◌, length}
 use Rattle.std.specs.Global.{Vec}
 use Rattle.std.specs.Vec.{vec_capacity, vec_len}
 use Rattle.tree_model.specs.declared.messages.Envelope.{Envelope}
 use Rattle.tree_model.specs.declared.events.Entry.{Entry}
 use Rattle.short_steps.specs.declared.parts.Parts.{Parts as PartsKept}
+use Rattle.short_steps.specs.declared.short_step.LastStep.{LastStep}
 use Rattle.short_steps.specs.declared.short_step.ShortStep.{ShortStep}
-use Rattle.short_steps.specs.declared.short_step.WholeStep.{WholeStep}
-use Rattle.short_steps.specs.Steps.{Parts}
+use Rattle.short_steps.specs.Steps.{IsWhole, Parts, entries_of}
 
 -- the lists that are kept
 abbrev pub parts_of : PartsKept → Parts
@@ -18,46 +18,66 @@ parts_of ps = record {
   sent = ps.sent.items;
 }
 
--- the parts of the step can be added without a growth
-pub record HoldsParts (ps : PartsKept) (x : WholeStep) : Type 0 where
+-- a step can begin without a growth
+pub record CanBegin (ps : PartsKept) : Type 0 where
   pub acts : vec_len ps.acts < vec_capacity ps.acts
   pub asides : vec_len ps.asides < vec_capacity ps.asides
-  pub records : vec_len ps.records + length x.reaction.written ≤ vec_capacity ps.records
-  pub sent : vec_len ps.sent + length x.reaction.messages ≤ vec_capacity ps.sent
 
--- how many more of each fit without a growth
-pub record Room : Type 0 where
-  pub acts : ℕ
-  pub asides : ℕ
-  pub records : ℕ
-  pub sent : ℕ
-  pub steps : ℕ
+-- the last step's records and messages can be placed without a growth
+pub record CanPlace (ps : PartsKept) (l : LastStep) : Type 0 where
+  pub records : vec_len ps.records + length l.written ≤ vec_capacity ps.records
+  pub sent : vec_len ps.sent + length l.messages ≤ vec_capacity ps.sent
 
--- that of these lists
-abbrev pub room_of : PartsKept → Vec ShortStep → Room
-room_of ps xs = record {
-  acts = vec_capacity ps.acts - length ps.acts.items;
-  asides = vec_capacity ps.asides - length ps.asides.items;
-  records = vec_capacity ps.records - length ps.records.items;
-  sent = vec_capacity ps.sent - length ps.sent.items;
-  steps = vec_capacity xs - length xs.items;
-}
+-- there is no last step
+abbrev pub is_placed : Option LastStep → Bool
+is_placed None = true
+is_placed (Some l) = false
 
--- the messages that were sent, the entries of the steps, and what more fits without a growth
+-- the messages of the last step
+abbrev pub waiting_in : Option LastStep → List Envelope
+waiting_in None = []
+waiting_in (Some l) = l.messages
+
+-- The messages that are placed, those of the last step that are not, and the entries of all steps; whether the
+-- last step is placed, and how many acts and asides more fit without a growth.
 pub record StepsState : Type 0 where
   pub sent : List Envelope
+  pub waiting : List Envelope
   pub entries : List Entry
-  pub room : Room
+  pub is_placed : Bool
+  pub acts : ℕ
+  pub asides : ℕ
 
--- the step can be added without a growth
-pub record HasRoom (room : Room) (x : WholeStep) : Type 0 where
-  pub acts : 0 < room.acts
-  pub asides : 0 < room.asides
-  pub records : length x.reaction.written ≤ room.records
-  pub sent : length x.reaction.messages ≤ room.sent
-  pub steps : 0 < room.steps
+-- what a contract sees of what the code keeps
+abbrev pub steps_seen : PartsKept → Vec ShortStep → Option LastStep → StepsState
+steps_seen ps xs l = record {
+  sent = ps.sent.items;
+  waiting = waiting_in l;
+  entries = entries_of (parts_of ps) xs.items l;
+  is_placed = is_placed l;
+  acts = vec_capacity ps.acts - length ps.acts.items;
+  asides = vec_capacity ps.asides - length ps.asides.items;
+}
 
--- the messages and the entries stay
+-- each step has its entry
+abbrev pub AreWhole : PartsKept → Vec ShortStep → Option LastStep → Type 0
+AreWhole ps xs l = IsWhole (parts_of ps) xs.items l
+
+-- a step can be entered without a growth
+pub record IsReady (s : StepsState) : Type 0 where
+  pub placed : s.is_placed ≡ true
+  pub acts : 0 < s.acts
+  pub asides : 0 < s.asides
+
+-- the messages and the entries stay, in their places
 pub record KeepsSteps (old new : StepsState) : Type 0 where
   pub sent : new.sent ≡ old.sent
+  pub waiting : new.waiting ≡ old.waiting
   pub entries : new.entries ≡ old.entries
+
+-- the messages of the last step are placed, and the entries stay
+pub record Places (old new : StepsState) : Type 0 where
+  pub sent : new.sent ≡ old.sent ++ old.waiting
+  pub waiting : new.waiting ≡ []
+  pub entries : new.entries ≡ old.entries
+  pub ready : IsReady new

@@ -17,7 +17,7 @@ use Rattle.short_steps.specs.declared.short_step.Aside.{Aside}
 use Rattle.short_steps.specs.declared.short_step.Cause.{Cause}
 use Rattle.short_steps.specs.declared.short_step.Cause.TheVariants.{Act as ActCause, Message as MessageCause, Restart as RestartCause, Trim as TrimCause}
 use Rattle.short_steps.specs.declared.short_step.ShortStep.{ShortStep}
-use Rattle.short_steps.specs.declared.short_step.WholeStep.{WholeStep}
+use Rattle.short_steps.specs.declared.short_step.LastStep.{LastStep}
 use Rattle.short_steps.specs.Spans.{part_in, span_behind}
 
 -- The steps.
@@ -63,14 +63,33 @@ reaction_in ps x =
     reaction_with (part_in ps.records x.written.start x.written.end)
     (part_in ps.sent x.messages.start x.messages.end) (aside_in ps.asides x.aside)
 
--- the journal's entry of a step, where it is known what happened and what that led to
-abbrev pub entry_by : ProcessId → Option Happening → Option Reaction → Option Entry
-entry_by q None r = None
-entry_by q (Some h) r = option_map (step_entry q h) r
+-- the reaction of the last step, whose records and messages it has itself
+abbrev pub last_reaction : Parts → LastStep → Option Reaction
+last_reaction ps l = option_map (reaction_by l.written l.messages) (aside_in ps.asides l.aside)
+
+-- the journal's entry, where it is known what happened, and at which process with which reaction
+abbrev pub entry_of_part : Option Happening → Option (ProcessId × Reaction) → Option Entry
+entry_of_part None p = None
+entry_of_part (Some h) p = option_map (λ p. step_entry p.0 h p.1) p
 
 -- the journal's entry of a step
 abbrev pub entry_in : Parts → ShortStep → Option Entry
-entry_in ps x = entry_by x.process (happening_in ps x.cause) (reaction_in ps x)
+entry_in ps x =
+    entry_of_part (happening_in ps x.cause) (option_map (λ r. (x.process, r)) (reaction_in ps x))
+
+-- that of the last step
+abbrev pub last_entry : Parts → LastStep → Option Entry
+last_entry ps l =
+    entry_of_part (happening_in ps l.cause) (option_map (λ r. (l.process, r)) (last_reaction ps l))
+
+-- likewise, if there is one
+abbrev pub last_entries : Parts → Option LastStep → List (Option Entry)
+last_entries ps None = []
+last_entries ps (Some l) = last_entry ps l ∷ []
+
+-- the journal's entries of all steps, the last among them
+abbrev pub all_entries : Parts → List ShortStep → Option LastStep → List (Option Entry)
+all_entries ps xs l = map (entry_in ps) xs ++ last_entries ps l
 
 -- those that are there
 abbrev pub somes : {A : Type 0} → List (Option A) → List A
@@ -79,19 +98,15 @@ somes (None ∷ os) = somes os
 somes (Some a ∷ os) = a ∷ somes os
 
 -- the journal's entries of all steps
-abbrev pub entries_of : Parts → List ShortStep → List Entry
-entries_of ps xs = somes (map (entry_in ps) xs)
+abbrev pub entries_of : Parts → List ShortStep → Option LastStep → List Entry
+entries_of ps xs l = somes (all_entries ps xs l)
 
 -- each step has its entry: all that it names is there
-pub record IsWhole (ps : Parts) (xs : List ShortStep) : Type 0 where
+pub record IsWhole (ps : Parts) (xs : List ShortStep) (l : Option LastStep) : Type 0 where
   pub entries : List Entry
-  pub read : map (entry_in ps) xs ≡ map Some entries
+  pub read : all_entries ps xs l ≡ map Some entries
 
 -- One step more.
-
--- the journal's entry of a step that is whole
-abbrev pub entry_of : WholeStep → Entry
-entry_of x = step_entry x.process x.happening x.reaction
 
 -- the message that was handled, if one was, was sent with this number
 abbrev pub IsSent : List Envelope → Happening → Type 0
@@ -127,21 +142,31 @@ asides_by a = if is_bare a.begun a.told a.kept then [] else a ∷ []
 abbrev pub aside_of : Reaction → Aside
 aside_of r = record { begun = r.begun; told = r.told; kept = r.kept }
 
--- the parts once a step is kept
-abbrev pub parts_behind : Parts → WholeStep → Parts
-parts_behind ps x = record {
-  acts = ps.acts ++ act_by x.happening;
-  asides = ps.asides ++ asides_by (aside_of x.reaction);
-  records = ps.records ++ x.reaction.written;
-  sent = ps.sent ++ x.reaction.messages;
+-- the parts once a step begins: what happened and what few reactions have is kept
+abbrev pub parts_begun : Parts → Happening → Reaction → Parts
+parts_begun ps h r =
+    record ps { acts = ps.acts ++ act_by h; asides = ps.asides ++ asides_by (aside_of r) }
+
+-- the step, with its records and its messages
+abbrev pub last_step : Parts → ProcessId → Happening → Reaction → LastStep
+last_step ps q h r = record {
+  process = q;
+  cause = cause_by (length ps.acts) h;
+  written = r.written;
+  messages = r.messages;
+  aside = aside_by (length ps.asides) (aside_of r);
 }
 
--- the step once its parts are kept
-abbrev pub short_step : Parts → WholeStep → ShortStep
-short_step ps x = record {
-  process = x.process;
-  cause = cause_by (length ps.acts) x.happening;
-  written = span_behind ps.records x.reaction.written;
-  messages = span_behind ps.sent x.reaction.messages;
-  aside = aside_by (length ps.asides) (aside_of x.reaction);
+-- the parts once the last step's records and messages are placed
+abbrev pub parts_placed : Parts → LastStep → Parts
+parts_placed ps l = record ps { records = ps.records ++ l.written; sent = ps.sent ++ l.messages }
+
+-- the step, which names them
+abbrev pub short_step : Parts → LastStep → ShortStep
+short_step ps l = record {
+  process = l.process;
+  cause = l.cause;
+  written = span_behind ps.records l.written;
+  messages = span_behind ps.sent l.messages;
+  aside = l.aside;
 }

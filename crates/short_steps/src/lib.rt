@@ -9,7 +9,5 @@ mod short_steps;
 mod shown;
 mod span;
 
-pub use copies::copy_to;
-pub use short_step::WholeStep;
 pub use short_steps::ShortSteps;
 pub use shown::Shown;

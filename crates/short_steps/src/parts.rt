@@ -4,14 +4,14 @@ ghost use Rattle.std.specs.Prelude.{◌≡◌, [], IfOk, OnOk, option_map};
 ghost use Rattle.std.specs.Option.{option_copied};
 ghost use Rattle.tree_model.specs.Plays.{sent_as};
 ghost use Rattle.short_steps.specs.Shown.{shown_part};
-ghost use Rattle.short_steps.specs.Steps.{aside_in, entry_in, happening_in, parts_behind, reaction_in, short_step};
-ghost use Rattle.short_steps.specs.Kept.{HoldsParts, parts_of};
+ghost use Rattle.short_steps.specs.Steps.{aside_in, entry_of_part, happening_in, last_reaction, last_step, parts_begun, parts_placed, reaction_in, short_step};
+ghost use Rattle.short_steps.specs.Kept.{CanBegin, CanPlace, parts_of};
 
-use crate::short_step::{Aside, Cause, ShortStep, WholeStep, entry_at, keep_act, keep_aside};
+use crate::short_step::{Aside, Cause, LastStep, ShortStep, keep_act, keep_aside};
 use crate::shown::Shown;
 use crate::span::{keep_all, part_of};
 use std::alloc::{AllocError, Global};
-use tree_model::{Act, Entry, Envelope, Happening, Input, Logged};
+use tree_model::{Act, Entry, Envelope, Happening, Input, Logged, ProcessId, Reaction, Step};
 
 /// The lists in which the parts of steps stand.
 #[derive(Drop)]
@@ -103,53 +103,108 @@ impl Parts {
         })
     }
 
-    /// The journal's entry of a step, made anew; None, where what it names is not there.
-    pub(crate) fn entry(&self, alloc: Global, step: &ShortStep) -> Result<Option<Entry>, AllocError>
-        ensures { IfOk result (λ found. found ≡ entry_in (parts_of self.now) step.now) }
+    /// What the last step shows, lent; None, where what it names is not there.
+    pub(crate) fn last_shown<'a>(&self, last: &'a LastStep) -> Option<Shown<'a>>
+        ensures { option_map shown_part result
+            ≡ option_map (λ r. (last.now.process, r)) (last_reaction (parts_of self.now) last.now) }
     {
-        let Some(happening) = self.happening(alloc, step.cause)? else {
-            return Ok(None);
-        };
-        let Some(shown) = self.shown(step) else {
-            return Ok(None);
-        };
-        let reaction = shown.reaction(alloc)?;
-        Ok(Some(entry_at(step.process, happening, reaction)))
+        let aside = self.aside(last.aside)?;
+        Some(Shown {
+            process: last.process,
+            begun: aside.begun,
+            written: last.written.as_slice(),
+            told: aside.told,
+            messages: last.messages.as_slice(),
+            kept: aside.kept,
+        })
     }
 
-    /// Makes room for the parts of a step. A refusal for memory changes nothing.
-    pub(crate) fn reserve(&mut self, step: &WholeStep) -> Result<(), AllocError>
+    /// The journal's entry of a step with this cause, which shows this, made anew; None, where either is not
+    /// there.
+    pub(crate) fn entry(
+        &self,
+        alloc: Global,
+        cause: Cause,
+        shown: Option<Shown>,
+    ) -> Result<Option<Entry>, AllocError>
+        ensures { IfOk result (λ found. found ≡ entry_of_part (happening_in (parts_of self.now) cause)
+            (option_map shown_part shown.entry)) }
+    {
+        let Some(happening) = self.happening(alloc, cause)? else {
+            return Ok(None);
+        };
+        let Some(shown) = shown else {
+            return Ok(None);
+        };
+        Ok(Some(Entry {
+            step: Step {
+                process: shown.process,
+                happening,
+                fault: None,
+            },
+            reaction: shown.reaction(alloc)?,
+        }))
+    }
+
+    /// Makes room for an act, and for what few reactions have. A refusal for memory changes nothing.
+    pub(crate) fn reserve_one(&mut self) -> Result<(), AllocError>
         ensures keeps { parts_of self.new ≡ parts_of self.old }
-        ensures ready { OnOk result (HoldsParts self.new step.now) }
+        ensures ready { OnOk result (CanBegin self.new) }
     {
         self.acts.reserve(1)?;
-        self.asides.reserve(1)?;
-        self.records.reserve(step.reaction.written.len())?;
-        self.sent.reserve(step.reaction.messages.len())
+        self.asides.reserve(1)
     }
 
-    /// Keeps the parts of a step, for which there is room: the step, which names them.
-    pub(crate) fn keep(&mut self, step: WholeStep) -> ShortStep
-        requires { HoldsParts self.old step }
-        ensures step { result ≡ short_step (parts_of self.old) step }
-        ensures parts { parts_of self.new ≡ parts_behind (parts_of self.old) step }
+    /// Makes room for the last step's records and messages. A refusal for memory changes nothing.
+    pub(crate) fn reserve_for(&mut self, last: &LastStep) -> Result<(), AllocError>
+        ensures keeps { parts_of self.new ≡ parts_of self.old }
+        ensures begins { CanBegin self.old → CanBegin self.new }
+        ensures ready { OnOk result (CanPlace self.new last.now) }
     {
-        let WholeStep {
-            process,
-            happening,
-            reaction,
-        } = step;
+        self.records.reserve(last.written.len())?;
+        self.sent.reserve(last.messages.len())
+    }
+
+    /// Keeps what happened and what few reactions have, for which there is room: the step, with all else that
+    /// it has.
+    pub(crate) fn begin(
+        &mut self,
+        process: ProcessId,
+        happening: Happening,
+        reaction: Reaction,
+    ) -> LastStep
+        requires { CanBegin self.old }
+        ensures last { result ≡ last_step (parts_of self.old) process happening reaction }
+        ensures parts { parts_of self.new ≡ parts_begun (parts_of self.old) happening reaction }
+    {
         let aside = Aside {
             begun: reaction.begun,
             told: reaction.told,
             kept: reaction.kept,
         };
-        ShortStep {
+        LastStep {
             process,
             cause: keep_act(&mut self.acts, happening),
-            written: keep_all(&mut self.records, reaction.written),
-            messages: keep_all(&mut self.sent, reaction.messages),
+            written: reaction.written,
+            messages: reaction.messages,
             aside: keep_aside(&mut self.asides, aside),
+        }
+    }
+
+    /// Keeps the records and the messages of the last step, for which there is room: the step, which names
+    /// them.
+    pub(crate) fn place(&mut self, last: LastStep) -> ShortStep
+        requires { CanPlace self.old last }
+        ensures step { result ≡ short_step (parts_of self.old) last }
+        ensures parts { parts_of self.new ≡ parts_placed (parts_of self.old) last }
+        ensures begins { CanBegin self.old → CanBegin self.new }
+    {
+        ShortStep {
+            process: last.process,
+            cause: last.cause,
+            written: keep_all(&mut self.records, last.written),
+            messages: keep_all(&mut self.sent, last.messages),
+            aside: last.aside,
         }
     }
 }

@@ -1,27 +1,11 @@
-//! A step as it was made, and as the journal keeps it.
+//! A step as the journal keeps it.
 
-ghost use Rattle.std.specs.Prelude.{◌≡◌, ◌++◌, ◌<◌, IfOk, length};
+ghost use Rattle.std.specs.Prelude.{◌≡◌, ◌++◌, ◌<◌, length};
 ghost use Rattle.std.specs.Vec.{vec_capacity, vec_len};
-ghost use Rattle.core_law.specs.worlds.Worlds.{step_entry};
-ghost use Rattle.short_steps.specs.Shown.{shown_part};
-ghost use Rattle.short_steps.specs.Steps.{act_by, aside_by, asides_by, cause_by, entry_of, is_bare as is_bare_of};
+ghost use Rattle.short_steps.specs.Steps.{act_by, aside_by, asides_by, cause_by, is_bare as is_bare_of};
 
-use crate::copies::copied_happening;
-use crate::shown::Shown;
 use crate::span::Span;
-use std::alloc::{AllocError, Global};
-use tree_model::{Act, Entry, Happening, Input, ProcessId, Reaction, Step, Told, Txn};
-
-/// A step as it was made, with its reaction.
-#[derive(Drop)]
-pub struct WholeStep {
-    /// The process that made it.
-    pub process: ProcessId,
-    /// What happened.
-    pub happening: Happening,
-    /// What it led to.
-    pub reaction: Reaction,
-}
+use tree_model::{Act, Envelopes, Happening, Input, Logged, ProcessId, Sequence, Told, Txn};
 
 /// Why a step was made: what happened, where an act and a message are named and not held.
 #[derive(Clone, Copy)]
@@ -62,43 +46,19 @@ pub struct ShortStep {
     pub aside: Option<usize>,
 }
 
-/// The journal's entry of what happened, and of what it led to.
-pub(crate) fn entry_at(process: ProcessId, happening: Happening, reaction: Reaction) -> Entry
-    ensures { result ≡ step_entry process happening reaction }
-{
-    Entry {
-        step: Step {
-            process,
-            happening,
-            fault: None,
-        },
-        reaction,
-    }
-}
-
-impl WholeStep {
-    /// What the step shows, lent.
-    pub fn shown(&self) -> Shown<'_>
-        ensures { shown_part result ≡ (self.now.process, self.now.reaction) }
-    {
-        Shown {
-            process: self.process,
-            begun: self.reaction.begun,
-            written: self.reaction.written.as_slice(),
-            told: self.reaction.told,
-            messages: self.reaction.messages.as_slice(),
-            kept: self.reaction.kept,
-        }
-    }
-
-    /// The journal's entry of the step, made anew.
-    pub fn entry(&self, alloc: Global) -> Result<Entry, AllocError>
-        ensures { IfOk result (λ entry. entry ≡ entry_of self.now) }
-    {
-        let happening = copied_happening(alloc, &self.happening)?;
-        let reaction = self.shown().reaction(alloc)?;
-        Ok(entry_at(self.process, happening, reaction))
-    }
+/// The last step, which has its records and its messages until there is room for them in the lists.
+#[derive(Drop)]
+pub struct LastStep {
+    /// The process that made it.
+    pub process: ProcessId,
+    /// Why it was made.
+    pub cause: Cause,
+    /// The records that it wrote, in order.
+    pub written: Sequence<Logged>,
+    /// The messages that it sent, in order.
+    pub messages: Envelopes,
+    /// The place of what else its reaction has, from 0; None, where it has nothing else.
+    pub aside: Option<usize>,
 }
 
 /// Keeps an act, where it was one: the cause of what happened. There has to be room for an act.

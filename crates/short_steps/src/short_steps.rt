@@ -1,72 +1,89 @@
 //! The steps of a journal, kept short.
 
-ghost use Rattle.std.specs.Prelude.{◌≡◌, ◌+◌, ◌<◌, ◌^◌, ◌++◌, ◌∷◌, [], IfOk, OnOk, length, option_map, slice_get};
+ghost use Rattle.std.specs.Prelude.{◌≡◌, ◌+◌, ◌<◌, ◌^◌, ◌++◌, ◌∷◌, [], true, false, IfOk, OnErr, OnOk, length, option_map, slice_get};
 ghost use Rattle.std.specs.Option.{option_copied};
 ghost use Rattle.tree_model.specs.Plays.{sent_as};
-ghost use Rattle.short_steps.specs.Steps.{IsSent, entry_of};
-ghost use Rattle.short_steps.specs.Kept.{HasRoom, KeepsSteps};
+ghost use Rattle.core_law.specs.worlds.Worlds.{step_entry};
+ghost use Rattle.short_steps.specs.Steps.{IsSent};
+ghost use Rattle.short_steps.specs.Kept.{IsReady, KeepsSteps, Places};
 ghost use Rattle.short_steps.specs.Shown.{entry_part, shown_part};
 
+use crate::copies::copy_to;
 use crate::parts::Parts;
-use crate::short_step::{ShortStep, WholeStep};
+use crate::short_step::{LastStep, ShortStep};
 use crate::shown::Shown;
 use std::alloc::{AllocError, Global};
 use std::marker::Model;
-use tree_model::{Entry, Envelope};
+use tree_model::{Entry, Envelope, Happening, ProcessId, Reaction};
 
 /// Steps that were made, each with its reaction. Their parts stand in lists, and each step has the places of
 /// its own. One that handled a message has the number of it.
+///
+/// How many records and messages a step has is not known before it is made, and it is entered without a
+/// growth: so the last one has its own until they are placed in the lists.
 #[derive(Drop)]
 pub struct ShortSteps {
     alloc: Global,
     parts: Parts,
     steps: Vec<ShortStep>,
+    last: Option<LastStep>,
 }
 
 impl Model for ShortSteps {
-    ghost use Rattle.short_steps.specs.Steps.{IsWhole, entries_of};
-    ghost use Rattle.short_steps.specs.Kept.{StepsState, parts_of, room_of};
+    ghost use Rattle.short_steps.specs.Kept.{AreWhole, StepsState, steps_seen};
 
     ghost Value = { StepsState };
 
-    ghost view = { λ s. record {
-      sent = s.parts.sent.items;
-      entries = entries_of (parts_of s.parts) s.steps.items;
-      room = room_of s.parts s.steps;
-    } };
+    ghost view = { λ s. steps_seen s.parts s.steps s.last };
 
-    ghost invariant = { λ s. IsWhole (parts_of s.parts) s.steps.items };
+    ghost invariant = { λ s. AreWhole s.parts s.steps s.last };
 }
 
 impl ShortSteps {
     /// No steps. It takes no memory.
     pub fn new(alloc: Global) -> ShortSteps
         ensures sent { result.sent ≡ [] }
+        ensures waiting { result.waiting ≡ [] }
         ensures entries { result.entries ≡ [] }
     {
         ShortSteps {
             alloc,
             parts: Parts::new(alloc),
             steps: Vec::new(alloc),
+            last: None,
         }
     }
 
     /// How many steps there are.
     pub fn len(&self) -> usize
-        ensures len { result ≡ length self.now.entries }
-        ensures few { result + 1 < 2 ^ 64 }
+        ensures { result ≡ length self.now.entries }
     {
-        self.steps.len()
+        match self.last {
+            None => self.steps.len(),
+            Some(_) => self.steps.len() + 1,
+        }
     }
 
-    /// The messages that were sent, in order.
-    pub fn sent(&self) -> &[Envelope]
-        ensures { result.now ≡ self.now.sent }
+    /// How many messages are placed.
+    pub fn placed(&self) -> usize
+        ensures { result ≡ length self.now.sent }
     {
-        &self.parts.sent
+        self.parts.sent.len()
     }
 
-    /// The message with this number, from 1; None for 0, and behind the last.
+    /// All messages that were sent, in order, as a list made anew.
+    pub fn sent(&self) -> Result<Vec<Envelope>, AllocError>
+        ensures { IfOk result (λ sent. sent.items ≡ self.now.sent ++ self.now.waiting) }
+    {
+        let mut sent = Vec::new(self.alloc);
+        copy_to(self.alloc, &mut sent, &self.parts.sent)?;
+        if let Some(last) = &self.last {
+            copy_to(self.alloc, &mut sent, last.messages.as_slice())?;
+        }
+        Ok(sent)
+    }
+
+    /// The message with this number, from 1; None for 0, and behind those that are placed.
     pub fn message(&self, number: u64) -> Option<&Envelope>
         ensures { option_copied result ≡ sent_as self.now.sent number }
     {
@@ -78,8 +95,17 @@ impl ShortSteps {
         ensures { option_map shown_part result ≡ option_map entry_part (slice_get self.now.entries place) }
     {
         match self.steps.get(place) {
-            None => None,
             Some(step) => self.parts.shown(step),
+            None => match &self.last {
+                None => None,
+                Some(last) => {
+                    if place == self.steps.len() {
+                        self.parts.last_shown(last)
+                    } else {
+                        None
+                    }
+                }
+            },
         }
     }
 
@@ -88,28 +114,50 @@ impl ShortSteps {
         ensures { IfOk result (λ found. found ≡ slice_get self.now.entries place) }
     {
         match self.steps.get(place) {
-            None => Ok(None),
-            Some(step) => self.parts.entry(self.alloc, step),
+            Some(step) => self
+                .parts
+                .entry(self.alloc, step.cause, self.parts.shown(step)),
+            None => match &self.last {
+                None => Ok(None),
+                Some(last) => {
+                    if place == self.steps.len() {
+                        self.parts
+                            .entry(self.alloc, last.cause, self.parts.last_shown(last))
+                    } else {
+                        Ok(None)
+                    }
+                }
+            },
         }
     }
 
-    /// Makes room for a step. A refusal for memory changes nothing.
-    pub fn reserve(&mut self, step: &WholeStep) -> Result<(), AllocError>
-        ensures keeps { KeepsSteps self.old self.new }
-        ensures ready { OnOk result (HasRoom self.new.room step.now) }
+    /// Places the last step's records and messages, and makes room for a step. A refusal for memory changes
+    /// nothing.
+    pub fn make_room(&mut self) -> Result<(), AllocError>
+        ensures ok { OnOk result (Places self.old self.new) }
+        ensures err { OnErr result (KeepsSteps self.old self.new) }
     {
-        self.parts.reserve(step)?;
-        self.steps.reserve(1)
+        self.parts.reserve_one()?;
+        let Some(last) = &self.last else {
+            return Ok(());
+        };
+        self.parts.reserve_for(last)?;
+        self.steps.reserve(1)?;
+        if let Some(last) = self.last.take() {
+            let step = self.parts.place(last);
+            self.steps.push_reserved(step);
+        }
+        Ok(())
     }
 
-    /// A step more, for which there is room.
-    pub fn push_reserved(&mut self, step: WholeStep)
-        requires room { HasRoom self.old.room step }
-        requires sent { IsSent self.old.sent step.happening }
-        ensures sent { self.new.sent ≡ self.old.sent ++ step.reaction.messages }
-        ensures entries { self.new.entries ≡ self.old.entries ++ entry_of step ∷ [] }
+    /// A step more, where there is room for it.
+    pub fn enter(&mut self, process: ProcessId, happening: Happening, reaction: Reaction)
+        requires ready { IsReady self.old }
+        requires handled { IsSent self.old.sent happening }
+        ensures sent { self.new.sent ≡ self.old.sent }
+        ensures waiting { self.new.waiting ≡ reaction.messages }
+        ensures entries { self.new.entries ≡ self.old.entries ++ step_entry process happening reaction ∷ [] }
     {
-        let step = self.parts.keep(step);
-        self.steps.push_reserved(step);
+        self.last = Some(self.parts.begin(process, happening, reaction));
     }
 }

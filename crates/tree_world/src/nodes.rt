@@ -85,6 +85,7 @@ impl<L: LogStore> Nodes<L> {
             Some(node) => node.records(),
         }
     }
+
     /// The bytes of a process's log; none, where there is no such process.
     pub(crate) fn log_text(&self, alloc: Global, process: ProcessId) -> Result<Vec<u8>, AllocError>
         ensures { IfOk result (λ text. SpellsLogBy (nodes_at self.now.nodes.entries process) text.items) }

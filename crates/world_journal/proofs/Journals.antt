@@ -1,9 +1,24 @@
--- What a journal shows of its messages.
-use Rattle.std.proofs.Common.{◌≡◌, ap, refl, Bool, false, List, [], ◌∷◌, length, replicate}
+-- The marks of messages.
+use Rattle.std.proofs.Common.{◌≡◌, ◌∙◌, ap, sym, refl, zero, ◌-◌, ◌≤◌, Bool, false, List, [], ◌∷◌, ◌++◌, length, replicate, arith}
+use Rattle.std.proofs.lemmas.List.{append-nil, length-append}
 use Rattle.tree_model.specs.declared.messages.Envelope.{Envelope}
 use Rattle.core_law.specs.worlds.Worlds.{undelivered}
+use Rattle.world_journal.specs.Journals.{unmarked}
 
 -- a mark for each message
-pub unmarked : (ls : List Envelope) → undelivered ls ≡ replicate (length ls) false
-unmarked [] = refl
-unmarked (l ∷ ls) = ap (λ (bs : List Bool). false ∷ bs) (unmarked ls)
+all_undelivered : (ls : List Envelope) → undelivered ls ≡ replicate (length ls) false
+all_undelivered [] = refl
+all_undelivered (l ∷ ls) = ap (λ (bs : List Bool). false ∷ bs) (all_undelivered ls)
+
+-- where each message has its own mark, those of further ones come behind
+pub marked_behind : (sent waiting more : List Envelope) (bs : List Bool) → length bs ≤ length sent
+    → length bs ≡ length (sent ++ waiting)
+    → bs ++ unmarked (sent ++ more) bs ≡ (bs ++ unmarked (sent ++ waiting) bs) ++ undelivered more
+marked_behind sent waiting more bs few all =
+    let count : length (sent ++ more) - length bs ≡ length more =
+    omega (arith, few, all, length-append sent waiting, length-append sent more) in
+    let none : length (sent ++ waiting) - length bs ≡ zero = omega (arith, all) in
+    let own : bs ++ unmarked (sent ++ waiting) bs ≡ bs =
+    ap (λ n. bs ++ replicate n false) none ∙ append-nil bs in
+    ap (λ n. bs ++ replicate n false) count ∙ ap (λ cs. bs ++ cs) (sym (all_undelivered more))
+    ∙ ap (λ ds. ds ++ undelivered more) (sym own)

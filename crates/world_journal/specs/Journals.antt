@@ -1,5 +1,5 @@
 -- What the code of a journal keeps, as the definitions see it.
-use Rattle.std.specs.Prelude.{◌≡◌, ℕ, Bool, true, false, Option, Some, None, List, [], ◌∷◌, ◌++◌}
+use Rattle.std.specs.Prelude.{◌≡◌, ◌-◌, ℕ, Bool, false, List, [], ◌∷◌, ◌++◌, length, replicate}
 use Rattle.tree_model.specs.declared.names.ProcessId.{ProcessId}
 use Rattle.tree_model.specs.declared.messages.Envelope.{Envelope}
 use Rattle.tree_model.specs.declared.events.Entry.{Entry}
@@ -7,44 +7,28 @@ use Rattle.tree_model.specs.declared.events.Input.{Input}
 use Rattle.tree_model.specs.declared.events.Reaction.{Reaction}
 use Rattle.tree_model.specs.declared.events.Input.TheVariants.{Act as ActInput, Message as MessageInput}
 use Rattle.core_law.specs.worlds.Worlds.{entry_at, marks, undelivered}
-use Rattle.short_steps.specs.declared.short_step.WholeStep.{WholeStep}
-use Rattle.short_steps.specs.Steps.{IsSent, entry_of}
+use Rattle.short_steps.specs.Kept.{StepsState}
+use Rattle.short_steps.specs.Kept as kept
 
--- Every message ever sent, with the mark whether it was delivered, and every step that was made; and whether a
--- step can be entered without a growth.
+-- Every message ever sent, with the mark whether it was delivered, and every step that was made; what is kept of
+-- the steps, and how many messages have a mark of their own.
 pub record JournalState : Type 0 where
   pub net : List Envelope
   pub delivered : List Bool
   pub entries : List Entry
-  pub is_ready : Bool
+  pub steps : StepsState
+  pub marked : ℕ
 
--- The last step, where it does not stand among the others yet.
-
--- the messages that it sent
-abbrev pub messages_in : Option WholeStep → List Envelope
-messages_in None = []
-messages_in (Some x) = x.reaction.messages
-
--- its entry
-abbrev pub entries_in : Option WholeStep → List Entry
-entries_in None = []
-entries_in (Some x) = entry_of x ∷ []
-
--- there is none
-abbrev pub is_ready : Option WholeStep → Bool
-is_ready None = true
-is_ready (Some x) = false
-
--- the message that it handled, if it handled one, is among these
-abbrev pub IsLastSent : List Envelope → Option WholeStep → Type 0
-IsLastSent sent None = Unit {0}
-IsLastSent sent (Some x) = IsSent sent x.happening
+-- the marks of the messages that have none of their own
+abbrev pub unmarked : List Envelope → List Bool → List Bool
+unmarked net bs = replicate (length net - length bs) false
 
 -- What a call does.
 
 -- a step can be entered without a growth
-abbrev pub IsReady : JournalState → Type 0
-IsReady j = j.is_ready ≡ true
+pub record IsReady (j : JournalState) : Type 0 where
+  pub steps : kept.IsReady j.steps
+  pub marked : j.marked ≡ length j.net
 
 -- the messages, their marks and the steps stay
 pub record Keeps (old new : JournalState) : Type 0 where

@@ -9,39 +9,37 @@ ghost use Rattle.short_steps.specs.Shown.{entry_part, shown_part};
 ghost use Rattle.world_journal.specs.Journals.{Enters, IsReady, Keeps, marked_by, taken_up};
 
 use crate::marks::Marks;
-use short_steps::{ShortSteps, Shown, WholeStep, copy_to};
+use short_steps::{ShortSteps, Shown};
 use std::alloc::{AllocError, Global};
 use std::marker::Model;
 use tree_model::{Act, Entry, Envelope, Happening, Input, ProcessId, Reaction, StepError};
 
 /// Every step that was made, and every message that was sent in one, with the mark whether it was delivered.
 ///
-/// A step is entered without a growth, so that memory cannot run out behind it: the last one stands whole,
-/// and there is made room for it among the others before the next step.
+/// A step is entered without a growth, so that memory cannot run out behind it: room for one is made before.
 #[derive(Drop)]
 pub struct Journal {
     alloc: Global,
     steps: ShortSteps,
+    /// The marks of the first messages; the others are not delivered.
     delivered: Marks,
-    /// The last step, where it does not stand among the others yet.
-    last: Option<WholeStep>,
 }
 
 impl Model for Journal {
-    ghost use Rattle.std.specs.Prelude.{◌++◌};
-    ghost use Rattle.core_law.specs.worlds.Worlds.{undelivered};
-    ghost use Rattle.world_journal.specs.Journals.{IsLastSent, JournalState, entries_in, is_ready, messages_in};
+    ghost use Rattle.std.specs.Prelude.{◌++◌, ◌≤◌, length};
+    ghost use Rattle.world_journal.specs.Journals.{JournalState, unmarked};
 
     ghost Value = { JournalState };
 
     ghost view = { λ j. record {
-      net = j.steps.sent ++ messages_in j.last;
-      delivered = j.delivered ++ undelivered (messages_in j.last);
-      entries = j.steps.entries ++ entries_in j.last;
-      is_ready = is_ready j.last;
+      net = j.steps.sent ++ j.steps.waiting;
+      delivered = j.delivered ++ unmarked (j.steps.sent ++ j.steps.waiting) j.delivered;
+      entries = j.steps.entries;
+      steps = j.steps;
+      marked = length j.delivered;
     } };
 
-    ghost invariant = { λ j. IsLastSent j.steps.sent j.last };
+    ghost invariant = { λ j. length j.delivered ≤ length j.steps.sent };
 }
 
 impl Journal {
@@ -55,7 +53,6 @@ impl Journal {
             alloc,
             steps: ShortSteps::new(alloc),
             delivered: Marks::new(alloc),
-            last: None,
         }
     }
 
@@ -63,45 +60,31 @@ impl Journal {
     pub fn len(&self) -> usize
         ensures { result ≡ length self.now.entries }
     {
-        match self.last {
-            None => self.steps.len(),
-            Some(_) => self.steps.len() + 1,
-        }
+        self.steps.len()
     }
 
     /// The step at this place, from 0, with its reaction, made anew; None, where so many were not made.
     pub fn entry(&self, place: usize) -> Result<Option<Entry>, AllocError>
         ensures { IfOk result (λ found. found ≡ slice_get self.now.entries place) }
     {
-        match &self.last {
-            Some(last) if place == self.steps.len() => Ok(Some(last.entry(self.alloc)?)),
-            _ => self.steps.entry(place),
-        }
+        self.steps.entry(place)
     }
 
     /// What the step at this place shows, from 0, lent; None, where so many were not made.
     pub fn shown(&self, place: usize) -> Option<Shown<'_>>
         ensures { option_map shown_part result ≡ option_map entry_part (slice_get self.now.entries place) }
     {
-        match &self.last {
-            Some(last) if place == self.steps.len() => Some(last.shown()),
-            _ => self.steps.shown(place),
-        }
+        self.steps.shown(place)
     }
 
     /// The messages, as a list made anew.
     pub fn sent(&self) -> Result<Vec<Envelope>, AllocError>
         ensures { IfOk result (λ sent. sent.items ≡ self.now.net) }
     {
-        let mut sent = Vec::new(self.alloc);
-        copy_to(self.alloc, &mut sent, self.steps.sent())?;
-        if let Some(last) = &self.last {
-            copy_to(self.alloc, &mut sent, last.reaction.messages.as_slice())?;
-        }
-        Ok(sent)
+        self.steps.sent()
     }
 
-    /// The act once more, with the journal ready for its step.
+    /// The act once more, with room for its step.
     pub fn take_act(&mut self, act: &Act) -> Result<Input, AllocError>
         ensures keeps { Keeps self.old self.new }
         ensures ready { OnOk result (IsReady self.new) }
@@ -111,8 +94,8 @@ impl Journal {
         Ok(Input::Act(act.copied(self.alloc)?))
     }
 
-    /// The message with this number once more, with its receiver and the journal ready for its step; None
-    /// where no message has it.
+    /// The message with this number once more, with its receiver and room for its step; None where no
+    /// message has it.
     pub fn take_message(&mut self, number: u64) -> Result<Option<(ProcessId, Input)>, AllocError>
         ensures keeps { Keeps self.old self.new }
         ensures ready { OnOk result (IsReady self.new) }
@@ -176,7 +159,7 @@ impl Journal {
         }
     }
 
-    /// A step more, where the journal is ready for it.
+    /// A step more, where there is room for it.
     pub fn enter(&mut self, process: ProcessId, happening: Happening, reaction: Reaction)
         requires ready { IsReady self.old }
         requires sent { IsSent self.old.net happening }
@@ -184,27 +167,17 @@ impl Journal {
         ensures delivered { self.new.delivered ≡ self.old.delivered ++ undelivered reaction.messages }
         ensures entries { self.new.entries ≡ self.old.entries ++ step_entry process happening reaction ∷ [] }
     {
-        self.last = Some(WholeStep {
-            process,
-            happening,
-            reaction,
-        });
+        self.steps.enter(process, happening, reaction);
     }
 
-    /// Makes room for the last step among the others, so that the journal is ready for the next.
+    /// Makes room for a step.
     pub fn make_room(&mut self) -> Result<(), AllocError>
         ensures keeps { Keeps self.old self.new }
         ensures ready { OnOk result (IsReady self.new) }
     {
-        let Some(last) = &self.last else {
-            return Ok(());
-        };
-        self.steps.reserve(last)?;
-        self.delivered.extend(last.reaction.messages.len())?;
-        if let Some(last) = self.last.take() {
-            self.steps.push_reserved(last);
-        }
-        Ok(())
+        self.steps.make_room()?;
+        self.delivered
+            .extend(self.steps.placed() - self.delivered.len())
     }
 }
 

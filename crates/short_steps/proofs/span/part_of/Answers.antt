@@ -1,4 +1,3 @@
-use Rattle.std.proofs.Common.{◌≡◌, ◌∙◌, ap, sym, Option, Some, None, rules}
 use Rattle.short_steps.proofs.Spans.{part_found}
 use Rattle.short_steps.proofs.span.part_of.Goals as goal
 
