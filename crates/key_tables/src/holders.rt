@@ -74,20 +74,21 @@ fn beside(holders: &[Holder], mode: Mode) -> &[Holder]
     }
 }
 
-/// The holders once a branch that is not among them has the key in this mode: it goes last.
+/// The holders once the branch has the key in this mode: it goes last, but where it holds the key already.
 pub fn given(
     alloc: Global,
     holders: &[Holder],
     xid: &Xid,
     mode: Mode,
 ) -> Result<Vec<Holder>, AllocError>
-    requires { holds holders.now xid.now ≡ false }
     ensures { IfOk result (λ list. list.items ≡ given holders.now xid.now mode) }
 {
     let others = beside(holders, mode);
     let mut list = Vec::with_capacity(alloc, others.len() + 1)?;
     list.extend_from_slice(others)?;
-    list.push(Holder { xid: *xid, mode })?;
+    if !holds(others, xid) {
+        list.push(Holder { xid: *xid, mode })?;
+    }
     Ok(list)
 }
 

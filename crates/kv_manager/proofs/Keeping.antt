@@ -13,7 +13,7 @@ use Rattle.xa_tables.specs.declared.states.BranchState.{BranchState}
 use Rattle.xa_tables.specs.declared.states.BranchState.TheVariants.{S0, S1, S2, S3, S4, S5}
 use Rattle.xa_xid.specs.declared.xid.Xid.{Xid}
 use Rattle.xa_assoc.specs.declared.states.States.{States}
-use Rattle.xa_assoc.proofs.Sound.{same_is}
+use Rattle.xa_branch.proofs.Names.{same_is}
 use Rattle.xa_branch.specs.Names.{same}
 use Rattle.xa_assoc.specs.declared.errors.WorkError.{WorkError}
 use Rattle.xa_assoc.specs.declared.errors.WorkError.TheVariants.{Memory, NotAssociated, Locked, TooLong, TooManyWrites, RmFail, RollbackOnly}

@@ -15,7 +15,7 @@ use Rattle.xa_xid.specs.declared.xid.Xid.{Xid}
 use Rattle.xa_xid.specs.Xids.{XidParts}
 use Rattle.xa_branch.specs.Names.{same}
 use Rattle.xa_branch.specs.Branches.{is_known}
-use Rattle.xa_assoc.proofs.Sound.{same_is}
+use Rattle.xa_branch.proofs.Names.{same_is}
 use Rattle.xa_assoc.specs.Answers.{Takes as TakesRow, state_at}
 use Rattle.log_text.specs.Parts.{name_in}
 use Rattle.tree_model.specs.declared.names.Outcome.{Outcome}

@@ -8,7 +8,7 @@ ghost use Rattle.link_script.specs.Script.{events_at, IsLineFault};
 ghost use Rattle.link_script.specs.Events.{event_at};
 
 use crate::event::event_of;
-use script_words::{count_asked, says_nothing};
+use script_words::says_nothing;
 use spellings::word::cut;
 use std::alloc::{AllocError, AllocFailed, Global};
 use tree_model::{Event, ProcessId};
@@ -88,7 +88,7 @@ pub fn events_of(
     ensures err { IfErr result (λ e. IsLineFault e
         (events_at (event_at root) (before + 1) (map (λ s. s.now) lines.now))) }
 {
-    let mut events = Vec::with_capacity(alloc, count_asked(lines))?;
+    let mut events = Vec::new(alloc);
     for (i, line) in lines.iter().enumerate() {
         if says_nothing(line) {
             continue;

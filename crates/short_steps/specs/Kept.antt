@@ -38,15 +38,20 @@ abbrev pub waiting_in : Option LastStep → List Envelope
 waiting_in None = []
 waiting_in (Some l) = l.messages
 
--- The messages that are placed, those of the last step that are not, and the entries of all steps; whether the
--- last step is placed, and how many acts and asides more fit without a growth.
+-- what says whether a step can be entered without a growth: whether the last step is placed, and how many acts
+-- and asides more there is room for
+pub record Room : Type 0 where
+  pub is_placed : Bool
+  pub acts : ℕ
+  pub asides : ℕ
+
+-- The messages that are placed, those of the last step that are not, and the entries of all steps; the room for
+-- a step more.
 pub record StepsState : Type 0 where
   pub sent : List Envelope
   pub waiting : List Envelope
   pub entries : List Entry
-  pub is_placed : Bool
-  pub acts : ℕ
-  pub asides : ℕ
+  pub room : Room
 
 -- what a contract sees of what the code keeps
 abbrev pub steps_seen : PartsKept → Vec ShortStep → Option LastStep → StepsState
@@ -54,9 +59,11 @@ steps_seen ps xs l = record {
   sent = ps.sent.items;
   waiting = waiting_in l;
   entries = entries_of (parts_of ps) xs.items l;
-  is_placed = is_placed l;
-  acts = vec_capacity ps.acts - length ps.acts.items;
-  asides = vec_capacity ps.asides - length ps.asides.items;
+  room = record {
+    is_placed = is_placed l;
+    acts = vec_capacity ps.acts - length ps.acts.items;
+    asides = vec_capacity ps.asides - length ps.asides.items;
+  };
 }
 
 -- each step has its entry
@@ -64,10 +71,10 @@ abbrev pub AreWhole : PartsKept → Vec ShortStep → Option LastStep → Type 0
 AreWhole ps xs l = IsWhole (parts_of ps) xs.items l
 
 -- a step can be entered without a growth
-pub record IsReady (s : StepsState) : Type 0 where
-  pub placed : s.is_placed ≡ true
-  pub acts : 0 < s.acts
-  pub asides : 0 < s.asides
+pub record HasRoom (r : Room) : Type 0 where
+  pub placed : r.is_placed ≡ true
+  pub acts : 0 < r.acts
+  pub asides : 0 < r.asides
 
 -- the messages and the entries stay, in their places
 pub record KeepsSteps (old new : StepsState) : Type 0 where
@@ -80,4 +87,4 @@ pub record Places (old new : StepsState) : Type 0 where
   pub sent : new.sent ≡ old.sent ++ old.waiting
   pub waiting : new.waiting ≡ []
   pub entries : new.entries ≡ old.entries
-  pub ready : IsReady new
+  pub room : HasRoom new.room

@@ -5,7 +5,7 @@ ghost use Rattle.std.specs.Option.{option_copied};
 ghost use Rattle.tree_model.specs.Plays.{sent_as};
 ghost use Rattle.core_law.specs.worlds.Worlds.{step_entry};
 ghost use Rattle.short_steps.specs.Steps.{IsSent};
-ghost use Rattle.short_steps.specs.Kept.{IsReady, KeepsSteps, Places};
+ghost use Rattle.short_steps.specs.Kept.{HasRoom, KeepsSteps, Places};
 ghost use Rattle.short_steps.specs.Shown.{entry_part, shown_part};
 
 use crate::copies::copy_to;
@@ -152,7 +152,7 @@ impl ShortSteps {
 
     /// A step more, where there is room for it.
     pub fn enter(&mut self, process: ProcessId, happening: Happening, reaction: Reaction)
-        requires ready { IsReady self.old }
+        requires room { HasRoom self.old.room }
         requires handled { IsSent self.old.sent happening }
         ensures sent { self.new.sent ≡ self.old.sent }
         ensures waiting { self.new.waiting ≡ reaction.messages }

@@ -4,7 +4,7 @@ use Rattle.xa_tables.specs.declared.states.BranchState.{BranchState}
 use Rattle.xa_xid.specs.declared.xid.Xid.{Xid}
 use Rattle.xa_branch.specs.Names.{same}
 use Rattle.xa_branch.specs.Branches.{state_in}
-use Rattle.xa_assoc.proofs.Sound.{same_is}
+use Rattle.xa_branch.proofs.Names.{same_is}
 use Rattle.xa_assoc.specs.Answers.{state_at}
 use Rattle.xa_heur.specs.declared.decision.Decision.{Decision}
 use Rattle.tree_model.specs.declared.names.Case.{Case}

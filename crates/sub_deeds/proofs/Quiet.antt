@@ -16,7 +16,7 @@ use Rattle.xa_xid.specs.Xids.{null_xid}
 use Rattle.xa_assoc.specs.declared.held.Seat.{Seat}
 use Rattle.xa_assoc.specs.Names.{same}
 use Rattle.xa_assoc.specs.Associations.{AssocList, has_active, has_suspended, moved_of}
-use Rattle.xa_assoc.proofs.Sound.{same_is}
+use Rattle.xa_branch.proofs.Names.{same_is}
 use Rattle.xa_branch.specs.Branches.{is_known}
 use Rattle.xa_assoc.specs.declared.states.States.{States}
 use Rattle.xa_assoc.specs.Answers.{Same, is_held, state_at}

@@ -11,7 +11,8 @@ use Rattle.xa_xid.specs.declared.xid.Xid.{Xid}
 use Rattle.xa_assoc.specs.declared.held.Seat.{Seat}
 use Rattle.xa_assoc.specs.Names.{same, same_seat}
 use Rattle.xa_assoc.specs.Associations.{AssocList, Moves, active_of, has_active, has_room, has_seat, has_some, holds_any, is_active, is_holder, moved_of, own_state}
-use Rattle.xa_assoc.proofs.Sound.{own_state-none, same_is}
+use Rattle.xa_branch.proofs.Names.{same_is}
+use Rattle.xa_assoc.proofs.Sound.{own_state-none}
 use Rattle.sub_deeds.specs.Deeds.{IsQuiet}
 
 no_active : (a : AssocList) (t : ℕ) → IsQuiet a → active_of a t ≡ None

@@ -7,16 +7,15 @@ use Rattle.tree_model.specs.declared.events.Input.{Input}
 use Rattle.tree_model.specs.declared.events.Reaction.{Reaction}
 use Rattle.tree_model.specs.declared.events.Input.TheVariants.{Act as ActInput, Message as MessageInput}
 use Rattle.core_law.specs.worlds.Worlds.{entry_at, marks, undelivered}
-use Rattle.short_steps.specs.Kept.{StepsState}
-use Rattle.short_steps.specs.Kept as kept
+use Rattle.short_steps.specs.Kept.{HasRoom, Room}
 
--- Every message ever sent, with the mark whether it was delivered, and every step that was made; what is kept of
--- the steps, and how many messages have a mark of their own.
+-- Every message ever sent, with the mark whether it was delivered, and every step that was made; the room for a
+-- step more, and how many messages have a mark of their own.
 pub record JournalState : Type 0 where
   pub net : List Envelope
   pub delivered : List Bool
   pub entries : List Entry
-  pub steps : StepsState
+  pub room : Room
   pub marked : ℕ
 
 -- the marks of the messages that have none of their own
@@ -27,7 +26,7 @@ unmarked net bs = replicate (length net - length bs) false
 
 -- a step can be entered without a growth
 pub record IsReady (j : JournalState) : Type 0 where
-  pub steps : kept.IsReady j.steps
+  pub room : HasRoom j.room
   pub marked : j.marked ≡ length j.net
 
 -- the messages, their marks and the steps stay

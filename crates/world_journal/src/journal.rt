@@ -35,7 +35,7 @@ impl Model for Journal {
       net = j.steps.sent ++ j.steps.waiting;
       delivered = j.delivered ++ unmarked (j.steps.sent ++ j.steps.waiting) j.delivered;
       entries = j.steps.entries;
-      steps = j.steps;
+      room = j.steps.room;
       marked = length j.delivered;
     } };
 

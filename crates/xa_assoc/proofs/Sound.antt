@@ -8,6 +8,7 @@ use Rattle.std.proofs.lemmas.Bool.Decides.{nat_tests}
 use Rattle.xa_tables.specs.declared.states.AssocState.{AssocState}
 use Rattle.xa_tables.specs.declared.states.AssocState.TheVariants.{T0, T1, T2, M}
 use Rattle.xa_xid.specs.declared.xid.Xid.{Xid}
+use Rattle.xa_branch.proofs.Names.{same_is, same_flips}
 use Rattle.xa_assoc.specs.declared.held.Seat.{Seat}
 use Rattle.xa_assoc.specs.Names.{same, same_seat}
 use Rattle.xa_assoc.specs.Associations.{AssocList, active_of, has_seat, own_state, moved_of, has_some, is_holder, holds_any, listed_after, is_active, IsSound, Recounts, Turns, Moves, Settles}
@@ -60,19 +61,6 @@ settled old mid new t x from to turns settles listed = record {
   holder = settles.holder ∙ ap (λ o. is_some o || has_some mid.seats t) (sym (settles.active t))
       ∙ ap (λ s. is_some (active_of new t) || has_some s t) (sym settles.seats) ∙ sym listed;
 }
-
-pub same_is : (a b : Xid) → same a b ≡ true → a ≡ b
-same_is a b h = search rules
-
-same_refl : (a : Xid) → same a a ≡ true
-same_refl a = search rules
-
-same_flips : (a b : Xid) → same a b ≡ false → same b a ≡ false
-same_flips a b h = flips (same b a) refl where
-  flips : (r : Bool) → same b a ≡ r → r ≡ false
-  flips false e = refl
-  flips true e = absurd (let w : same a a ≡ false = subst (λ z. same a z ≡ false) (same_is b a e) h
-      in let r = same_refl a in cc)
 
 -- the active branch is another one
 not_this : (o : Option Xid) (x y : Xid) → option_map_or (λ z. same z x) o false ≡ true → same y x ≡ false

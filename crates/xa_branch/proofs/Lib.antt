@@ -1,4 +1,5 @@
 pub mod Rows
 pub mod Lists
 pub mod Placed
+pub mod Names
 pub mod Moved

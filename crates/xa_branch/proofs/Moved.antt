@@ -13,15 +13,7 @@ use Rattle.xa_tables.specs.declared.states.BranchState.TheVariants.{S0, S1, S2, 
 use Rattle.xa_xid.specs.declared.xid.Xid.{Xid}
 use Rattle.xa_branch.specs.Branches.{BranchList, Moves, placed}
 use Rattle.xa_branch.specs.Names.{same}
-
-same_is : (a b : Xid) → same a b ≡ true → a ≡ b
-same_is a b h = search rules
-
-same_refl : (a : Xid) → same a a ≡ true
-same_refl a = search rules
-
-same_flips : (a b : Xid) → same a b ≡ false → same b a ≡ false
-same_flips a b h = grind (arith, same_is b a, same_refl a)
+use Rattle.xa_branch.proofs.Names.{same_is, same_refl, same_flips}
 
 placed_kept : (bs : List (Xid × BranchState)) (x : Xid) (s : BranchState) → s ≢ S0
     → placed bs x s ≡ insert_entry same bs x s

@@ -16,7 +16,7 @@ use Rattle.xa_xid.specs.declared.xid.Xid.{Xid}
 use Rattle.xa_xid.specs.Xids.{null_xid}
 use Rattle.xa_assoc.specs.Names.{same, same_seat}
 use Rattle.xa_assoc.specs.Associations.{AssocList, moved_of, own_state}
-use Rattle.xa_assoc.proofs.Sound.{same_is}
+use Rattle.xa_branch.proofs.Names.{same_is}
 use Rattle.xa_assoc.specs.declared.states.States.{States}
 use Rattle.xa_assoc.specs.Answers.{Checked, Same, Wanted, state_at}
 use Rattle.xa_law.specs.Moves.{FitsRows, Branch}

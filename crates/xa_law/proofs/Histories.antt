@@ -19,7 +19,8 @@ use Rattle.xa_tables.specs.declared.states.BranchState.TheVariants.{S3, S5}
 use Rattle.xa_xid.specs.declared.xid.Xid.{Xid}
 use Rattle.xa_assoc.specs.Names.{same}
 use Rattle.xa_assoc.specs.Associations.{AssocList, IsBare, active_of, moved_of, own_state}
-use Rattle.xa_assoc.proofs.Sound.{is_active-T1, same_is}
+use Rattle.xa_branch.proofs.Names.{same_is}
+use Rattle.xa_assoc.proofs.Sound.{is_active-T1}
 use Rattle.xa_branch.specs.Branches.{Scans, scan_refusal, starts_scan, state_in}
 use Rattle.xa_branch.specs.Scans.{has_scan}
 use Rattle.xa_assoc.specs.declared.states.States.{States}

@@ -15,7 +15,8 @@ use Rattle.xa_xid.specs.declared.xid.Xid.{Xid}
 use Rattle.xa_assoc.specs.declared.held.Seat.{Seat}
 use Rattle.xa_assoc.specs.Names.{same, same_seat}
 use Rattle.xa_assoc.specs.Associations.{AssocList, IsBare, Moves as AssocMoves, active_of, is_holder, has_some, holds_any, listed_after, moved_of, own_part, own_state}
-use Rattle.xa_assoc.proofs.Sound.{has_some-seat, same_is}
+use Rattle.xa_branch.proofs.Names.{same_is}
+use Rattle.xa_assoc.proofs.Sound.{has_some-seat}
 use Rattle.xa_branch.specs.Branches.{Moves as BranchMoves}
 use Rattle.xa_branch.proofs.Placed.{AllIn, GoneOr, NoneOr, all_placed, found}
 use Rattle.xa_assoc.specs.declared.states.States.{States}

@@ -8,7 +8,7 @@ use Rattle.short_steps.proofs.short_steps.ShortSteps.enter.Goals as goal
 pub invariant_of-self : goal.invariant_of-self
 invariant_of-self c =
     let placed : is_placed c.self.inside.last ≡ true =
-    ap (λ (j : StepsState). j.is_placed) c.self.view_is ∙ c.requires.ready.placed in
+    ap (λ (j : StepsState). j.room.is_placed) c.self.view_is ∙ c.requires.room.placed in
     rw (c.begin.ensures.parts, c.begin.ensures.last)
     (begun_behind (parts_of c.self.inside.parts) c.self.inside.steps.items c.self.inside.last c.args.process
     c.args.happening c.args.reaction placed c.self.invariant (search rules)).1
@@ -16,7 +16,7 @@ invariant_of-self c =
 pub returns-clause-entries : goal.returns-clause-entries
 returns-clause-entries c =
     let placed : is_placed c.self.inside.last ≡ true =
-    ap (λ (j : StepsState). j.is_placed) c.self.view_is ∙ c.requires.ready.placed in
+    ap (λ (j : StepsState). j.room.is_placed) c.self.view_is ∙ c.requires.room.placed in
     let entries : entries_of (parts_of c.begin.new.self) c.self.inside.steps.items (Some c.begin.result)
     ≡ entries_of (parts_of c.self.inside.parts) c.self.inside.steps.items c.self.inside.last
     ++ step_entry c.args.process c.args.happening c.args.reaction ∷ [] =

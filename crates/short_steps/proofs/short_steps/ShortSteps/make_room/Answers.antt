@@ -35,5 +35,5 @@ returns-in-Some-take-clause-ok c =
       sent = search (rules, parts);
       waiting = search rules;
       entries = entries ∙ ap (λ (j : StepsState). j.entries) c.self.view_is;
-      ready = record { placed = search rules; acts = search rules; asides = search rules };
+      room = record { placed = search rules; acts = search rules; asides = search rules };
     }

@@ -1,7 +1,7 @@
 use Rattle.std.proofs.Common.{arith, nat_eq, rules}
 use Rattle.std.proofs.lemmas.List.Sums.{count_by-le-length}
 use Rattle.xa_assoc.specs.Names.{same}
-use Rattle.xa_assoc.proofs.Sound.{same_is}
+use Rattle.xa_branch.proofs.Names.{same_is}
 use Rattle.xa_assoc.proofs.Counts.{counted_more, number_is}
 use Rattle.xa_assoc.proofs.seats.Seats.insert.Goals as goal
 

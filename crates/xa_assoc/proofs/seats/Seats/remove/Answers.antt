@@ -1,6 +1,6 @@
 use Rattle.std.proofs.Common.{arith, nat_eq, rules}
 use Rattle.xa_assoc.specs.Names.{same}
-use Rattle.xa_assoc.proofs.Sound.{same_is}
+use Rattle.xa_branch.proofs.Names.{same_is}
 use Rattle.xa_assoc.proofs.Counts.{counted_less, counted_one, number_is}
 use Rattle.xa_assoc.proofs.seats.Seats.remove.Goals as goal
 
