@@ -1,8 +1,8 @@
 -- Two arrays of 64 bytes, compared eight bytes at a time.
-use Rattle.std.proofs.Common.{◌≡◌, ◌∙◌, ℕ, zero, suc, ◌+◌, ◌*◌, ◌/◌, ◌<◌, ◌≤◌, true, List, [], ◌∷◌, ◌++◌, length, get_or, take, drop, nat_eq, refl, ap, sym, arith, length-take, length-drop, drop-drop, take_all}
-use Rattle.std.proofs.lemmas.List.{take-append-drop, take_more}
+use Rattle.std.proofs.Common.{◌≡◌, ◌∙◌, ℕ, zero, suc, ◌+◌, ◌*◌, ◌/◌, ◌<◌, ◌≤◌, List, [], ◌∷◌, ◌++◌, length, get_or, take, drop, refl, ap, sym, arith, length-take, length-drop, drop-drop}
+use Rattle.std.proofs.Math.Seq.{take-add}
+use Rattle.std.proofs.lemmas.List.{take-take, take_more}
 use Rattle.std.proofs.lemmas.Nat.{le_bytes_8}
-use Rattle.std.specs.Cmp.Lexicographic.{pointwise, bytes_decides}
 use Rattle.std.specs.Int.{w64, from_le_bytes, to_le_bytes}
 use Rattle.std.specs.Simd.{first_chunks}
 
@@ -25,20 +25,18 @@ as_many : (k : ℕ) (xs : List ℕ) → length (first_chunks 8 k xs) ≡ k
 as_many zero xs = refl
 as_many (suc k) xs = ap (λ n. suc n) (as_many k (drop 8 xs))
 
--- bytes are told by their eights
-from_eights : (k : ℕ) (a b : List ℕ) → length a ≡ k * 8 → length b ≡ k * 8
-    → first_chunks 8 k a ≡ first_chunks 8 k b → a ≡ b
-from_eights zero [] [] la lb same = refl
-from_eights zero [] (y ∷ b) la lb same = absurd (omega arith)
-from_eights zero (x ∷ a) b la lb same = absurd (omega arith)
-from_eights (suc k) a b la lb same =
+-- the first bytes are told by the first eights
+from_eights : (n k : ℕ) (a b : List ℕ) → k ≤ n
+    → take k (first_chunks 8 n a) ≡ take k (first_chunks 8 n b) → take (k * 8) a ≡ take (k * 8) b
+from_eights n zero a b h same = refl
+from_eights zero (suc k) a b h same = absurd (omega arith)
+from_eights (suc n) (suc k) a b h same =
     let first : take 8 a ≡ take 8 b = cc in
-    let others : first_chunks 8 k (drop 8 a) ≡ first_chunks 8 k (drop 8 b) = cc in
-    let rest : drop 8 a ≡ drop 8 b =
-    from_eights k (drop 8 a) (drop 8 b) (omega (arith, length-drop 8 a))
-    (omega (arith, length-drop 8 b)) others in
-    sym (take-append-drop 8 a) ∙ ap (λ xs. xs ++ drop 8 a) first
-    ∙ ap (λ xs. take 8 b ++ xs) rest ∙ take-append-drop 8 b
+    let others : take k (first_chunks 8 n (drop 8 a)) ≡ take k (first_chunks 8 n (drop 8 b)) = cc in
+    let rest = from_eights n k (drop 8 a) (drop 8 b) (omega arith) others in
+    let m : suc k * 8 ≡ 8 + k * 8 = omega arith in
+    ap (λ j. take j a) m ∙ take-add 8 (k * 8) a ∙ ap (λ xs. xs ++ take (k * 8) (drop 8 a)) first
+    ∙ ap (λ xs. take 8 b ++ xs) rest ∙ sym (take-add 8 (k * 8) b) ∙ ap (λ j. take j b) (sym m)
 
 drop_fits : (n : ℕ) (xs : List ℕ) → ((k : ℕ) → get_or xs k 0 < 256) → (k : ℕ) → get_or (drop n xs) k 0 < 256
 drop_fits zero xs f k = f k
@@ -83,14 +81,12 @@ more a b eights others i x y la lb fa fb ea eb h inv rx ry same =
     ∙ ap (λ (e : List ℕ). take i others ++ e ∷ []) (ga ∙ here ∙ sym gb)
     ∙ sym (take_more others i [] (omega arith))
 
-pub whole : (a b : List ℕ) (eights others : List (List ℕ)) (i : ℕ) → length a ≡ 64 → length b ≡ 64
-    → eights ≡ first_chunks 8 (length a / 8) a → others ≡ first_chunks 8 (length b / 8) b → 8 ≤ i
-    → take i eights ≡ take i others → true ≡ pointwise nat_eq a b
-whole a b eights others i la lb ea eb h inv =
+pub whole : (a b : List ℕ) (eights others : List (List ℕ)) (count i : ℕ) → length a ≡ 64 → length b ≡ 64
+    → eights ≡ first_chunks 8 (length a / 8) a → others ≡ first_chunks 8 (length b / 8) b → count ≤ 8
+    → count ≤ i → take i eights ≡ take i others → take (count * 8) a ≡ take (count * 8) b
+whole a b eights others count i la lb ea eb fits h inv =
     let wa = all_eights a eights la ea in
     let wb = all_eights b others lb eb in
-    let na : length eights ≡ 8 = ap length wa ∙ as_many 8 a in
-    let nb : length others ≡ 8 = ap length wb ∙ as_many 8 b in
-    let same : eights ≡ others = sym (take_all i eights (omega arith)) ∙ inv
-    ∙ take_all i others (omega arith) in
-    sym ((bytes_decides a b).1 (from_eights 8 a b la lb (sym wa ∙ same ∙ wb)))
+    let same : take count eights ≡ take count others = sym (take-take count i eights h)
+    ∙ ap (take count) inv ∙ take-take count i others h in
+    from_eights 8 count a b fits (ap (take count) (sym wa) ∙ same ∙ ap (take count) wb)

@@ -1,6 +1,6 @@
 //! A part of an XID: at most 64 bytes, kept in place.
 
-ghost use Rattle.std.specs.Prelude.{◌≡◌, ◌≤◌, length, nat_eq};
+ghost use Rattle.std.specs.Prelude.{◌≡◌, ◌≢◌, ◌≤◌, ◌*◌, true, false, length, nat_eq, take};
 ghost use Rattle.std.specs.Cmp.Lexicographic.{pointwise, nat_list_eq_equiv};
 ghost use Rattle.std.specs.Cmp.{partial_equiv_from_equiv};
 ghost use Rattle.xa_xid.specs.Digests.{part_digest};
@@ -65,13 +65,15 @@ impl Part {
     }
 }
 
-/// Whether two arrays are equal, eight bytes at a time.
-fn are_equal(a: &[u8; 64], b: &[u8; 64]) -> bool
-    ensures { result ≡ pointwise nat_eq a.now b.now }
+/// Whether the first so many eights of two arrays are equal.
+fn are_equal(a: &[u8; 64], b: &[u8; 64], count: usize) -> bool
+    requires { count ≤ 8 }
+    ensures yes { result ≡ true → take (count * 8) a.now ≡ take (count * 8) b.now }
+    ensures no { result ≡ false → a.now ≢ b.now }
 {
     let (eights, _) = a.as_chunks::<8>();
     let (others, _) = b.as_chunks::<8>();
-    for i in 0..8 {
+    for i in 0..count {
         if u64::from_le_bytes(eights[i]) != u64::from_le_bytes(others[i]) {
             return false;
         }
@@ -85,7 +87,8 @@ impl PartialEq for Part {
     ghost laws = { partial_equiv_from_equiv nat_list_eq_equiv };
 
     fn eq(&self, other: &Part) -> bool {
-        self.len == other.len && are_equal(&self.bytes, &other.bytes)
+        self.len == other.len
+            && are_equal(&self.bytes, &other.bytes, (self.len as usize).div_ceil(8))
     }
 }
 

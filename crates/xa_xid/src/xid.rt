@@ -84,7 +84,7 @@ impl Xid {
     pub fn is_null(&self) -> bool
         ensures { IsTrue result ↔ (self.now ≡ null_xid) }
     {
-        *self == Xid::null()
+        self.format == -1
     }
 
     /// The format, the global transaction's name and the branch's.

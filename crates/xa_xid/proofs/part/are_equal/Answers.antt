@@ -1,4 +1,4 @@
-use Rattle.std.proofs.Common.{◌≡◌, get_or, []}
+use Rattle.std.proofs.Common.{◌≡◌, arith, get_or, []}
 use Rattle.std.specs.Int.{w64, from_le_bytes}
 use Rattle.xa_xid.proofs.Eights.{more, whole}
 use Rattle.xa_xid.proofs.part.are_equal.Goals as goal
@@ -13,10 +13,11 @@ loop-i-preserved c =
     more c.args.a.now c.args.b.now c.as_chunks.result.0.now c.as_chunks-2.result.0.now
     c.loop-i.i c.from_le_bytes.result
     c.from_le_bytes-in-loop-i.result c.told-a c.told-b c.fits-a c.fits-b c.as_chunks.ensures.front
-    c.as_chunks-2.ensures.front c.loop-i-test.true c.loop-i.invariant x y c.if-from_le_bytes.false
+    c.as_chunks-2.ensures.front (omega (arith, c.loop-i-test.true, c.requires)) c.loop-i.invariant x y
+    c.if-from_le_bytes.false
 
-pub returns : goal.returns
-returns c =
+pub returns-clause-yes : goal.returns-clause-yes
+returns-clause-yes c is =
     whole c.args.a.now c.args.b.now c.as_chunks.result.0.now c.as_chunks-2.result.0.now
-    c.loop-i.i c.told-a c.told-b
-    c.as_chunks.ensures.front c.as_chunks-2.ensures.front c.loop-i-test.false c.loop-i.invariant
+    c.args.count c.loop-i.i c.told-a c.told-b
+    c.as_chunks.ensures.front c.as_chunks-2.ensures.front c.requires c.loop-i-test.false c.loop-i.invariant
