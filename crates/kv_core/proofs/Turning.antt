@@ -1,13 +1,17 @@
 -- The turn that a call takes.
-use Rattle.std.proofs.Common.{◌≡◌, ◌≤◌, Bool, true, false, Option, Some, None, List, ap, sym, subst, ◌∙◌, refl}
-use Rattle.std.specs.Prelude.{Contains, is_some}
-use Rattle.xa_codes.specs.declared.code.Code.{Code}
+use Rattle.std.proofs.Common.{◌≡◌, ◌≤◌, ℕ, Bool, true, false, not, Option, Some, None, Ok, List, ap, sym, subst, ◌∙◌, refl, arith}
+use Rattle.std.specs.Prelude.{◌||◌, Contains, is_some}
+use Rattle.xa_tables.specs.Tables.{branch_rows, heuristic}
+use Rattle.xa_tables.specs.declared.call.Verb.{Verb}
 use Rattle.xa_tables.specs.declared.call.Call.{Call}
 use Rattle.xa_tables.specs.declared.call.Call.TheVariants as call
 use Rattle.xa_tables.specs.declared.states.BranchState.{BranchState}
 use Rattle.xa_tables.specs.declared.states.BranchState.TheVariants.{S0, S1, S2, S3, S4, S5}
 use Rattle.xa_xid.specs.declared.xid.Xid.{Xid}
+use Rattle.xa_assoc.specs.Ready.{has_rows, is_work, is_work_verb, ready}
+use Rattle.xa_assoc.proofs.Finishing.{passed, works_as}
 use Rattle.xa_heur.specs.declared.decision.Decision.{Decision}
+use Rattle.xa_heur.specs.Decisions.{heur_code}
 use Rattle.xa_heur.specs.Cases.{DecisionTable, decision_in}
 use Rattle.tree_model.specs.declared.names.Outcome.{Outcome}
 use Rattle.tree_model.specs.declared.names.Outcome.TheVariants.{Aborted, Committed}
@@ -18,25 +22,60 @@ use Rattle.kv_store.specs.writes.Writes.{writes_of}
 use Rattle.kv_turns.specs.declared.turns.Turn.{Turn}
 use Rattle.kv_turns.specs.Turns.{decide_turn, tell_turn, turn_of}
 use Rattle.kv_core.specs.Stores.{IsTidy, KeySight, is_decided, state_of}
-use Rattle.kv_core.specs.Ends.{CanNote, IsTurn, OfCall, OfOperator, known_behind, known_of, turn_for, wrote_some}
+use Rattle.kv_core.specs.Ends.{CanNote, IsDue, IsListed, IsTurn, OfCall, OfOperator, known_behind, known_of, turn_for, wrote_some}
 
-pub turn_is : (s : KeySight) (x : Xid) (c : Call) (from : BranchState) (wrote : Bool) (b : Branch)
-    (d : Decision) (ws : List Write)
-    → from ≡ state_of s x → wrote ≡ wrote_some ws → ws ≡ writes_of s.writes x
-    → b ≡ (name_in x).1 → d ≡ known_of s x
-    → turn_of from c wrote b d ≡ turn_for s x c
-turn_is s x c from wrote b d ws is_from is_wrote is_ws is_b is_d =
-    ap (λ f. turn_of f c wrote b d) is_from ∙ ap (λ w. turn_of (state_of s x) c w b d)
-    (is_wrote ∙ ap wrote_some is_ws)
-    ∙ ap (λ q. turn_of (state_of s x) c (wrote_some (writes_of s.writes x)) q d) is_b
-    ∙ ap (λ k. turn_of (state_of s x) c (wrote_some (writes_of s.writes x)) (name_in x).1 k) is_d
+-- The turn of a call is a row of the table.
 
--- a row that the table has, however it was computed
-pub listed_for : (rows rows' : List (Code × BranchState)) (t u : Turn) → rows ≡ rows' → t ≡ u
-    → Contains rows' (u.code, u.to) → Contains rows (t.code, t.to)
-listed_for rows rows' t u is_rows is_turn listed =
-    subst (λ rs. Contains rs (t.code, t.to)) (sym is_rows)
-    (subst (λ (v : Turn). Contains rows' (v.code, v.to)) (sym is_turn) listed)
+-- a branch that an operator decided answers by that
+code_fits : (o : Outcome) → Contains heuristic (heur_code o, S5)
+code_fits Committed = (1, omega arith, refl)
+code_fits Aborted = (2, omega arith, refl)
+
+told_fits : (b : Branch) (o : Outcome) (d : Decision) (told : Option Outcome)
+    → Contains heuristic ((tell_turn b o d told).code, (tell_turn b o d told).to)
+told_fits b o d None = code_fits d.outcome
+told_fits b o d (Some t) = code_fits d.outcome
+
+-- the table has the row of a turn, wherever it has any
+fits : (s : BranchState) (wrote : Bool) (b : Branch) (d : Decision) (c : Call) → is_work c ≡ false
+    → has_rows (branch_rows s c) ≡ true → Contains (branch_rows s c) ((turn_of s c wrote b d).code, (turn_of s c wrote b d).to)
+fits S0 wrote b d call.Start w h = absurd cc
+fits S0 wrote b d _ w h = absurd cc
+fits S1 wrote b d call.Start w h = absurd cc
+fits S1 wrote b d _ w h = absurd cc
+fits S2 false b d call.Prepare w h = (1, omega arith, refl)
+fits S2 true b d call.Prepare w h = (0, omega arith, refl)
+fits S2 false b d call.CommitOnePhase w h = (0, omega arith, refl)
+fits S2 true b d call.CommitOnePhase w h = (0, omega arith, refl)
+fits S2 wrote b d call.Rollback w h = (0, omega arith, refl)
+fits S2 wrote b d _ w h = absurd cc
+fits S3 wrote b d call.Commit w h = (0, omega arith, refl)
+fits S3 wrote b d call.Rollback w h = (0, omega arith, refl)
+fits S3 wrote b d _ w h = absurd cc
+fits S4 wrote b d call.Rollback w h = (0, omega arith, refl)
+fits S4 wrote b d _ w h = absurd cc
+fits S5 wrote b d call.Commit w h = told_fits b Committed d d.told
+fits S5 wrote b d call.Rollback w h = told_fits b Aborted d d.told
+fits S5 wrote b d call.Forget w h = (0, omega arith, refl)
+fits S5 wrote b d _ w h = absurd cc
+
+free_rows : (held has : Bool) → (held || not has) ≡ false → has ≡ true
+free_rows held true h = refl
+free_rows true false h = absurd cc
+free_rows false false h = absurd cc
+
+-- a call that no check refuses is due, with its turn
+pub is_due : (s : KeySight) (v : Verb) (x : Xid) (flags : ℕ) (c : Call) (turn : Turn) → is_work_verb v ≡ false
+    → ready s.tables v x flags ≡ Ok c → turn ≡ turn_for s x c → IsDue s v x flags (c, turn)
+is_due s v x flags c turn w is turn_is =
+    let p = passed s.tables v x flags c is in
+    record {
+      checked = is;
+      turn = turn_is;
+      listed = subst (λ (t : Turn). IsListed s x c t) (sym turn_is)
+          (fits (state_of s x) (wrote_some (writes_of s.writes x)) (name_in x).1 (known_of s x) c
+          (works_as v flags c p.by_flags ∙ w) (free_rows _ _ p.passes.free));
+    }
 
 -- What a turn notes of an operator's decision.
 

@@ -1,6 +1,6 @@
 //! A key store behind XA, without its log.
 
-ghost use Rattle.std.specs.Prelude.{◌≡◌, ◌≤◌, ◌<◌, ◌+◌, ◌^◌, ◌↔◌, ℕ, List, Option, not, IsTrue, Contains, MatchResult, IfOk, IfErr, OnOk, OnErr, Some, None, option_map, true, false};
+ghost use Rattle.std.specs.Prelude.{◌≡◌, ◌≤◌, ◌<◌, ◌+◌, ◌^◌, ℕ, List, Option, not, MatchResult, IfOk, IfErr, OnOk, OnErr, Some, None, option_map, true, false};
 ghost use Rattle.key_tables.specs.declared.holders.Mode.{Mode as WorkMode};
 ghost use Rattle.key_tables.specs.declared.holders.Mode.TheVariants as mode;
 ghost use Rattle.kv_store.specs.writes.Writes.{AreWrites, writes_of};
@@ -8,14 +8,15 @@ ghost use Rattle.xa_assoc.specs.Answers.{Answers, Closes, Opens, Recovers, Wante
 ghost use Rattle.xa_assoc.specs.Ready.{is_closed, is_work_verb, leaves};
 ghost use Rattle.xa_tables.specs.Calls.{legal};
 ghost use Rattle.xa_tables.specs.Tables.{is_spoiled};
-ghost use Rattle.xa_branch.specs.Branches.{in_doubt, is_known};
+ghost use Rattle.xa_branch.specs.Branches.{Finds, StandsAt, in_doubt};
+ghost use Rattle.xa_tables.specs.declared.call.Call.{Call as AnyCall};
 ghost use Rattle.xa_assoc.specs.declared.states.States.{States as AnyStates};
 ghost use Rattle.xa_assoc.specs.Restored.{Restored, restore_refusal};
 ghost use Rattle.kv_core.specs.Stores.{IsTidy, MovesTables, Rebuilt, SameStore, has_numbers, is_let_go, state_of};
 ghost use Rattle.xa_heur.specs.Cases.{Notes, decision_in};
 ghost use Rattle.xa_heur.specs.Decisions.{decision_at};
 ghost use Rattle.kv_core.specs.Works.{IsRefused, Reads, Writes, at_work, branch_refusal, is_too_long, refusal_by, value_for, work_refusal};
-ghost use Rattle.kv_core.specs.Ends.{CanNote, IsDue, IsListed, IsOff, IsTurn, PublishesWrites, Reserves, SameButData, StagesWrites, TakesTurn, known_behind, known_of, wrote_some};
+ghost use Rattle.kv_core.specs.Ends.{CanNote, IsDue, IsOff, IsTurn, PublishesWrites, Reserves, SameButData, StagesWrites, TakesTurn, known_behind, known_of, turn_for, wrote_some};
 
 use key_tables::Mode;
 use kv_locks::{LockError, Locks};
@@ -28,7 +29,7 @@ use tree_model::{Bytes, Outcome, Sequence, Write};
 use xa_assoc::{States, WorkError};
 use xa_codes::{Code, Flags};
 use xa_heur::{Decision, Heuristics};
-use xa_tables::{BranchState, Call, Verb, next_branch};
+use xa_tables::{BranchState, Call, Verb};
 use xa_xid::Xid;
 
 /// The longest key and the longest value, in bytes.
@@ -90,13 +91,6 @@ fn wrote_some(writes: &[Write]) -> bool
     ensures { result ≡ wrote_some writes.now }
 {
     !writes.is_empty()
-}
-
-/// Whether a table's rows have this one.
-fn is_listed(rows: &[(Code, BranchState)], row: (Code, BranchState)) -> bool
-    ensures { IsTrue result ↔ Contains rows.now row }
-{
-    rows.contains(&row)
 }
 
 /// Whether a branch has let its writes and its locks go in this state: it is ended, or an operator decided
@@ -194,6 +188,13 @@ impl KeyStore {
         ensures { result ≡ not (is_closed self.now.tables.init) }
     {
         self.states.is_open()
+    }
+
+    /// Where a branch stands among the known ones, and its state.
+    pub fn find(&self, xid: &Xid) -> Option<(usize, BranchState)>
+        ensures { Finds self.now.tables.branches.branches xid.now result }
+    {
+        self.states.find(xid)
     }
 
     /// The state of a branch.
@@ -337,26 +338,30 @@ impl KeyStore {
         self.write(thread, key, None)
     }
 
-    /// A prepare, commit, rollback or forget that no check refuses, and its turn; or the refusal.
-    pub fn due(&self, verb: Verb, xid: &Xid, flags: Flags) -> Result<(Call, Turn), Code>
+    /// What a prepare, commit, rollback or forget makes of a branch in this state.
+    fn turn(&self, from: BranchState, call: Call, xid: &Xid) -> Turn
+        requires { from ≡ state_of self.now xid.now }
+        ensures { result ≡ turn_for self.now xid.now call }
+    {
+        match call {
+            Call::Prepare => Turn::prepare(wrote_some(self.writes.of(xid))),
+            Call::Commit => Turn::commit(from, branch_of(xid), self.heuristics.known(xid)),
+            Call::CommitOnePhase => Turn::direct(wrote_some(self.writes.of(xid))),
+            Call::Rollback => Turn::rollback(from, branch_of(xid), self.heuristics.known(xid)),
+            _ => Turn::forget(),
+        }
+    }
+
+    /// The place of a branch and its turn, where no check refuses a prepare, commit, rollback or forget; or the
+    /// refusal.
+    pub fn due(&self, verb: Verb, xid: &Xid, flags: Flags) -> Result<(usize, Turn), Code>
         requires { is_work_verb verb ≡ false }
-        ensures ok { IfOk result (λ due. IsDue self.now verb xid.now flags.0 due) }
+        ensures ok { IfOk result (λ due. (c : AnyCall) × IsDue self.now verb xid.now flags.0 (c, due.1)
+            × StandsAt self.now.tables.branches.branches xid.now due.0) }
         ensures err { IfErr result (λ code. IsOff self.now verb xid.now flags.0 code) }
     {
-        let call = self.states.ready(verb, xid, flags)?;
-        let from = self.states.state(xid);
-        let turn = Turn::of(
-            from,
-            call,
-            wrote_some(self.writes.of(xid)),
-            branch_of(xid),
-            self.heuristics.known(xid),
-        );
-        if is_listed(next_branch(from, call), (turn.code, turn.to)) {
-            Ok((call, turn))
-        } else {
-            Err(Code::Proto)
-        }
+        let (call, place, from) = self.states.ready(verb, xid, flags)?;
+        Ok((place, self.turn(from, call, xid)))
     }
 
     /// Stages what a branch has written, which nobody sees before it is published. Memory: nothing changed.
@@ -386,15 +391,14 @@ impl KeyStore {
         self.heuristics.reserve()
     }
 
-    /// A branch takes its turn: that of a call, or of an operator's decision, which takes the row of a
-    /// commit from S3 to S5. In S0 and S5 it lets its writes and its locks go. It takes no memory.
-    pub fn finish(&mut self, xid: &Xid, call: Call, turn: Turn)
-        requires known { is_known self.old.tables.branches.branches xid.now ≡ true }
-        requires turn { IsTurn self.old xid.now call turn }
-        requires listed { IsListed self.old xid.now call turn }
+    /// The branch that stands at this place takes its turn: that of a call, or of an operator's decision, which
+    /// leads from S3 to S5. In S0 and S5 it lets its writes and its locks go. It takes no memory.
+    pub fn finish(&mut self, xid: &Xid, place: usize, turn: Turn)
+        requires stands { StandsAt self.old.tables.branches.branches xid.now place }
+        requires turn { (c : AnyCall) × IsTurn self.old xid.now c turn }
         ensures { TakesTurn self.old self.new xid.now turn }
     {
-        let _answer = self.states.finish(xid, call, (turn.code, turn.to));
+        self.states.finish(place, turn.to);
         note(&mut self.heuristics, xid, turn.entry);
         if is_let_go(turn.to) {
             self.writes.remove(xid);

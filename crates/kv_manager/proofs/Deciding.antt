@@ -1,6 +1,6 @@
 -- An operator's decision: a turn, for which room was made first.
-use Rattle.std.proofs.Common.{◌≡◌, ◌≢◌, ◌≤◌, ◌<◌, ◌∙◌, Bool, true, false, Option, Some, None, List, [], ◌∷◌, Result, Ok, Err, refl, sym, ap, subst, arith}
-use Rattle.std.specs.Prelude.{Contains, IfErr, MatchBool, OnOk, is_some, unwrap_or}
+use Rattle.std.proofs.Common.{◌≡◌, ◌≤◌, ◌∙◌, true, false, Option, Some, None, List, [], ◌∷◌, Result, Ok, Err, refl, sym, ap, subst, arith}
+use Rattle.std.specs.Prelude.{Contains, IfErr, MatchBool, is_some, unwrap_or}
 use Rattle.std.specs.Map.{lookup}
 use Rattle.xa_codes.specs.declared.code.Code.{Code}
 use Rattle.xa_codes.specs.declared.code.Code.TheVariants as code
@@ -10,14 +10,12 @@ use Rattle.xa_tables.specs.declared.states.BranchState.{BranchState}
 use Rattle.xa_tables.specs.declared.states.BranchState.TheVariants.{S0, S3, S5}
 use Rattle.xa_xid.specs.declared.xid.Xid.{Xid}
 use Rattle.xa_branch.specs.Names.{same}
-use Rattle.xa_branch.specs.Branches.{is_known}
 use Rattle.xa_assoc.specs.Answers.{Same, Takes as TakesRow}
 use Rattle.xa_heur.specs.declared.decision.Decision.{Decision}
 use Rattle.xa_heur.specs.Decisions.{decided_as, heur_code}
 use Rattle.xa_heur.specs.Cases.{decision_in, decision_or}
 use Rattle.tree_model.specs.declared.names.Outcome.{Outcome}
 use Rattle.tree_model.specs.declared.names.Outcome.TheVariants.{Aborted, Committed}
-use Rattle.log_text.specs.Parts.{name_in}
 use Rattle.rec_log.specs.Sights.{Breaks, LogState}
 use Rattle.core_model.specs.States.{wrote}
 use Rattle.manager_model.specs.Sights.{SameManager}
@@ -29,10 +27,9 @@ use Rattle.kv_locks.specs.Locks.{Releases}
 use Rattle.kv_store.specs.Versions.{Applies, SameData}
 use Rattle.kv_store.specs.writes.Writes.{Leaves, writes_of}
 use Rattle.kv_turns.specs.declared.entries.Entry.{Entry}
-use Rattle.kv_turns.specs.declared.turns.Turn.{Turn}
 use Rattle.kv_turns.specs.Turns.{decide_turn, entry_record, heur_entry}
-use Rattle.kv_core.specs.Stores.{KeySight, state_of}
-use Rattle.kv_core.specs.Ends.{IsListed, OfOperator, Reserves, known_behind, known_of}
+use Rattle.kv_core.specs.Stores.{state_of}
+use Rattle.kv_core.specs.Ends.{OfOperator, Reserves, known_behind, known_of}
 use Rattle.kv_manager.specs.Resources.{IsRefusal, sight_of}
 use Rattle.xa_codes.specs.Codes.{is_own}
 use Rattle.kv_manager.specs.Sights.{KvSight, SameManager as SameKv}

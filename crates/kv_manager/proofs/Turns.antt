@@ -1,5 +1,5 @@
 -- What a turn makes of the data and of the promises.
-use Rattle.std.proofs.Common.{◌≡◌, ◌≤◌, ◌<◌, ◌+◌, Bool, true, false, cond, List, [], ◌∷◌, ◌++◌, length, take, append_assoc, fold, map, Some, None, refl, sym, ap, subst, ◌∙◌, arith, rules, Option, ◌⊎◌, inl, inr}
+use Rattle.std.proofs.Common.{◌≡◌, ◌≤◌, ◌<◌, ◌+◌, ℕ, Bool, true, false, cond, List, [], ◌∷◌, ◌++◌, length, take, append_assoc, fold, map, Some, None, refl, sym, ap, subst, ◌∙◌, arith, rules, Option, ◌⊎◌, inl, inr}
 use Rattle.std.proofs.lemmas.List.{append-nil}
 use Rattle.std.proofs.lemmas.List.Elements.{All-contains, All-from_recursion}
 use Rattle.std.specs.Prelude.{Contains, MatchBool}
@@ -8,6 +8,7 @@ use Rattle.xa_codes.specs.declared.code.Code.{Code}
 use Rattle.xa_codes.specs.declared.code.Code.TheVariants as code
 use Rattle.xa_tables.specs.Tables.{branch_rows, heuristic}
 use Rattle.xa_tables.specs.declared.call.Call.{Call}
+use Rattle.xa_tables.specs.declared.call.Verb.{Verb}
 use Rattle.xa_tables.specs.declared.call.Call.TheVariants as call
 use Rattle.xa_tables.specs.declared.states.BranchState.{BranchState}
 use Rattle.xa_tables.specs.declared.states.BranchState.TheVariants.{S0, S1, S2, S3, S4, S5}
@@ -39,7 +40,7 @@ use Rattle.kv_store.specs.writes.Writes.{AreWrites, Leaves, writes_of}
 use Rattle.kv_turns.specs.declared.entries.Entry.{Entry}
 use Rattle.kv_turns.specs.declared.entries.Entry.TheVariants.{Prepared, Committed, RolledBack, Direct, HeurCommit, HeurRollback, Told, Forgot}
 use Rattle.kv_turns.specs.declared.turns.Turn.{Turn}
-use Rattle.kv_turns.specs.Turns.{IsEntry, applies, decide_turn, entry_of, entry_record, silent, tell_turn, turn_of, writes}
+use Rattle.kv_turns.specs.Turns.{IsEntry, applies, decide_turn, entry_of, entry_record, has_writes, silent, tell_turn, turn_of, writes}
 use Rattle.kv_core.specs.Folds.{AreData}
 use Rattle.tree_model.specs.LogNames.{by_xid}
 use Rattle.xa_heur.specs.declared.decision.Decision.{Decision}
@@ -47,11 +48,12 @@ use Rattle.xa_heur.specs.Decisions.{decided_as, decision_after, decision_of, fir
 use Rattle.xa_heur.specs.Cases.{DecisionTable, Notes, decision_in, decision_or}
 use Rattle.kv_core.specs.Decisions.{says_decided}
 use Rattle.kv_core.specs.Stores.{KeySight, is_decided, is_let_go, state_of}
-use Rattle.kv_core.specs.Ends.{IsListed, IsTurn, LetsGo, OfCall, OfOperator, PublishesWrites, StagesWrites, TakesTurn, known_behind, known_of, wrote_some}
+use Rattle.kv_core.specs.Ends.{IsDue, IsListed, IsTurn, LetsGo, OfCall, OfOperator, PublishesWrites, StagesWrites, TakesTurn, known_behind, known_of, wrote_some}
 use Rattle.kv_locks.specs.Locks.{Releases}
 use Rattle.kv_manager.specs.Sights.{IsKept, IsLogged, KvSight, SameManager, SaysDecided, logged}
 use Rattle.kv_manager.proofs.Keeping.{KeepsPromises, one_data}
 use Rattle.kv_manager.proofs.Marks.{branch_same}
+use Rattle.xa_assoc.proofs.Finishing.{passed}
 use Rattle.xa_assoc.proofs.Reactions.{stays}
 use Rattle.core_model.specs.States.{wrote}
 use Rattle.core_log.specs.Writes.{Writes}
@@ -162,6 +164,18 @@ is_entry HeurCommit ws has limits = tt
 is_entry HeurRollback ws has limits = tt
 is_entry (Told o) ws has limits = tt
 is_entry Forgot ws has limits = tt
+
+-- a record that has no writes is the same whatever was written
+pub without_writes : (e : Entry) (x : Xid) (vs ws : List Write) → has_writes e ≡ false
+    → (entry_record e x vs ≡ entry_record e x ws) × IsEntry e vs
+without_writes Prepared x vs ws h = absurd cc
+without_writes Committed x vs ws h = (refl, tt)
+without_writes RolledBack x vs ws h = (refl, tt)
+without_writes Direct x vs ws h = absurd cc
+without_writes HeurCommit x vs ws h = (refl, tt)
+without_writes HeurRollback x vs ws h = (refl, tt)
+without_writes (Told o) x vs ws h = (refl, tt)
+without_writes Forgot x vs ws h = (refl, tt)
 
 all_decided : All (λ (r : Code × BranchState). r.1 ≡ S5) heuristic
 all_decided = All-from_recursion (λ (r : Code × BranchState). r.1 ≡ S5) heuristic
@@ -475,6 +489,16 @@ applies_data old new d ws rise are made = record {
 }
 
 -- What a turn that is due is.
+
+-- a call that is due has its turn at a manager whose log stands
+pub due_turn : (s : KvSight) (v : Verb) (x : Xid) (flags : ℕ) (c : Call) (turn : Turn)
+    → s.log.sight.failed ≡ false → IsDue s.store v x flags (c, turn) → IsDueTurn s x c turn
+due_turn s v x flags c turn works due = record {
+  works = works;
+  known = (passed s.store.tables v x flags c due.checked).passes.known;
+  due = OfCall due.turn;
+  listed = due.listed;
+}
 
 pub due_leads : (s : KvSight) (x : Xid) (c : Call) (turn : Turn) (e : Entry) → IsDueTurn s x c turn
     → turn.entry ≡ Some e → turn.to ≡ leads e

@@ -11,7 +11,9 @@ ghost use Rattle.log_text.specs.Payloads.{record_text};
 ghost use Rattle.rec_log.specs.Sights.{IsRecord};
 ghost use Rattle.tree_model.specs.declared.names.Kind.TheVariants as kind;
 ghost use Rattle.kv_store.specs.writes.Writes.{writes_of};
-ghost use Rattle.kv_turns.specs.Turns.{applies, decide_turn, entry_record};
+ghost use Rattle.kv_turns.specs.Turns.{IsEntry, applies, decide_turn, entry_record};
+ghost use Rattle.xa_branch.specs.Branches.{StandsAt};
+ghost use Rattle.xa_tables.specs.declared.call.Call.{Call as AnyCall};
 ghost use Rattle.kv_manager.specs.Turns.{Finishes, HasWrites, IsDueTurn, Makes, NotTaken, OnlyRoom, Takes};
 
 use crate::manager::KvManager;
@@ -21,9 +23,9 @@ use log_store::LogStore;
 use log_text::Frame;
 use manager_model::DecideError;
 use std::alloc::AllocError;
-use tree_model::Outcome;
+use tree_model::{Outcome, Write};
 use xa_codes::{Code, Flags};
-use xa_tables::{BranchState, Call, Verb};
+use xa_tables::{BranchState, Verb};
 use xa_xid::Xid;
 
 /// Whether a branch took the turn of a decision, by what the turn answered.
@@ -39,6 +41,20 @@ fn decided(answer: Code) -> Result<(), DecideError>
 }
 
 impl<L: LogStore> KvManager<L> {
+    /// What a record has of what its branch has written.
+    fn writes_in(&self, xid: &Xid, entry: Entry) -> &[Write]
+        requires { HasWrites entry (writes_of self.now.store.writes xid.now) }
+        ensures record { entry_record entry xid.now result.now
+            ≡ entry_record entry xid.now (writes_of self.now.store.writes xid.now) }
+        ensures fits { IsEntry entry result.now }
+    {
+        if entry.has_writes() {
+            self.store.writes(xid)
+        } else {
+            &[]
+        }
+    }
+
     /// The record of a branch, with room for it in the log: all the memory that the log needs.
     fn frame(&mut self, xid: &Xid, entry: Entry) -> Result<Frame, AllocError>
         requires { HasWrites entry (writes_of self.old.store.writes xid.now) }
@@ -48,7 +64,7 @@ impl<L: LogStore> KvManager<L> {
         ensures sound { IfOk result (λ frame. IsRecord kind.Manager (frame_record frame)) }
         ensures stays { OnlyRoom self.old self.new }
     {
-        let frame = entry.frame(xid, self.store.writes(xid), self.alloc)?;
+        let frame = entry.frame(xid, self.writes_in(xid, entry), self.alloc)?;
         self.log.reserve(frame.bytes().len())?;
         Ok(frame)
     }
@@ -57,11 +73,12 @@ impl<L: LogStore> KvManager<L> {
     fn take_noted(
         &mut self,
         xid: &Xid,
-        call: Call,
+        place: usize,
         turn: Turn,
         entry: Entry,
     ) -> Result<Code, AllocError>
-        requires due { IsDueTurn self.old xid.now call turn }
+        requires due { (c : AnyCall) × IsDueTurn self.old xid.now c turn }
+        requires stands { StandsAt self.old.store.tables.branches.branches xid.now place }
         requires entry { turn.entry ≡ Some entry }
         requires data { applies entry ≡ false }
         ensures answer { IfOk result (Takes self.old self.new xid.now turn) }
@@ -70,7 +87,7 @@ impl<L: LogStore> KvManager<L> {
         let frame = self.frame(xid, entry)?;
         match write(&mut self.log, &frame, turn.is_forced) {
             Ok(()) => {
-                self.store.finish(xid, call, turn);
+                self.store.finish(xid, place, turn);
                 Ok(turn.code)
             }
             Err(_) => Ok(Code::RmFail),
@@ -82,11 +99,12 @@ impl<L: LogStore> KvManager<L> {
     fn take_committed(
         &mut self,
         xid: &Xid,
-        call: Call,
+        place: usize,
         turn: Turn,
         entry: Entry,
     ) -> Result<Code, AllocError>
-        requires due { IsDueTurn self.old xid.now call turn }
+        requires due { (c : AnyCall) × IsDueTurn self.old xid.now c turn }
+        requires stands { StandsAt self.old.store.tables.branches.branches xid.now place }
         requires entry { turn.entry ≡ Some entry }
         requires data { applies entry ≡ true }
         requires fits { self.old.store.versions.count + 1 < 2 ^ 63 }
@@ -98,7 +116,7 @@ impl<L: LogStore> KvManager<L> {
         match write(&mut self.log, &frame, turn.is_forced) {
             Ok(()) => {
                 self.store.publish();
-                self.store.finish(xid, call, turn);
+                self.store.finish(xid, place, turn);
                 Ok(turn.code)
             }
             Err(_) => Ok(Code::RmFail),
@@ -106,19 +124,20 @@ impl<L: LogStore> KvManager<L> {
     }
 
     /// A branch takes the turn of a call that no check refuses, or of an operator's decision.
-    fn take(&mut self, xid: &Xid, call: Call, turn: Turn) -> Result<Code, AllocError>
-        requires due { IsDueTurn self.old xid.now call turn }
+    fn take(&mut self, xid: &Xid, place: usize, turn: Turn) -> Result<Code, AllocError>
+        requires due { (c : AnyCall) × IsDueTurn self.old xid.now c turn }
+        requires stands { StandsAt self.old.store.tables.branches.branches xid.now place }
         ensures answer { IfOk result (Takes self.old self.new xid.now turn) }
         ensures err { OnErr result (SameManager self.old self.new) }
     {
         match turn.entry {
             None => {
-                self.store.finish(xid, call, turn);
+                self.store.finish(xid, place, turn);
                 Ok(turn.code)
             }
-            Some(entry) if !entry.applies() => self.take_noted(xid, call, turn, entry),
+            Some(entry) if !entry.applies() => self.take_noted(xid, place, turn, entry),
             Some(_) if !self.store.has_numbers() => Ok(Code::RmErr),
-            Some(entry) => self.take_committed(xid, call, turn, entry),
+            Some(entry) => self.take_committed(xid, place, turn, entry),
         }
     }
 
@@ -132,7 +151,7 @@ impl<L: LogStore> KvManager<L> {
             return Ok(Code::RmFail);
         }
         match self.store.due(verb, xid, flags) {
-            Ok((call, turn)) => self.take(xid, call, turn),
+            Ok((place, turn)) => self.take(xid, place, turn),
             Err(refusal) => Ok(refusal),
         }
     }
@@ -186,11 +205,14 @@ impl<L: LogStore> KvManager<L> {
         if self.has_failed() {
             return Err(DecideError::Failed);
         }
-        if self.state(xid) != BranchState::S3 {
+        let Some((place, state)) = self.store.find(xid) else {
+            return Err(DecideError::NotInDoubt);
+        };
+        if state != BranchState::S3 {
             return Err(DecideError::NotInDoubt);
         }
         self.store.reserve_decision()?;
-        let answer = self.take(xid, Call::Commit, Turn::decide(outcome))?;
+        let answer = self.take(xid, place, Turn::decide(outcome))?;
         decided(answer)
     }
 }

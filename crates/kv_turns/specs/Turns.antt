@@ -88,6 +88,12 @@ applies Direct = true
 applies HeurCommit = true
 applies _ = false
 
+-- a record has the branch's writes
+abbrev pub has_writes : Entry → Bool
+has_writes Prepared = true
+has_writes Direct = true
+has_writes _ = false
+
 -- the record under a name
 abbrev pub entry_of : Entry → Branch → List Write → Record
 entry_of Prepared b ws = record_of.Prepared b ws

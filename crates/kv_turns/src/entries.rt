@@ -5,7 +5,7 @@ ghost use Rattle.tree_model.specs.declared.names.Kind.TheVariants as kind;
 ghost use Rattle.log_text.specs.Made.{frame_record};
 ghost use Rattle.log_text.specs.Parts.{name_in};
 ghost use Rattle.log_rules.specs.sound.Sound.{IsSound, IsSoundName};
-ghost use Rattle.kv_turns.specs.Turns.{IsEntry, applies, entry_of, entry_record, heur_entry};
+ghost use Rattle.kv_turns.specs.Turns.{IsEntry, applies, entry_of, entry_record, has_writes, heur_entry};
 ghost use Rattle.tree_model.specs.ManagerRows.{presumption_of};
 
 use log_text::{Frame, name_in};
@@ -89,6 +89,13 @@ impl Entry {
         ensures { result ≡ applies self }
     {
         matches!(self, Entry::Committed | Entry::Direct | Entry::HeurCommit)
+    }
+
+    /// Whether it has the branch's writes.
+    pub fn has_writes(self) -> bool
+        ensures { result ≡ has_writes self }
+    {
+        matches!(self, Entry::Prepared | Entry::Direct)
     }
 
     /// The record under this name.

@@ -1,14 +1,16 @@
 //! What a call that finishes a branch makes of it.
 
-ghost use Rattle.std.specs.Prelude.{◌≡◌};
-ghost use Rattle.kv_turns.specs.Turns.{commit_turn, decide_turn, direct_turn, prepare_turn, rollback_turn, silent, tell_turn, turn_of, writes};
+ghost use Rattle.std.specs.Prelude.{◌≡◌, true};
+ghost use Rattle.kv_turns.specs.declared.entries.Entry.TheVariants as entry;
+ghost use Rattle.xa_tables.specs.declared.states.BranchState.TheVariants as state;
+ghost use Rattle.kv_turns.specs.Turns.{commit_turn, decide_turn, direct_turn, prepare_turn, rollback_turn, silent, tell_turn, writes};
 ghost use Rattle.tree_model.specs.ManagerRows.{is_told_forced};
 
 use crate::entries::{Entry, presumption_of};
 use tree_model::{Branch, Outcome};
 use xa_codes::Code;
 use xa_heur::Decision;
-use xa_tables::{BranchState, Call};
+use xa_tables::BranchState;
 
 /// What a call makes of a branch: its answer, the state behind it, and the record that it writes.
 #[derive(Clone, Copy, PartialEq, Eq)]
@@ -53,7 +55,8 @@ impl Turn {
         }
     }
 
-    fn prepare(wrote: bool) -> Self
+    /// A branch that wrote something promises, and one that wrote nothing is ended.
+    pub fn prepare(wrote: bool) -> Self
         ensures { result ≡ prepare_turn wrote }
     {
         if wrote {
@@ -78,7 +81,8 @@ impl Turn {
         }
     }
 
-    fn commit(from: BranchState, branch: Branch, decision: Decision) -> Self
+    /// A branch in this state commits, of which in S5 an operator decided so.
+    pub fn commit(from: BranchState, branch: Branch, decision: Decision) -> Self
         ensures { result ≡ commit_turn from branch decision }
     {
         if from == BranchState::S5 {
@@ -88,7 +92,8 @@ impl Turn {
         Turn::writes(Entry::Committed, is_forced, BranchState::S0)
     }
 
-    fn direct(wrote: bool) -> Self
+    /// A branch that wrote something or nothing commits in one phase.
+    pub fn direct(wrote: bool) -> Self
         ensures { result ≡ direct_turn wrote }
     {
         if wrote {
@@ -98,7 +103,8 @@ impl Turn {
         }
     }
 
-    fn rollback(from: BranchState, branch: Branch, decision: Decision) -> Self
+    /// A branch in this state rolls back, of which in S5 an operator decided so.
+    pub fn rollback(from: BranchState, branch: Branch, decision: Decision) -> Self
         ensures { result ≡ rollback_turn from branch decision }
     {
         match from {
@@ -111,24 +117,11 @@ impl Turn {
         }
     }
 
-    /// What a prepare, commit, rollback or forget makes of a branch in this state that wrote something or
-    /// nothing, and in S5 was decided so by an operator.
-    pub fn of(
-        from: BranchState,
-        call: Call,
-        wrote: bool,
-        branch: Branch,
-        decision: Decision,
-    ) -> Self
-        ensures { result ≡ turn_of from call wrote branch decision }
+    /// An operator's decision is forgotten.
+    pub fn forget() -> Self
+        ensures { result ≡ writes entry.Forgot true state.S0 }
     {
-        match call {
-            Call::Prepare => Turn::prepare(wrote),
-            Call::Commit => Turn::commit(from, branch, decision),
-            Call::CommitOnePhase => Turn::direct(wrote),
-            Call::Rollback => Turn::rollback(from, branch, decision),
-            _ => Turn::writes(Entry::Forgot, true, BranchState::S0),
-        }
+        Turn::writes(Entry::Forgot, true, BranchState::S0)
     }
 
     /// What an operator's decision makes of a prepared branch.

@@ -1,6 +1,6 @@
 -- A call's answer, from what its two tables say.
-use Rattle.std.proofs.Common.{◌≡◌, ◌≢◌, ℕ, Bool, true, false, Result, Ok, Err, refl, sym, ◌∙◌, subst, rules, arith, inl, inr}
-use Rattle.std.specs.Prelude.{◌⊎◌, ◌||◌, not, Option, Some, None, is_some, unwrap_or, IfOk, IfErr, Contains}
+use Rattle.std.proofs.Common.{◌≡◌, ◌≢◌, ℕ, Bool, true, false, Result, Ok, Err, refl, sym, ap, ◌∙◌, subst, rules, arith, inl, inr}
+use Rattle.std.specs.Prelude.{◌⊎◌, ◌||◌, not, IfOk, IfErr, Contains}
 use Rattle.xa_codes.specs.declared.code.Code.{Code}
 use Rattle.xa_codes.specs.declared.code.Code.TheVariants as code
 use Rattle.xa_tables.specs.Tables.{branch_rows}
@@ -10,12 +10,10 @@ use Rattle.xa_tables.specs.declared.states.BranchState.{BranchState}
 use Rattle.xa_tables.specs.declared.states.BranchState.TheVariants.{S0, S1, S2, S3, S4, S5}
 use Rattle.xa_xid.specs.declared.xid.Xid.{Xid}
 use Rattle.xa_assoc.specs.Associations.{AssocList, Row, Steps, start_plan, resume_plan, suspend_plan, end_plan}
-use Rattle.std.specs.Map.{lookup}
-use Rattle.xa_branch.specs.Names.{same}
-use Rattle.xa_branch.specs.Branches.{BranchList, Moves, Stays, is_known}
+use Rattle.xa_branch.specs.Branches.{BranchList, Moves, Stays}
 use Rattle.xa_assoc.specs.declared.states.States.{States}
-use Rattle.xa_assoc.specs.Answers.{Reacts, state_at}
-use Rattle.xa_assoc.specs.Reacting.{IsAt, resumed, left_by, suspend_call, end_call}
+use Rattle.xa_assoc.specs.Answers.{Reacts, join_reaction, state_at}
+use Rattle.xa_assoc.specs.Reacting.{IsAt, by_state, resumed, left_by, suspend_call, end_call}
 
 pub stays : (old new : BranchList) → new ≡ old → Stays old new
 stays old new e = subst (λ (b : BranchList). Stays old b) (sym e)
@@ -58,36 +56,18 @@ made old new t x c (Ok r) to by answer plan steps p q listed is branch init =
 made old new t x c (Err e) to by answer plan steps p q listed is branch init =
     absurd (elim plan.refuses [ inl is ↦ p (steps.0 ∙ is) | inr is ↦ q (steps.0 ∙ is) ])
 
-known_by : (lost : Bool) (o : Option BranchState) → IsAt lost (unwrap_or o S0) → is_some o ≡ true
-known_by true None h = absurd h
-known_by false None h = absurd h
-known_by lost (Some s) h = refl
-
--- a branch at work is known
-pub known_at : (lost : Bool) (m : States) (x : Xid) → IsAt lost (state_at m x)
-    → is_known m.branches.branches x ≡ true
-known_at lost m x h = known_by lost (lookup (same x) m.branches.branches) h
-
--- the same of a branch at work or lost, by what a step of it ensures
-pub made_step : (old new : States) (t : ℕ) (x : Xid) (c made_call : Call) (plan : Result Row Code)
-    (to made_state : BranchState) (by answer : Code) (lost : Bool)
+-- the same of a branch at work or lost, which moved to a state
+pub made_step : (old new : States) (t : ℕ) (x : Xid) (c : Call) (plan : Result Row Code)
+    (to moved_to : BranchState) (by : Code)
     → IsPlan plan → Steps old.associations new.associations t x plan by → by ≢ code.Proto → by ≢ code.RmErr
-    → IfOk plan (λ r. Contains (branch_rows (state_at old x) c) (r.1, to)) → IsAt lost (state_at old x)
-    → made_call ≡ c → made_state ≡ to
-    → (is_known old.branches.branches x ≡ true → Contains (branch_rows (state_at old x) made_call)
-    (by, made_state) → (answer ≡ by) × Moves old.branches new.branches x made_state)
-    → new.init ≡ old.init → Reacts old new t x c plan to answer
-made_step old new t x c made_call plan to made_state by answer lost is_plan steps p q rows at call_is
-    state_is step init =
+    → IfOk plan (λ r. Contains (branch_rows (state_at old x) c) (r.1, to)) → moved_to ≡ to
+    → Moves old.branches new.branches x moved_to → new.init ≡ old.init → Reacts old new t x c plan to by
+made_step old new t x c plan to moved_to by is_plan steps p q rows state_is moved init =
     let listed : Contains (branch_rows (state_at old x) c) (by, to) =
     answer_is old.associations new.associations t x
     (λ a. Contains (branch_rows (state_at old x) c) (a, to)) plan by is_plan rows steps p q in
-    let Does : Call → BranchState → Type 0 = λ k s. is_known old.branches.branches x ≡ true
-    → Contains (branch_rows (state_at old x) k) (by, s)
-    → (answer ≡ by) × Moves old.branches new.branches x s in
-    let does : Does c to = subst (λ s. Does c s) state_is (subst (λ k. Does k made_state) call_is step) in
-    let moved = does (known_at lost old x at) listed in
-    made old new t x c plan to by answer is_plan steps p q listed moved.0 moved.1 init
+    made old new t x c plan to by by is_plan steps p q listed refl
+    (subst (λ s. Moves old.branches new.branches x s) state_is moved) init
 
 -- a call was refused by the associations
 pub refused : (old new : States) (t : ℕ) (x : Xid) (c : Call) (plan : Result Row Code) (to : BranchState)
@@ -110,6 +90,16 @@ join_listed S2 h = (0, omega arith, refl)
 join_listed S3 h = absurd h
 join_listed S4 h = absurd h
 join_listed S5 h = absurd h
+
+-- a branch at work is joined by the plan of a start
+pub joins_by : (m : States) (t : ℕ) (x : Xid) (s : BranchState) → state_at m x ≡ s → (s ≡ S1) ⊎ (s ≡ S2)
+    → join_reaction m t x ≡ start_plan m.associations t x
+joins_by m t x s is at = elim at [ inl one ↦ by S1 refl (is ∙ one) | inr two ↦ by S2 refl (is ∙ two) ]
+  where
+    by : (at : BranchState)
+        → by_state at (start_plan m.associations t x) (Err code.Proto) ≡ start_plan m.associations t x
+        → state_at m x ≡ at → join_reaction m t x ≡ start_plan m.associations t x
+    by at plan is = ap (λ r. by_state r (start_plan m.associations t x) (Err code.Proto)) is ∙ plan
 
 pub start_listed : (s : BranchState) (a : AssocList) (t : ℕ) (x : Xid) → IsAt false s
     → IfOk (start_plan a t x) (λ r. Contains (branch_rows s call.StartJoin) (r.1, S1))

@@ -1,5 +1,5 @@
 -- Which calls that finish a branch come to a row of the table, and what refuses the others.
-use Rattle.std.specs.Prelude.{ℕ, Bool, true, false, ◌||◌, not, List, [], ◌∷◌, Option, Some, None, Result, Ok, Err, if◌then◌else◌}
+use Rattle.std.specs.Prelude.{◌≡◌, ℕ, Bool, true, false, ◌||◌, not, List, [], ◌∷◌, Option, Some, None, Result, Ok, Err, if◌then◌else◌}
 use Rattle.xa_codes.specs.declared.code.Code.{Code}
 use Rattle.xa_codes.specs.declared.code.Code.TheVariants as code
 use Rattle.xa_tables.specs.Calls.{legal}
@@ -8,11 +8,12 @@ use Rattle.xa_tables.specs.declared.call.Call.{Call}
 use Rattle.xa_tables.specs.declared.call.Call.TheVariants as call
 use Rattle.xa_tables.specs.declared.call.Verb.{Verb}
 use Rattle.xa_tables.specs.declared.call.Verb.TheVariants as verb
+use Rattle.xa_tables.specs.declared.states.BranchState.{BranchState}
 use Rattle.xa_tables.specs.declared.states.InitState.{InitState}
 use Rattle.xa_tables.specs.declared.states.InitState.TheVariants.{R0, R1}
 use Rattle.xa_xid.specs.declared.xid.Xid.{Xid}
 use Rattle.xa_xid.specs.Xids.{null_xid}
-use Rattle.xa_branch.specs.Branches.{is_known}
+use Rattle.xa_branch.specs.Branches.{StandsAt, is_known}
 use Rattle.xa_branch.specs.Names.{same}
 use Rattle.xa_assoc.specs.declared.states.States.{States}
 use Rattle.xa_assoc.specs.Answers.{is_held, state_at}
@@ -76,3 +77,10 @@ judged m x (Err refusal) = Err refusal
 -- the call that finishes a branch by a row of the table, or what refuses it
 abbrev pub ready : States → Verb → Xid → ℕ → Result Call Code
 ready m v x flags = judged m x (legal v flags)
+
+-- the call that finishes a branch by a row of the table, with the branch's place and its state
+pub record IsReady (m : States) (v : Verb) (x : Xid) (flags : ℕ) (c : Call) (place : ℕ)
+    (from : BranchState) : Type 0 where
+  pub checked : ready m v x flags ≡ Ok c
+  pub stands : StandsAt m.branches.branches x place
+  pub state : from ≡ state_at m x

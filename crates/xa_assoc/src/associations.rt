@@ -257,7 +257,7 @@ impl Associations {
     fn has_seat(&self, thread: u32, xid: &Xid) -> bool
         ensures { result ≡ has_seat self.now thread xid.now }
     {
-        self.suspended.contains(&Seat { thread, xid: *xid })
+        self.suspended.contains(thread, xid)
     }
 
     /// How a branch is held by any thread, or by none.

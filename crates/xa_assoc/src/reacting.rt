@@ -2,7 +2,7 @@
 
 ghost use Rattle.std.specs.Prelude.{◌≡◌, ◌↔◌, ◌⊎◌, ◌||◌, not, IsTrue};
 ghost use Rattle.xa_tables.specs.Tables.{branch_rows};
-ghost use Rattle.xa_assoc.specs.Reacting.{resumed, suspend_call, end_call};
+ghost use Rattle.xa_assoc.specs.Reacting.{resumed};
 ghost use Rattle.xa_assoc.specs.Ready.{has_rows};
 ghost use Rattle.xa_assoc.specs.Restored.{state_left};
 
@@ -27,33 +27,11 @@ pub(crate) fn resumed(lost: bool) -> BranchState
     }
 }
 
-/// An end TMSUSPEND, with TMMIGRATE or not.
-pub(crate) fn suspend_call(migrate: bool) -> Call
-    ensures { result ≡ suspend_call migrate }
-{
-    if migrate {
-        Call::EndMigrate
-    } else {
-        Call::EndSuspend
-    }
-}
-
 /// Whether a branch is lost, or its work failed.
 pub(crate) fn is_failed(lost: bool, succeeds: bool) -> bool
     ensures { result ≡ (lost || not succeeds) }
 {
     lost || !succeeds
-}
-
-/// An end TMSUCCESS, or else TMFAIL.
-pub(crate) fn end_call(succeeds: bool) -> Call
-    ensures { result ≡ end_call succeeds }
-{
-    if succeeds {
-        Call::EndSuccess
-    } else {
-        Call::EndFail
-    }
 }
 
 /// Whether the table of branches has a row for a call.

@@ -47,10 +47,10 @@ impl Seats {
     }
 
     /// Whether a thread has suspended a branch.
-    pub(crate) fn contains(&self, seat: &Seat) -> bool
-        ensures { result ≡ holds self.now seat.now }
+    pub(crate) fn contains(&self, thread: u32, xid: &Xid) -> bool
+        ensures { result ≡ holds self.now (record { thread = thread; xid = xid.now }) }
     {
-        !self.taken.is_empty() && self.taken.contains(seat)
+        !self.taken.is_empty() && self.taken.contains(&Seat { thread, xid: *xid })
     }
 
     /// Whether a thread has suspended any branch.

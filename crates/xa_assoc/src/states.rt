@@ -1,9 +1,7 @@
 //! The tables of a resource manager, and the calls that walk their rows.
 
 use crate::associations::Associations;
-use crate::reacting::{
-    end_call, has_rows, is_failed, is_refusal, resumed, state_left, suspend_call,
-};
+use crate::reacting::{has_rows, is_failed, is_refusal, resumed, state_left};
 use std::alloc::{AllocError, Global};
 use xa_branch::Branches;
 use xa_codes::{Code, Flags};
@@ -23,14 +21,14 @@ pub struct States {
 }
 
 impl States {
-    ghost use Rattle.std.specs.Prelude.{◌≡◌, ◌≢◌, ◌||◌, not, IfOk, OnErr, MatchResult, Contains, Some, None, true, false};
-    ghost use Rattle.xa_tables.specs.Tables.{branch_rows};
+    ghost use Rattle.std.specs.Prelude.{◌≡◌, ◌≢◌, ◌<◌, ◌||◌, not, length, is_some, if◌then◌else◌, IfOk, IfErr, OnErr, MatchResult, Err, Some, None, true, false};
     ghost use Rattle.xa_tables.specs.declared.call.Call.TheVariants as call;
-    ghost use Rattle.xa_assoc.specs.Associations.{active_of, start_plan, resume_plan, suspend_plan, end_plan};
-    ghost use Rattle.xa_branch.specs.Branches.{in_doubt, is_known, off_row};
+    ghost use Rattle.xa_assoc.specs.Associations.{active_of, has_seat, start_plan, resume_plan, suspend_plan, end_plan};
+    ghost use Rattle.xa_branch.specs.Branches.{Finds, StandsAt, in_doubt};
+    ghost use Rattle.xa_xid.specs.declared.xid.Xid.{Xid as AnyXid};
     ghost use Rattle.xa_assoc.specs.Reacting.{IsAt, resumed, suspend_call, end_call};
-    ghost use Rattle.xa_assoc.specs.Answers.{Same, IsNew, Opens, Closes, Wanted, Answers, Recovers, Refuses, Takes, map_ok, Reacts, Resumes, Suspends, Ends, left_state, is_held, start_reaction, join_reaction, state_at};
-    ghost use Rattle.xa_assoc.specs.Ready.{is_work_verb, is_closed, leaves, ready};
+    ghost use Rattle.xa_assoc.specs.Answers.{Same, IsNew, Opens, Closes, Wanted, Answers, Recovers, Takes, map_ok, Reacts, Resumes, Suspends, Ends, left_state, is_held, start_reaction, join_reaction, state_at};
+    ghost use Rattle.xa_assoc.specs.Ready.{IsReady, is_work_verb, is_closed, leaves, ready};
     ghost use Rattle.xa_tables.specs.Calls.{legal};
     ghost use Rattle.xa_assoc.specs.Restored.{Restored, restore_refusal};
 
@@ -165,11 +163,17 @@ impl States {
         }
     }
 
-    /// The call that a prepare, commit, rollback or forget makes where it comes to a row of the table. Inval,
-    /// Async: the flags. Proto: the manager is not open. Inval: the null XID. NotA: the branch is not known.
-    /// Proto: it is held, or the table has no row for its state.
-    pub fn ready(&self, verb: Verb, xid: &Xid, flags: Flags) -> Result<Call, Code>
-        ensures { result ≡ ready self.now verb xid.now flags.0 }
+    /// The call that a prepare, commit, rollback or forget makes where it comes to a row of the table, with the
+    /// place and the state of its branch. Inval, Async: the flags. Proto: the manager is not open. Inval: the
+    /// null XID. NotA: the branch is not known. Proto: it is held, or the table has no row for its state.
+    pub fn ready(
+        &self,
+        verb: Verb,
+        xid: &Xid,
+        flags: Flags,
+    ) -> Result<(Call, usize, BranchState), Code>
+        ensures ok { IfOk result (λ given. IsReady self.now verb xid.now flags.0 given.0 given.1 given.2) }
+        ensures err { IfErr result (λ refusal. ready self.now verb xid.now flags.0 ≡ Err refusal) }
     {
         let call = legal_call(verb, flags)?;
         if self.init == InitState::R0 {
@@ -178,29 +182,30 @@ impl States {
         if xid.is_null() {
             return Err(Code::Inval);
         }
-        let Some(state) = self.branches.get(xid) else {
+        let Some((place, state)) = self.branches.find(xid) else {
             return Err(Code::NotA);
         };
         if self.is_held(xid) || !has_rows(state, call) {
             return Err(Code::Proto);
         }
-        Ok(call)
+        Ok((call, place, state))
     }
 
-    /// Takes the row of a call that finishes a branch, which `ready` let through: its answer, and the state
-    /// behind it. It takes no memory. NotA: the branch is not known. Proto (at a start DupId): the table has
-    /// no such row. A refusal changes nothing.
-    pub fn finish(&mut self, xid: &Xid, call: Call, row: (Code, BranchState)) -> Code
-        ensures row { is_known self.old.branches.branches xid.now ≡ true
-            → Contains (branch_rows (state_at self.old xid.now) call) row
-            → (result ≡ row.0) × Takes self.old self.new xid.now row.1 }
-        ensures off { is_known self.old.branches.branches xid.now ≡ true
-            → (Contains (branch_rows (state_at self.old xid.now) call) row → ⊥)
-            → Refuses self.old self.new result (off_row call) }
-        ensures unknown { is_known self.old.branches.branches xid.now ≡ false
-            → Refuses self.old self.new result Code.NotA }
+    /// Where a branch stands among the known ones, and its state.
+    pub fn find(&self, xid: &Xid) -> Option<(usize, BranchState)>
+        ensures { Finds self.now.branches.branches xid.now result }
     {
-        self.branches.step(xid, call, row)
+        self.branches.find(xid)
+    }
+
+    /// The known branch that stands at a place comes to the state behind the row that it takes. It takes no
+    /// memory.
+    pub fn finish(&mut self, place: usize, to: BranchState)
+        requires { place < length self.old.branches.branches }
+        ensures { (x : AnyXid) → StandsAt self.old.branches.branches x place
+            → Takes self.old self.new x to }
+    {
+        self.branches.place(place, to);
     }
 
     /// An operator's decision about a prepared branch, which leads it from S3 to S5; the manager need not be
@@ -247,18 +252,27 @@ impl States {
         if self.branches.is_known(xid) {
             return Ok(Code::DupId);
         }
-        if self.associations.is_busy(thread, xid) {
-            return Ok(Code::Proto);
-        }
         if self.branches.is_full() {
-            return Ok(Code::RmErr);
+            return Ok(self.refused_full(thread, xid));
         }
         self.branches.reserve(1)?;
         let code = self.associations.start(thread, xid)?;
         if code == Code::Ok {
-            return self.branches.begin(xid);
+            self.branches.begin(xid);
         }
         Ok(code)
+    }
+
+    /// What a start of a new branch answers where no other can begin: the thread is busy, or that.
+    fn refused_full(&self, thread: u32, xid: &Xid) -> Code
+        ensures { result ≡ (if is_some (active_of self.now.associations thread)
+            || has_seat self.now.associations thread xid.now then Code.Proto else Code.RmErr) }
+    {
+        if self.associations.is_busy(thread, xid) {
+            Code::Proto
+        } else {
+            Code::RmErr
+        }
     }
 
     /// A start TMJOIN.
@@ -268,15 +282,19 @@ impl States {
             (join_reaction self.old thread xid.now) BranchState.S1) }
         ensures err { OnErr result (Same self.old self.new) }
     {
-        match self.branches.state(xid) {
+        let Some((place, state)) = self.branches.find(xid) else {
+            return Ok(Code::NotA);
+        };
+        match state {
             BranchState::S0 => Ok(Code::NotA),
-            BranchState::S1 | BranchState::S2 => self.join_work(thread, xid),
+            BranchState::S1 | BranchState::S2 => self.join_work(place, thread, xid),
             BranchState::S3 | BranchState::S4 | BranchState::S5 => Ok(Code::Proto),
         }
     }
 
-    fn join_work(&mut self, thread: u32, xid: &Xid) -> Result<Code, AllocError>
-        requires { IsAt false (state_at self.old xid.now) }
+    fn join_work(&mut self, place: usize, thread: u32, xid: &Xid) -> Result<Code, AllocError>
+        requires at { IsAt false (state_at self.old xid.now) }
+        requires place { StandsAt self.old.branches.branches xid.now place }
         ensures answer { IfOk result
             (Reacts self.old self.new thread xid.now call.StartJoin
             (start_plan self.old.associations thread xid.now) BranchState.S1) }
@@ -286,10 +304,8 @@ impl States {
         if is_refusal(code) {
             return Ok(code);
         }
-        Ok(
-            self.branches
-                .step(xid, Call::StartJoin, (code, BranchState::S1)),
-        )
+        self.branches.place(place, BranchState::S1);
+        Ok(code)
     }
 
     /// A start TMRESUME.
@@ -297,16 +313,26 @@ impl States {
         ensures answer { IfOk result (Resumes self.old self.new thread xid.now) }
         ensures err { OnErr result (Same self.old self.new) }
     {
-        match self.branches.state(xid) {
+        let Some((place, state)) = self.branches.find(xid) else {
+            return Ok(Code::NotA);
+        };
+        match state {
             BranchState::S0 => Ok(Code::NotA),
-            BranchState::S1 | BranchState::S2 => self.resume_work(thread, xid, false),
-            BranchState::S4 => self.resume_work(thread, xid, true),
+            BranchState::S1 | BranchState::S2 => self.resume_work(place, thread, xid, false),
+            BranchState::S4 => self.resume_work(place, thread, xid, true),
             BranchState::S3 | BranchState::S5 => Ok(Code::Proto),
         }
     }
 
-    fn resume_work(&mut self, thread: u32, xid: &Xid, lost: bool) -> Result<Code, AllocError>
-        requires { IsAt lost (state_at self.old xid.now) }
+    fn resume_work(
+        &mut self,
+        place: usize,
+        thread: u32,
+        xid: &Xid,
+        lost: bool,
+    ) -> Result<Code, AllocError>
+        requires at { IsAt lost (state_at self.old xid.now) }
+        requires place { StandsAt self.old.branches.branches xid.now place }
         ensures answer { IfOk result (Reacts self.old self.new thread xid.now call.StartResume
             (resume_plan self.old.associations thread xid.now lost) (resumed lost)) }
         ensures err { OnErr result (Same self.old self.new) }
@@ -315,10 +341,8 @@ impl States {
         if is_refusal(code) {
             return Ok(code);
         }
-        Ok(
-            self.branches
-                .step(xid, Call::StartResume, (code, resumed(lost))),
-        )
+        self.branches.place(place, resumed(lost));
+        Ok(code)
     }
 
     /// An end TMSUSPEND, with TMMIGRATE or not.
@@ -326,22 +350,29 @@ impl States {
         ensures answer { IfOk result (Suspends self.old self.new thread xid.now migrate) }
         ensures err { OnErr result (Same self.old self.new) }
     {
-        match self.branches.state(xid) {
+        let Some((place, state)) = self.branches.find(xid) else {
+            return Ok(Code::NotA);
+        };
+        match state {
             BranchState::S0 => Ok(Code::NotA),
-            BranchState::S1 | BranchState::S2 => self.suspend_work(thread, xid, false, migrate),
-            BranchState::S4 => self.suspend_work(thread, xid, true, migrate),
+            BranchState::S1 | BranchState::S2 => {
+                self.suspend_work(place, thread, xid, false, migrate)
+            }
+            BranchState::S4 => self.suspend_work(place, thread, xid, true, migrate),
             BranchState::S3 | BranchState::S5 => Ok(Code::Proto),
         }
     }
 
     fn suspend_work(
         &mut self,
+        place: usize,
         thread: u32,
         xid: &Xid,
         lost: bool,
         migrate: bool,
     ) -> Result<Code, AllocError>
-        requires { IsAt lost (state_at self.old xid.now) }
+        requires at { IsAt lost (state_at self.old xid.now) }
+        requires place { StandsAt self.old.branches.branches xid.now place }
         ensures answer { IfOk result (Reacts self.old self.new thread xid.now (suspend_call migrate)
             (suspend_plan self.old.associations thread xid.now lost migrate)
             (left_state self.new xid.now lost)) }
@@ -352,23 +383,28 @@ impl States {
             return Ok(code);
         }
         let to = self.left(xid, lost);
-        Ok(self.branches.step(xid, suspend_call(migrate), (code, to)))
+        self.branches.place(place, to);
+        Ok(code)
     }
 
     /// An end TMSUCCESS, or else TMFAIL.
     fn end(&mut self, thread: u32, xid: &Xid, succeeds: bool) -> Code
         ensures { Ends self.old self.new thread xid.now succeeds result }
     {
-        match self.branches.state(xid) {
+        let Some((place, state)) = self.branches.find(xid) else {
+            return Code::NotA;
+        };
+        match state {
             BranchState::S0 => Code::NotA,
-            BranchState::S1 | BranchState::S2 => self.end_work(thread, xid, false, succeeds),
-            BranchState::S4 => self.end_work(thread, xid, true, succeeds),
+            BranchState::S1 | BranchState::S2 => self.end_work(place, thread, xid, false, succeeds),
+            BranchState::S4 => self.end_work(place, thread, xid, true, succeeds),
             BranchState::S3 | BranchState::S5 => Code::Proto,
         }
     }
 
-    fn end_work(&mut self, thread: u32, xid: &Xid, lost: bool, succeeds: bool) -> Code
-        requires { IsAt lost (state_at self.old xid.now) }
+    fn end_work(&mut self, place: usize, thread: u32, xid: &Xid, lost: bool, succeeds: bool) -> Code
+        requires at { IsAt lost (state_at self.old xid.now) }
+        requires place { StandsAt self.old.branches.branches xid.now place }
         ensures { Reacts self.old self.new thread xid.now (end_call succeeds)
             (end_plan self.old.associations thread xid.now lost succeeds)
             (left_state self.new xid.now (lost || not succeeds)) result }
@@ -378,7 +414,8 @@ impl States {
             return code;
         }
         let to = self.left(xid, is_failed(lost, succeeds));
-        self.branches.step(xid, end_call(succeeds), (code, to))
+        self.branches.place(place, to);
+        code
     }
 
     /// Whether a branch is held by any thread, or suspended for migration.

@@ -1,4 +1,3 @@
-pub mod Rows
 pub mod Lists
 pub mod Placed
 pub mod Names

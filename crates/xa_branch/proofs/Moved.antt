@@ -1,5 +1,5 @@
 -- A known branch moves by its index: its state is written there, or it is taken out.
-use Rattle.std.proofs.Common.{◌≡◌, ◌≢◌, ℕ, Option, true, false, List, [], ◌∷◌, Some, None, refl, ap, sym, subst, ◌∙◌, rules, arith, position, length, ◌<◌, get_or, slice_get, remove}
+use Rattle.std.proofs.Common.{◌≡◌, ◌≢◌, ℕ, Option, false, List, [], ◌∷◌, Some, None, refl, ap, sym, subst, ◌∙◌, arith, position, length, ◌<◌, get_or, slice_get, remove}
 use Rattle.std.specs.Prelude.{unwrap_or, IfSome}
 use Rattle.std.specs.Map.{keys_of, lookup, remove_entry}
 use Rattle.std.proofs.Math.ListN.{get_or-map}

@@ -1,6 +1,6 @@
 -- The branches that a resource manager knows.
-use Rattle.std.specs.Prelude.{◌≡◌, ℕ, ◌≤◌, Bool, true, false, not, List, [], Option, Some, None, unwrap_or, is_some, length, take, drop, map, filter, nat_lt, nat_le, if◌then◌else◌}
-use Rattle.std.specs.Map.{lookup, remove_entry}
+use Rattle.std.specs.Prelude.{◌≡◌, ℕ, ◌≤◌, ◌<◌, Bool, true, false, not, List, [], Option, Some, None, unwrap_or, is_some, length, position, take, drop, map, filter, nat_lt, nat_le, if◌then◌else◌}
+use Rattle.std.specs.Map.{keys_of, lookup, remove_entry}
 use Rattle.indexmap.specs.IndexMap.{insert_entry}
 use Rattle.xa_codes.specs.declared.code.Code.{Code}
 use Rattle.xa_codes.specs.declared.code.Code.TheVariants as code
@@ -31,6 +31,16 @@ state_in bs x = unwrap_or (lookup (same x) bs) S0
 abbrev pub placed : List (Xid × BranchState) → Xid → BranchState → List (Xid × BranchState)
 placed bs x S0 = remove_entry (same x) bs
 placed bs x s = insert_entry same bs x s
+
+-- a known branch stands at this place among them
+pub record StandsAt (bs : List (Xid × BranchState)) (x : Xid) (place : ℕ) : Type 0 where
+  pub within : place < length bs
+  pub stands : position (same x) (keys_of bs) ≡ Some place
+
+-- where a branch stands and its state, if it is known
+abbrev pub Finds : List (Xid × BranchState) → Xid → Option (ℕ × BranchState) → Type 0
+Finds bs x None = is_known bs x ≡ false
+Finds bs x (Some found) = StandsAt bs x found.0 × (lookup (same x) bs ≡ Some found.1)
 
 -- branches and scans stay as they are
 pub record Stays (old new : BranchList) : Type 0 where

@@ -1,28 +1,20 @@
 //! The state of each known branch.
 
-ghost use Rattle.std.specs.Prelude.{◌≡◌, ◌≢◌, ◌⊎◌, ◌≤◌, ◌<◌, ◌+◌, [], length, IfOk, OnOk, OnErr, MatchResult, IsOk, Contains, IsTrue, ◌↔◌, Some, None, Bool, true, false, nat_le, position};
+ghost use Rattle.std.specs.Prelude.{◌≡◌, ◌≢◌, ◌⊎◌, ◌≤◌, ◌<◌, ◌+◌, [], length, IfOk, OnOk, OnErr, MatchResult, IsOk, Some, None, Bool, true, false, nat_le, position};
 ghost use Rattle.std.specs.Map.{keys_of, lookup};
-ghost use Rattle.xa_tables.specs.Tables.{branch_rows};
 ghost use Rattle.xa_branch.specs.Names.{same};
-ghost use Rattle.xa_branch.specs.Branches.{BranchList, Moves, Begins, Scans as Scanned, is_known, state_in, off_row, Stays, in_doubt, starts_scan, ends_scan, scan_refusal};
+ghost use Rattle.xa_branch.specs.Branches.{BranchList, Finds, Moves, Begins, Scans as Scanned, is_known, state_in, Stays, in_doubt, starts_scan, ends_scan, scan_refusal};
 
 use crate::scans::Scans;
 use indexmap::IndexMap;
 use std::alloc::{AllocError, Global};
 use std::marker::Model;
 use xa_codes::Code;
-use xa_tables::{BranchState, Call, next_branch};
+use xa_tables::{BranchState, Call};
 use xa_xid::Xid;
 
 /// The most branches that are known at a time.
 const BRANCHES: usize = 1024;
-
-/// Whether a table's rows have this one.
-fn is_listed(rows: &[(Code, BranchState)], row: (Code, BranchState)) -> bool
-    ensures { IsTrue result ↔ Contains rows.now row }
-{
-    rows.contains(&row)
-}
 
 /// Whether a recover begins a scan.
 fn starts(call: Call) -> bool
@@ -86,6 +78,16 @@ impl Branches {
         self.scans.clear();
     }
 
+    /// Where a branch stands among the known ones, and its state.
+    pub fn find(&self, xid: &Xid) -> Option<(usize, BranchState)>
+        ensures { Finds self.now.branches xid.now result }
+    {
+        match self.states.get_full(xid) {
+            None => None,
+            Some((place, _, state)) => Some((place, *state)),
+        }
+    }
+
     /// The state of a branch, where it is known.
     pub fn get(&self, xid: &Xid) -> Option<BranchState>
         ensures { result ≡ lookup (same xid.now) self.now.branches }
@@ -114,13 +116,12 @@ impl Branches {
         self.states.len() >= BRANCHES
     }
 
-    /// Begins a branch, in S1. DupId: it is known. RmErr: 1,024 branches are known. Either changes nothing.
-    pub fn begin(&mut self, xid: &Xid) -> Result<Code, AllocError>
-        ensures begun { IfOk result (Begins self.old self.new xid.now BranchState.S1) }
-        ensures err { OnErr result (Stays self.old self.new) }
-        ensures succeeds { 0 < self.old.room → IsOk result }
+    /// Begins a branch that is not known, in S1, where there is room for it. It takes no memory.
+    pub fn begin(&mut self, xid: &Xid)
+        requires room { 1 ≤ self.old.room }
+        ensures { Moves self.old self.new xid.now BranchState.S1 }
     {
-        self.enter(xid, BranchState::S1)
+        let _ = self.states.insert(*xid, BranchState::S1).unwrap();
     }
 
     /// Enters a branch that a log left, in S3 or S5. DupId: it is known. RmErr: 1,024 branches are known.
@@ -128,15 +129,6 @@ impl Branches {
     pub fn restore(&mut self, xid: &Xid, state: BranchState) -> Result<Code, AllocError>
         requires { (state ≡ BranchState.S3) ⊎ (state ≡ BranchState.S5) }
         ensures restored { IfOk result (Begins self.old self.new xid.now state) }
-        ensures err { OnErr result (Stays self.old self.new) }
-        ensures succeeds { 0 < self.old.room → IsOk result }
-    {
-        self.enter(xid, state)
-    }
-
-    fn enter(&mut self, xid: &Xid, state: BranchState) -> Result<Code, AllocError>
-        requires { state ≡ BranchState.S0 → ⊥ }
-        ensures entered { IfOk result (Begins self.old self.new xid.now state) }
         ensures err { OnErr result (Stays self.old self.new) }
         ensures succeeds { 0 < self.old.room → IsOk result }
     {
@@ -148,33 +140,6 @@ impl Branches {
         }
         self.states.insert(*xid, state)?;
         Ok(Code::Ok)
-    }
-
-    /// Makes a row of the table for a known branch: its answer, and the state behind it. NotA: the branch is
-    /// not known. DupId: it is known, and the call is a start that neither joins nor resumes. Proto: the
-    /// table has no such row. None of the three changes anything.
-    pub fn step(&mut self, xid: &Xid, call: Call, row: (Code, BranchState)) -> Code
-        ensures row { is_known self.old.branches xid.now ≡ true
-            → Contains (branch_rows (state_in self.old.branches xid.now) call) row
-            → (result ≡ row.0) × Moves self.old self.new xid.now row.1 }
-        ensures off { is_known self.old.branches xid.now ≡ true
-            → (Contains (branch_rows (state_in self.old.branches xid.now) call) row → ⊥)
-            → (result ≡ off_row call) × (self.new ≡ self.old) }
-        ensures unknown { is_known self.old.branches xid.now ≡ false
-            → (result ≡ Code.NotA) × (self.new ≡ self.old) }
-    {
-        let Some((index, _, from)) = self.states.get_full(xid) else {
-            return Code::NotA;
-        };
-        if is_listed(next_branch(*from, call), row) {
-            self.place(index, row.1);
-            return row.0;
-        }
-        if call == Call::Start {
-            Code::DupId
-        } else {
-            Code::Proto
-        }
     }
 
     /// An operator's decision about a prepared branch, which leads it from S3 to S5. False: it is not in S3,
@@ -195,8 +160,8 @@ impl Branches {
         true
     }
 
-    /// Moves the known branch at an index.
-    fn place(&mut self, index: usize, to: BranchState)
+    /// The known branch that stands at a place moves to a state; a caller picks the row of the table.
+    pub fn place(&mut self, index: usize, to: BranchState)
         requires { index < length self.old.branches }
         ensures { (x : Xid) → position (same x) (keys_of self.old.branches) ≡ Some index
             → Moves self.old self.new x to }

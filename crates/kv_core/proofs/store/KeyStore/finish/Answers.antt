@@ -2,9 +2,9 @@ use Rattle.std.proofs.Common.{rules, ◌≡◌, ◌∙◌, sym, subst, true, fal
 use Rattle.std.specs.Prelude.{MatchBool}
 use Rattle.kv_locks.specs.Locks.{Releases}
 use Rattle.kv_store.specs.writes.Writes.{Leaves}
-use Rattle.xa_branch.specs.Branches.{is_known}
+use Rattle.xa_branch.specs.Branches.{StandsAt}
 use Rattle.kv_core.specs.Stores.{KeySight, is_let_go}
-use Rattle.kv_core.specs.Ends.{IsListed, IsTurn, TakesTurn}
+use Rattle.kv_core.specs.Ends.{IsTurn, TakesTurn}
 use Rattle.kv_core.proofs.Tidy.{tidy_turned}
 use Rattle.kv_core.proofs.Turning.{notes}
 use Rattle.kv_core.proofs.store.KeyStore.finish.Goals as goal
@@ -18,9 +18,10 @@ note-requires c =
       versions = c.self.inside.versions;
       decisions = c.self.inside.heuristics;
     } in
-    let turned : IsTurn s c.args.xid.now c.args.call c.args.turn =
-    subst (λ v. IsTurn v c.args.xid.now c.args.call c.args.turn) (sym c.self.view_is) c.requires.turn in
-    (notes s c.args.xid.now c.args.call c.args.turn c.self.invariant turned).0
+    let stands : StandsAt s.tables.branches.branches c.args.xid.now c.args.place = search rules in
+    let turned : IsTurn s c.args.xid.now c.requires.turn.0 c.args.turn =
+    subst (λ v. IsTurn v c.args.xid.now c.requires.turn.0 c.args.turn) (sym c.self.view_is) c.requires.turn.1 in
+    (notes s c.args.xid.now c.requires.turn.0 c.args.turn c.self.invariant turned).0
 
 pub invariant_of-self : goal.invariant_of-self
 invariant_of-self c =
@@ -32,20 +33,18 @@ invariant_of-self c =
       decisions = c.self.inside.heuristics;
     } in
     let after : KeySight = record {
-      tables = c.finish-answer.new.self;
+      tables = c.finish.new.self;
       writes = c.remove.new.self;
       locks = c.release.new.self;
       versions = c.self.inside.versions;
       decisions = c.note.new.heuristics;
     } in
-    let known : is_known c.self.inside.states.branches.branches c.args.xid.now ≡ true = search rules in
-    let listed : IsListed s c.args.xid.now c.args.call c.args.turn = subst
-    (λ v. IsListed v c.args.xid.now c.args.call c.args.turn) (sym c.self.view_is) c.requires.listed in
-    let turned : IsTurn s c.args.xid.now c.args.call c.args.turn =
-    subst (λ v. IsTurn v c.args.xid.now c.args.call c.args.turn) (sym c.self.view_is) c.requires.turn in
+    let stands : StandsAt s.tables.branches.branches c.args.xid.now c.args.place = search rules in
+    let turned : IsTurn s c.args.xid.now c.requires.turn.0 c.args.turn =
+    subst (λ v. IsTurn v c.args.xid.now c.requires.turn.0 c.args.turn) (sym c.self.view_is) c.requires.turn.1 in
     let gone : is_let_go c.args.turn.to ≡ true = sym c.is_let_go.ensures ∙ c.if-is_let_go.true in
     let takes : TakesTurn s after c.args.xid.now c.args.turn = record {
-      tables = (c.finish-answer.ensures.row known listed).1;
+      tables = c.finish.ensures c.args.xid.now stands;
       keeps = subst (λ b. MatchBool b (Leaves s.writes after.writes c.args.xid.now [] × Releases s.locks
           after.locks c.args.xid.now) ((after.writes ≡ s.writes) × (after.locks ≡ s.locks)))
           (sym gone) (c.remove.ensures, c.release.ensures);
@@ -53,7 +52,7 @@ invariant_of-self c =
       decisions = c.note.ensures;
     } in
     tidy_turned s after c.args.xid.now c.args.turn c.self.invariant takes
-    (notes s c.args.xid.now c.args.call c.args.turn c.self.invariant turned).1
+    (notes s c.args.xid.now c.requires.turn.0 c.args.turn c.self.invariant turned).1
 
 pub invariant_of-self-else-is_let_go : goal.invariant_of-self-else-is_let_go
 invariant_of-self-else-is_let_go c =
@@ -65,20 +64,18 @@ invariant_of-self-else-is_let_go c =
       decisions = c.self.inside.heuristics;
     } in
     let after : KeySight = record {
-      tables = c.finish-answer.new.self;
+      tables = c.finish.new.self;
       writes = c.self.inside.writes;
       locks = c.self.inside.locks;
       versions = c.self.inside.versions;
       decisions = c.note.new.heuristics;
     } in
-    let known : is_known c.self.inside.states.branches.branches c.args.xid.now ≡ true = search rules in
-    let listed : IsListed s c.args.xid.now c.args.call c.args.turn = subst
-    (λ v. IsListed v c.args.xid.now c.args.call c.args.turn) (sym c.self.view_is) c.requires.listed in
-    let turned : IsTurn s c.args.xid.now c.args.call c.args.turn =
-    subst (λ v. IsTurn v c.args.xid.now c.args.call c.args.turn) (sym c.self.view_is) c.requires.turn in
+    let stands : StandsAt s.tables.branches.branches c.args.xid.now c.args.place = search rules in
+    let turned : IsTurn s c.args.xid.now c.requires.turn.0 c.args.turn =
+    subst (λ v. IsTurn v c.args.xid.now c.requires.turn.0 c.args.turn) (sym c.self.view_is) c.requires.turn.1 in
     let goes_on : is_let_go c.args.turn.to ≡ false = sym c.is_let_go.ensures ∙ c.if-is_let_go.false in
     let takes : TakesTurn s after c.args.xid.now c.args.turn = record {
-      tables = (c.finish-answer.ensures.row known listed).1;
+      tables = c.finish.ensures c.args.xid.now stands;
       keeps = subst (λ b. MatchBool b (Leaves s.writes after.writes c.args.xid.now [] × Releases s.locks
           after.locks c.args.xid.now) ((after.writes ≡ s.writes) × (after.locks ≡ s.locks)))
           (sym goes_on) (refl, refl);
@@ -86,7 +83,7 @@ invariant_of-self-else-is_let_go c =
       decisions = c.note.ensures;
     } in
     tidy_turned s after c.args.xid.now c.args.turn c.self.invariant takes
-    (notes s c.args.xid.now c.args.call c.args.turn c.self.invariant turned).1
+    (notes s c.args.xid.now c.requires.turn.0 c.args.turn c.self.invariant turned).1
 
 pub returns-then-is_let_go : goal.returns-then-is_let_go
 returns-then-is_let_go c =
@@ -98,18 +95,16 @@ returns-then-is_let_go c =
       decisions = c.self.inside.heuristics;
     } in
     let after : KeySight = record {
-      tables = c.finish-answer.new.self;
+      tables = c.finish.new.self;
       writes = c.remove.new.self;
       locks = c.release.new.self;
       versions = c.self.inside.versions;
       decisions = c.note.new.heuristics;
     } in
-    let known : is_known c.self.inside.states.branches.branches c.args.xid.now ≡ true = search rules in
-    let listed : IsListed s c.args.xid.now c.args.call c.args.turn = subst
-    (λ v. IsListed v c.args.xid.now c.args.call c.args.turn) (sym c.self.view_is) c.requires.listed in
+    let stands : StandsAt s.tables.branches.branches c.args.xid.now c.args.place = search rules in
     let gone : is_let_go c.args.turn.to ≡ true = sym c.is_let_go.ensures ∙ c.if-is_let_go.true in
     subst (λ v. TakesTurn v after c.args.xid.now c.args.turn) c.self.view_is (record {
-      tables = (c.finish-answer.ensures.row known listed).1;
+      tables = c.finish.ensures c.args.xid.now stands;
       keeps = subst (λ b. MatchBool b (Leaves s.writes after.writes c.args.xid.now [] × Releases s.locks
           after.locks c.args.xid.now) ((after.writes ≡ s.writes) × (after.locks ≡ s.locks)))
           (sym gone) (c.remove.ensures, c.release.ensures);
@@ -127,18 +122,16 @@ returns-else-is_let_go c =
       decisions = c.self.inside.heuristics;
     } in
     let after : KeySight = record {
-      tables = c.finish-answer.new.self;
+      tables = c.finish.new.self;
       writes = c.self.inside.writes;
       locks = c.self.inside.locks;
       versions = c.self.inside.versions;
       decisions = c.note.new.heuristics;
     } in
-    let known : is_known c.self.inside.states.branches.branches c.args.xid.now ≡ true = search rules in
-    let listed : IsListed s c.args.xid.now c.args.call c.args.turn = subst
-    (λ v. IsListed v c.args.xid.now c.args.call c.args.turn) (sym c.self.view_is) c.requires.listed in
+    let stands : StandsAt s.tables.branches.branches c.args.xid.now c.args.place = search rules in
     let goes_on : is_let_go c.args.turn.to ≡ false = sym c.is_let_go.ensures ∙ c.if-is_let_go.false in
     subst (λ v. TakesTurn v after c.args.xid.now c.args.turn) c.self.view_is (record {
-      tables = (c.finish-answer.ensures.row known listed).1;
+      tables = c.finish.ensures c.args.xid.now stands;
       keeps = subst (λ b. MatchBool b (Leaves s.writes after.writes c.args.xid.now [] × Releases s.locks
           after.locks c.args.xid.now) ((after.writes ≡ s.writes) × (after.locks ≡ s.locks)))
           (sym goes_on) (refl, refl);

@@ -3,7 +3,6 @@ use Rattle.xa_tables.specs.declared.call.Call.TheVariants.{Commit}
 use Rattle.xa_tables.specs.declared.states.BranchState.TheVariants.{S3}
 use Rattle.xa_assoc.specs.Answers.{state_at}
 use Rattle.manager_model.specs.Deciding.{NotDecided}
-use Rattle.kv_turns.specs.Turns.{decide_turn}
 use Rattle.kv_core.specs.Stores.{state_of}
 use Rattle.kv_core.specs.Ends.{Reserves}
 use Rattle.kv_manager.specs.Resources.{IsRefusal, sight_of}
@@ -29,11 +28,15 @@ take-requires g c =
     let stays : Reserves s.store mid.store = search rules in
     let room : 1 ≤ mid.store.decisions.room = search rules in
     record {
-      due = subst (IsDueTurn mid c.args.xid.now Commit) (sym c.decide.ensures)
-          (can_decide mid c.args.xid.now c.args.outcome
-          (ap (λ (v : KvSight). v.log.sight.failed) c.self.view_is ∙ works)
-          (ap (λ t. state_at t c.args.xid.now) stays.tables
-          ∙ ap (λ (v : KvSight). state_of v.store c.args.xid.now) c.self.view_is ∙ here) room);
+      due = (
+        Commit,
+        subst (IsDueTurn mid c.args.xid.now Commit) (sym c.decide.ensures)
+            (can_decide mid c.args.xid.now c.args.outcome
+            (ap (λ (v : KvSight). v.log.sight.failed) c.self.view_is ∙ works)
+            (ap (λ t. state_at t c.args.xid.now) stays.tables
+            ∙ ap (λ (v : KvSight). state_of v.store c.args.xid.now) c.self.view_is ∙ here) room),
+      );
+      stands = search rules;
     }
 
 pub returns-clause-err : goal.returns-clause-err

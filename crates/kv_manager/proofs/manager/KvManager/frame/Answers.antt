@@ -5,14 +5,7 @@ use Rattle.log_rules.specs.sound.Sound.{IsSound}
 use Rattle.log_rules.proofs.sound.Records.{records_read_back}
 use Rattle.log_rules.proofs.sound.Sizes.{records_fit_frames}
 use Rattle.rec_log.specs.Sights.{IsRecord}
-use Rattle.kv_manager.specs.Turns.{HasWrites}
-use Rattle.kv_manager.proofs.Turns.{is_entry}
 use Rattle.kv_manager.proofs.manager.KvManager.frame.Goals as goal
-
-pub frame-requires : goal.frame-requires
-frame-requires g c =
-    let has : HasWrites c.args.entry c.writes.result.now = search rules in
-    is_entry c.args.entry c.writes.result.now has c.writes.ensures.limits
 
 pub returns-clause-sound : goal.returns-clause-sound
 returns-clause-sound g c =

@@ -11,8 +11,8 @@ use Rattle.kv_manager.proofs.Turns.{commits_by, due_has, due_same, fails_by, kep
 use Rattle.kv_manager.proofs.manager.KvManager.take_committed.Goals as goal
 
 pub frame-requires : goal.frame-requires
-frame-requires g c = due_has c.args.self.now c.args.xid.now c.args.call c.args.turn c.args.entry
-    c.requires.due c.requires.entry
+frame-requires g c = due_has c.args.self.now c.args.xid.now c.requires.due.0 c.args.turn c.args.entry
+    c.requires.due.1 c.requires.entry
 
 pub finish-requires-clause-turn : goal.finish-requires-clause-turn
 finish-requires-clause-turn g c =
@@ -25,10 +25,11 @@ finish-requires-clause-turn g c =
     (sym c.self.view_is) c.frame.ensures.stays in
     let staged : StagesWrites s.store c.stage.new.self c.args.xid.now = search rules in
     let published : PublishesWrites c.stage.new.self c.publish.new.self = search rules in
-    turn_same s.store c.publish.new.self c.args.xid.now c.args.call c.args.turn
+    let turned = turn_same s.store c.publish.new.self c.args.xid.now c.requires.due.0 c.args.turn
     (published.tables ∙ staged.tables) (published.writes ∙ staged.writes)
     (published.decisions ∙ staged.decisions)
-    (due_same c.args.self.now s c.args.xid.now c.args.call c.args.turn room c.requires.due).due
+    (due_same c.args.self.now s c.args.xid.now c.requires.due.0 c.args.turn room c.requires.due.1).due in
+    (c.requires.due.0, turned)
 
 pub invariant_of-self : goal.invariant_of-self
 invariant_of-self g c =
@@ -54,8 +55,8 @@ invariant_of-self-in-Ok g c =
     let takes : TakesTurn c.publish.new.self c.finish.new.self c.args.xid.now c.args.turn = search rules in
     let made : Writes s.log c.write.new.log (entry_record c.args.entry c.args.xid.now
     (writes_of s.store.writes c.args.xid.now)) c.args.turn.is_forced = search rules in
-    kept_committed s _ c.args.xid.now c.args.call c.args.turn c.args.entry c.self.invariant
-    (due_same c.args.self.now s c.args.xid.now c.args.call c.args.turn room c.requires.due)
+    kept_committed s _ c.args.xid.now c.requires.due.0 c.args.turn c.args.entry c.self.invariant
+    (due_same c.args.self.now s c.args.xid.now c.requires.due.0 c.args.turn room c.requires.due.1)
     c.requires.entry c.requires.data
     (commits_by s.store c.stage.new.self c.publish.new.self c.finish.new.self c.args.xid.now c.args.turn
     staged published takes) made

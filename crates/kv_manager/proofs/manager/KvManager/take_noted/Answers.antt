@@ -10,8 +10,8 @@ use Rattle.kv_manager.proofs.Turns.{due_has, due_same, fails_by, kept_noted}
 use Rattle.kv_manager.proofs.manager.KvManager.take_noted.Goals as goal
 
 pub frame-requires : goal.frame-requires
-frame-requires g c = due_has c.args.self.now c.args.xid.now c.args.call c.args.turn c.args.entry
-    c.requires.due c.requires.entry
+frame-requires g c = due_has c.args.self.now c.args.xid.now c.requires.due.0 c.args.turn c.args.entry
+    c.requires.due.1 c.requires.entry
 
 pub finish-requires-clause-turn : goal.finish-requires-clause-turn
 finish-requires-clause-turn g c =
@@ -21,8 +21,10 @@ finish-requires-clause-turn g c =
       boot = c.self.inside.boot;
     } in
     let room : OnlyRoom c.args.self.now s = subst (OnlyRoom c.args.self.now)
-    (sym c.self.view_is) c.frame.ensures.stays in
-    (due_same c.args.self.now s c.args.xid.now c.args.call c.args.turn room c.requires.due).due
+    (sym c.self.view_is) c.frame.ensures.stays in (
+      c.requires.due.0,
+      (due_same c.args.self.now s c.args.xid.now c.requires.due.0 c.args.turn room c.requires.due.1).due,
+    )
 
 pub invariant_of-self : goal.invariant_of-self
 invariant_of-self g c =
@@ -36,8 +38,8 @@ invariant_of-self g c =
     let takes : TakesTurn s.store c.finish.new.self c.args.xid.now c.args.turn = search rules in
     let made : Writes s.log c.write.new.log (entry_record c.args.entry c.args.xid.now
     (writes_of s.store.writes c.args.xid.now)) c.args.turn.is_forced = search rules in
-    kept_noted s _ c.args.xid.now c.args.call c.args.turn c.args.entry c.self.invariant
-    (due_same c.args.self.now s c.args.xid.now c.args.call c.args.turn room c.requires.due)
+    kept_noted s _ c.args.xid.now c.requires.due.0 c.args.turn c.args.entry c.self.invariant
+    (due_same c.args.self.now s c.args.xid.now c.requires.due.0 c.args.turn room c.requires.due.1)
     c.requires.entry c.requires.data takes made
 
 pub returns-clause-answer : goal.returns-clause-answer

@@ -16,13 +16,12 @@ returns c =
     let not_proto : c.end-code.result ≢ code.Proto = search rules in
     let not_limit : c.end-code.result ≢ code.RmErr = search rules in
     made_step old
-    (record { init = old.init; branches = c.step.new.self; associations = c.end-code.new.self }) t x
-    (end_call c.args.succeeds) c.end_call.result
-    (end_plan old.associations t x lost c.args.succeeds)
+    (record { init = old.init; branches = c.place.new.self; associations = c.end-code.new.self }) t x
+    (end_call c.args.succeeds) (end_plan old.associations t x lost c.args.succeeds)
     (left_by (lost || not c.args.succeeds) (has_active c.end-code.new.self x)) c.left-to.result
-    c.end-code.result c.step.result lost (end_is_plan old.associations t x lost c.args.succeeds)
+    c.end-code.result (end_is_plan old.associations t x lost c.args.succeeds)
     c.end-code.ensures not_proto not_limit
     (end_listed lost c.args.succeeds (has_active c.end-code.new.self x)
-    (state_at old x) old.associations t x c.requires) c.requires c.end_call.ensures
+    (state_at old x) old.associations t x c.requires.at)
     (c.left-to.ensures ∙ ap (λ b. left_by b (has_active c.end-code.new.self x)) c.is_failed.ensures)
-    c.step.ensures.row refl
+    (c.place.ensures x c.requires.place.stands) refl

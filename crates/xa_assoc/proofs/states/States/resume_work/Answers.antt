@@ -15,9 +15,8 @@ returns-clause-answer c =
     let lost = c.args.lost in
     let not_proto : c.in_ok-code.code ≢ code.Proto = search rules in
     let not_limit : c.in_ok-code.code ≢ code.RmErr = search rules in
-    made_step old (record { init = old.init; branches = c.step.new.self; associations = c.resume.new.self })
-    t x call.StartResume call.StartResume
-    (resume_plan old.associations t x lost) (resumed lost) c.resumed.result c.in_ok-code.code c.step.result
-    lost (resume_is_plan old.associations t x lost) c.in_ok-code.ensures.answer not_proto not_limit
-    (resume_listed lost (state_at old x) old.associations t x c.requires) c.requires refl c.resumed.ensures
-    c.step.ensures.row refl
+    made_step old (record { init = old.init; branches = c.place.new.self; associations = c.resume.new.self })
+    t x call.StartResume (resume_plan old.associations t x lost) (resumed lost) c.resumed.result
+    c.in_ok-code.code (resume_is_plan old.associations t x lost) c.in_ok-code.ensures.answer not_proto not_limit
+    (resume_listed lost (state_at old x) old.associations t x c.requires.at) c.resumed.ensures
+    (c.place.ensures x c.requires.place.stands) refl

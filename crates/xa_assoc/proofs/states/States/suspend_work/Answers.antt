@@ -14,12 +14,10 @@ returns-clause-answer c =
     let lost = c.args.lost in
     let not_proto : c.in_ok-code.code ≢ code.Proto = search rules in
     let not_limit : c.in_ok-code.code ≢ code.RmErr = search rules in
-    made_step old (record { init = old.init; branches = c.step.new.self; associations = c.suspend.new.self })
-    t x (suspend_call c.args.migrate) c.suspend_call.result
-    (suspend_plan old.associations t x lost c.args.migrate)
-    (left_by lost (has_active c.suspend.new.self x)) c.left-to.result c.in_ok-code.code c.step.result
-    lost (suspend_is_plan old.associations t x lost c.args.migrate) c.in_ok-code.ensures.answer not_proto
-    not_limit
+    made_step old (record { init = old.init; branches = c.place.new.self; associations = c.suspend.new.self })
+    t x (suspend_call c.args.migrate) (suspend_plan old.associations t x lost c.args.migrate)
+    (left_by lost (has_active c.suspend.new.self x)) c.left-to.result c.in_ok-code.code
+    (suspend_is_plan old.associations t x lost c.args.migrate) c.in_ok-code.ensures.answer not_proto not_limit
     (suspend_listed lost c.args.migrate (has_active c.suspend.new.self x)
-    (state_at old x) old.associations t x c.requires) c.requires c.suspend_call.ensures c.left-to.ensures
-    c.step.ensures.row refl
+    (state_at old x) old.associations t x c.requires.at) c.left-to.ensures
+    (c.place.ensures x c.requires.place.stands) refl
