@@ -40,6 +40,9 @@ impl Heuristics {
     pub fn decision(&self, xid: &Xid) -> Option<Decision>
         ensures { result ≡ decision_in self.now xid.now }
     {
+        if self.decisions.is_empty() {
+            return None;
+        }
         self.decisions.get(xid).copied()
     }
 
