@@ -22,6 +22,7 @@ use Rattle.tree_model.specs.declared.events.Input.TheVariants.{Message as Messag
 use Rattle.tree_model.specs.declared.events.Reaction.{Reaction}
 use Rattle.tree_model.specs.declared.events.StepError.{StepError}
 use Rattle.tree_model.specs.declared.events.StepError.TheVariants.{Device, Memory}
+use Rattle.tree_model.specs.declared.records.Logged.{Logged}
 use Rattle.tree_model.specs.declared.records.RecordKind.{RecordKind}
 use Rattle.tree_model.specs.declared.records.RecordKind.TheVariants.{HeurCommit, HeurRollback}
 use Rattle.tree_model.specs.declared.records.Subject.TheVariants.{Case as OfCase}
@@ -227,16 +228,10 @@ Joins old new d false =
 abbrev pub NotHeard : SubState → SubState → Message → StepError → Type 0
 NotHeard old new m e = NotTurned old new (turn_for old m) e
 
--- the reaction that shows one record of a case and one message
-abbrev pub logged_reply : RecordKind → Case → Bool → ProcessId → ProcessId → Message → Reaction
-logged_reply kind c forced from to m =
-    record {
-      begun = None;
-      written = record { kind = kind; subject = OfCase c; forced = forced } ∷ [];
-      told = None;
-      messages = post from to m ∷ [];
-      kept = None;
-    }
+-- the reaction that shows these records and one message
+abbrev pub says : List Logged → Envelope → Reaction
+says written message =
+    record { begun = None; written = written; told = None; messages = message ∷ []; kept = None }
 
 -- the reaction that shows one forced record of a case, and no message
 abbrev pub logged_alone : RecordKind → Case → Reaction

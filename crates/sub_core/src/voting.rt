@@ -1,31 +1,40 @@
 //! PREPARE: the branch votes.
 
-ghost use Rattle.std.specs.Prelude.{◌≡◌, true, false, IfErr, IfOk};
+ghost use Rattle.std.specs.Prelude.{◌≡◌, ◌<◌, [], false, IfErr, IfOk};
+ghost use Rattle.std.specs.Vec.{vec_capacity, vec_len};
 ghost use Rattle.tree_model.specs.declared.messages.Message.TheVariants as message;
 ghost use Rattle.tree_model.specs.declared.names.Case.{Case as AnyCase};
-ghost use Rattle.tree_model.specs.declared.records.RecordKind.TheVariants as kind;
-ghost use Rattle.sub_core.specs.Subordinates.{Hears, IsAt, NotHeard, active, logged_reply, seen};
+ghost use Rattle.tree_model.specs.CoordinatorRows.{post};
+ghost use Rattle.sub_core.specs.Subordinates.{Hears, IsAt, NotHeard, active, says, seen};
 
 use crate::subordinate::Subordinate;
-use core_model::one_message;
 use manager_model::ResourceManager;
-use std::alloc::{AllocError, Global};
-use sub_deeds::{logged, promise, reply, silence};
-use tree_model::{Case, Message, ProcessId, Reaction, RecordKind, StepError, Vote};
+use std::alloc::Global;
+use sub_deeds::{logged, promise, silence};
+use tree_model::{
+    Case, Envelope, Logged, Message, ProcessId, Reaction, RecordKind, Sequence, StepError, Vote,
+};
 use xa_xid::Xid;
 
-/// YES with its record.
-fn yes(me: ProcessId, parent: ProcessId, case: Case, alloc: Global) -> Result<Reaction, AllocError>
-    ensures { IfOk result (λ reaction. reaction
-        ≡ logged_reply kind.Prepared case true me parent (message.Yes case)) }
+/// A reaction with these records and one message, for which there is room. It takes no memory.
+fn says(
+    written: Sequence<Logged>,
+    mut room: Vec<Envelope>,
+    from: ProcessId,
+    to: ProcessId,
+    message: Message,
+    alloc: Global,
+) -> Reaction
+    requires empty { room.items ≡ [] }
+    requires room { vec_len room < vec_capacity room }
+    ensures { result ≡ says written (post from to message) }
 {
-    let written = logged(RecordKind::Prepared, case, true, alloc)?;
-    let messages = one_message(alloc, me, parent, Message::Yes(case))?;
-    Ok(Reaction {
+    room.push(Envelope { from, to, message }).unwrap();
+    Reaction {
         written,
-        messages,
+        messages: Sequence::from_vec(room),
         ..silence(alloc)
-    })
+    }
 }
 
 impl<M: ResourceManager> Subordinate<M> {
@@ -44,8 +53,8 @@ impl<M: ResourceManager> Subordinate<M> {
         ensures err { IfErr result (NotHeard (seen M.sight self.old) (seen M.sight self.new)
             (message.Prepare case works)) }
     {
-        let yes = yes(self.me, self.parent, case, self.alloc)?;
-        let read = reply(self.me, self.parent, Message::Read(case), self.alloc)?;
+        let room = Vec::with_capacity(self.alloc, 1)?;
+        let written = logged(RecordKind::Prepared, case, true, self.alloc)?;
         let vote = match promise(&mut self.manager, &xid) {
             Ok(vote) => vote,
             Err(error) => return Err(error),
@@ -53,11 +62,14 @@ impl<M: ResourceManager> Subordinate<M> {
         match vote {
             Vote::Read => {
                 self.branches.remove(key);
-                Ok(read)
+                let none = Sequence::new(self.alloc);
+                let read = Message::Read(case);
+                Ok(says(none, room, self.me, self.parent, read, self.alloc))
             }
             _ => {
                 self.branches.promise(key);
-                Ok(yes)
+                let yes = Message::Yes(case);
+                Ok(says(written, room, self.me, self.parent, yes, self.alloc))
             }
         }
     }

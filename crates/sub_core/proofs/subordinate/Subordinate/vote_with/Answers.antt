@@ -1,5 +1,9 @@
-use Rattle.std.proofs.Common.{◌∙◌, false, sym, subst}
-use Rattle.tree_model.specs.declared.messages.Message.TheVariants.{Prepare}
+use Rattle.std.proofs.Common.{rules, ◌≡◌, ◌∙◌, ◌∷◌, [], None, true, false, sym, subst}
+use Rattle.tree_model.specs.declared.messages.Message.TheVariants.{Prepare, Yes as YesMessage, Read as ReadMessage}
+use Rattle.tree_model.specs.declared.records.RecordKind.TheVariants as kind
+use Rattle.tree_model.specs.declared.records.Subject.TheVariants as subject
+use Rattle.tree_model.specs.CoordinatorRows.{post}
+use Rattle.sub_deeds.specs.Replies.{shown}
 use Rattle.sub_core.specs.Subordinates.{Hears, IsAt, NotHeard, SubState, active, seen}
 use Rattle.xa_tables.specs.declared.call.Call.TheVariants as call
 use Rattle.sub_core.proofs.Ties.{behind}
@@ -66,8 +70,8 @@ invariant_of-self-in-Read-1 g c =
     read_tied s c.args.key c.args.case c.requires.at.0 c.args.works c.args.xid c.self.invariant at
     c.remove.new.self (g.M.ResourceManager.sight c.promise.new.manager) c.remove.ensures c.in-Ok.ensures.ok
 
-pub invariant_of-self-in-Yes-1 : goal.invariant_of-self-in-Yes-1
-invariant_of-self-in-Yes-1 g c =
+pub invariant_of-self-in_default : goal.invariant_of-self-in_default
+invariant_of-self-in_default g c =
     let s : SubState = record {
       me = c.self.inside.me;
       parent = c.self.inside.parent;
@@ -97,10 +101,11 @@ returns-in-Read-clause-ok g c =
     let at = subst (λ v. IsAt v.table c.args.key c.args.case
     (active c.args.xid c.requires.at.0 c.args.works false)) (sym c.self.view_is) c.requires.at.1 in
     let m : ManagerSight = g.M.ResourceManager.sight c.promise.new.manager in
+    let said : c.says.result ≡ shown [] (post s.me s.parent (ReadMessage c.args.case) ∷ []) = search rules in
     subst (λ v. Hears (seen g.M.ResourceManager.sight v) (behind s c.remove.new.self m)
-    (Prepare c.args.case c.args.works) c.in_ok-read.read) c.self.view_is
+    (Prepare c.args.case c.args.works) c.says.result) c.self.view_is
     (subst (λ r. Hears s (behind s c.remove.new.self m) (Prepare c.args.case c.args.works)
-    r) (sym c.in_ok-read.ensures)
+    r) (sym said)
     (read s c.args.key c.args.case c.requires.at.0 c.args.works c.args.xid c.self.invariant at
     c.remove.new.self m c.remove.ensures
     (sym c.in-Read.is ∙ c.in-Ok.ensures.vote) c.in-Ok.ensures.ok))
@@ -118,11 +123,18 @@ returns-in_default g c =
     let at = subst (λ v. IsAt v.table c.args.key c.args.case
     (active c.args.xid c.requires.at.0 c.args.works false)) (sym c.self.view_is) c.requires.at.1 in
     let m : ManagerSight = g.M.ResourceManager.sight c.promise.new.manager in
+    let said : c.says-in_default.result ≡ record {
+      begun = None;
+      written = record { kind = kind.Prepared; subject = subject.Case c.args.case; forced = true } ∷ [];
+      told = None;
+      messages = post s.me s.parent (YesMessage c.args.case) ∷ [];
+      kept = None;
+    } = search rules in
     record {
       ok = subst (λ v. Hears (seen g.M.ResourceManager.sight v) (behind s c.promise-in_default.new.self m)
-          (Prepare c.args.case c.args.works) c.in_ok-yes.yes) c.self.view_is
+          (Prepare c.args.case c.args.works) c.says-in_default.result) c.self.view_is
           (subst (λ r. Hears s (behind s c.promise-in_default.new.self m) (Prepare c.args.case c.args.works)
-          r) (sym c.in_ok-yes.ensures)
+          r) (sym said)
           (yes s c.args.key c.args.case c.requires.at.0 c.args.works c.args.xid c.self.invariant at
           c.promise-in_default.new.self m c.promise-in_default.ensures
           (yes_of (s.manager.writes c.args.xid) c.in-Ok.vote c.in-Ok.ensures.vote
