@@ -38,7 +38,8 @@ told_fits b o d (Some t) = code_fits d.outcome
 
 -- the table has the row of a turn, wherever it has any
 fits : (s : BranchState) (wrote : Bool) (b : Branch) (d : Decision) (c : Call) → is_work c ≡ false
-    → has_rows (branch_rows s c) ≡ true → Contains (branch_rows s c) ((turn_of s c wrote b d).code, (turn_of s c wrote b d).to)
+    → has_rows (branch_rows s c) ≡ true
+    → Contains (branch_rows s c) ((turn_of s c wrote b d).code, (turn_of s c wrote b d).to)
 fits S0 wrote b d call.Start w h = absurd cc
 fits S0 wrote b d _ w h = absurd cc
 fits S1 wrote b d call.Start w h = absurd cc

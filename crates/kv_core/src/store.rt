@@ -352,8 +352,8 @@ impl KeyStore {
         }
     }
 
-    /// The place of a branch and its turn, where no check refuses a prepare, commit, rollback or forget; or the
-    /// refusal.
+    /// The place of a branch and its turn, where no check refuses a prepare, commit, rollback or forget; or
+    /// the refusal.
     pub fn due(&self, verb: Verb, xid: &Xid, flags: Flags) -> Result<(usize, Turn), Code>
         requires { is_work_verb verb ≡ false }
         ensures ok { IfOk result (λ due. (c : AnyCall) × IsDue self.now verb xid.now flags.0 (c, due.1)
@@ -391,8 +391,8 @@ impl KeyStore {
         self.heuristics.reserve()
     }
 
-    /// The branch that stands at this place takes its turn: that of a call, or of an operator's decision, which
-    /// leads from S3 to S5. In S0 and S5 it lets its writes and its locks go. It takes no memory.
+    /// The branch that stands at this place takes its turn: that of a call, or of an operator's decision,
+    /// which leads from S3 to S5. In S0 and S5 it lets its writes and its locks go. It takes no memory.
     pub fn finish(&mut self, xid: &Xid, place: usize, turn: Turn)
         requires stands { StandsAt self.old.tables.branches.branches xid.now place }
         requires turn { (c : AnyCall) × IsTurn self.old xid.now c turn }

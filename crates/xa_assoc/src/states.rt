@@ -163,9 +163,9 @@ impl States {
         }
     }
 
-    /// The call that a prepare, commit, rollback or forget makes where it comes to a row of the table, with the
-    /// place and the state of its branch. Inval, Async: the flags. Proto: the manager is not open. Inval: the
-    /// null XID. NotA: the branch is not known. Proto: it is held, or the table has no row for its state.
+    /// The call that a prepare, commit, rollback or forget makes where it comes to a row of the table, with
+    /// the place and the state of its branch. Inval, Async: the flags. Proto: the manager is not open. Inval:
+    /// the null XID. NotA: the branch is not known. Proto: it is held, or the table has no row for its state.
     pub fn ready(
         &self,
         verb: Verb,

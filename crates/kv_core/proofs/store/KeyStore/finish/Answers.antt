@@ -20,7 +20,8 @@ note-requires c =
     } in
     let stands : StandsAt s.tables.branches.branches c.args.xid.now c.args.place = search rules in
     let turned : IsTurn s c.args.xid.now c.requires.turn.0 c.args.turn =
-    subst (λ v. IsTurn v c.args.xid.now c.requires.turn.0 c.args.turn) (sym c.self.view_is) c.requires.turn.1 in
+    subst (λ v. IsTurn v c.args.xid.now c.requires.turn.0 c.args.turn) (sym c.self.view_is)
+    c.requires.turn.1 in
     (notes s c.args.xid.now c.requires.turn.0 c.args.turn c.self.invariant turned).0
 
 pub invariant_of-self : goal.invariant_of-self
@@ -41,7 +42,8 @@ invariant_of-self c =
     } in
     let stands : StandsAt s.tables.branches.branches c.args.xid.now c.args.place = search rules in
     let turned : IsTurn s c.args.xid.now c.requires.turn.0 c.args.turn =
-    subst (λ v. IsTurn v c.args.xid.now c.requires.turn.0 c.args.turn) (sym c.self.view_is) c.requires.turn.1 in
+    subst (λ v. IsTurn v c.args.xid.now c.requires.turn.0 c.args.turn) (sym c.self.view_is)
+    c.requires.turn.1 in
     let gone : is_let_go c.args.turn.to ≡ true = sym c.is_let_go.ensures ∙ c.if-is_let_go.true in
     let takes : TakesTurn s after c.args.xid.now c.args.turn = record {
       tables = c.finish.ensures c.args.xid.now stands;
@@ -72,7 +74,8 @@ invariant_of-self-else-is_let_go c =
     } in
     let stands : StandsAt s.tables.branches.branches c.args.xid.now c.args.place = search rules in
     let turned : IsTurn s c.args.xid.now c.requires.turn.0 c.args.turn =
-    subst (λ v. IsTurn v c.args.xid.now c.requires.turn.0 c.args.turn) (sym c.self.view_is) c.requires.turn.1 in
+    subst (λ v. IsTurn v c.args.xid.now c.requires.turn.0 c.args.turn) (sym c.self.view_is)
+    c.requires.turn.1 in
     let goes_on : is_let_go c.args.turn.to ≡ false = sym c.is_let_go.ensures ∙ c.if-is_let_go.false in
     let takes : TakesTurn s after c.args.xid.now c.args.turn = record {
       tables = c.finish.ensures c.args.xid.now stands;

@@ -14,7 +14,8 @@ invariant_of-self g c =
       boot = c.self.inside.boot;
     } in
     let due : IsDueTurn s c.args.xid.now c.requires.due.0 c.args.turn =
-    subst (λ v. IsDueTurn v c.args.xid.now c.requires.due.0 c.args.turn) (sym c.self.view_is) c.requires.due.1 in
+    subst (λ v. IsDueTurn v c.args.xid.now c.requires.due.0 c.args.turn) (sym c.self.view_is)
+    c.requires.due.1 in
     let silent : c.args.turn.entry ≡ None = search rules in
     let takes : TakesTurn s.store c.finish.new.self c.args.xid.now c.args.turn = search rules in
     kept_by s c.finish.new.self c.self.invariant (silent_promises s.store c.finish.new.self c.args.xid.now

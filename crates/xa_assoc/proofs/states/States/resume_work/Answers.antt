@@ -17,6 +17,7 @@ returns-clause-answer c =
     let not_limit : c.in_ok-code.code ≢ code.RmErr = search rules in
     made_step old (record { init = old.init; branches = c.place.new.self; associations = c.resume.new.self })
     t x call.StartResume (resume_plan old.associations t x lost) (resumed lost) c.resumed.result
-    c.in_ok-code.code (resume_is_plan old.associations t x lost) c.in_ok-code.ensures.answer not_proto not_limit
+    c.in_ok-code.code (resume_is_plan old.associations t x lost) c.in_ok-code.ensures.answer not_proto
+    not_limit
     (resume_listed lost (state_at old x) old.associations t x c.requires.at) c.resumed.ensures
     (c.place.ensures x c.requires.place.stands) refl
