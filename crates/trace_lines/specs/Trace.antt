@@ -3,6 +3,7 @@ use Rattle.std.specs.Prelude.{ℕ, ◌+◌, List, [], ◌∷◌, ◌++◌, codes
 use Rattle.std.specs.List.{flat_map}
 use Rattle.std.specs.Fmt.{decimal}
 use Rattle.tree_model.specs.declared.names.Case.{Case}
+use Rattle.tree_model.specs.declared.messages.Envelope.{Envelope}
 use Rattle.tree_model.specs.declared.events.Entry.{Entry}
 use Rattle.tree_model.specs.Texts.{case_text, reaction_lines}
 
@@ -14,7 +15,11 @@ number_word n = codes " " ++ decimal n
 abbrev pub case_word : Case → List ℕ
 case_word c = codes " " ++ case_text c
 
--- lines, each with its end
+-- a message's number, its sender and its receiver, before its word
+unfoldable pub way_text : ℕ → Envelope → List ℕ
+way_text n e = decimal n ++ codes " " ++ decimal e.from.0 ++ codes "->" ++ decimal e.to.0 ++ codes " "
+
+-- a line with its end
 abbrev pub line_text : List ℕ → List ℕ
 line_text line = line ++ 10 ∷ []
 

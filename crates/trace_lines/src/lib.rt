@@ -1,6 +1,7 @@
 //! The text of a trace: the lines of each step of a run.
 #![tactic(auto)]
 
+mod names;
 mod trace;
 
 pub use trace::{

@@ -1,6 +1,8 @@
 //! The text of a trace.
 
-ghost use Rattle.std.specs.Prelude.{◌≡◌, ◌+◌, ◌<◌, ◌^◌, ◌++◌, ◌∷◌, [], OnOk, IfOk, length, decimal, codes, flat_map};
+ghost use Rattle.std.specs.Prelude.{◌≡◌, ◌+◌, ◌<◌, ◌≤◌, ◌^◌, ◌++◌, ◌∷◌, [], OnOk, IfOk, drop, length, decimal, codes, flat_map};
+ghost use Rattle.trace_lines.specs.declared.names.TheConstants.{CASE};
+ghost use Rattle.trace_lines.specs.declared.trace.TheConstants.{WAY};
 ghost use Rattle.tree_model.specs.Texts.{
   txn_text,
   ticket_text,
@@ -8,7 +10,6 @@ ghost use Rattle.tree_model.specs.Texts.{
   op_text,
   outcome_word as word_of_outcome,
   message_text,
-  envelope_text,
   kind_word as word_of_kind,
   subject_text,
   logged_text,
@@ -20,14 +21,23 @@ ghost use Rattle.tree_model.specs.Texts.{
   envelope_lines,
   kept_lines,
 };
-ghost use Rattle.trace_lines.specs.Trace.{case_word, lines_text, number_word};
+ghost use Rattle.trace_lines.specs.Trace.{case_word, line_text, lines_text, number_word, way_text};
 
-use itoa::Buffer;
+use crate::names::{
+    CASE, NUMBER, TICKET, TXN, write_byte, write_case, write_number, write_ticket, write_txn,
+    write_word,
+};
 use std::alloc::{AllocError, Global};
 use tree_model::{
-    Bytes, Case, Conclusion, Envelope, Logged, Message, Op, Outcome, Presumption, RecordKind,
-    Subject, Ticket, Told, Txn,
+    Bytes, Case, Conclusion, Envelope, Logged, Message, Op, Outcome, RecordKind, Subject, Ticket,
+    Told, Txn,
 };
+
+/// The most bytes of a message's number, its sender and its receiver: four marks and three numbers.
+const WAY: usize = 64;
+
+/// The most bytes of a message up to its case, and of a record's line.
+const LINE: usize = 192;
 
 /// The name of a case, as `a1.1@2.1.1`.
 pub fn case_text(alloc: Global, case: &Case) -> Result<Vec<u8>, AllocError>
@@ -61,48 +71,27 @@ pub fn push_number(out: &mut Vec<u8>, number: u64) -> Result<(), AllocError>
     if number < 10 {
         return push_byte(out, b'0' + number as u8);
     }
-    let mut buffer = Buffer::new();
-    push(out, buffer.format(number))
-}
-
-fn push_txn(out: &mut Vec<u8>, txn: &Txn) -> Result<(), AllocError>
-    ensures { OnOk result (out.new.items ≡ out.old.items ++ txn_text txn.now) }
-{
-    push_byte(
-        out,
-        match txn.presumption {
-            Presumption::PresumeAbort => b'a',
-            Presumption::PresumeCommit => b'c',
-        },
-    )?;
-    push_number(out, txn.boot)?;
-    push_byte(out, b'.')?;
-    push_number(out, txn.sequence)
+    let mut text = [0; NUMBER];
+    let begin = write_number(number, &mut text, NUMBER);
+    out.extend_from_slice(&text[begin..])
 }
 
 /// Adds the name of a ticket, as `2.1.1`.
 pub fn push_ticket(out: &mut Vec<u8>, ticket: &Ticket) -> Result<(), AllocError>
     ensures { OnOk result (out.new.items ≡ out.old.items ++ ticket_text ticket.now) }
 {
-    push_number(out, u64::from(ticket.child.0))?;
-    push_byte(out, b'.')?;
-    push_number(out, ticket.boot)?;
-    push_byte(out, b'.')?;
-    push_number(out, ticket.number)
+    let mut text = [0; TICKET];
+    let begin = write_ticket(ticket, &mut text, TICKET);
+    out.extend_from_slice(&text[begin..])
 }
 
 /// Adds the name of a case, as `a1.1@2.1.1`.
 pub fn push_case(out: &mut Vec<u8>, case: &Case) -> Result<(), AllocError>
     ensures { OnOk result (out.new.items ≡ out.old.items ++ text_of_case case.now) }
 {
-    push_txn(out, &case.txn)?;
-    match &case.ticket {
-        None => Ok(()),
-        Some(ticket) => {
-            push_byte(out, b'@')?;
-            push_ticket(out, ticket)
-        }
-    }
+    let mut text = [0; CASE];
+    let begin = write_case(case, &mut text, CASE);
+    out.extend_from_slice(&text[begin..])
 }
 
 fn push_op(out: &mut Vec<u8>, op: &Op) -> Result<(), AllocError>
@@ -136,14 +125,6 @@ pub fn outcome_word(outcome: Outcome) -> &'static str
     }
 }
 
-/// A word, and a case behind it.
-fn push_named(out: &mut Vec<u8>, word: &str, case: &Case) -> Result<(), AllocError>
-    ensures { OnOk result (out.new.items ≡ out.old.items ++ (word.now ++ text_of_case case.now)) }
-{
-    push(out, word)?;
-    push_case(out, case)
-}
-
 /// Adds a space and a number.
 pub fn push_number_word(out: &mut Vec<u8>, number: u64) -> Result<(), AllocError>
     ensures { OnOk result (out.new.items ≡ out.old.items ++ number_word number) }
@@ -160,54 +141,80 @@ pub fn push_case_word(out: &mut Vec<u8>, case: &Case) -> Result<(), AllocError>
     push_case(out, case)
 }
 
-fn push_message(out: &mut Vec<u8>, message: &Message) -> Result<(), AllocError>
-    ensures { OnOk result (out.new.items ≡ out.old.items ++ message_text message.now) }
+/// Writes a message's number, its sender and its receiver, as `7 1->2 `, so that they end at `end`: where they
+/// begin.
+#[tactic(auto, unfolding(crate::specs::Trace::way_text))]
+fn write_way(number: u64, envelope: &Envelope, line: &mut [u8], end: usize) -> usize
+    requires { (WAY ≤ end) × (end ≤ length line.old) }
+    ensures begin { (result ≤ end) × (end ≤ result + WAY) }
+    ensures written { drop result line.new ≡ way_text number envelope.now ++ drop end line.old }
 {
-    match message {
-        Message::Join(case) => push_named(out, "JOIN ", case),
+    let end = write_byte(b' ', line, end);
+    let end = write_number(u64::from(envelope.to.0), line, end);
+    let end = write_word("->", line, end);
+    let end = write_number(u64::from(envelope.from.0), line, end);
+    let end = write_byte(b' ', line, end);
+    write_number(number, line, end)
+}
+
+/// Adds a message up to its case.
+fn push_head(
+    out: &mut Vec<u8>,
+    number: u64,
+    envelope: &Envelope,
+    word: &str,
+    case: &Case,
+) -> Result<(), AllocError>
+    requires { length word.now ≤ 8 }
+    ensures { OnOk result (out.new.items
+        ≡ out.old.items ++ (way_text number envelope.now ++ (word.now ++ text_of_case case.now))) }
+{
+    let mut line = [0; LINE];
+    let end = write_case(case, &mut line, LINE);
+    let end = write_word(word, &mut line, end);
+    let begin = write_way(number, envelope, &mut line, end);
+    out.extend_from_slice(&line[begin..])
+}
+
+fn push_envelope(out: &mut Vec<u8>, number: u64, envelope: &Envelope) -> Result<(), AllocError>
+    ensures { OnOk result (out.new.items
+        ≡ out.old.items ++ (way_text number envelope.now ++ message_text envelope.now.message)) }
+{
+    match &envelope.message {
+        Message::Join(case) => push_head(out, number, envelope, "JOIN ", case),
         Message::Joined(case, ticket) => {
-            push_named(out, "JOINED ", case)?;
+            push_head(out, number, envelope, "JOINED ", case)?;
             push_byte(out, b' ')?;
             push_ticket(out, ticket)
         }
         Message::Work(case, index, op) => {
-            push_named(out, "WORK ", case)?;
+            push_head(out, number, envelope, "WORK ", case)?;
             push_number_word(out, *index)?;
             push_byte(out, b' ')?;
             push_op(out, op)
         }
         Message::Prepare(case, count) => {
-            push_named(out, "PREPARE ", case)?;
+            push_head(out, number, envelope, "PREPARE ", case)?;
             push_number_word(out, *count)
         }
-        Message::Yes(case) => push_named(out, "YES ", case),
-        Message::No(case) => push_named(out, "NO ", case),
-        Message::Read(case) => push_named(out, "READ ", case),
-        Message::Commit(case) => push_named(out, "COMMIT ", case),
-        Message::Abort(case) => push_named(out, "ABORT ", case),
+        Message::Yes(case) => push_head(out, number, envelope, "YES ", case),
+        Message::No(case) => push_head(out, number, envelope, "NO ", case),
+        Message::Read(case) => push_head(out, number, envelope, "READ ", case),
+        Message::Commit(case) => push_head(out, number, envelope, "COMMIT ", case),
+        Message::Abort(case) => push_head(out, number, envelope, "ABORT ", case),
         Message::Ack(case, outcome) => {
-            push_named(out, "ACK ", case)?;
+            push_head(out, number, envelope, "ACK ", case)?;
             push_byte(out, b' ')?;
             push(out, outcome_word(*outcome))
         }
-        Message::Inquire(case) => push_named(out, "INQUIRE ", case),
+        Message::Inquire(case) => push_head(out, number, envelope, "INQUIRE ", case),
     }
-}
-
-fn push_envelope(out: &mut Vec<u8>, number: u64, envelope: &Envelope) -> Result<(), AllocError>
-    ensures { OnOk result (out.new.items ≡ out.old.items ++ envelope_text number envelope.now) }
-{
-    push_number(out, number)?;
-    push_number_word(out, u64::from(envelope.from.0))?;
-    push(out, "->")?;
-    push_number(out, u64::from(envelope.to.0))?;
-    push_byte(out, b' ')?;
-    push_message(out, &envelope.message)
 }
 
 /// The word of a record's kind.
 pub fn kind_word(kind: RecordKind) -> &'static str
-    ensures { result.now ≡ word_of_kind kind }
+    ensures word { result.now ≡ word_of_kind kind }
+    ensures short { length result.now ≤ 12 }
 {
     match kind {
         RecordKind::Opened => "Opened",
@@ -229,25 +236,40 @@ pub fn kind_word(kind: RecordKind) -> &'static str
     }
 }
 
-fn push_subject(out: &mut Vec<u8>, subject: &Subject) -> Result<(), AllocError>
-    ensures { OnOk result (out.new.items ≡ out.old.items ++ subject_text subject.now) }
+fn write_subject(subject: &Subject, line: &mut [u8], end: usize) -> usize
+    requires { (CASE + 1 ≤ end) × (end ≤ length line.old) }
+    ensures begin { (result ≤ end) × (end ≤ result + (CASE + 1)) }
+    ensures written { drop result line.new ≡ subject_text subject.now ++ drop end line.old }
 {
     match subject {
-        Subject::Boot(boot) => push_number_word(out, *boot),
-        Subject::Case(case) => push_named(out, " ", case),
-        Subject::Other => Ok(()),
+        Subject::Boot(boot) => {
+            let end = write_number(*boot, line, end);
+            write_byte(b' ', line, end)
+        }
+        Subject::Case(case) => {
+            let end = write_case(case, line, end);
+            write_byte(b' ', line, end)
+        }
+        Subject::Other => end,
     }
 }
 
 fn push_logged(out: &mut Vec<u8>, process: u32, logged: &Logged) -> Result<(), AllocError>
-    ensures { OnOk result (out.new.items ≡ out.old.items ++ logged_text process logged.now) }
+    ensures { OnOk result (out.new.items ≡ out.old.items ++ line_text (logged_text process logged.now)) }
 {
-    push(out, "log ")?;
-    push_number(out, u64::from(process))?;
-    push_byte(out, b' ')?;
-    push(out, kind_word(logged.kind))?;
-    push_subject(out, &logged.subject)?;
-    push(out, if logged.forced { " forced" } else { " plain" })
+    let mut line = [0; LINE];
+    let force = if logged.forced {
+        " forced\n"
+    } else {
+        " plain\n"
+    };
+    let end = write_word(force, &mut line, LINE);
+    let end = write_subject(&logged.subject, &mut line, end);
+    let end = write_word(kind_word(logged.kind), &mut line, end);
+    let end = write_byte(b' ', &mut line, end);
+    let end = write_number(u64::from(process), &mut line, end);
+    let begin = write_word("log ", &mut line, end);
+    out.extend_from_slice(&line[begin..])
 }
 
 fn conclusion_word(conclusion: Conclusion) -> &'static str
@@ -261,12 +283,21 @@ fn conclusion_word(conclusion: Conclusion) -> &'static str
 }
 
 fn push_told(out: &mut Vec<u8>, told: &Told) -> Result<(), AllocError>
-    ensures { OnOk result (out.new.items ≡ out.old.items ++ told_text told.now) }
+    ensures { OnOk result (out.new.items ≡ out.old.items ++ line_text (told_text told.now)) }
 {
     push(out, "told ")?;
     push_txn(out, &told.txn)?;
     push_byte(out, b' ')?;
-    push(out, conclusion_word(told.conclusion))
+    push(out, conclusion_word(told.conclusion))?;
+    push_byte(out, b'\n')
+}
+
+fn push_txn(out: &mut Vec<u8>, txn: &Txn) -> Result<(), AllocError>
+    ensures { OnOk result (out.new.items ≡ out.old.items ++ txn_text txn.now) }
+{
+    let mut text = [0; TXN];
+    let begin = write_txn(txn, &mut text, TXN);
+    out.extend_from_slice(&text[begin..])
 }
 
 /// The line of a transaction that began, if one did.
@@ -289,7 +320,6 @@ pub fn push_written(out: &mut Vec<u8>, process: u32, written: &[Logged]) -> Resu
 {
     for logged in written {
         push_logged(out, process, logged)?;
-        push_byte(out, b'\n')?;
     }
     Ok(())
 }
@@ -300,10 +330,7 @@ pub fn push_conclusion(out: &mut Vec<u8>, told: &Option<Told>) -> Result<(), All
 {
     match told {
         None => Ok(()),
-        Some(told) => {
-            push_told(out, told)?;
-            push_byte(out, b'\n')
-        }
+        Some(told) => push_told(out, told),
     }
 }
 
