@@ -24,8 +24,7 @@ ghost use Rattle.tree_model.specs.Texts.{
 ghost use Rattle.trace_lines.specs.Trace.{case_word, line_text, lines_text, number_word, way_text};
 
 use crate::names::{
-    CASE, NUMBER, TICKET, TXN, write_byte, write_case, write_number, write_ticket, write_txn,
-    write_word,
+    CASE, NUMBER, TICKET, write_byte, write_case, write_number, write_ticket, write_txn, write_word,
 };
 use std::alloc::{AllocError, Global};
 use tree_model::{
@@ -36,7 +35,7 @@ use tree_model::{
 /// The most bytes of a message's number, its sender and its receiver: four marks and three numbers.
 const WAY: usize = 64;
 
-/// The most bytes of a message up to its case, and of a record's line.
+/// The most bytes of a message up to its case, and of every other line but a trim's.
 const LINE: usize = 192;
 
 /// The name of a case, as `a1.1@2.1.1`.
@@ -273,7 +272,8 @@ fn push_logged(out: &mut Vec<u8>, process: u32, logged: &Logged) -> Result<(), A
 }
 
 fn conclusion_word(conclusion: Conclusion) -> &'static str
-    ensures { result.now ≡ word_of_conclusion conclusion }
+    ensures word { result.now ≡ word_of_conclusion conclusion }
+    ensures short { length result.now ≤ 9 }
 {
     match conclusion {
         Conclusion::Committed => "committed",
@@ -282,22 +282,26 @@ fn conclusion_word(conclusion: Conclusion) -> &'static str
     }
 }
 
-fn push_told(out: &mut Vec<u8>, told: &Told) -> Result<(), AllocError>
-    ensures { OnOk result (out.new.items ≡ out.old.items ++ line_text (told_text told.now)) }
+fn push_told(out: &mut Vec<u8>, told: Told) -> Result<(), AllocError>
+    ensures { OnOk result (out.new.items ≡ out.old.items ++ line_text (told_text told)) }
 {
-    push(out, "told ")?;
-    push_txn(out, &told.txn)?;
-    push_byte(out, b' ')?;
-    push(out, conclusion_word(told.conclusion))?;
-    push_byte(out, b'\n')
+    let mut line = [0; LINE];
+    let end = write_byte(b'\n', &mut line, LINE);
+    let end = write_word(conclusion_word(told.conclusion), &mut line, end);
+    let end = write_byte(b' ', &mut line, end);
+    let end = write_txn(&told.txn, &mut line, end);
+    let begin = write_word("told ", &mut line, end);
+    out.extend_from_slice(&line[begin..])
 }
 
-fn push_txn(out: &mut Vec<u8>, txn: &Txn) -> Result<(), AllocError>
-    ensures { OnOk result (out.new.items ≡ out.old.items ++ txn_text txn.now) }
+fn push_beginning(out: &mut Vec<u8>, txn: Txn) -> Result<(), AllocError>
+    ensures { OnOk result (out.new.items ≡ out.old.items ++ line_text (codes "begin " ++ txn_text txn)) }
 {
-    let mut text = [0; TXN];
-    let begin = write_txn(txn, &mut text, TXN);
-    out.extend_from_slice(&text[begin..])
+    let mut line = [0; LINE];
+    let end = write_byte(b'\n', &mut line, LINE);
+    let end = write_txn(&txn, &mut line, end);
+    let begin = write_word("begin ", &mut line, end);
+    out.extend_from_slice(&line[begin..])
 }
 
 /// The line of a transaction that began, if one did.
@@ -306,11 +310,7 @@ pub fn push_begun(out: &mut Vec<u8>, begun: &Option<Txn>) -> Result<(), AllocErr
 {
     match begun {
         None => Ok(()),
-        Some(txn) => {
-            push(out, "begin ")?;
-            push_txn(out, txn)?;
-            push_byte(out, b'\n')
-        }
+        Some(txn) => push_beginning(out, *txn),
     }
 }
 
@@ -330,7 +330,7 @@ pub fn push_conclusion(out: &mut Vec<u8>, told: &Option<Told>) -> Result<(), All
 {
     match told {
         None => Ok(()),
-        Some(told) => push_told(out, told),
+        Some(told) => push_told(out, *told),
     }
 }
 
