@@ -24,25 +24,17 @@ use tree_model::{Act, Case, Event, Presumption, ProcessId};
 pub fn event_of(alloc: Global, root: ProcessId, line: &str) -> Result<Option<Event>, AllocError>
     ensures { IfOk result (λ event. event ≡ event_at root line.now) }
 {
+    if line == "settle" {
+        return Ok(Some(Event::Settle));
+    }
     match cut(line, ' ') {
-        None => {
-            if line == "settle" {
-                Ok(Some(Event::Settle))
-            } else {
-                Ok(None)
-            }
-        }
-        Some((word, rest)) => {
-            if word == "work" {
-                work_of(alloc, root, rest)
-            } else {
-                Ok(plain_event_of(root, word, rest))
-            }
-        }
+        None => Ok(None),
+        Some(("work", rest)) => work_of(alloc, root, rest),
+        Some((word, rest)) => Ok(plain_event_of(root, word, rest)),
     }
 }
 
-/// The event of a line but work, by its first word and the rest.
+/// The event of a line but settle and work, by its first word and the rest.
 #[tactic(auto, unfolding(crate::specs::Events::plain_at))]
 fn plain_event_of(root: ProcessId, word: &str, rest: &str) -> Option<Event>
     ensures { result ≡ plain_at root word.now rest.now }
