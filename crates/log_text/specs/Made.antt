@@ -1,7 +1,7 @@
--- A record with the frame that it is in a log.
+-- Frames, and the records that they are of.
 use Rattle.tree_model.specs.declared.records.LogRecord.{LogRecord}
 use Rattle.log_text.specs.declared.encode.Frame.{Frame}
 
--- the record that a frame holds
+-- the record that a frame is of
 abbrev pub frame_record : Frame → LogRecord
-frame_record f = f.entry
+frame_record f = record { entry = f.entry.value; parent = f.parent.value }

@@ -24,10 +24,11 @@ ghost use Rattle.log_text.specs.Payloads.{
   writes_text,
 };
 
-use crate::xids::branch_xid;
+use crate::xids::{branch_xid, format_of, ticket_name, txn_name};
 use std::alloc::{AllocError, Global};
+use std::snapshot::Snapshot;
 use tree_model::{
-    Branch, Bytes, LogRecord, Outcome, ProcessId, Record, Ticket, Tickets, Write, Writes,
+    Branch, Bytes, Case, LogRecord, Outcome, ProcessId, Record, Ticket, Tickets, Write, Writes,
 };
 use xa_xid::Xid;
 
@@ -48,16 +49,40 @@ pub fn name_xid(parent: Option<ProcessId>, branch: Branch) -> Xid
     }
 }
 
-/// The bytes of an XID.
+/// The bytes of an XID of these parts.
 #[tactic(auto, using(crate::proofs::Texts::joined4))]
-fn push_xid(text: &mut Vec<u8>, xid: &Xid) -> Result<(), AllocError>
-    ensures { OnOk result (text.new.items ≡ text.old.items ++ xid_bytes xid.now) }
+fn push_parts(text: &mut Vec<u8>, format: i32, gtrid: &[u8], bqual: &[u8]) -> Result<(), AllocError>
+    requires gtrid { length gtrid.now < 256 }
+    requires bqual { length bqual.now < 256 }
+    ensures { OnOk result (text.new.items ≡ text.old.items
+        ++ xid_bytes (record { format = format; gtrid = gtrid.now; bqual = bqual.now })) }
 {
-    let (format, gtrid, bqual) = xid.parts();
     text.extend_from_slice(&format.to_be_bytes())?;
     text.extend_from_slice(&[gtrid.len() as u8, bqual.len() as u8])?;
     text.extend_from_slice(gtrid)?;
     text.extend_from_slice(bqual)
+}
+
+/// The bytes of an XID.
+fn push_xid(text: &mut Vec<u8>, xid: &Xid) -> Result<(), AllocError>
+    ensures { OnOk result (text.new.items ≡ text.old.items ++ xid_bytes xid.now) }
+{
+    let (format, gtrid, bqual) = xid.parts();
+    push_parts(text, format, gtrid, bqual)
+}
+
+/// The bytes of a case's XID.
+fn push_case(text: &mut Vec<u8>, parent: Option<ProcessId>, case: &Case) -> Result<(), AllocError>
+    ensures { OnOk result (text.new.items ≡ text.old.items ++ name_text parent (CaseBranch case.now)) }
+{
+    let format = format_of(case.txn.presumption);
+    let gtrid = txn_name(case.txn);
+    match (case.ticket, parent) {
+        (Some(ticket), Some(parent)) => {
+            push_parts(text, format, &gtrid, &ticket_name(parent, ticket))
+        }
+        _ => push_parts(text, format, &gtrid, &[]),
+    }
 }
 
 fn push_name(
@@ -67,7 +92,10 @@ fn push_name(
 ) -> Result<(), AllocError>
     ensures { OnOk result (text.new.items ≡ text.old.items ++ name_text parent branch.now) }
 {
-    push_xid(text, &name_xid(parent, *branch))
+    match branch {
+        Branch::Case(case) => push_case(text, parent, case),
+        Branch::Foreign(xid) => push_xid(text, xid),
+    }
 }
 
 #[tactic(auto, unfolding(crate::specs::Payloads::ticket_text), using(crate::proofs::Texts::joined3))]
@@ -153,10 +181,10 @@ fn push_payload(
         | Record::Prepare(case, tickets)
         | Record::Commit(case, tickets)
         | Record::Abort(case, tickets) => {
-            push_name(text, parent, &Branch::Case(*case))?;
+            push_case(text, parent, case)?;
             push_tickets(text, tickets)
         }
-        Record::End(case) => push_name(text, parent, &Branch::Case(*case)),
+        Record::End(case) => push_case(text, parent, case),
         Record::Prepared(branch, writes) | Record::Direct(branch, writes) => {
             push_name(text, parent, branch)?;
             push_writes(text, writes)
@@ -204,37 +232,57 @@ fn kind_byte(entry: &Record) -> u8
 
 /// The record as it stands in a log.
 #[tactic(auto, unfolding(crate::specs::Payloads::record_text, crate::specs::Frames::frame_text))]
-fn record_bytes(entry: &LogRecord, alloc: Global) -> Result<Vec<u8>, AllocError>
-    requires { FitsFrame entry.now }
-    ensures { IfOk result (λ text. text.items ≡ record_text entry.now) }
+fn record_bytes(
+    entry: &Record,
+    parent: Option<ProcessId>,
+    alloc: Global,
+) -> Result<Vec<u8>, AllocError>
+    requires { FitsFrame (record { entry = entry.now; parent = parent }) }
+    ensures { IfOk result (λ text. text.items
+        ≡ record_text (record { entry = entry.now; parent = parent })) }
 {
     let mut text = Vec::with_capacity(alloc, FRAME)?;
-    text.extend_from_slice(&[kind_byte(&entry.entry), 0, 0])?;
-    push_payload(&mut text, entry.parent, &entry.entry)?;
+    text.extend_from_slice(&[kind_byte(entry), 0, 0])?;
+    push_payload(&mut text, parent, entry)?;
     let length = ((text.len() - 3) as u16).to_be_bytes();
     text[1] = length[0];
     text[2] = length[1];
     Ok(text)
 }
 
-/// A record and the frame that it is in a log. It is made before anything is written, as it takes memory.
+/// The frame that a record is in a log. It is made before anything is written, as it takes memory. The record
+/// itself is not kept: only clauses read it.
 #[derive(Drop)]
 pub struct Frame {
-    entry: LogRecord,
+    entry: Snapshot<Record>,
+    parent: Snapshot<Option<ProcessId>>,
     bytes: Vec<u8>,
-    ghost spells: { bytes.items ≡ record_text entry },
+    ghost spells: { bytes.items ≡ record_text (record { entry = entry.value; parent = parent.value }) },
 }
 
 impl Frame {
     ghost use Rattle.log_text.specs.Made.{frame_record};
+
+    /// The frame of a record under the parent of its name.
+    pub fn of(entry: &Record, parent: Option<ProcessId>, alloc: Global) -> Result<Frame, AllocError>
+        requires { FitsFrame (record { entry = entry.now; parent = parent }) }
+        ensures { IfOk result (λ frame. frame_record frame
+            ≡ record { entry = entry.now; parent = parent }) }
+    {
+        let bytes = record_bytes(entry, parent, alloc)?;
+        Ok(Frame {
+            entry: Snapshot::of(entry),
+            parent: Snapshot::of(&parent),
+            bytes,
+        })
+    }
 
     /// The frame of a record.
     pub fn new(entry: LogRecord, alloc: Global) -> Result<Frame, AllocError>
         requires { FitsFrame entry }
         ensures { IfOk result (λ frame. frame_record frame ≡ entry) }
     {
-        let bytes = record_bytes(&entry, alloc)?;
-        Ok(Frame { entry, bytes })
+        Frame::of(&entry.entry, entry.parent, alloc)
     }
 
     /// The bytes that stand in the log.

@@ -2,4 +2,5 @@
 
 mod branches;
 
+pub(crate) use branches::{format_of, ticket_name, txn_name};
 pub use branches::{ForeignXid, branch_xid, read_branch};

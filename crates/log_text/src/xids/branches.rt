@@ -43,7 +43,8 @@ pub fn branch_xid(txn: Txn, below: Option<(ProcessId, Ticket)>) -> Xid
     }
 }
 
-fn format_of(presumption: Presumption) -> i32
+/// The format of the XIDs of cases under this presumption.
+pub(crate) fn format_of(presumption: Presumption) -> i32
     ensures { result ≡ branch_format presumption }
 {
     match presumption {
@@ -63,8 +64,9 @@ fn presumption_of(format: i32) -> Option<Presumption>
     }
 }
 
+/// The gtrid of a transaction's cases.
 #[tactic(auto, unfolding(tree_model::specs::Branches::txn_bytes))]
-fn txn_name(txn: Txn) -> [u8; 20]
+pub(crate) fn txn_name(txn: Txn) -> [u8; 20]
     ensures { result ≡ txn_bytes txn }
 {
     let mut name = [0; 20];
@@ -74,8 +76,9 @@ fn txn_name(txn: Txn) -> [u8; 20]
     name
 }
 
+/// The bqual of the case of the ticket below this parent.
 #[tactic(auto, unfolding(tree_model::specs::Branches::ticket_bytes))]
-fn ticket_name(parent: ProcessId, ticket: Ticket) -> [u8; 24]
+pub(crate) fn ticket_name(parent: ProcessId, ticket: Ticket) -> [u8; 24]
     ensures { result ≡ ticket_bytes (parent, ticket) }
 {
     let mut name = [0; 24];
