@@ -63,7 +63,7 @@ pub fn decides_owed(
 {
     let named = Sequence::from_vec(Vec::from_slice(alloc, &owed)?);
     let written = Written::forced(decision(seat.case, outcome, named));
-    let effect = RowEffect::writes(alloc, seat, written, told, messages)?;
+    let effect = RowEffect::writes(alloc, &seat, &written, told, messages)?;
     live.awaits(waits(outcome), owed)?;
     Ok(effect)
 }
@@ -72,16 +72,16 @@ pub fn decides_owed(
 pub fn forgets_behind(
     alloc: Global,
     seat: Seat,
-    written: Written,
+    written: &Written,
     told: Option<Told>,
     messages: Envelopes,
     live: &mut Live,
 ) -> Result<RowEffect, AllocError>
-    ensures shows { IfOk result (λ effect. ShowsRecord seat.parent effect written told messages) }
+    ensures shows { IfOk result (λ effect. ShowsRecord seat.parent effect written.now told messages) }
     ensures forgotten { OnOk result (live.new ≡ unknown_view) }
     ensures err { OnErr result (live.new ≡ live.old) }
 {
-    let effect = RowEffect::writes(alloc, seat, written, told, messages)?;
+    let effect = RowEffect::writes(alloc, &seat, written, told, messages)?;
     live.forget();
     Ok(effect)
 }

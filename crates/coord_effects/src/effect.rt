@@ -47,11 +47,11 @@ impl Written {
 
     /// The record as it stands in the log of this coordinator. One that no log can hold is refused as for
     /// want of memory.
-    fn framed(self, alloc: Global, seat: Seat) -> Result<Framed, AllocError>
-        ensures { IfOk result (λ framed. Frames seat.parent framed self) }
+    fn framed(&self, alloc: Global, seat: &Seat) -> Result<Framed, AllocError>
+        ensures { IfOk result (λ framed. Frames seat.now.parent framed self.now) }
     {
         Ok(Framed {
-            frame: coordinator_frame(self.entry, seat.parent, alloc)?,
+            frame: coordinator_frame(&self.entry, seat.parent, alloc)?,
             forced: self.forced,
         })
     }
@@ -110,12 +110,12 @@ impl RowEffect {
     /// refused as for want of memory.
     pub fn writes(
         alloc: Global,
-        seat: Seat,
-        written: Written,
+        seat: &Seat,
+        written: &Written,
         told: Option<Told>,
         messages: Envelopes,
     ) -> Result<RowEffect, AllocError>
-        ensures { IfOk result (λ effect. ShowsRecord seat.parent effect written told messages) }
+        ensures { IfOk result (λ effect. ShowsRecord seat.now.parent effect written.now told messages) }
     {
         let mut shown = Sequence::new(alloc);
         shown.push(written.shown())?;

@@ -41,7 +41,7 @@ pub fn prepared_commit(alloc: Global, seat: Seat, live: &mut Live) -> Result<Row
         }
         Presumption::PresumeCommit => {
             let written = Written::plain(Record::Commit(seat.case, Sequence::new(alloc)));
-            forgets_behind(alloc, seat, written, None, messages, live)
+            forgets_behind(alloc, seat, &written, None, messages, live)
         }
     }
 }
@@ -58,7 +58,7 @@ pub fn prepared_abort(alloc: Global, seat: Seat, live: &mut Live) -> Result<RowE
     match seat.case.txn.presumption {
         Presumption::PresumeAbort => {
             let written = Written::plain(Record::Abort(seat.case, Sequence::new(alloc)));
-            forgets_behind(alloc, seat, written, None, messages, live)
+            forgets_behind(alloc, seat, &written, None, messages, live)
         }
         Presumption::PresumeCommit => {
             decides_owed(

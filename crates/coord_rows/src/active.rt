@@ -106,7 +106,7 @@ fn active_commit_with(alloc: Global, seat: Seat, live: &mut Live) -> Result<RowE
             let tickets = live.tickets(alloc)?;
             let named = Sequence::from_vec(Vec::from_slice(alloc, &tickets)?);
             let written = Written::forced(Record::Collecting(seat.case, named));
-            let effect = RowEffect::writes(alloc, seat, written, None, messages)?;
+            let effect = RowEffect::writes(alloc, &seat, &written, None, messages)?;
             live.collect_named(&tickets)?;
             Ok(effect)
         }

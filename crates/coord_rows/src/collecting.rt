@@ -103,7 +103,7 @@ fn abort_undecided(
     match seat.case.txn.presumption {
         Presumption::PresumeAbort => {
             let written = Written::plain(Record::Abort(seat.case, Sequence::new(alloc)));
-            forgets_behind(alloc, seat, written, told, messages, live)
+            forgets_behind(alloc, seat, &written, told, messages, live)
         }
         Presumption::PresumeCommit => {
             let outcome = Outcome::Aborted;
@@ -142,7 +142,7 @@ fn collecting_read_only(alloc: Global, seat: Seat, live: &mut Live) -> Result<Ro
         }
         Presumption::PresumeCommit => {
             let written = Written::plain(Record::End(seat.case));
-            forgets_behind(alloc, seat, written, told, messages, live)
+            forgets_behind(alloc, seat, &written, told, messages, live)
         }
     }
 }
@@ -171,7 +171,7 @@ fn root_commits(
         }
         Presumption::PresumeCommit => {
             let written = Written::forced(Record::Commit(seat.case, Sequence::new(alloc)));
-            forgets_behind(alloc, seat, written, told, messages, live)
+            forgets_behind(alloc, seat, &written, told, messages, live)
         }
     }
 }
@@ -190,7 +190,7 @@ fn cascaded_prepares(
     let messages = up(alloc, seat, Message::Yes(seat.case))?;
     let named = Sequence::from_vec(Vec::from_slice(alloc, yes)?);
     let written = Written::forced(Record::Prepare(seat.case, named));
-    let effect = RowEffect::writes(alloc, seat, written, None, messages)?;
+    let effect = RowEffect::writes(alloc, &seat, &written, None, messages)?;
     live.promise(alloc, yes)?;
     Ok(effect)
 }

@@ -45,7 +45,7 @@ pub fn decided_ack(
         return Ok(RowEffect::quiet(alloc));
     }
     let written = Written::plain(Record::End(seat.case));
-    forgets_behind(alloc, seat, written, None, Sequence::new(alloc), live)
+    forgets_behind(alloc, seat, &written, None, Sequence::new(alloc), live)
 }
 
 /// The outcome to one child.

@@ -36,7 +36,7 @@ pub fn rebuild(
 {
     let RestartPlan { appended, reading } = plan(alloc, me, parent, tree, records)?;
     let written = all_shown(alloc, &appended)?;
-    let frames = framed(alloc, parent, appended)?;
+    let frames = framed(alloc, parent, &appended)?;
     let (cases, messages) = restores(alloc, me, parent, &reading)?;
     Ok(Rebuilt {
         boot: reading.boot(),

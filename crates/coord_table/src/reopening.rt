@@ -40,10 +40,10 @@ pub(crate) fn all_shown(alloc: Global, records: &[Record]) -> Result<Sequence<Lo
 pub(crate) fn framed(
     alloc: Global,
     parent: Option<ProcessId>,
-    records: Vec<Record>,
+    records: &[Record],
 ) -> Result<Vec<Frame>, AllocError>
     ensures spells { IfOk result (λ frames. map frame_record frames.items
-        ≡ map (in_log parent) records.items) }
+        ≡ map (in_log parent) records.now) }
     ensures sound { IfOk result (λ frames. AreRecords kind.Coordinator (map frame_record frames.items)) }
 {
     let mut frames = Vec::new(alloc);

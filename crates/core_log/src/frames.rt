@@ -3,14 +3,15 @@
 ghost use Rattle.std.specs.Prelude.{◌≡◌, ◌<◌, ◌^◌, IfOk, IsTrue};
 ghost use Rattle.tree_model.specs.declared.names.Kind.{Kind as AnyKind};
 ghost use Rattle.tree_model.specs.declared.records.Branch.{Branch as AnyBranch};
-ghost use Rattle.tree_model.specs.LogNames.{in_log};
+ghost use Rattle.tree_model.specs.LogNames.{case_parent, in_log};
+ghost use Rattle.tree_model.specs.Records.{record_case};
 ghost use Rattle.log_text.specs.Made.{frame_record};
 ghost use Rattle.log_rules.specs.sound.Sound.{AreSoundTickets, IsSound, IsSoundName, IsSoundTicket};
 ghost use Rattle.rec_log.specs.Sights.{IsRecord};
 
 use log_text::Frame;
 use std::alloc::{AllocError, Global};
-use tree_model::{Case, LogRecord, ProcessId, Record, Ticket};
+use tree_model::{Case, ProcessId, Record, Ticket};
 
 /// What numbers in a log are below.
 const NUMBERS: u64 = 1 << 63;
@@ -38,38 +39,47 @@ fn is_whole(parent: Option<ProcessId>, case: Case) -> bool
     parent.is_some() == case.ticket.is_some()
 }
 
-/// Whether a coordinator's log can hold the record.
-fn is_writable(record: &LogRecord) -> bool
-    ensures { IsTrue result → IsSound AnyKind.Coordinator record.now }
+/// Whether a coordinator's log can hold the record under this parent.
+fn is_writable(entry: &Record, parent: Option<ProcessId>) -> bool
+    ensures { IsTrue result → IsSound AnyKind.Coordinator (record { entry = entry.now; parent = parent }) }
 {
-    match &record.entry {
-        Record::Opened(boot) => record.parent.is_none() && *boot < NUMBERS,
+    match entry {
+        Record::Opened(boot) => parent.is_none() && *boot < NUMBERS,
         Record::Collecting(case, tickets)
         | Record::Prepare(case, tickets)
         | Record::Commit(case, tickets)
         | Record::Abort(case, tickets) => {
-            is_whole(record.parent, *case) && are_writable(tickets.as_slice())
+            is_whole(parent, *case) && are_writable(tickets.as_slice())
         }
-        Record::End(case) => is_whole(record.parent, *case),
+        Record::End(case) => is_whole(parent, *case),
         _ => false,
+    }
+}
+
+/// The parent that goes with the record's case; none where it has no ticket.
+fn named_parent(entry: &Record, parent: Option<ProcessId>) -> Option<ProcessId>
+    ensures { result ≡ case_parent parent (record_case entry.now) }
+{
+    match entry.case() {
+        Some(case) if case.ticket.is_some() => parent,
+        _ => None,
     }
 }
 
 /// The frame of a coordinator's record, as the log of a process below this parent holds it. One that no log
 /// can hold is refused as for want of memory: more than 255 tickets, or a number of 2^63 and more; no run
 /// makes one.
-#[tactic(auto, using(crate::proofs::Sound::sound_records))]
 pub fn coordinator_frame(
-    entry: Record,
+    entry: &Record,
     parent: Option<ProcessId>,
     alloc: Global,
 ) -> Result<Frame, AllocError>
-    ensures spells { IfOk result (λ frame. frame_record frame ≡ in_log parent entry) }
+    ensures spells { IfOk result (λ frame. frame_record frame ≡ in_log parent entry.now) }
     ensures sound { IfOk result (λ frame. IsRecord AnyKind.Coordinator (frame_record frame)) }
 {
-    let record = entry.in_log(parent);
-    if !is_writable(&record) {
+    let parent = named_parent(entry, parent);
+    if !is_writable(entry, parent) {
         return Err(AllocError);
     }
-    Frame::new(record, alloc)
+    Frame::of(entry, parent, alloc)
 }

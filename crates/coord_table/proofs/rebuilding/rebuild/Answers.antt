@@ -1,4 +1,5 @@
 use Rattle.std.proofs.Common.{◌∙◌, ap, map, refl}
+use Rattle.tree_model.specs.LogNames.{in_log}
 use Rattle.tree_model.specs.Nodes.{logged_of}
 use Rattle.tree_model.specs.Restarts.{forced_all}
 use Rattle.coord_table.proofs.Rebuilds.{rebuilds}
@@ -9,6 +10,7 @@ returns c =
     let planned = c.in_ok-appended.ensures {u = tt} in
     let framed = c.in_ok-frames.ensures {u = tt} in
     rebuilds c.args.me c.args.parent c.args.tree.now c.args.records.now _ _ planned.appended planned.reading
-    _ c.in_ok-written.written c.in_ok-cases.messages c.boot.ensures framed.spells framed.sound
+    _ c.in_ok-written.written c.in_ok-cases.messages c.boot.ensures
+    (framed.spells ∙ ap (map (in_log c.args.parent)) c.deref-2.ensures.value) framed.sound
     (c.in_ok-written.ensures {u = tt} ∙ ap (λ rs. map logged_of (forced_all rs)) c.deref.ensures.value)
     (c.in_ok-cases.ensures {u = tt}) refl

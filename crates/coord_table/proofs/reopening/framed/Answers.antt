@@ -1,5 +1,5 @@
-use Rattle.std.proofs.Common.{rules, ◌≡◌, ◌∷◌, [], ◌++◌, map, sym, subst, ap, ◌∙◌}
-use Rattle.std.proofs.lemmas.List.{map-append}
+use Rattle.std.proofs.Common.{◌≡◌, ◌+◌, ◌∷◌, [], ◌++◌, drop, map, sym, subst, ap, ◌∙◌}
+use Rattle.std.proofs.lemmas.List.{at_drop_more, map-append}
 use Rattle.tree_model.specs.declared.names.Kind.TheVariants.{Coordinator}
 use Rattle.tree_model.specs.LogNames.{in_log}
 use Rattle.log_text.specs.Made.{frame_record}
@@ -9,20 +9,20 @@ use Rattle.coord_table.proofs.reopening.framed.Goals as goal
 
 pub loop-record-preserved : goal.loop-record-preserved
 loop-record-preserved c =
-    let next : c.loop-record.record-iterator.rest.items ≡ c.in-Some.record
-    ∷ c.next.new.self.rest.items = search rules in
+    let rest = drop (c.loop-record.record-index + 1) c.args.records.now in
+    let next : drop c.loop-record.record-index c.args.records.now ≡ c.record-item.result ∷ rest =
+    at_drop_more (λ rs. rs) c.args.records.now c.loop-record.record-index c.record-item.result
+    c.loop-record-test.true ∙ ap (λ r. r ∷ rest) (sym c.record-item.is) in
     let made = c.in_ok-coordinator_frame.ensures {u = tt} in
     let pushed : c.push.new.self.items ≡ c.loop-record.frames.items ++ c.in_ok-coordinator_frame.field-0
     ∷ [] = (c.in_ok-push.ensures {u = tt}).items in
     let spelled : map frame_record c.loop-record.frames.items
-    ++ map (in_log c.args.parent) (c.in-Some.record ∷ c.next.new.self.rest.items)
-    ≡ map (in_log c.args.parent) c.args.records.items =
+    ++ map (in_log c.args.parent) (c.record-item.result ∷ rest) ≡ map (in_log c.args.parent) c.args.records.now =
     ap (λ rs. map frame_record c.loop-record.frames.items ++ map (in_log c.args.parent) rs) (sym next)
     ∙ c.loop-record.invariant.0 in (
-      ap (λ fs. map frame_record fs ++ map (in_log c.args.parent) c.next.new.self.rest.items) pushed
+      ap (λ fs. map frame_record fs ++ map (in_log c.args.parent) rest) pushed
           ∙ spells_more frame_record c.args.parent c.loop-record.frames.items
-          c.in_ok-coordinator_frame.field-0 c.in-Some.record
-          c.next.new.self.rest.items _ spelled made.spells,
+          c.in_ok-coordinator_frame.field-0 c.record-item.result rest _ spelled made.spells,
       subst (λ ls. AreRecords Coordinator ls) (sym (ap (map frame_record) pushed
           ∙ map-append frame_record c.loop-record.frames.items (c.in_ok-coordinator_frame.field-0 ∷ [])))
           (are_more Coordinator _ _ c.loop-record.invariant.1 made.sound),

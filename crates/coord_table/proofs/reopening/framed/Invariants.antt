@@ -1,4 +1,4 @@
-use Rattle.std.proofs.Common.{◌≡◌, ◌++◌, map}
+use Rattle.std.proofs.Common.{◌≡◌, ◌++◌, drop, map}
 use Rattle.tree_model.specs.declared.names.Kind.TheVariants.{Coordinator}
 use Rattle.tree_model.specs.LogNames.{in_log}
 use Rattle.log_text.specs.Made.{frame_record}
@@ -7,6 +7,6 @@ use Rattle.coord_table.proofs.reopening.framed.Given as goal
 
 abbrev pub invariant-loop-record : goal.invariant-loop-record
 invariant-loop-record l =
-    (map frame_record l.frames.items ++ map (in_log l.fn.parent) l.record-iterator.rest.items
-    ≡ map (in_log l.fn.parent) l.fn.records.items)
+    (map frame_record l.frames.items ++ map (in_log l.fn.parent) (drop l.record-index l.records)
+    ≡ map (in_log l.fn.parent) l.records)
     × AreRecords Coordinator (map frame_record l.frames.items)
