@@ -1,5 +1,5 @@
 -- Lists of keys, and what a map of them says of each transaction.
-use Rattle.std.proofs.Common.{◌≡◌, ℕ, ◌==◌, Bool, true, false, not, ◌&&◌, ◌||◌, cond, Option, None, Some, List, [], ◌∷◌, ◌++◌, filter, subst, refl, sym, ap, ◌∙◌, arith, ◌≢◌, inl, inr}
+use Rattle.std.proofs.Common.{◌≡◌, ℕ, ◌==◌, Bool, true, false, not, ◌&&◌, ◌||◌, cond, Option, None, Some, List, [], ◌∷◌, ◌++◌, filter, length, subst, refl, sym, ap, ◌∙◌, arith, ◌≢◌, inl, inr}
 use Rattle.std.proofs.lemmas.Grind.{common_steps}
 use Rattle.std.proofs.lemmas.Bool.{cases_eq}
 use Rattle.std.proofs.lemmas.List.Folds.{list_any-append}
@@ -51,6 +51,19 @@ written_at t x es fs ls k writes = by_test (same_txn t x) (txn_equality t x)
         → listed_for x fs k ≡ cond b (is_key ls.items k) (listed_for x es k)
     by_test true e = rw (writes x, e) refl
     by_test false e = rw (writes x, e) refl
+
+-- the keys of this transaction are those of the list ls
+pub listed-written : (t : Txn) (es fs : List (Txn × SmallVec ℕ)) (ls : SmallVec ℕ) (k : ℕ)
+    → Writes t es fs ls → listed_for t fs k ≡ is_key ls.items k
+listed-written t es fs ls k writes =
+    written_at t t es fs ls k writes
+    ∙ ap (λ b. cond b (is_key ls.items k) (listed_for t es k)) ((txn_tells t t).1 refl)
+
+-- a list of no keys
+pub is_key-empty : (ks : List ℕ) (k : ℕ) → length ks ≡ 0 → is_key ks k ≡ false
+unfolding is_key
+is_key-empty [] k empty = refl
+is_key-empty (j ∷ ks) k empty = grind (arith, common_steps, empty)
 
 -- the same transaction has the same list
 listed_same : (t x : Txn) (es : List (Txn × SmallVec ℕ)) (k : ℕ) → same_txn t x ≡ true

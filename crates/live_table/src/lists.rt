@@ -50,35 +50,31 @@ fn without(list: &mut Keys, key: usize)
 pub(crate) fn drop_key(keys: &mut IndexMap<Txn, Keys>, txn: &Txn, key: usize)
     ensures { Drops keys.old.entries keys.new.entries txn.now key }
 {
-    take_key(keys, txn, key);
-    let_go(keys, txn);
+    let idle = take_key(keys, txn, key);
+    let_go(keys, txn, idle);
 }
 
-fn take_key(keys: &mut IndexMap<Txn, Keys>, txn: &Txn, key: usize)
-    ensures { Drops keys.old.entries keys.new.entries txn.now key }
+/// The key leaves the transaction's list. Tells whether the list has no key any more.
+fn take_key(keys: &mut IndexMap<Txn, Keys>, txn: &Txn, key: usize) -> bool
+    ensures drops { Drops keys.old.entries keys.new.entries txn.now key }
+    ensures idle { IsTrue result → (k : ℕ) → listed_for txn.now keys.new.entries k ≡ false }
 {
     match keys.get_mut(txn) {
-        Some(list) => without(list, key),
-        None => {}
+        Some(list) => {
+            without(list, key);
+            list.is_empty()
+        }
+        None => false,
     }
 }
 
+/// The transaction's list goes, if it has no key.
 #[tactic(auto, using(crate::proofs::Keys::keys_and_names))]
-fn let_go(keys: &mut IndexMap<Txn, Keys>, txn: &Txn)
+fn let_go(keys: &mut IndexMap<Txn, Keys>, txn: &Txn, idle: bool)
+    requires { IsTrue idle → (k : ℕ) → listed_for txn.now keys.old.entries k ≡ false }
     ensures { SameLists keys.old.entries keys.new.entries }
 {
-    if is_idle(keys, txn) {
+    if idle {
         let _ = keys.swap_remove(txn);
-    }
-}
-
-/// Whether the transaction has a list with no key.
-#[tactic(auto, unfolding(crate::specs::Tables::is_key))]
-fn is_idle(keys: &IndexMap<Txn, Keys>, txn: &Txn) -> bool
-    ensures { IsTrue result → (k : ℕ) → listed_for txn.now keys.now.entries k ≡ false }
-{
-    match keys.get(txn) {
-        None => false,
-        Some(list) => list.is_empty(),
     }
 }
