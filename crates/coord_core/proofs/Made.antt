@@ -34,11 +34,11 @@ use Rattle.coord_table.specs.Cases.{Begins, FitsGiven, Gives, Slots, held_view, 
 use Rattle.coord_effects.specs.declared.seat.Seat.{Seat}
 use Rattle.coord_effects.specs.declared.effect.Framed.{Framed}
 use Rattle.coord_effects.specs.declared.effect.RowEffect.{RowEffect}
-use Rattle.coord_effects.specs.Rows.{AreFramed, Does, seat, written_of}
+use Rattle.coord_effects.specs.Rows.{AreFramed, Does, reaction_by, seat, written_of}
 use Rattle.coord_table.specs.declared.asked.Asked.{Asked}
 use Rattle.coord_table.specs.declared.asked.Asked.TheVariants.{Join, Work, Commit, AbortActive, AbortCollecting, Ask, Joined, Vote, Ack, Inquire, Prepare, Commits, Aborts}
 use Rattle.coord_table.specs.Asks.{asked_row, is_for_any, is_retiring}
-use Rattle.coord_table.specs.Takes.{TakesRowOf, retired_if}
+use Rattle.coord_table.specs.Takes.{AddsNone, TakesRowOf, retired_if}
 use Rattle.coord_table.proofs.Given.{gone_keeps}
 use Rattle.coord_core.specs.declared.turn.Turn.{Turn}
 use Rattle.coord_core.specs.declared.turn.Turn.TheVariants.{Refuses, Begins as BeginsOne, Issues as IssuesOne}
@@ -327,25 +327,22 @@ logged_is v w ws framed same =
     ∙ ap (λ p. map (in_log p) (entries_written ws)) (sym (parent_below v.parent))
 
 module _ (v : CoordinatorValue) (log : LogState) (slots : Slots) (c : Case) (asked : Asked)
-    (written : Option Framed) (reaction : Reaction) (mid : LogState) (room : mid.sight ≡ v.log.sight)
-    (takes : TakesRowOf v.slots slots (seat_for v c) asked
-    (record { written = written; reaction = reaction })) where
-  does_met : Does (seat_for v c) (met v c asked)
-      (record { written = written; reaction = reaction }) (view_in slots c)
-  does_met = subst (λ r. Does (seat_for v c) r (record { written = written; reaction = reaction })
-      (view_in slots c)) (row_is v c asked) takes.does
+    (effect : RowEffect) (mid : LogState) (room : mid.sight ≡ v.log.sight)
+    (takes : TakesRowOf v.slots slots (seat_for v c) asked effect) where
+  does_met : Does (seat_for v c) (met v c asked) effect (view_in slots c)
+  does_met = subst (λ r. Does (seat_for v c) r effect (view_in slots c)) (row_is v c asked) takes.does
 
-  sight_is : WritesDown mid log written → log.sight ≡ wrote v.log.sight (met v c asked).written
+  sight_is : WritesDown mid log effect.written → log.sight ≡ wrote v.log.sight (met v c asked).written
       (logged (state v) (entries_written (met v c asked).written))
   sight_is writes =
-      writes.sight ∙ ap (λ s. wrote s (written_of written) (framed_of written)) room
+      writes.sight ∙ ap (λ s. wrote s (written_of effect.written) (framed_of effect.written)) room
       ∙ (λ j. wrote v.log.sight (does_met.written j)
-      (logged_is v written (met v c asked).written takes.does.framed does_met.written j))
+      (logged_is v effect.written (met v c asked).written takes.does.framed does_met.written j))
 
   -- the row was taken and its record stands
-  pub row_turn : WritesDown mid log written → (i : Input) → RetiresAs i asked c
+  pub row_turn : WritesDown mid log effect.written → (i : Input) → RetiresAs i asked c
       → Turned (state v) (state (record v { log = log; slots = slots })) i
-      (TakesTurn c (met v c asked)) reaction
+      (TakesTurn c (met v c asked)) (reaction_by effect)
   row_turn writes i as' =
       record {
         moves = record {
@@ -368,10 +365,10 @@ module _ (v : CoordinatorValue) (log : LogState) (slots : Slots) (c : Case) (ask
       }
 
   -- the device failed under the record
-  pub row_breaks : Breaks mid log (framed_of written)
+  pub row_breaks : Breaks mid log (framed_of effect.written)
       → BreaksIn (state v) (state (record v { log = log; slots = slots })) (TakesTurn c (met v c asked))
   row_breaks breaks =
-      let records = logged_is v written (met v c asked).written takes.does.framed does_met.written in
+      let records = logged_is v effect.written (met v c asked).written takes.does.framed does_met.written in
       let at : Breaks (record mid { sight = v.log.sight }) log
       (logged (state v) (entries_written (met v c asked).written)) =
       subst (λ s. Breaks (record mid { sight = s }) log (logged (state v)
@@ -392,6 +389,16 @@ module _ (v : CoordinatorValue) (log : LogState) (slots : Slots) (c : Case) (ask
           place = refl;
         },
       )
+
+-- where no case was added, a case under a key was there before
+pub case_before : (old new : Slots) (k : ℕ) (c : Case) → AddsNone old new
+    → case_of (entry_at new k) ≡ Some c → case_of (entry_at old k) ≡ Some c
+case_before old new k c adds is = by_entry (entry_at new k) refl is
+  where
+    by_entry : (e : Option (Case × Held)) → entry_at new k ≡ e → case_of e ≡ Some c
+        → case_of (entry_at old k) ≡ Some c
+    by_entry None at has = absurd (cc)
+    by_entry (Some p) at has = adds k p at ∙ has
 
 -- A case that is not live.
 
@@ -425,7 +432,7 @@ pub answered_turn : (v : CoordinatorValue) (c : Case) (asked : Asked) (effect : 
     → is_for_any asked ≡ true → live_value v.slots c ≡ None → AreApart v.slots → FitsGiven v.slots
     → Does (seat_for v c) (asked_row (seat (seat_for v c)) asked unknown_view) effect unknown_view
     → (i : Input) → RetiresAs i asked c
-    → Turned (state v) (state v) i (TakesTurn c (met v c asked)) effect.reaction
+    → Turned (state v) (state v) i (TakesTurn c (met v c asked)) (reaction_by effect)
 answered_turn v c asked effect any gone apart fits does i as' =
     let unknown : view_in v.slots c ≡ unknown_view = ap held_view gone in
     let row : asked_row (seat (seat_for v c)) asked unknown_view ≡ met v c asked =

@@ -18,7 +18,6 @@ use crate::coordinator::Coordinator;
 use crate::saying::{began, joined, nothing, presumes};
 use crate::turn::Turn;
 use crate::writing::write_down;
-use coord_rows::RowEffect;
 use coord_table::{Asked, answer, take};
 use core_log::make_room;
 use log_store::LogStore;
@@ -101,11 +100,11 @@ impl<L: LogStore> Coordinator<L> {
     {
         make_room(&mut self.log)?;
         let seat = self.seat(case);
-        let RowEffect { written, reaction } = take(self.alloc, &mut self.cases, key, seat, asked)?;
-        if let Err(_) = write_down(&mut self.log, self.parent, written) {
+        let effect = take(self.alloc, &mut self.cases, key, seat, asked)?;
+        if let Err(_) = write_down(&mut self.log, self.parent, &effect.written) {
             return Err(StepError::Device);
         }
-        Ok(reaction)
+        Ok(effect.reaction())
     }
 
     /// What is said of a case that is not live. Memory: nothing changed, as nothing does.
@@ -121,7 +120,7 @@ impl<L: LogStore> Coordinator<L> {
             (Takes case (met self.now case asked.entry))) }
     {
         let effect = answer(self.alloc, self.seat(case), asked)?;
-        Ok(effect.reaction)
+        Ok(effect.reaction())
     }
 
     /// The parent's case gets its active ticket again.

@@ -15,7 +15,7 @@ use tree_model::{Case, Envelope, Message, ProcessId, Reaction, Sequence, Ticket,
 pub(crate) fn nothing(alloc: Global) -> Reaction
     ensures { result ≡ reaction_of no_effect }
 {
-    RowEffect::quiet(alloc).reaction
+    RowEffect::quiet(alloc).reaction()
 }
 
 /// A transaction began.
@@ -44,7 +44,7 @@ pub(crate) fn joined(
         to: parent,
         message: Message::Joined(case, ticket),
     })?;
-    Ok(RowEffect::sends(alloc, messages).reaction)
+    Ok(RowEffect::sends(alloc, messages).reaction())
 }
 
 /// To a child of which nothing is known: the outcome that is presumed.
@@ -63,5 +63,5 @@ pub(crate) fn presumes(
         parent: None,
         case,
     };
-    Ok(unknown_inquiry(alloc, seat, ticket)?.reaction)
+    Ok(unknown_inquiry(alloc, seat, ticket)?.reaction())
 }

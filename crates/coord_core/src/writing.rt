@@ -19,14 +19,14 @@ use tree_model::ProcessId;
 pub(crate) fn write_down<L: LogStore>(
     log: &mut RecLog<L>,
     parent: Option<ProcessId>,
-    written: Option<Framed>,
+    written: &Option<Framed>,
 ) -> Result<(), LogError>
     requires kind { log.old.kind ≡ kind.Coordinator }
     requires room { HasRoom log.old }
     requires works { log.old.sight.failed ≡ false }
-    requires framed { AreFramed parent written }
-    ensures ok { OnOk result (WritesDown log.old log.new written) }
-    ensures err { IfErr result (λ e. (e ≡ LogError.Device) × Breaks log.old log.new (framed_of written)) }
+    requires framed { AreFramed parent written.now }
+    ensures ok { OnOk result (WritesDown log.old log.new written.now) }
+    ensures err { IfErr result (λ e. (e ≡ LogError.Device) × Breaks log.old log.new (framed_of written.now)) }
 {
     match written {
         None => Ok(()),

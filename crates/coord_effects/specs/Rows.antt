@@ -7,6 +7,7 @@ use Rattle.tree_model.specs.declared.names.Outcome.{Outcome}
 use Rattle.tree_model.specs.declared.names.Outcome.TheVariants.{Committed, Aborted}
 use Rattle.tree_model.specs.declared.names.Ticket.{Ticket}
 use Rattle.tree_model.specs.declared.messages.Envelope.{Envelope}
+use Rattle.tree_model.specs.declared.events.Reaction.{Reaction}
 use Rattle.tree_model.specs.declared.events.Told.{Told}
 use Rattle.tree_model.specs.declared.records.Record.{Record}
 use Rattle.tree_model.specs.declared.records.Record.TheVariants.{Commit as CommitRecord, Abort as AbortRecord}
@@ -42,6 +43,12 @@ abbrev pub decision : Case → Outcome → List Ticket → Record
 decision c Committed ts = CommitRecord c ts
 decision c Aborted ts = AbortRecord c ts
 
+-- the tickets that the record of a decision names
+abbrev pub decision_names : Record → List Ticket
+decision_names (CommitRecord c ts) = ts
+decision_names (AbortRecord c ts) = ts
+decision_names _ = []
+
 -- where a case stands that was decided so, and waits for acknowledgements
 abbrev pub waits : Outcome → Standing
 waits Committed = Committing
@@ -75,10 +82,20 @@ pub record Frames (parent : Option ProcessId) (framed : Framed) (w : Written) : 
   pub written : written_by framed ≡ meant w
   pub framed_so : IsFramed parent framed
 
+-- the reaction that shows an effect
+abbrev pub reaction_by : RowEffect → Reaction
+reaction_by e = record {
+  begun = None;
+  written = e.shown;
+  told = e.told;
+  messages = e.messages;
+  kept = None;
+}
+
 -- an effect writes nothing, and tells and sends this
 pub record Shows (effect : RowEffect) (told : Option Told) (messages : List Envelope) : Type 0 where
   pub record_is : effect.written ≡ None
-  pub reaction : effect.reaction
+  pub reaction : reaction_by effect
       ≡ record { begun = None; written = []; told = told; messages = messages; kept = None }
 
 -- an effect writes this record, as it stands in the log of a coordinator below this parent, and tells and
@@ -87,7 +104,7 @@ pub record ShowsRecord (parent : Option ProcessId) (effect : RowEffect) (w : Wri
     (messages : List Envelope) : Type 0 where
   pub record_is : written_of effect.written ≡ meant w ∷ []
   pub framed : AreFramed parent effect.written
-  pub reaction : effect.reaction
+  pub reaction : reaction_by effect
       ≡ record {
         begun = None;
         written = logged_of (meant w) ∷ [];
@@ -101,5 +118,5 @@ pub record ShowsRecord (parent : Option ProcessId) (effect : RowEffect) (w : Wri
 pub record Does (s : Seat) (row : Row) (effect : RowEffect) (view : CoordinatorView) : Type 0 where
   pub written : written_of effect.written ≡ row.written
   pub framed : AreFramed s.parent effect.written
-  pub reaction : effect.reaction ≡ reaction_of (row_effect s.case row)
+  pub reaction : reaction_by effect ≡ reaction_of (row_effect s.case row)
   pub view_is : SameView view row.view

@@ -3,7 +3,7 @@
 ghost use Rattle.std.specs.Prelude.{◌≡◌, true, IfOk, OnErr, OnOk};
 ghost use Rattle.tree_model.specs.CoordinatorRows.{awaits as awaits_view};
 ghost use Rattle.tree_model.specs.Standings.{unknown_view};
-ghost use Rattle.coord_effects.specs.Rows.{ShowsRecord, decision as decision_of, waits as waits_for};
+ghost use Rattle.coord_effects.specs.Rows.{ShowsRecord, decision as decision_of, decision_names, waits as waits_for};
 
 use crate::effect::{RowEffect, Written};
 use crate::seat::Seat;
@@ -35,6 +35,16 @@ fn decision(case: Case, outcome: Outcome, named: Sequence<Ticket>) -> Record
     }
 }
 
+/// The tickets that the record of a decision names.
+fn names(alloc: Global, entry: Record) -> Vec<Ticket>
+    ensures { result.items ≡ decision_names entry }
+{
+    match entry {
+        Record::Commit(_, named) | Record::Abort(_, named) => named.into_vec(),
+        _ => Vec::new(alloc),
+    }
+}
+
 /// Where a decided case stands that waits for acknowledgements.
 fn waits(outcome: Outcome) -> Standing
     ensures { result ≡ waits_for outcome }
@@ -47,6 +57,7 @@ fn waits(outcome: Outcome) -> Standing
 
 /// A decision that each of these owes an acknowledgement of: its record is forced and names them, and the
 /// case waits for them, or is forgotten where there are none. Memory: nothing changed.
+#[tactic(auto, using(crate::proofs::Decisions::names_decided))]
 pub fn decides_owed(
     alloc: Global,
     seat: Seat,
@@ -61,10 +72,9 @@ pub fn decides_owed(
     ensures waiting { OnOk result (live.new ≡ awaits_view (waits_for outcome) owed.items live.old) }
     ensures err { OnErr result (live.new ≡ live.old) }
 {
-    let named = Sequence::from_vec(Vec::from_slice(alloc, &owed)?);
-    let written = Written::forced(decision(seat.case, outcome, named));
+    let written = Written::forced(decision(seat.case, outcome, Sequence::from_vec(owed)));
     let effect = RowEffect::writes(alloc, &seat, &written, told, messages)?;
-    live.awaits(waits(outcome), owed)?;
+    live.awaits(waits(outcome), names(alloc, written.entry))?;
     Ok(effect)
 }
 

@@ -2,7 +2,7 @@
 
 ghost use Rattle.std.specs.Prelude.{◌≡◌, [], false, true, IfOk};
 ghost use Rattle.tree_model.specs.Nodes.{logged_of};
-ghost use Rattle.coord_effects.specs.Rows.{Frames, Shows, ShowsRecord, meant};
+ghost use Rattle.coord_effects.specs.Rows.{Frames, Shows, ShowsRecord, meant, reaction_by};
 
 use crate::seat::Seat;
 use core_log::coordinator_frame;
@@ -68,11 +68,13 @@ impl Written {
     }
 }
 
-/// What a row does: at most one record, and the reaction that shows it.
+/// What a row does: at most one record, with how a reaction shows it; what is told, and the messages.
 #[derive(Drop)]
 pub struct RowEffect {
     pub written: Option<Framed>,
-    pub reaction: Reaction,
+    pub shown: Sequence<Logged>,
+    pub told: Option<Told>,
+    pub messages: Envelopes,
 }
 
 impl RowEffect {
@@ -96,13 +98,9 @@ impl RowEffect {
     {
         RowEffect {
             written: None,
-            reaction: Reaction {
-                begun: None,
-                written: Sequence::new(alloc),
-                told,
-                messages,
-                kept: None,
-            },
+            shown: Sequence::new(alloc),
+            told,
+            messages,
         }
     }
 
@@ -121,13 +119,22 @@ impl RowEffect {
         shown.push(written.shown())?;
         Ok(RowEffect {
             written: Some(written.framed(alloc, seat)?),
-            reaction: Reaction {
-                begun: None,
-                written: shown,
-                told,
-                messages,
-                kept: None,
-            },
+            shown,
+            told,
+            messages,
         })
+    }
+
+    /// The reaction that shows it.
+    pub fn reaction(self) -> Reaction
+        ensures { result ≡ reaction_by self }
+    {
+        Reaction {
+            begun: None,
+            written: self.shown,
+            told: self.told,
+            messages: self.messages,
+            kept: None,
+        }
     }
 }

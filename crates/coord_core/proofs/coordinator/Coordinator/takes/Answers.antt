@@ -1,4 +1,4 @@
-use Rattle.std.proofs.Common.{rules, subst}
+use Rattle.std.proofs.Common.{rules, subst, sym, ◌∙◌}
 use Rattle.tree_model.specs.declared.events.Input.{Input}
 use Rattle.rec_log.specs.Sights.{Breaks}
 use Rattle.core_model.specs.Turns.{Takes}
@@ -7,7 +7,7 @@ use Rattle.coord_table.specs.Takes.{TakesRowOf}
 use Rattle.coord_core.specs.States.{CoordinatorValue, state}
 use Rattle.coord_core.specs.Meets.{RetiresAs, met}
 use Rattle.coord_core.specs.Turned.{Turned, WritesDown, framed_of}
-use Rattle.coord_core.proofs.Made.{row_breaks, row_turn, seat_for}
+use Rattle.coord_core.proofs.Made.{case_before, row_breaks, row_turn, seat_for}
 use Rattle.coord_core.proofs.coordinator.Coordinator.takes.Goals as goal
 
 pub returns-in-Err-clause-err : goal.returns-in-Err-clause-err
@@ -23,17 +23,17 @@ returns-in-Err-clause-err g c =
       slots = c.self.inside.cases;
     } in
     let takes : TakesRowOf v.slots c.take.new.cases (seat_for v c.args.case)
-    c.args.asked c.in_ok-written.field-0 =
-    subst (λ s. TakesRowOf v.slots c.take.new.cases s c.args.asked c.in_ok-written.field-0)
-    c.seat-seat.ensures c.in_ok-written.ensures.ok in
+    c.args.asked c.in_ok-effect.effect =
+    subst (λ s. TakesRowOf v.slots c.take.new.cases s c.args.asked c.in_ok-effect.effect)
+    c.seat-seat.ensures c.in_ok-effect.ensures.ok in
     let breaks : Breaks c.make_room.new.log c.write_down.new.log
-    (framed_of c.in_ok-written.field-0.written) = search rules in
+    (framed_of c.in_ok-effect.effect.written) = search rules in
     subst (λ (w : CoordinatorValue). BreaksIn (state w) (state (record v {
       log = c.write_down.new.log;
       slots = c.take.new.cases;
     })) (Takes c.args.case (met w c.args.case c.args.asked))) c.self.view_is
     (row_breaks v c.write_down.new.log c.take.new.cases c.args.case
-    c.args.asked c.in_ok-written.field-0.written c.in_ok-written.field-0.reaction c.make_room.new.log
+    c.args.asked c.in_ok-effect.effect c.make_room.new.log
     c.make_room.ensures.stays takes breaks)
 
 pub returns-clause-ok : goal.returns-clause-ok
@@ -49,13 +49,28 @@ returns-clause-ok g c =
       slots = c.self.inside.cases;
     } in
     let takes : TakesRowOf v.slots c.take.new.cases (seat_for v c.args.case)
-    c.args.asked c.in_ok-written.field-0 =
-    subst (λ s. TakesRowOf v.slots c.take.new.cases s c.args.asked c.in_ok-written.field-0)
-    c.seat-seat.ensures c.in_ok-written.ensures.ok in
+    c.args.asked c.in_ok-effect.effect =
+    subst (λ s. TakesRowOf v.slots c.take.new.cases s c.args.asked c.in_ok-effect.effect)
+    c.seat-seat.ensures c.in_ok-effect.ensures.ok in
     let writes : WritesDown c.make_room.new.log c.write_down.new.log
-    c.in_ok-written.field-0.written = search rules in
+    c.in_ok-effect.effect.written = search rules in
     subst (λ (w : CoordinatorValue). (i : Input) → RetiresAs i c.args.asked c.args.case
     → Turned (state w) (state (record v { log = c.write_down.new.log; slots = c.take.new.cases })) i
-    (Takes c.args.case (met w c.args.case c.args.asked)) c.in_ok-written.field-0.reaction) c.self.view_is
-    (row_turn v c.write_down.new.log c.take.new.cases c.args.case c.args.asked c.in_ok-written.field-0.written
-    c.in_ok-written.field-0.reaction c.make_room.new.log c.make_room.ensures.stays takes writes)
+    (Takes c.args.case (met w c.args.case c.args.asked)) c.reaction.result) c.self.view_is
+    (subst (λ reaction. (i : Input) → RetiresAs i c.args.asked c.args.case
+    → Turned (state v) (state (record v { log = c.write_down.new.log; slots = c.take.new.cases })) i
+    (Takes c.args.case (met v c.args.case c.args.asked)) reaction) (sym c.reaction.ensures)
+    (row_turn v c.write_down.new.log c.take.new.cases c.args.case c.args.asked c.in_ok-effect.effect
+    c.make_room.new.log c.make_room.ensures.stays takes writes))
+
+pub invariant_of-self-in-Err : goal.invariant_of-self-in-Err
+invariant_of-self-in-Err g c =
+    let takes = c.in_ok-effect.ensures.ok in
+    let breaks : Breaks c.make_room.new.log c.write_down.new.log
+    (framed_of c.in_ok-effect.effect.written) = search rules in
+    record {
+      kind = breaks.kind ∙ c.make_room.ensures.kind ∙ c.self.invariant.kind;
+      active = takes.given;
+      begun = λ k p n is. c.self.invariant.begun k p n (case_before _ _ k _ takes.cases is);
+      given = λ k x n is. c.self.invariant.given k x n (case_before _ _ k _ takes.cases is);
+    }
