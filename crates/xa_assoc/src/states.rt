@@ -21,9 +21,9 @@ pub struct States {
 }
 
 impl States {
-    ghost use Rattle.std.specs.Prelude.{◌≡◌, ◌≢◌, ◌<◌, ◌||◌, not, length, is_some, if◌then◌else◌, IfOk, IfErr, OnErr, MatchResult, Err, Some, None, true, false};
+    ghost use Rattle.std.specs.Prelude.{◌≡◌, ◌≢◌, ◌<◌, ◌||◌, not, length, IfOk, IfErr, OnErr, MatchResult, Err, Some, None, true, false};
     ghost use Rattle.xa_tables.specs.declared.call.Call.TheVariants as call;
-    ghost use Rattle.xa_assoc.specs.Associations.{active_of, has_seat, start_plan, resume_plan, suspend_plan, end_plan};
+    ghost use Rattle.xa_assoc.specs.Associations.{active_of, start_plan, resume_plan, suspend_plan, end_plan};
     ghost use Rattle.xa_branch.specs.Branches.{Finds, StandsAt, in_doubt};
     ghost use Rattle.xa_xid.specs.declared.xid.Xid.{Xid as AnyXid};
     ghost use Rattle.xa_assoc.specs.Reacting.{IsAt, resumed, suspend_call, end_call};
@@ -253,7 +253,8 @@ impl States {
             return Ok(Code::DupId);
         }
         if self.branches.is_full() {
-            return Ok(self.refused_full(thread, xid));
+            let busy = self.associations.is_busy(thread, xid);
+            return Ok(if busy { Code::Proto } else { Code::RmErr });
         }
         self.branches.reserve(1)?;
         let code = self.associations.start(thread, xid)?;
@@ -261,18 +262,6 @@ impl States {
             self.branches.begin(xid);
         }
         Ok(code)
-    }
-
-    /// What a start of a new branch answers where no other can begin: the thread is busy, or that.
-    fn refused_full(&self, thread: u32, xid: &Xid) -> Code
-        ensures { result ≡ (if is_some (active_of self.now.associations thread)
-            || has_seat self.now.associations thread xid.now then Code.Proto else Code.RmErr) }
-    {
-        if self.associations.is_busy(thread, xid) {
-            Code::Proto
-        } else {
-            Code::RmErr
-        }
     }
 
     /// A start TMJOIN.
