@@ -1,14 +1,16 @@
 //! What an application asks of the root: `step` at its act.
 
 ghost use Rattle.std.specs.Prelude.{IfErr, IfOk};
+ghost use Rattle.tree_model.specs.declared.events.Input.TheVariants as input;
 ghost use Rattle.core_model.specs.States.{HasNumbers};
 ghost use Rattle.core_model.specs.Makes.{Makes, NotMade};
 ghost use Rattle.core_model.specs.Turns.{no_answer};
 ghost use Rattle.coord_core.specs.States.{state};
 
 use crate::coordinator::Coordinator;
+use core_model::InputRef;
 use log_store::LogStore;
-use tree_model::{Act, Case, Input, Op, Presumption, ProcessId, Reaction, StepError, Txn};
+use tree_model::{Act, Case, Op, Presumption, ProcessId, Reaction, StepError, Txn};
 
 impl<L: LogStore> Coordinator<L> {
     /// Begins a transaction; the reaction names it. Failed: the device failed before. NoSuch: this is not the
@@ -16,11 +18,11 @@ impl<L: LogStore> Coordinator<L> {
     pub fn begin(&mut self, presumption: Presumption) -> Result<Reaction, StepError>
         requires { HasNumbers (state self.old) }
         ensures ok { IfOk result (Makes (state self.old) (state self.new) no_answer
-            (Input.Act (Act.Begin presumption))) }
+            (input.Act (Act.Begin presumption))) }
         ensures err { IfErr result (NotMade (state self.old) (state self.new) no_answer
-            (Input.Act (Act.Begin presumption))) }
+            (input.Act (Act.Begin presumption))) }
     {
-        self.step(&Input::Act(Act::Begin(presumption)))
+        self.step(InputRef::Act(&Act::Begin(presumption)))
     }
 
     /// Invites a child to take part. NoSuch: no process has this number. Failed. UnknownTxn: the case is not
@@ -29,11 +31,11 @@ impl<L: LogStore> Coordinator<L> {
     pub fn join(&mut self, case: Case, child: ProcessId) -> Result<Reaction, StepError>
         requires { HasNumbers (state self.old) }
         ensures ok { IfOk result (Makes (state self.old) (state self.new) no_answer
-            (Input.Act (Act.Join case child))) }
+            (input.Act (Act.Join case child))) }
         ensures err { IfErr result (NotMade (state self.old) (state self.new) no_answer
-            (Input.Act (Act.Join case child))) }
+            (input.Act (Act.Join case child))) }
     {
-        self.step(&Input::Act(Act::Join(case, child)))
+        self.step(InputRef::Act(&Act::Join(case, child)))
     }
 
     /// Has an accepted child that is a manager do a piece of work. The refusals are those of `join`;
@@ -41,11 +43,11 @@ impl<L: LogStore> Coordinator<L> {
     pub fn work(&mut self, case: Case, child: ProcessId, op: Op) -> Result<Reaction, StepError>
         requires { HasNumbers (state self.old) }
         ensures ok { IfOk result (Makes (state self.old) (state self.new) no_answer
-            (Input.Act (Act.Work case child op))) }
+            (input.Act (Act.Work case child op))) }
         ensures err { IfErr result (NotMade (state self.old) (state self.new) no_answer
-            (Input.Act (Act.Work case child op))) }
+            (input.Act (Act.Work case child op))) }
     {
-        self.step(&Input::Act(Act::Work(case, child, op)))
+        self.step(InputRef::Act(&Act::Work(case, child, op)))
     }
 
     /// The application asks for the transaction's commit. Failed. UnknownTxn: it is not live here. Closed: a
@@ -54,11 +56,11 @@ impl<L: LogStore> Coordinator<L> {
     pub fn commit(&mut self, txn: Txn) -> Result<Reaction, StepError>
         requires { HasNumbers (state self.old) }
         ensures ok { IfOk result (Makes (state self.old) (state self.new) no_answer
-            (Input.Act (Act.Commit txn))) }
+            (input.Act (Act.Commit txn))) }
         ensures err { IfErr result (NotMade (state self.old) (state self.new) no_answer
-            (Input.Act (Act.Commit txn))) }
+            (input.Act (Act.Commit txn))) }
     {
-        self.step(&Input::Act(Act::Commit(txn)))
+        self.step(InputRef::Act(&Act::Commit(txn)))
     }
 
     /// The application asks for the transaction's abort. The refusals are those of `commit`; Closed: it is
@@ -66,10 +68,10 @@ impl<L: LogStore> Coordinator<L> {
     pub fn abort(&mut self, txn: Txn) -> Result<Reaction, StepError>
         requires { HasNumbers (state self.old) }
         ensures ok { IfOk result (Makes (state self.old) (state self.new) no_answer
-            (Input.Act (Act.Abort txn))) }
+            (input.Act (Act.Abort txn))) }
         ensures err { IfErr result (NotMade (state self.old) (state self.new) no_answer
-            (Input.Act (Act.Abort txn))) }
+            (input.Act (Act.Abort txn))) }
     {
-        self.step(&Input::Act(Act::Abort(txn)))
+        self.step(InputRef::Act(&Act::Abort(txn)))
     }
 }

@@ -3,6 +3,7 @@
 ghost use Rattle.std.specs.Prelude.{◌≡◌, ◌+◌, ◌<◌, ◌^◌, false, true, None, IfErr, IfOk};
 ghost use Rattle.live_table.specs.Tables.{AreApart, live_value};
 ghost use Rattle.tree_model.specs.declared.events.Input.{Input as AnyInput};
+ghost use Rattle.core_model.specs.Inputs.{input_of};
 ghost use Rattle.core_model.specs.States.{HasNumbers};
 ghost use Rattle.core_model.specs.Turns.{Takes, no_answer};
 ghost use Rattle.core_model.specs.Makes.{Makes, NotMade};
@@ -20,17 +21,18 @@ use crate::turn::Turn;
 use crate::writing::write_down;
 use coord_table::{Asked, answer, take};
 use core_log::make_room;
+use core_model::InputRef;
 use log_store::LogStore;
-use tree_model::{Case, Input, Presumption, ProcessId, Reaction, StepError, Ticket, Txn};
+use tree_model::{Case, Presumption, ProcessId, Reaction, StepError, Ticket, Txn};
 
 impl<L: LogStore> Coordinator<L> {
     /// Handles an input. The refusals of the reaction table, as `StepError` says them, change nothing, nor
     /// does Memory. Device: the device failed under the record of the input, which stands or not, and the
     /// coordinator answers Failed until its restart.
-    pub fn step(&mut self, input: &Input) -> Result<Reaction, StepError>
+    pub fn step(&mut self, input: InputRef<'_>) -> Result<Reaction, StepError>
         requires { HasNumbers (state self.old) }
-        ensures ok { IfOk result (Makes (state self.old) (state self.new) no_answer input.now) }
-        ensures err { IfErr result (NotMade (state self.old) (state self.new) no_answer input.now) }
+        ensures ok { IfOk result (Makes (state self.old) (state self.new) no_answer (input_of input.entry)) }
+        ensures err { IfErr result (NotMade (state self.old) (state self.new) no_answer (input_of input.entry)) }
     {
         match self.meet(input) {
             Turn::Refuses(error) => Err(error),

@@ -3,6 +3,7 @@
 ghost use Rattle.std.specs.Prelude.{◌≡◌, false, true, IfErr, IfOk};
 ghost use Rattle.live_table.specs.Tables.{AreApart};
 ghost use Rattle.tree_model.specs.declared.events.Input.{Input as AnyInput};
+ghost use Rattle.core_model.specs.Inputs.{input_of};
 ghost use Rattle.core_model.specs.Turns.{is_refusal, live_turn};
 ghost use Rattle.coord_table.specs.Cases.{view_in};
 ghost use Rattle.coord_table.specs.Takes.{IsAt};
@@ -12,14 +13,14 @@ use crate::coordinator::Coordinator;
 use crate::places::{is_child, is_manager};
 use crate::turn::Turn;
 use coord_table::Asked;
-use core_model::is_listed;
+use core_model::{InputRef, is_listed};
 use log_store::LogStore;
-use tree_model::{Act, Case, Input, Op, Presumption, ProcessId, Standing, StepError, Txn};
+use tree_model::{Act, Case, Op, Presumption, ProcessId, Standing, StepError, Txn};
 
 impl<L: LogStore> Coordinator<L> {
     /// Which turn an input meets.
-    pub(crate) fn meet<'a>(&self, input: &'a Input) -> Turn<'a>
-        ensures { Meets self.now input.now result }
+    pub(crate) fn meet<'a>(&self, input: InputRef<'a>) -> Turn<'a>
+        ensures { Meets self.now (input_of input.entry) result }
     {
         if !is_listed(&self.tree, input) {
             return Turn::Refuses(StepError::NoSuch);
@@ -28,8 +29,8 @@ impl<L: LogStore> Coordinator<L> {
             return Turn::Refuses(StepError::Failed);
         }
         match input {
-            Input::Act(act) => self.meet_act(act),
-            Input::Message(number, message) => self.hear(*number, message),
+            InputRef::Act(act) => self.meet_act(act),
+            InputRef::Message(number, message) => self.hear(number, message),
         }
     }
 

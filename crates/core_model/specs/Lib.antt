@@ -1,3 +1,4 @@
+pub mod Inputs
 pub mod States
 pub mod Turns
 pub mod Makes

@@ -2,9 +2,9 @@
 //! one another.
 #![tactic(auto)]
 
-mod acts;
+mod inputs;
 pub mod law;
 mod messages;
 
-pub use acts::is_listed;
+pub use inputs::{InputRef, is_listed};
 pub use messages::one_message;

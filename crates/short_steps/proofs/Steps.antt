@@ -1,5 +1,5 @@
 -- Steps are read back as they were kept.
-use Rattle.std.proofs.Common.{◌≡◌, ◌∙◌, sym, ap, refl, ℕ, zero, suc, ◌+◌, ◌≤◌, Option, Some, None, List, [], ◌∷◌, ◌++◌, length, map, option_map, true, arith}
+use Rattle.std.proofs.Common.{◌≡◌, ◌∙◌, sym, ap, refl, is_some, ℕ, zero, suc, ◌+◌, ◌≤◌, Option, Some, None, List, [], ◌∷◌, ◌++◌, length, map, option_map, true, arith}
 use Rattle.std.proofs.lemmas.List.{append-nil, length-append, length-map, map_push}
 use Rattle.std.proofs.lemmas.Option.{slice_get_past}
 use Rattle.std.specs.Prelude.{slice_get}
@@ -185,6 +185,15 @@ pub begun_behind : (ps : Parts) (xs : List ShortStep) (l : Option LastStep) (q :
     × IsWhole (parts_begun ps h r) xs (Some (last_step ps q h r))
 begun_behind ps xs None q h r is w sent = begun ps xs q h r w sent
 begun_behind ps xs (Some l) q h r is w sent = absurd (cc)
+
+-- the message with this number, where there is one, which was sent with it
+pub message_sent : (sent : List Envelope) (k : ℕ) → is_some (sent_as sent k) ≡ true
+    → (l : Envelope) × (sent_as sent k ≡ Some l) × IsSent sent (Handles (MessageInput k l.message))
+message_sent sent k there = of (sent_as sent k) refl there where
+  of : (o : Option Envelope) → sent_as sent k ≡ o → is_some o ≡ true
+      → (l : Envelope) × (sent_as sent k ≡ Some l) × IsSent sent (Handles (MessageInput k l.message))
+  of None is there = absurd (cc)
+  of (Some l) is there = (l, is, ap (option_map (λ (m : Envelope). m.message)) is)
 
 -- The last step is placed.
 

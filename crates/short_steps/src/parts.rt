@@ -1,10 +1,12 @@
 //! The parts of steps.
 
-ghost use Rattle.std.specs.Prelude.{◌≡◌, [], IfOk, OnOk, option_map};
+ghost use Rattle.std.specs.Prelude.{◌≡◌, ◌<◌, ◌++◌, [], IfOk, OnOk, length, option_map};
+ghost use Rattle.std.specs.Vec.{vec_capacity, vec_len};
 ghost use Rattle.std.specs.Option.{option_copied};
+ghost use Rattle.tree_model.specs.declared.messages.Message.{Message as AnyMessage};
 ghost use Rattle.tree_model.specs.Plays.{sent_as};
 ghost use Rattle.short_steps.specs.Shown.{shown_part};
-ghost use Rattle.short_steps.specs.Steps.{aside_in, entry_of_part, happening_in, last_reaction, last_step, parts_begun, parts_placed, reaction_in, short_step};
+ghost use Rattle.short_steps.specs.Steps.{aside_by, aside_in, aside_of, asides_by, entry_of_part, happening_in, last_reaction, last_step, parts_begun, parts_placed, reaction_in, short_step};
 ghost use Rattle.short_steps.specs.Kept.{CanBegin, CanPlace, parts_of};
 
 use crate::short_step::{Aside, Cause, LastStep, ShortStep, keep_act, keep_aside};
@@ -177,18 +179,24 @@ impl Parts {
         ensures last { result ≡ last_step (parts_of self.old) process happening reaction }
         ensures parts { parts_of self.new ≡ parts_begun (parts_of self.old) happening reaction }
     {
-        let aside = Aside {
-            begun: reaction.begun,
-            told: reaction.told,
-            kept: reaction.kept,
-        };
-        LastStep {
-            process,
-            cause: keep_act(&mut self.acts, happening),
-            written: reaction.written,
-            messages: reaction.messages,
-            aside: keep_aside(&mut self.asides, aside),
-        }
+        let cause = keep_act(&mut self.acts, happening);
+        begin_by(&mut self.asides, process, cause, reaction)
+    }
+
+    /// The same of a step that handles the message with this number, whatever the message says.
+    pub(crate) fn begin_message(
+        &mut self,
+        process: ProcessId,
+        number: u64,
+        reaction: Reaction,
+    ) -> LastStep
+        requires { CanBegin self.old }
+        ensures last { (m : AnyMessage) → result ≡ last_step (parts_of self.old) process
+            (Happening.Input (Input.Message number m)) reaction }
+        ensures parts { (m : AnyMessage) → parts_of self.new ≡ parts_begun (parts_of self.old)
+            (Happening.Input (Input.Message number m)) reaction }
+    {
+        begin_by(&mut self.asides, process, Cause::Message(number), reaction)
     }
 
     /// Keeps the records and the messages of the last step, for which there is room: the step, which names
@@ -206,5 +214,38 @@ impl Parts {
             messages: keep_all(&mut self.sent, last.messages),
             aside: last.aside,
         }
+    }
+}
+
+/// A step with this cause and all that its reaction has, of which what few reactions have is kept. There has
+/// to be room for that.
+fn begin_by(
+    asides: &mut Vec<Aside>,
+    process: ProcessId,
+    cause: Cause,
+    reaction: Reaction,
+) -> LastStep
+    requires { vec_len asides.old < vec_capacity asides.old }
+    ensures last { result ≡ record {
+      process = process;
+      cause = cause;
+      written = reaction.written;
+      messages
+          = reaction.messages;
+      aside = aside_by (length asides.old.items) (aside_of reaction);
+    } }
+    ensures asides { asides.new.items ≡ asides.old.items ++ asides_by (aside_of reaction) }
+{
+    let aside = Aside {
+        begun: reaction.begun,
+        told: reaction.told,
+        kept: reaction.kept,
+    };
+    LastStep {
+        process,
+        cause,
+        written: reaction.written,
+        messages: reaction.messages,
+        aside: keep_aside(asides, aside),
     }
 }

@@ -1,6 +1,6 @@
 //! The steps of a journal, kept short.
 
-ghost use Rattle.std.specs.Prelude.{◌≡◌, ◌+◌, ◌<◌, ◌^◌, ◌++◌, ◌∷◌, [], true, false, IfOk, OnErr, OnOk, length, option_map, slice_get};
+ghost use Rattle.std.specs.Prelude.{◌≡◌, ◌+◌, ◌<◌, ◌^◌, ◌++◌, ◌∷◌, [], true, false, IfOk, IfSome, OnErr, OnOk, is_some, length, option_map, slice_get};
 ghost use Rattle.std.specs.Option.{option_copied};
 ghost use Rattle.tree_model.specs.Plays.{sent_as};
 ghost use Rattle.core_law.specs.worlds.Worlds.{step_entry};
@@ -14,7 +14,7 @@ use crate::short_step::{LastStep, ShortStep};
 use crate::shown::Shown;
 use std::alloc::{AllocError, Global};
 use std::marker::Model;
-use tree_model::{Entry, Envelope, Happening, ProcessId, Reaction};
+use tree_model::{Entry, Envelope, Happening, Input, ProcessId, Reaction};
 
 /// Steps that were made, each with its reaction. Their parts stand in lists, and each step has the places of
 /// its own. One that handled a message has the number of it.
@@ -159,5 +159,17 @@ impl ShortSteps {
         ensures entries { self.new.entries ≡ self.old.entries ++ step_entry process happening reaction ∷ [] }
     {
         self.last = Some(self.parts.begin(process, happening, reaction));
+    }
+
+    /// A step more, which handled the message with this number, where there is room for it.
+    pub fn enter_message(&mut self, process: ProcessId, number: u64, reaction: Reaction)
+        requires room { HasRoom self.old.room }
+        requires handled { is_some (sent_as self.old.sent number) ≡ true }
+        ensures sent { self.new.sent ≡ self.old.sent }
+        ensures waiting { self.new.waiting ≡ reaction.messages }
+        ensures entries { IfSome (sent_as self.old.sent number) (λ l. self.new.entries ≡ self.old.entries
+            ++ step_entry process (Happening.Input (Input.Message number l.message)) reaction ∷ []) }
+    {
+        self.last = Some(self.parts.begin_message(process, number, reaction));
     }
 }

@@ -1,6 +1,7 @@
 //! What an input makes of a subordinate.
 
 ghost use Rattle.std.specs.Prelude.{◌≡◌, ◌≢◌, ◌↔◌, false, true, IfErr, IfOk, IsTrue, OnOk};
+ghost use Rattle.core_model.specs.Inputs.{input_of};
 ghost use Rattle.core_model.specs.States.{HasNumbers};
 ghost use Rattle.core_model.specs.Makes.{Makes, NotMade};
 ghost use Rattle.sub_deeds.specs.Deeds.{KeepsManager};
@@ -8,10 +9,10 @@ ghost use Rattle.sub_core.specs.Subordinates.{Hears, NotHeard, seen};
 ghost use Rattle.sub_core.specs.Steps.{Leaves, data_answer, state};
 
 use crate::subordinate::Subordinate;
-use core_model::is_listed;
+use core_model::{InputRef, is_listed};
 use manager_model::ResourceManager;
 use sub_deeds::silence;
-use tree_model::{Input, Message, Reaction, StepError};
+use tree_model::{Message, Reaction, StepError};
 
 impl<M: ResourceManager> Subordinate<M> {
     /// A message. One that is not for a manager does nothing. The errors are those of `step`.
@@ -34,13 +35,13 @@ impl<M: ResourceManager> Subordinate<M> {
     /// Handles an input. The refusals of the reaction table, as `StepError` says them, change nothing, nor
     /// does Memory. Device: the device failed under the record of the input, which stands or not, and the
     /// subordinate answers Failed until its restart.
-    pub fn step(&mut self, input: &Input) -> Result<Reaction, StepError>
+    pub fn step(&mut self, input: InputRef<'_>) -> Result<Reaction, StepError>
         requires numbers { HasNumbers (state M.sight self.old) }
         ensures ok { IfOk result (Makes (state M.sight self.old) (state M.sight self.new)
-            (data_answer (seen M.sight self.old) input.now) input.now) }
-        ensures writes { OnOk result (Leaves input.now (seen M.sight self.old) (seen M.sight self.new)) }
+            (data_answer (seen M.sight self.old) (input_of input.entry)) (input_of input.entry)) }
+        ensures writes { OnOk result (Leaves (input_of input.entry) (seen M.sight self.old) (seen M.sight self.new)) }
         ensures err { IfErr result (NotMade (state M.sight self.old) (state M.sight self.new)
-            (data_answer (seen M.sight self.old) input.now) input.now) }
+            (data_answer (seen M.sight self.old) (input_of input.entry)) (input_of input.entry)) }
         ensures kept { IfErr result (λ e. e ≢ StepError.Device
             → KeepsManager (M.sight self.old.manager) (M.sight self.new.manager)) }
     {
@@ -51,8 +52,8 @@ impl<M: ResourceManager> Subordinate<M> {
             return Err(StepError::Failed);
         }
         match input {
-            Input::Act(act) => self.act(act),
-            Input::Message(_, message) => self.hear(message),
+            InputRef::Act(act) => self.act(act),
+            InputRef::Message(_, message) => self.hear(message),
         }
     }
 }

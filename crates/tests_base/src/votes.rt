@@ -2,11 +2,12 @@
 
 use crate::manager::FakeManager;
 use crate::players::{CHILD, ROOT, bytes, child_case, parent_case, put};
+use core_model::InputRef;
 use manager_model::ResourceManager;
 use std::alloc::{AllocError, Global};
 use std::test::Fail;
 use sub_core::Subordinate;
-use tree_model::{Input, Message, Op, Reaction, Tree, Vote};
+use tree_model::{Message, Op, Reaction, Tree, Vote};
 
 /// The child below the root, over a manager that refuses every operation or does what is asked of it.
 fn opened(alloc: Global, refuses: bool) -> Result<Subordinate<FakeManager>, AllocError> {
@@ -38,7 +39,7 @@ fn heard<M: ResourceManager>(
     if !player.has_numbers() {
         return Err(Fail::from("a message that can be heard"));
     }
-    match player.step(&Input::Message(1, message)) {
+    match player.step(InputRef::Message(1, &message)) {
         Ok(reaction) => Ok(vote_in(&reaction)),
         Err(_) => Err(Fail::from("a message that is heard")),
     }

@@ -1,5 +1,6 @@
 pub mod EmptyLogs
 pub mod Handling
+pub mod Acting
 pub mod LastRecords
 pub mod Logs
 pub mod LogsLeft

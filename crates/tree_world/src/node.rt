@@ -2,6 +2,7 @@
 
 ghost use Rattle.std.specs.Prelude.{◌≡◌, false, IfErr, IfOk, IsTrue};
 ghost use Rattle.rec_log.specs.Sights.{records_of};
+ghost use Rattle.core_model.specs.Inputs.{input_of};
 ghost use Rattle.core_model.specs.States.{HasNumbers};
 ghost use Rattle.coord_core.specs.States.{state as coordinator_state};
 ghost use Rattle.kv_manager.specs.Resources.{sight_of};
@@ -10,11 +11,12 @@ ghost use Rattle.core_law.specs.worlds.Worlds.{HandlesInput};
 ghost use Rattle.tree_world.specs.Nodes.{NotHandled, SpellsLog, core_of, live_at};
 
 use coord_core::Coordinator;
+use core_model::InputRef;
 use kv_manager::KvManager;
 use log_store::LogStore;
 use std::alloc::AllocError;
 use sub_core::Subordinate;
-use tree_model::{Input, LogRecord, Reaction, StepError};
+use tree_model::{LogRecord, Reaction, StepError};
 
 /// One process of a tree, over its log in a store.
 #[derive(Drop)]
@@ -80,10 +82,10 @@ impl<L: LogStore> Node<L> {
     /// Handles an input. The refusals of the reaction table, as `StepError` says them, change nothing, nor
     /// does Memory. Device: the device failed under the record of the input, which stands or not, and the
     /// process answers Failed until its restart.
-    pub fn step(&mut self, input: &Input) -> Result<Reaction, StepError>
+    pub fn step(&mut self, input: InputRef<'_>) -> Result<Reaction, StepError>
         requires numbers { HasNumbers (core_of self.old) }
-        ensures ok { IfOk result (HandlesInput (core_of self.old) (core_of self.new) input.now) }
-        ensures err { IfErr result (NotHandled (core_of self.old) (core_of self.new) input.now) }
+        ensures ok { IfOk result (HandlesInput (core_of self.old) (core_of self.new) (input_of input.entry)) }
+        ensures err { IfErr result (NotHandled (core_of self.old) (core_of self.new) (input_of input.entry)) }
     {
         match self {
             Node::Coordinator(coordinator) => step_coordinator(coordinator, input),
@@ -92,9 +94,9 @@ impl<L: LogStore> Node<L> {
     }
 
     /// The same, and Memory where no numbers are left, by which nothing changed.
-    pub(crate) fn handle(&mut self, input: &Input) -> Result<Reaction, StepError>
-        ensures ok { IfOk result (HandlesInput (core_of self.old) (core_of self.new) input.now) }
-        ensures err { IfErr result (NotHandled (core_of self.old) (core_of self.new) input.now) }
+    pub(crate) fn handle(&mut self, input: InputRef<'_>) -> Result<Reaction, StepError>
+        ensures ok { IfOk result (HandlesInput (core_of self.old) (core_of self.new) (input_of input.entry)) }
+        ensures err { IfErr result (NotHandled (core_of self.old) (core_of self.new) (input_of input.entry)) }
     {
         if !self.has_numbers() {
             return Err(StepError::Memory);
@@ -113,13 +115,13 @@ fn coordinator_text<L: LogStore>(coordinator: &Coordinator<L>) -> Result<Vec<u8>
 /// A coordinator handles an input; it has no data that answer.
 fn step_coordinator<L: LogStore>(
     coordinator: &mut Coordinator<L>,
-    input: &Input,
+    input: InputRef<'_>,
 ) -> Result<Reaction, StepError>
     requires { HasNumbers (coordinator_state coordinator.old) }
     ensures ok { IfOk result (HandlesInput (coordinator_state coordinator.old)
-        (coordinator_state coordinator.new) input.now) }
+        (coordinator_state coordinator.new) (input_of input.entry)) }
     ensures err { IfErr result (NotHandled (coordinator_state coordinator.old)
-        (coordinator_state coordinator.new) input.now) }
+        (coordinator_state coordinator.new) (input_of input.entry)) }
 {
     coordinator.step(input)
 }
@@ -127,13 +129,13 @@ fn step_coordinator<L: LogStore>(
 /// A manager handles an input; its data answer.
 fn step_manager<L: LogStore>(
     manager: &mut Subordinate<KvManager<L>>,
-    input: &Input,
+    input: InputRef<'_>,
 ) -> Result<Reaction, StepError>
     requires numbers { HasNumbers (manager_state sight_of manager.old) }
     ensures ok { IfOk result (HandlesInput (manager_state sight_of manager.old)
-        (manager_state sight_of manager.new) input.now) }
+        (manager_state sight_of manager.new) (input_of input.entry)) }
     ensures err { IfErr result (NotHandled (manager_state sight_of manager.old)
-        (manager_state sight_of manager.new) input.now) }
+        (manager_state sight_of manager.new) (input_of input.entry)) }
 {
     manager.step(input)
 }

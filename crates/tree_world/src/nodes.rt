@@ -1,14 +1,16 @@
 //! The processes of a tree.
 
 ghost use Rattle.std.specs.Prelude.{◌≡◌, false, IfErr, IfOk, option_map};
+ghost use Rattle.core_model.specs.Inputs.{input_of};
 ghost use Rattle.tree_world.specs.Nodes.{NoStepAt, SpellsLogBy, StepsAt, live_at, log_by, node_in, nodes_at};
 ghost use Rattle.tree_world.specs.Restarts.{NoRestartAt, NoTrimAt, RestartsAt, TrimsAt};
 
 use crate::node::Node;
+use core_model::InputRef;
 use indexmap::IndexMap;
 use log_store::LogStore;
 use std::alloc::{AllocError, Global};
-use tree_model::{Input, LogRecord, ProcessId, Reaction, StepError};
+use tree_model::{LogRecord, ProcessId, Reaction, StepError};
 
 /// The processes of a tree, each by its name.
 #[derive(Drop)]
@@ -19,11 +21,15 @@ pub(crate) struct Nodes<L: LogStore> {
 impl<L: LogStore> Nodes<L> {
     /// A process handles an input. NoSuch: there is no such process. Memory also comes where its numbers are
     /// used up.
-    pub(crate) fn step(&mut self, process: ProcessId, input: &Input) -> Result<Reaction, StepError>
+    pub(crate) fn step(
+        &mut self,
+        process: ProcessId,
+        input: InputRef<'_>,
+    ) -> Result<Reaction, StepError>
         ensures ok { IfOk result (StepsAt (nodes_at self.old.nodes.entries)
-            (nodes_at self.new.nodes.entries) process input.now) }
+            (nodes_at self.new.nodes.entries) process (input_of input.entry)) }
         ensures err { IfErr result (NoStepAt (nodes_at self.old.nodes.entries)
-            (nodes_at self.new.nodes.entries) process input.now) }
+            (nodes_at self.new.nodes.entries) process (input_of input.entry)) }
     {
         match self.nodes.get_mut(&process) {
             None => Err(StepError::NoSuch),

@@ -3,17 +3,16 @@
 ghost use Rattle.std.specs.Prelude.{◌≡◌, ◌<◌, [], IfErr, IfOk, OnOk, length, map};
 ghost use Rattle.tree_model.specs.Plays.{process_of_act};
 ghost use Rattle.core_law.specs.Steps.{trim_reaction};
-ghost use Rattle.core_law.specs.worlds.Worlds.{Applies, Stops, Steps};
+ghost use Rattle.core_law.specs.worlds.Worlds.{Applies, Stops};
 ghost use Rattle.core_law.specs.worlds.Runs.{Leads, LeadsUntil};
-ghost use Rattle.short_steps.specs.Steps.{IsSent};
-ghost use Rattle.world_journal.specs.Journals.{IsReady, marked_by};
-ghost use Rattle.tree_world.specs.Worlds.{NotTaken, logs_at, running_state};
+ghost use Rattle.tree_world.specs.Worlds.{logs_at, running_state};
 
 use crate::nodes::Nodes;
+use core_model::InputRef;
 use log_store::LogStore;
 use std::alloc::{AllocError, Global};
 use tree_model::{
-    Act, Event, Happening, Input, LogRecord, ProcessId, Reaction, Sequence, StepError, Tree,
+    Act, Event, Happening, LogRecord, ProcessId, Reaction, Sequence, StepError, Tree,
 };
 use world_journal::Journal;
 
@@ -129,8 +128,9 @@ impl<L: LogStore> RunningTree<L> {
             e (running_state self.new)) }
     {
         let process = process_of(self.tree.root(), act);
-        let input = self.journal.take_act(act)?;
-        self.handle(process, input)
+        let copy = self.journal.take_act(act)?;
+        let made = self.nodes.step(process, InputRef::Act(act));
+        self.journal.close_act(process, copy, made)
     }
 
     /// Delivers the message with this number.
@@ -140,10 +140,14 @@ impl<L: LogStore> RunningTree<L> {
         ensures err { IfErr result (λ e. Stops (running_state self.old) (Event.Deliver number)
             e (running_state self.new)) }
     {
-        match self.journal.take_message(number)? {
-            None => Err(StepError::NoSuch),
-            Some((to, input)) => self.handle(to, input),
-        }
+        self.journal.make_room()?;
+        let Some(envelope) = self.journal.message(number) else {
+            return Err(StepError::NoSuch);
+        };
+        let to = envelope.to;
+        let input = InputRef::Message(number, &envelope.message);
+        let made = self.nodes.step(to, input);
+        self.journal.close_message(to, number, made)
     }
 
     /// Delivers the least numbered message that was not delivered, again and again, at most 10,000 times.
@@ -188,18 +192,5 @@ impl<L: LogStore> RunningTree<L> {
         self.journal
             .enter(process, Happening::Trim, trimmed(self.alloc, remain));
         Ok(())
-    }
-
-    /// A process handles an input, for whose step there is room.
-    fn handle(&mut self, process: ProcessId, input: Input) -> Result<(), StepError>
-        requires ready { IsReady self.old.journal }
-        requires sent { IsSent self.old.journal.net (Happening.Input input) }
-        ensures ok { OnOk result (Steps (running_state self.old) (running_state self.new) process input
-            (marked_by input (running_state self.old).delivered)) }
-        ensures err { IfErr result (NotTaken (running_state self.old)
-            (running_state self.new) process input) }
-    {
-        let made = self.nodes.step(process, &input);
-        self.journal.close(process, input, made)
     }
 }

@@ -40,10 +40,6 @@ abbrev pub marked_by : Input → List Bool → List Bool
 marked_by (ActInput a) bs = bs
 marked_by (MessageInput k m) bs = marks bs k
 
--- the message with this number as its receiver's input
-abbrev pub taken_up : ℕ → Envelope → ProcessId × Input
-taken_up k l = (l.to, MessageInput k l.message)
-
 -- a step was entered: its message is delivered, and its own messages are sent
 pub record Enters (old new : JournalState) (q : ProcessId) (input : Input)
     (reaction : Reaction) : Type 0 where

@@ -1,12 +1,13 @@
 //! The journal of a tree that runs.
 
-ghost use Rattle.std.specs.Prelude.{◌≡◌, ◌+◌, ◌<◌, ◌++◌, ◌∷◌, [], false, true, Err, Ok, IfErr, IfNone, IfOk, IfSome, OnOk, ◌⊎◌, length, option_map, slice_get};
+ghost use Rattle.std.specs.Prelude.{◌≡◌, ◌+◌, ◌<◌, ◌++◌, ◌∷◌, [], false, true, Err, Ok, IfErr, IfNone, IfOk, IfSome, OnOk, ◌⊎◌, is_some, length, option_map, slice_get};
+ghost use Rattle.std.specs.Option.{option_copied};
 ghost use Rattle.tree_model.specs.declared.events.Reaction.{Reaction as AnyReaction};
 ghost use Rattle.tree_model.specs.Plays.{sent_as};
-ghost use Rattle.core_law.specs.worlds.Worlds.{least_open as least_open_in, step_entry, undelivered};
+ghost use Rattle.core_law.specs.worlds.Worlds.{least_open as least_open_in, marks, step_entry, undelivered};
 ghost use Rattle.short_steps.specs.Steps.{IsSent};
 ghost use Rattle.short_steps.specs.Shown.{entry_part, shown_part};
-ghost use Rattle.world_journal.specs.Journals.{Enters, IsReady, Keeps, marked_by, taken_up};
+ghost use Rattle.world_journal.specs.Journals.{Enters, IsReady, Keeps};
 
 use crate::marks::Marks;
 use short_steps::{ShortSteps, Shown};
@@ -84,31 +85,22 @@ impl Journal {
         self.steps.sent()
     }
 
-    /// The act once more, with room for its step.
-    pub fn take_act(&mut self, act: &Act) -> Result<Input, AllocError>
+    /// The act once more, and room for its step.
+    pub fn take_act(&mut self, act: &Act) -> Result<Act, AllocError>
         ensures keeps { Keeps self.old self.new }
         ensures ready { OnOk result (IsReady self.new) }
-        ensures taken { IfOk result (λ input. input ≡ Input.Act act.now) }
+        ensures taken { IfOk result (λ copy. copy ≡ act.now) }
     {
         self.make_room()?;
-        Ok(Input::Act(act.copied(self.alloc)?))
+        act.copied(self.alloc)
     }
 
-    /// The message with this number once more, with its receiver and room for its step; None where no
-    /// message has it.
-    pub fn take_message(&mut self, number: u64) -> Result<Option<(ProcessId, Input)>, AllocError>
-        ensures keeps { Keeps self.old self.new }
-        ensures ready { OnOk result (IsReady self.new) }
-        ensures sent { IfOk result (λ found. IfSome found (λ f. IsSent self.new.net (Happening.Input f.1))) }
-        ensures taken { IfOk result (λ found. found
-            ≡ option_map (taken_up number) (sent_as self.old.net number)) }
+    /// The message with this number, where a step can be entered; None where no message has it.
+    pub fn message(&self, number: u64) -> Option<&Envelope>
+        requires { IsReady self.now }
+        ensures { option_copied result ≡ sent_as self.now.net number }
     {
-        self.make_room()?;
-        let Some(envelope) = self.steps.message(number) else {
-            return Ok(None);
-        };
-        let message = envelope.message.copied(self.alloc)?;
-        Ok(Some((envelope.to, Input::Message(number, message))))
+        self.steps.message(number)
     }
 
     /// The number of the first message that was not delivered.
@@ -123,39 +115,59 @@ impl Journal {
         }
     }
 
-    /// A process handled an input or did not: the step is entered, where it was made, and its message is
-    /// delivered.
-    pub fn close(
+    /// A process handled an act or did not: the step is entered, where it was made.
+    pub fn close_act(
         &mut self,
         process: ProcessId,
-        input: Input,
+        act: Act,
         made: Result<Reaction, StepError>,
     ) -> Result<(), StepError>
-        requires ready { IsReady self.old }
-        requires sent { IsSent self.old.net (Happening.Input input) }
+        requires { IsReady self.old }
         ensures ok { OnOk result ((reaction : AnyReaction) × (made ≡ Ok reaction)
-            × Enters self.old self.new process input reaction) }
+            × Enters self.old self.new process (Input.Act act) reaction) }
         ensures err { IfErr result (λ e. (made ≡ Err e) × (self.new ≡ self.old)) }
     {
         match made {
             Ok(reaction) => {
-                self.mark(&input);
-                self.enter(process, Happening::Input(input), reaction);
+                self.enter(process, Happening::Input(Input::Act(act)), reaction);
                 Ok(())
             }
             Err(error) => Err(error),
         }
     }
 
-    /// The message of the input is delivered, if it is one.
-    fn mark(&mut self, input: &Input)
-        requires { IsReady self.old }
-        ensures { self.new ≡ record self.old { delivered = marked_by input.now self.old.delivered } }
+    /// A process handled the message with this number or did not: the step is entered, where it was made, and
+    /// the message is delivered.
+    pub fn close_message(
+        &mut self,
+        process: ProcessId,
+        number: u64,
+        made: Result<Reaction, StepError>,
+    ) -> Result<(), StepError>
+        requires ready { IsReady self.old }
+        requires sent { is_some (sent_as self.old.net number) ≡ true }
+        ensures ok { OnOk result (IfSome (sent_as self.old.net number) (λ l.
+            (reaction : AnyReaction) × (made ≡ Ok reaction)
+            × Enters self.old self.new process (Input.Message number l.message) reaction)) }
+        ensures err { IfErr result (λ e. (made ≡ Err e) × (self.new ≡ self.old)) }
     {
-        if let Input::Message(number, _) = input {
-            if let Some(place) = place_of(*number, self.delivered.len()) {
-                self.delivered.mark(place);
+        match made {
+            Ok(reaction) => {
+                self.mark(number);
+                self.enter_message(process, number, reaction);
+                Ok(())
             }
+            Err(error) => Err(error),
+        }
+    }
+
+    /// The message with this number is delivered.
+    fn mark(&mut self, number: u64)
+        requires { IsReady self.old }
+        ensures { self.new ≡ record self.old { delivered = marks self.old.delivered number } }
+    {
+        if let Some(place) = place_of(number, self.delivered.len()) {
+            self.delivered.mark(place);
         }
     }
 
@@ -168,6 +180,18 @@ impl Journal {
         ensures entries { self.new.entries ≡ self.old.entries ++ step_entry process happening reaction ∷ [] }
     {
         self.steps.enter(process, happening, reaction);
+    }
+
+    /// A step more, which handled the message with this number, where there is room for it.
+    fn enter_message(&mut self, process: ProcessId, number: u64, reaction: Reaction)
+        requires ready { IsReady self.old }
+        requires sent { is_some (sent_as self.old.net number) ≡ true }
+        ensures net { self.new.net ≡ self.old.net ++ reaction.messages }
+        ensures delivered { self.new.delivered ≡ self.old.delivered ++ undelivered reaction.messages }
+        ensures entries { IfSome (sent_as self.old.net number) (λ l. self.new.entries ≡ self.old.entries
+            ++ step_entry process (Happening.Input (Input.Message number l.message)) reaction ∷ []) }
+    {
+        self.steps.enter_message(process, number, reaction);
     }
 
     /// Makes room for a step.

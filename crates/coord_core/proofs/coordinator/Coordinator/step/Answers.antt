@@ -1,4 +1,5 @@
 use Rattle.std.proofs.Common.{rules, []}
+use Rattle.core_model.specs.Inputs.{input_of}
 use Rattle.coord_core.specs.declared.turn.Turn.TheVariants.{Begins, Issues, Takes, Answers, Repeats, Presumes, Nothing}
 use Rattle.coord_core.specs.States.{state}
 use Rattle.coord_core.specs.Meets.{Meets, RetiresAs, RetiresNone, meant}
@@ -8,67 +9,67 @@ use Rattle.coord_core.proofs.coordinator.Coordinator.step.Goals as goal
 
 pub returns-in-Begins-clause-ok : goal.returns-in-Begins-clause-ok
 returns-in-Begins-clause-ok g c =
-    let meets : Meets c.args.self.now c.args.input.now (Begins c.in-Begins.presumption) = search rules in
-    step_ok c.args.self.now (state c.begins.new.self) c.args.input.now
+    let meets : Meets c.args.self.now (input_of c.args.input) (Begins c.in-Begins.presumption) = search rules in
+    step_ok c.args.self.now (state c.begins.new.self) (input_of c.args.input)
     (Begins c.in-Begins.presumption) c.begins.result meets
     (for_input RetiresNone (λ i reaction. Turned (state c.args.self.now) (state c.begins.new.self)
     i (meant c.args.self.now (Begins c.in-Begins.presumption)) reaction) c.begins.result
-    c.begins.ensures.ok c.args.input.now meets.may)
+    c.begins.ensures.ok (input_of c.args.input) meets.may)
 
 pub returns-in-Issues-clause-ok : goal.returns-in-Issues-clause-ok
 returns-in-Issues-clause-ok g c =
-    let meets : Meets c.args.self.now c.args.input.now
+    let meets : Meets c.args.self.now (input_of c.args.input)
     (Issues c.in-Issues.parent c.in-Issues.case) = search rules in
-    step_ok c.args.self.now (state c.issues.new.self) c.args.input.now
+    step_ok c.args.self.now (state c.issues.new.self) (input_of c.args.input)
     (Issues c.in-Issues.parent c.in-Issues.case) c.issues.result meets
     (for_any (λ i reaction. Turned (state c.args.self.now) (state c.issues.new.self)
     i (meant c.args.self.now (Issues c.in-Issues.parent c.in-Issues.case)) reaction) c.issues.result
-    c.issues.ensures.ok c.args.input.now)
+    c.issues.ensures.ok (input_of c.args.input))
 
 pub returns-in-Takes-clause-ok : goal.returns-in-Takes-clause-ok
 returns-in-Takes-clause-ok g c =
-    let meets : Meets c.args.self.now c.args.input.now
+    let meets : Meets c.args.self.now (input_of c.args.input)
     (Takes c.in-Takes.key c.in-Takes.case c.in-Takes.asked) = search rules in
-    step_ok c.args.self.now (state c.takes.new.self) c.args.input.now
+    step_ok c.args.self.now (state c.takes.new.self) (input_of c.args.input)
     (Takes c.in-Takes.key c.in-Takes.case c.in-Takes.asked) c.takes.result meets
     (for_input (λ i. RetiresAs i c.in-Takes.asked c.in-Takes.case)
     (λ i reaction. Turned (state c.args.self.now) (state c.takes.new.self)
     i (meant c.args.self.now (Takes c.in-Takes.key c.in-Takes.case c.in-Takes.asked)) reaction)
-    c.takes.result c.takes.ensures.ok c.args.input.now meets.may.retiring)
+    c.takes.result c.takes.ensures.ok (input_of c.args.input) meets.may.retiring)
 
 pub returns-in-Answers-clause-ok : goal.returns-in-Answers-clause-ok
 returns-in-Answers-clause-ok g c =
-    let meets : Meets c.args.self.now c.args.input.now
+    let meets : Meets c.args.self.now (input_of c.args.input)
     (Answers c.in-Answers.case c.in-Answers.asked) = search rules in
-    step_ok c.args.self.now (state c.args.self.now) c.args.input.now
+    step_ok c.args.self.now (state c.args.self.now) (input_of c.args.input)
     (Answers c.in-Answers.case c.in-Answers.asked) c.answers.result meets
     (for_input (λ i. RetiresAs i c.in-Answers.asked c.in-Answers.case)
     (λ i reaction. Turned (state c.args.self.now) (state c.args.self.now) i
     (meant c.args.self.now (Answers c.in-Answers.case c.in-Answers.asked)) reaction) c.answers.result
-    c.answers.ensures.ok c.args.input.now meets.may.retiring)
+    c.answers.ensures.ok (input_of c.args.input) meets.may.retiring)
 
 pub returns-in-Repeats-clause-ok : goal.returns-in-Repeats-clause-ok
 returns-in-Repeats-clause-ok g c =
-    let meets : Meets c.args.self.now c.args.input.now
+    let meets : Meets c.args.self.now (input_of c.args.input)
     (Repeats c.in-Repeats.parent c.in-Repeats.case c.in-Repeats.ticket) = search rules in
-    step_ok c.args.self.now (state c.args.self.now) c.args.input.now
+    step_ok c.args.self.now (state c.args.self.now) (input_of c.args.input)
     (Repeats c.in-Repeats.parent c.in-Repeats.case c.in-Repeats.ticket) c.repeats.result meets
     (for_any (λ i reaction. Turned (state c.args.self.now) (state c.args.self.now) i
     (meant c.args.self.now (Repeats c.in-Repeats.parent c.in-Repeats.case c.in-Repeats.ticket)) reaction)
-    c.repeats.result c.repeats.ensures.ok c.args.input.now)
+    c.repeats.result c.repeats.ensures.ok (input_of c.args.input))
 
 pub returns-in-Presumes-clause-ok : goal.returns-in-Presumes-clause-ok
 returns-in-Presumes-clause-ok g c =
-    let meets : Meets c.args.self.now c.args.input.now
+    let meets : Meets c.args.self.now (input_of c.args.input)
     (Presumes c.in-Presumes.txn c.in-Presumes.ticket) = search rules in
-    step_ok c.args.self.now (state c.args.self.now) c.args.input.now
+    step_ok c.args.self.now (state c.args.self.now) (input_of c.args.input)
     (Presumes c.in-Presumes.txn c.in-Presumes.ticket) c.presumes.result meets
     (for_any (λ i reaction. Turned (state c.args.self.now) (state c.args.self.now) i
     (meant c.args.self.now (Presumes c.in-Presumes.txn c.in-Presumes.ticket)) reaction) c.presumes.result
-    c.presumes.ensures.ok c.args.input.now)
+    c.presumes.ensures.ok (input_of c.args.input))
 
 pub returns-in-Nothing-clause-ok : goal.returns-in-Nothing-clause-ok
 returns-in-Nothing-clause-ok g c =
-    let meets : Meets c.args.self.now c.args.input.now Nothing = search rules in
-    makes_of c.args.self.now (state c.args.self.now) c.args.input.now Nothing c.nothing.result meets
-    (said_turn c.args.self.now [] c.nothing.result c.nothing.ensures c.args.input.now)
+    let meets : Meets c.args.self.now (input_of c.args.input) Nothing = search rules in
+    makes_of c.args.self.now (state c.args.self.now) (input_of c.args.input) Nothing c.nothing.result meets
+    (said_turn c.args.self.now [] c.nothing.result c.nothing.ensures (input_of c.args.input))

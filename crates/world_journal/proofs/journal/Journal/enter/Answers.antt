@@ -1,7 +1,7 @@
 use Rattle.std.proofs.Common.{◌≡◌, ◌∙◌, ap, sym, ◌++◌, length}
 use Rattle.core_law.specs.worlds.Worlds.{undelivered}
-use Rattle.world_journal.specs.Journals.{JournalState, unmarked}
-use Rattle.world_journal.proofs.Journals.{marked_behind}
+use Rattle.world_journal.specs.Journals.{JournalState}
+use Rattle.world_journal.proofs.Journals.{marked_entered}
 use Rattle.world_journal.proofs.journal.Journal.enter.Goals as goal
 
 pub returns-clause-delivered : goal.returns-clause-delivered
@@ -9,10 +9,6 @@ returns-clause-delivered c =
     let all : length c.self.inside.delivered ≡ length (c.self.inside.steps.sent ++ c.self.inside.steps.waiting) =
     ap (λ (j : JournalState). j.marked) c.self.view_is ∙ c.requires.ready.marked
     ∙ sym (ap (λ (j : JournalState). length j.net) c.self.view_is) in
-    ap (λ ls. c.self.inside.delivered ++ unmarked (ls ++ c.enter.new.self.waiting) c.self.inside.delivered)
-    c.enter.ensures.sent
-    ∙ ap (λ ls. c.self.inside.delivered ++ unmarked (c.self.inside.steps.sent ++ ls) c.self.inside.delivered)
-    c.enter.ensures.waiting
-    ∙ marked_behind c.self.inside.steps.sent c.self.inside.steps.waiting c.args.reaction.messages
-    c.self.inside.delivered c.self.invariant all
+    marked_entered c.self.inside.steps c.enter.new.self c.args.reaction.messages c.self.inside.delivered
+    c.enter.ensures.sent c.enter.ensures.waiting c.self.invariant all
     ∙ ap (λ (j : JournalState). j.delivered ++ undelivered c.args.reaction.messages) c.self.view_is
