@@ -10,9 +10,7 @@ ghost use Rattle.tree_model.specs.ManagerRows.{presumption_of};
 
 use log_text::{Frame, name_in};
 use std::alloc::{AllocError, Global};
-use tree_model::{
-    Branch, LogRecord, Outcome, Presumption, ProcessId, Record, Sequence, Write, Writes,
-};
+use tree_model::{Branch, Outcome, Presumption, ProcessId, Record, Sequence, Write, Writes};
 use xa_xid::Xid;
 
 /// A record of a branch.
@@ -122,6 +120,6 @@ impl Entry {
     {
         let (parent, branch) = name_of(xid);
         let entry = self.record(branch, writes, alloc)?;
-        Frame::new(LogRecord { entry, parent }, alloc)
+        Frame::of(&entry, parent, alloc)
     }
 }

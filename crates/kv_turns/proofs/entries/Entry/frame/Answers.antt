@@ -8,8 +8,8 @@ use Rattle.kv_turns.specs.Turns.{entry_record}
 use Rattle.kv_turns.proofs.Sound.{sound_entry}
 use Rattle.kv_turns.proofs.entries.Entry.frame.Goals as goal
 
-pub new-requires : goal.new-requires
-new-requires c =
+pub of-requires : goal.of-requires
+of-requires c =
     let name : IsSoundName (name_in c.args.xid.now).0 (name_in c.args.xid.now).1 =
     subst (λ (n : Name). IsSoundName n.0 n.1) c.name_of-parent.ensures.name c.name_of-parent.ensures.sound in
     let is : entry_record c.args.self c.args.xid.now c.args.writes.now
