@@ -3,8 +3,7 @@
 ghost use Rattle.std.specs.Prelude.{◌≡◌, ◌<◌, ◌^◌, IfOk, IsTrue};
 ghost use Rattle.tree_model.specs.declared.names.Kind.{Kind as AnyKind};
 ghost use Rattle.tree_model.specs.declared.records.Branch.{Branch as AnyBranch};
-ghost use Rattle.tree_model.specs.LogNames.{case_parent, in_log};
-ghost use Rattle.tree_model.specs.Records.{record_case};
+ghost use Rattle.tree_model.specs.LogNames.{in_log};
 ghost use Rattle.log_text.specs.Made.{frame_record};
 ghost use Rattle.log_rules.specs.sound.Sound.{AreSoundTickets, IsSound, IsSoundName, IsSoundTicket};
 ghost use Rattle.rec_log.specs.Sights.{IsRecord};
@@ -56,16 +55,6 @@ fn is_writable(entry: &Record, parent: Option<ProcessId>) -> bool
     }
 }
 
-/// The parent that goes with the record's case; none where it has no ticket.
-fn named_parent(entry: &Record, parent: Option<ProcessId>) -> Option<ProcessId>
-    ensures { result ≡ case_parent parent (record_case entry.now) }
-{
-    match entry.case() {
-        Some(case) if case.ticket.is_some() => parent,
-        _ => None,
-    }
-}
-
 /// The frame of a coordinator's record, as the log of a process below this parent holds it. One that no log
 /// can hold is refused as for want of memory: more than 255 tickets, or a number of 2^63 and more; no run
 /// makes one.
@@ -77,7 +66,7 @@ pub fn coordinator_frame(
     ensures spells { IfOk result (λ frame. frame_record frame ≡ in_log parent entry.now) }
     ensures sound { IfOk result (λ frame. IsRecord AnyKind.Coordinator (frame_record frame)) }
 {
-    let parent = named_parent(entry, parent);
+    let parent = entry.named_parent(parent);
     if !is_writable(entry, parent) {
         return Err(AllocError);
     }

@@ -1,7 +1,7 @@
 //! The records of a log.
 
 ghost use Rattle.std.specs.Prelude.{◌≡◌, IfOk};
-ghost use Rattle.tree_model.specs.LogNames.{in_log};
+ghost use Rattle.tree_model.specs.LogNames.{case_parent};
 ghost use Rattle.tree_model.specs.Records.{branch_case, case_subject, kind_of, record_case, subject_of};
 
 use crate::lists::Sequence;
@@ -170,14 +170,14 @@ impl Record {
         }
     }
 
-    /// The record as the log of a process below this parent holds it; the root has none. It takes no memory.
-    pub fn in_log(self, parent: Option<ProcessId>) -> LogRecord
-        ensures { result ≡ in_log parent self }
+    /// The parent that stands with the record in the log of a process below this one; none where its case
+    /// has no ticket, and where it is of no case.
+    pub fn named_parent(&self, parent: Option<ProcessId>) -> Option<ProcessId>
+        ensures { result ≡ case_parent parent (record_case self.now) }
     {
-        let ticket = self.case().and_then(|case| case.ticket);
-        LogRecord {
-            entry: self,
-            parent: if ticket.is_some() { parent } else { None },
+        match self.case() {
+            Some(case) if case.ticket.is_some() => parent,
+            _ => None,
         }
     }
 

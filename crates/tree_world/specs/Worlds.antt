@@ -2,11 +2,8 @@
 use Rattle.std.specs.Prelude.{List, map}
 use Rattle.tree_model.specs.declared.names.ProcessId.{ProcessId}
 use Rattle.tree_model.specs.declared.records.LogRecord.{LogRecord}
-use Rattle.tree_model.specs.declared.events.Input.{Input}
-use Rattle.tree_model.specs.declared.events.StepError.{StepError}
-use Rattle.tree_model.specs.declared.events.StepError.TheVariants.{Memory, Device}
 use Rattle.tree_model.specs.declared.trees.TreeEntry.{TreeEntry}
-use Rattle.core_law.specs.worlds.Worlds.{DeviceFails, RefusesAt, Same, WorldState}
+use Rattle.core_law.specs.worlds.Worlds.{WorldState}
 use Rattle.world_journal.specs.Journals.{JournalState}
 use Rattle.tree_world.specs.declared.node.Node.{Node}
 use Rattle.tree_world.specs.declared.running_tree.RunningTree.{RunningTree}
@@ -39,9 +36,3 @@ running_state w = state (value_of w)
 -- the records of these processes
 abbrev pub logs_at : WorldState → List TreeEntry → List (List LogRecord)
 logs_at w tree = map (λ e. log_by (w.node_at e.id)) tree
-
--- why a process did not handle an input, and what that leaves: Memory and a refusal change nothing
-abbrev pub NotTaken : WorldState → WorldState → ProcessId → Input → StepError → Type 0
-NotTaken old new q i Memory = Same old new
-NotTaken old new q i Device = DeviceFails old new q i
-NotTaken old new q i e = Same old new × RefusesAt (old.node_at q) i e

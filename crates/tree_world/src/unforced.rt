@@ -20,11 +20,7 @@ fn size_of(alloc: Global, record: &LogRecord) -> Result<u64, AllocError>
     requires { FitsFrame record.now }
     ensures { IfOk result (λ size. size ≡ record_size record.now) }
 {
-    let copy = LogRecord {
-        parent: record.parent,
-        entry: record.entry.copied(alloc)?,
-    };
-    let frame = Frame::new(copy, alloc)?;
+    let frame = Frame::of(&record.entry, record.parent, alloc)?;
     Ok(frame.bytes().len() as u64)
 }
 

@@ -259,7 +259,7 @@ impl States {
         self.branches.reserve(1)?;
         let code = self.associations.start(thread, xid)?;
         if code == Code::Ok {
-            self.branches.begin(xid);
+            return self.branches.begin(xid);
         }
         Ok(code)
     }

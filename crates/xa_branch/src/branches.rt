@@ -116,12 +116,13 @@ impl Branches {
         self.states.len() >= BRANCHES
     }
 
-    /// Begins a branch that is not known, in S1, where there is room for it. It takes no memory.
-    pub fn begin(&mut self, xid: &Xid)
-        requires room { 1 ≤ self.old.room }
-        ensures { Moves self.old self.new xid.now BranchState.S1 }
+    /// Begins a branch, in S1. DupId: it is known. RmErr: 1,024 branches are known. Either changes nothing.
+    pub fn begin(&mut self, xid: &Xid) -> Result<Code, AllocError>
+        ensures begun { IfOk result (Begins self.old self.new xid.now BranchState.S1) }
+        ensures err { OnErr result (Stays self.old self.new) }
+        ensures succeeds { 0 < self.old.room → IsOk result }
     {
-        let _ = self.states.insert(*xid, BranchState::S1).unwrap();
+        self.enter(xid, BranchState::S1)
     }
 
     /// Enters a branch that a log left, in S3 or S5. DupId: it is known. RmErr: 1,024 branches are known.
@@ -129,6 +130,15 @@ impl Branches {
     pub fn restore(&mut self, xid: &Xid, state: BranchState) -> Result<Code, AllocError>
         requires { (state ≡ BranchState.S3) ⊎ (state ≡ BranchState.S5) }
         ensures restored { IfOk result (Begins self.old self.new xid.now state) }
+        ensures err { OnErr result (Stays self.old self.new) }
+        ensures succeeds { 0 < self.old.room → IsOk result }
+    {
+        self.enter(xid, state)
+    }
+
+    fn enter(&mut self, xid: &Xid, state: BranchState) -> Result<Code, AllocError>
+        requires { state ≡ BranchState.S0 → ⊥ }
+        ensures entered { IfOk result (Begins self.old self.new xid.now state) }
         ensures err { OnErr result (Stays self.old self.new) }
         ensures succeeds { 0 < self.old.room → IsOk result }
     {
