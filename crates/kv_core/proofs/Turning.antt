@@ -1,5 +1,5 @@
 -- The turn that a call takes.
-use Rattle.std.proofs.Common.{◌≡◌, ◌≤◌, ℕ, Bool, true, false, not, Option, Some, None, Ok, List, ap, sym, subst, ◌∙◌, refl, arith}
+use Rattle.std.proofs.Common.{◌≡◌, ◌≤◌, ℕ, Bool, true, false, not, Option, Some, None, Ok, sym, subst, ◌∙◌, refl, arith}
 use Rattle.std.specs.Prelude.{◌||◌, Contains, is_some}
 use Rattle.xa_tables.specs.Tables.{branch_rows, heuristic}
 use Rattle.xa_tables.specs.declared.call.Verb.{Verb}
@@ -16,7 +16,6 @@ use Rattle.xa_heur.specs.Cases.{DecisionTable, decision_in}
 use Rattle.tree_model.specs.declared.names.Outcome.{Outcome}
 use Rattle.tree_model.specs.declared.names.Outcome.TheVariants.{Aborted, Committed}
 use Rattle.tree_model.specs.declared.records.Branch.{Branch}
-use Rattle.tree_model.specs.declared.records.Write.{Write}
 use Rattle.log_text.specs.Parts.{name_in}
 use Rattle.kv_store.specs.writes.Writes.{writes_of}
 use Rattle.kv_turns.specs.declared.turns.Turn.{Turn}

@@ -74,6 +74,12 @@ abbrev pub IsRefused : KeySight → KeySight → Option WorkError → WorkError 
 IsRefused old new refusal Memory = (refusal ≡ None) × SameStore old new
 IsRefused old new refusal e = (refusal ≡ Some e) × SameStore old new
 
+-- a branch's work is refused for this where no other branch's lock is in its way; nothing changed
+abbrev pub IsRefusedIfFree : KeySight → KeySight → Xid → List ℕ → Mode → WorkError → Type 0
+IsRefusedIfFree old new x k m e =
+    (blocked_by (holders_of old.locks k) x m ≡ None → IsRefused old new (limit_refusal old x k m) e)
+    × SameStore old new
+
 -- What work does.
 
 -- the value that a write leaves, or else the one that is there

@@ -3,6 +3,8 @@
 ghost use Rattle.std.specs.Prelude.{◌≡◌, ◌≤◌, ◌<◌, ◌+◌, ◌^◌, ℕ, List, Option, not, MatchResult, IfOk, IfErr, OnOk, OnErr, Some, None, option_map, true, false};
 ghost use Rattle.key_tables.specs.declared.holders.Mode.{Mode as WorkMode};
 ghost use Rattle.key_tables.specs.declared.holders.Mode.TheVariants as mode;
+ghost use Rattle.key_tables.specs.Holders.{blocked_by};
+ghost use Rattle.kv_locks.specs.Locks.{holders_of};
 ghost use Rattle.kv_store.specs.writes.Writes.{AreWrites, writes_of};
 ghost use Rattle.xa_assoc.specs.Answers.{Answers, Closes, Opens, Recovers, Wanted, map_ok};
 ghost use Rattle.xa_assoc.specs.Ready.{is_closed, is_work_verb, leaves};
@@ -15,11 +17,11 @@ ghost use Rattle.xa_assoc.specs.Restored.{Restored, restore_refusal};
 ghost use Rattle.kv_core.specs.Stores.{IsTidy, MovesTables, Rebuilt, SameStore, has_numbers, is_let_go, state_of};
 ghost use Rattle.xa_heur.specs.Cases.{Notes, decision_in};
 ghost use Rattle.xa_heur.specs.Decisions.{decision_at};
-ghost use Rattle.kv_core.specs.Works.{IsRefused, Reads, Writes, at_work, branch_refusal, is_too_long, refusal_by, value_for, work_refusal};
+ghost use Rattle.kv_core.specs.Works.{IsRefused, IsRefusedIfFree, Reads, Writes, at_work, is_too_long, unless_locked, value_for, work_refusal};
 ghost use Rattle.kv_core.specs.Ends.{CanNote, IsDue, IsOff, IsTurn, PublishesWrites, Reserves, SameButData, StagesWrites, TakesTurn, known_behind, known_of, turn_for, wrote_some};
 
 use key_tables::Mode;
-use kv_locks::{LockError, Locks};
+use kv_locks::Locks;
 use kv_store::Versions;
 use kv_store::writes::BranchWrites;
 use kv_turns::{Entry, Turn, branch_of};
@@ -241,30 +243,15 @@ impl KeyStore {
         }
     }
 
-    /// Lets a branch at work do this work at a key. TooLong, Locked, TooManyWrites, in this order.
-    fn allow(
-        &self,
-        xid: &Xid,
-        key: &[u8],
-        value: Option<&[u8]>,
-        mode: Mode,
-    ) -> Result<(), WorkError>
-        requires { is_spoiled (state_of self.now xid.now) ≡ false }
-        ensures ok { OnOk result (branch_refusal self.now key.now
-            (option_map (λ v. v.now) value.entry) mode xid.now ≡ None) }
-        ensures err { IfErr result (λ e. branch_refusal self.now key.now
-            (option_map (λ v. v.now) value.entry) mode xid.now ≡ Some e) }
+    /// Why a branch's work at a key is refused that would be for this: Locked comes first.
+    fn unless_locked(&self, xid: &Xid, key: &[u8], mode: Mode, other: WorkError) -> WorkError
+        ensures { Some result ≡ unless_locked (blocked_by (holders_of self.now.locks key.now) xid.now mode)
+            (Some other) }
     {
-        if is_too_long(key, value) {
-            return Err(WorkError::TooLong);
+        match self.locks.blocker(xid, key, mode) {
+            Some(holder) => WorkError::Locked(holder),
+            None => other,
         }
-        if let Some(other) = self.locks.blocker(xid, key, mode) {
-            return Err(WorkError::Locked(other));
-        }
-        if mode == Mode::Exclusive && !self.writes.is_within_limit(xid, key) {
-            return Err(WorkError::TooManyWrites);
-        }
-        Ok(())
     }
 
     /// What a branch finds at a key: its own write, or else the data.
@@ -280,6 +267,23 @@ impl KeyStore {
         }
     }
 
+    /// Reads a key for a branch at work, which holds it from then on, at least shared. Memory: nothing
+    /// changed; it comes where another branch's lock is in the way too.
+    fn read_for(&mut self, xid: &Xid, key: &[u8]) -> Result<Option<Bytes>, WorkError>
+        requires works { (is_let_go (state_of self.old xid.now) ≡ false)
+            × (is_spoiled (state_of self.old xid.now) ≡ false) }
+        requires short { is_too_long key.now None ≡ false }
+        ensures ok { IfOk result (λ found. (thread : ℕ) → at_work self.old thread ≡ Some xid.now
+            → Reads self.old self.new thread key.now found) }
+        ensures err { IfErr result (λ e. IsRefusedIfFree self.old self.new xid.now key.now mode.Shared e) }
+    {
+        let found = copied(self.value(xid, key), self.alloc)?;
+        match self.locks.shared(xid, key) {
+            Ok(()) => Ok(found),
+            Err(_) => Err(WorkError::Memory),
+        }
+    }
+
     /// Reads a key for a thread's branch, which holds it from then on, at least shared. NotAssociated,
     /// RollbackOnly, TooLong, Locked, in this order. A refusal changes nothing.
     pub fn get(&mut self, thread: u32, key: &[u8]) -> Result<Option<Bytes>, WorkError>
@@ -288,10 +292,37 @@ impl KeyStore {
             (work_refusal self.old thread key.now None mode.Shared) e) }
     {
         let xid = self.at_work(thread)?;
-        self.allow(&xid, key, None, Mode::Shared)?;
-        let found = copied(self.value(&xid, key), self.alloc)?;
-        match self.locks.shared(&xid, key) {
-            Ok(()) => Ok(found),
+        if is_too_long(key, None) {
+            return Err(WorkError::TooLong);
+        }
+        match self.read_for(&xid, key) {
+            Ok(found) => Ok(found),
+            Err(refusal) => Err(self.unless_locked(&xid, key, Mode::Shared, refusal)),
+        }
+    }
+
+    /// Writes a key for a branch at work, or deletes it, which holds it exclusively from then on.
+    /// TooManyWrites, Memory: nothing changed; they come where another branch's lock is in the way too.
+    fn write_for(&mut self, xid: &Xid, key: &[u8], value: Option<&[u8]>) -> Result<(), WorkError>
+        requires works { (is_let_go (state_of self.old xid.now) ≡ false)
+            × (is_spoiled (state_of self.old xid.now) ≡ false) }
+        requires short { is_too_long key.now (option_map (λ v. v.now) value) ≡ false }
+        ensures ok { OnOk result ((thread : ℕ) → at_work self.old thread ≡ Some xid.now
+            → Writes self.old self.new thread key.now (option_map (λ v. v.now) value.entry)) }
+        ensures err { IfErr result (λ e. IsRefusedIfFree self.old self.new xid.now key.now mode.Exclusive e) }
+    {
+        let Some(place) = self.writes.room_for(xid, key)? else {
+            return Err(WorkError::TooManyWrites);
+        };
+        let write = Write {
+            key: bytes_of(key, self.alloc)?,
+            value: copied(value, self.alloc)?,
+        };
+        match self.locks.exclusive(xid, key) {
+            Ok(()) => {
+                self.writes.put_at(place, write);
+                Ok(())
+            }
             Err(_) => Err(WorkError::Memory),
         }
     }
@@ -304,18 +335,12 @@ impl KeyStore {
             (work_refusal self.old thread key.now (option_map (λ v. v.now) value.entry) mode.Exclusive) e) }
     {
         let xid = self.at_work(thread)?;
-        self.allow(&xid, key, value, Mode::Exclusive)?;
-        let write = Write {
-            key: bytes_of(key, self.alloc)?,
-            value: copied(value, self.alloc)?,
-        };
-        self.writes.reserve(&xid)?;
-        match self.locks.exclusive(&xid, key) {
-            Ok(()) => {
-                self.writes.put(&xid, write);
-                Ok(())
-            }
-            Err(_) => Err(WorkError::Memory),
+        if is_too_long(key, value) {
+            return Err(WorkError::TooLong);
+        }
+        match self.write_for(&xid, key, value) {
+            Ok(()) => Ok(()),
+            Err(refusal) => Err(self.unless_locked(&xid, key, Mode::Exclusive, refusal)),
         }
     }
 

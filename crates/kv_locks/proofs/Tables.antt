@@ -1,5 +1,5 @@
 -- The table of holders and the lists of keys, as the maps hold them.
-use Rattle.std.proofs.Common.{◌≡◌, ℕ, Bool, true, false, cond, None, Some, List, [], ◌∷◌, ◌++◌, subst, refl, sym, ap, ◌∙◌, arith, rules, inl, inr}
+use Rattle.std.proofs.Common.{◌≡◌, ℕ, Bool, true, false, cond, Option, None, Some, unwrap_or, List, [], ◌∷◌, ◌++◌, subst, refl, sym, ap, ◌∙◌, arith, rules, inl, inr}
 use Rattle.std.proofs.lemmas.Grind.{common_steps}
 use Rattle.std.proofs.lemmas.List.Folds.{list_any-append}
 use Rattle.std.specs.Global.{Vec}
@@ -22,23 +22,30 @@ kept_nothing es held none free = subst (λ fs. IsKept (table_of fs) held) (sym n
       listed = λ x k h. h;
     }))
 
--- the list of a branch gets one key more
-pub keeps_keys : (es fs : List (Xid × Vec (Vec ℕ))) (x : Xid) (ls : Vec (Vec ℕ)) (k : Vec ℕ)
+-- the list of a branch gets more keys
+pub keeps_keys : (es fs : List (Xid × Vec (Vec ℕ))) (x : Xid) (ls : Vec (Vec ℕ)) (ks : List (Vec ℕ))
     → ((y : Xid) → lookup (same y) fs ≡ cond (same x y) (Some ls) (lookup (same y) es))
-    → ls.items ≡ keys_of es x ++ k ∷ [] → KeepsKeys es fs
-keeps_keys es fs x ls k writes pushed y l named = by_test (same x y) refl
+    → ls.items ≡ keys_of es x ++ ks → KeepsKeys es fs
+keeps_keys es fs x ls ks writes pushed y l named = by_test (same x y) refl
   where
     by_test : (b : Bool) → same x y ≡ b → names_key (keys_of fs y) l ≡ true
     by_test true e =
         let here : keys_of fs y ≡ ls.items = ap keys_in
         (writes y ∙ ap (λ b. cond b (Some ls) (lookup (same y) es)) e) in
         let was : keys_of es x ≡ keys_of es y = ap (keys_of es) (same_is x y e) in
-        ap (λ ks. names_key ks l) (here ∙ pushed ∙ ap (λ ks. ks ++ k ∷ []) was)
+        ap (λ js. names_key js l) (here ∙ pushed ∙ ap (λ js. js ++ ks) was)
         ∙ grind (arith, common_steps, list_any-append)
     by_test false e =
-        ap (λ ks. names_key ks l) (ap keys_in (writes y ∙ ap (λ b. cond b (Some ls) (lookup (same y) es)) e))
+        ap (λ js. names_key js l) (ap keys_in (writes y ∙ ap (λ b. cond b (Some ls) (lookup (same y) es)) e))
         ∙ named
 
+-- the keys of a list that is there, or of a new one
+pub keys_or_none : (o : Option (Vec (Vec ℕ))) (d : Vec (Vec ℕ)) → d.items ≡ []
+    → (unwrap_or o d).items ≡ keys_in o
+keys_or_none None d empty = empty
+keys_or_none (Some v) d empty = refl
+
+-- a key that it gets is listed
 pub key_listed : (fs : List (Xid × Vec (Vec ℕ))) (x : Xid) (ls : Vec (Vec ℕ))
     (ks : List (Vec ℕ)) (k : Vec ℕ) (l : List ℕ)
     → lookup (same x) fs ≡ Some ls → ls.items ≡ ks ++ k ∷ [] → k.items ≡ l → names_key (keys_of fs x) l ≡ true

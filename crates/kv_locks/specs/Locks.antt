@@ -1,8 +1,8 @@
 -- Who holds which key, and when a lock is given.
-use Rattle.std.specs.Prelude.{◌≡◌, ℕ, Bool, true, Option, Some, None, List, []}
+use Rattle.std.specs.Prelude.{◌≡◌, ℕ, Bool, true, Option, Some, None, List, [], position}
 use Rattle.std.specs.Global.{Vec}
 use Rattle.std.specs.List.{list_any}
-use Rattle.std.specs.Map.{lookup}
+use Rattle.std.specs.Map.{keys_of as map_keys, lookup}
 use Rattle.xa_xid.specs.declared.xid.Xid.{Xid}
 use Rattle.key_tables.specs.Holders.{blocked_by, given, holds, keeps_rule, same, without}
 use Rattle.key_tables.specs.Tables.{Becomes, list_at, same_key}
@@ -42,6 +42,10 @@ Refuses old new x k m (Held y) = (blocked_by (holders_of old k) x m ≡ Some y) 
 Refuses old new x k m Memory = new ≡ old
 
 -- What the code keeps.
+
+-- where a key stands in the map
+abbrev pub place_of : List (Vec ℕ × Vec Holder) → List ℕ → Option ℕ
+place_of es k = position (λ held. same_key k held.items) (map_keys es)
 
 -- the key is in the list
 abbrev pub names_key : List (Vec ℕ) → List ℕ → Bool

@@ -1,10 +1,10 @@
 //! Which branch holds which key.
 
-ghost use Rattle.std.specs.Prelude.{◌≡◌, ◌↔◌, ℕ, List, [], true, false, IsTrue, IfErr, OnOk, OnErr, Some, None};
+ghost use Rattle.std.specs.Prelude.{◌≡◌, ℕ, List, [], true, IfErr, OnOk, OnErr, Some};
 ghost use Rattle.key_tables.specs.declared.holders.Mode.TheVariants as mode;
 ghost use Rattle.key_tables.specs.Tables.{Becomes, table_of};
 ghost use Rattle.key_tables.specs.Holders.{blocked_by, holds, keeps_rule};
-ghost use Rattle.kv_locks.specs.Locks.{Gives, HoldsAtMost, KeepsKeys, LetsGo, Refuses, Releases, Takes, holders_of, keys_of, names_key};
+ghost use Rattle.kv_locks.specs.Locks.{Gives, HoldsAtMost, KeepsKeys, LetsGo, Refuses, Releases, Takes, holders_of, keys_of, names_key, place_of};
 
 use indexmap::IndexMap;
 use key_tables::{Holder, Mode, blocked_by, given, holds, raise, remove};
@@ -115,12 +115,14 @@ impl Locks {
         ensures ok { OnOk result (Gives self.old self.new xid.now key.now mode) }
         ensures err { IfErr result (Refuses self.old self.new xid.now key.now mode) }
     {
-        let held = self.holders(key);
+        let (place, held) = find(&self.holders, key);
         if let Some(other) = blocked_by(held, xid, mode) {
             return Err(LockError::Held(other));
         }
-        if holds(held, xid) {
-            raise_at(&mut self.holders, key, xid, mode);
+        if let Some(place) = place
+            && holds(held, xid)
+        {
+            raise_at(&mut self.holders, place, xid, mode);
             return Ok(());
         }
         let list = given(self.alloc, held, xid, mode)?;
@@ -147,12 +149,26 @@ impl Locks {
     }
 }
 
-/// Gives a branch that holds the key the key in this mode. It takes no memory.
-fn raise_at(holders: &mut Holders, key: &[u8], xid: &Xid, mode: Mode)
-    requires { holds (holders_of (table_of holders.old.entries) key.now) xid.now ≡ true }
-    ensures { Takes (table_of holders.old.entries) (table_of holders.new.entries) xid.now key.now mode }
+/// Where a key stands, if it does, and its holders.
+#[tactic(auto, using(key_tables::proofs::Tables::list_at_key))]
+fn find<'a>(holders: &'a Holders, key: &[u8]) -> (Option<usize>, &'a [Holder])
+    ensures place { result.0 ≡ place_of holders.now.entries key.now }
+    ensures holders { result.1.now ≡ holders_of (table_of holders.now.entries) key.now }
 {
-    match holders.get_mut(key) {
+    match holders.get_full(key) {
+        None => (None, &[]),
+        Some((place, _, list)) => (Some(place), list.as_slice()),
+    }
+}
+
+/// Gives a branch that holds the key that stands here the key in this mode. It takes no memory.
+fn raise_at(holders: &mut Holders, place: usize, xid: &Xid, mode: Mode)
+    requires { (k : List ℕ) × (place_of holders.old.entries k ≡ Some place)
+        × (holds (holders_of (table_of holders.old.entries) k) xid.now ≡ true) }
+    ensures { (k : List ℕ) → place_of holders.old.entries k ≡ Some place
+        → Takes (table_of holders.old.entries) (table_of holders.new.entries) xid.now k mode }
+{
+    match holders.get_index_mut(place) {
         Some(list) => raise(list, xid, mode),
         None => unreachable!(),
     }
@@ -179,14 +195,8 @@ fn add_key(alloc: Global, keys: &mut Keys, xid: &Xid, key: &[u8]) -> Result<(), 
     ensures listed { OnOk result (names_key (keys_of keys.new.entries xid.now) key.now ≡ true) }
 {
     let key = Vec::from_slice(alloc, key)?;
-    match keys.get_mut(xid) {
-        Some(list) => list.push(key)?,
-        None => {
-            let mut list = Vec::new(alloc);
-            list.push(key)?;
-            let _ = keys.insert(*xid, list)?;
-        }
-    }
+    let list = keys.entry(*xid)?.or_insert(Vec::new(alloc));
+    list.push(key)?;
     Ok(())
 }
 
@@ -206,22 +216,12 @@ fn release_each(holders: &mut Holders, keys: &[Vec<u8>], xid: &Xid)
 fn release_key(holders: &mut Holders, key: &[u8], xid: &Xid)
     ensures { LetsGo (table_of holders.old.entries) (table_of holders.new.entries) xid.now key.now }
 {
-    let is_idle = take_out(holders, key, xid);
-    if is_idle {
-        let _ = holders.swap_remove(key);
-    }
-}
-
-/// Takes the branch from the holders of a key, and says whether nobody is left there.
-fn take_out(holders: &mut Holders, key: &[u8], xid: &Xid) -> bool
-    ensures out { LetsGo (table_of holders.old.entries) (table_of holders.new.entries) xid.now key.now }
-    ensures idle { IsTrue result → holders_of (table_of holders.new.entries) key.now ≡ [] }
-{
-    match holders.get_mut(key) {
-        Some(list) => {
-            remove(list, xid);
-            list.is_empty()
-        }
-        None => false,
+    let Some(place) = holders.get_index_of(key) else {
+        return;
+    };
+    let list = &mut holders[place];
+    remove(list, xid);
+    if list.is_empty() {
+        let _ = holders.swap_remove_index(place);
     }
 }

@@ -1,9 +1,9 @@
 -- What each branch at work has written.
-use Rattle.std.specs.Prelude.{◌≡◌, ◌≤◌, ◌-◌, ℕ, Bool, true, false, ◌||◌, nat_lt, Option, Some, None, List, [], length, map}
+use Rattle.std.specs.Prelude.{◌≡◌, ◌≤◌, ◌-◌, ℕ, Bool, true, false, ◌||◌, nat_lt, Option, Some, None, List, [], length, map, position}
 use Rattle.std.specs.Global.{Vec}
 use Rattle.std.specs.Vec.{vec_capacity, vec_len}
 use Rattle.std.specs.List.{AllByRecursion}
-use Rattle.std.specs.Map.{lookup}
+use Rattle.std.specs.Map.{keys_of, lookup}
 use Rattle.xa_xid.specs.declared.xid.Xid.{Xid}
 use Rattle.xa_xid.specs.contracts.xid.XidPartialEq.TheImpl as names
 use Rattle.tree_model.specs.declared.records.Write.{Write}
@@ -50,6 +50,16 @@ is_of k w = same_bytes w.key k
 -- a branch that has written these may write this key: it has, or it has written fewer than 64
 abbrev pub is_within_limit : List Write → List ℕ → Bool
 is_within_limit ws k = names_key ws k || nat_lt (length ws) 64
+
+-- the list of a branch stands at this place, and one write more of it fits
+pub record HasRoomAt (t : WriteTable) (x : Xid) (place : ℕ) : Type 0 where
+  pub stands : position (same x) (keys_of t) ≡ Some place
+  pub room : 1 ≤ room_of t x
+
+-- where a branch has room for a write of this key, or that it may not write it
+abbrev pub HasRoomFor : WriteTable → Xid → List ℕ → Option ℕ → Type 0
+HasRoomFor t x k None = is_within_limit (writes_of t x) k ≡ false
+HasRoomFor t x k (Some place) = (is_within_limit (writes_of t x) k ≡ true) × HasRoomAt t x place
 
 -- one branch is left with these writes, and the others with theirs
 pub record Leaves (old new : WriteTable) (x : Xid) (ws : List Write) : Type 0 where

@@ -1,26 +1,27 @@
 //! What each branch at work has written.
 
-ghost use Rattle.std.specs.Prelude.{◌≡◌, ◌≤◌, ◌&&◌, [], true, OnOk, OnErr, find};
+ghost use Rattle.std.specs.Prelude.{◌≡◌, [], Some, None, true, IfOk, OnOk, OnErr, find, position};
+ghost use Rattle.std.specs.Map.{keys_of, lookup};
 ghost use Rattle.std.specs.Option.{option_copied};
 ghost use Rattle.log_rules.specs.sound.Sound.{IsSoundWrite};
 ghost use Rattle.tree_model.specs.Plays.{with_write};
-ghost use Rattle.kv_store.specs.writes.Writes.{AreWrites, Leaves, SameWrites, is_of, is_within_limit, room_of, writes_of};
+ghost use Rattle.kv_store.specs.writes.Writes.{AreWrites, HasRoomAt, HasRoomFor, Leaves, SameWrites, is_of, is_within_limit, same, table_of, writes_of};
 
-use crate::writes::list::{copied, find, put};
+use crate::writes::list::{copied, find, is_within_limit, put};
 use indexmap::IndexMap;
 use std::alloc::{AllocError, Global};
 use std::marker::Model;
 use tree_model::Write;
 use xa_xid::Xid;
 
-/// The most different keys that a branch writes.
-const KEYS: usize = 64;
+/// The list of each branch.
+type Lists = IndexMap<Xid, Vec<Write>>;
 
 /// What each branch at work has written, in order of each key's first write.
 #[derive(Drop)]
 pub struct BranchWrites {
     alloc: Global,
-    lists: IndexMap<Xid, Vec<Write>>,
+    lists: Lists,
 }
 
 impl Model for BranchWrites {
@@ -62,42 +63,34 @@ impl BranchWrites {
         find(self.of(xid), key)
     }
 
-    /// Whether a branch may write this key: it has, or it has written fewer than 64 different ones.
-    pub fn is_within_limit(&self, xid: &Xid, key: &[u8]) -> bool
-        ensures { result ≡ is_within_limit (writes_of self.now xid.now) key.now }
-    {
-        let writes = self.of(xid);
-        writes.len() < KEYS || find(writes, key).is_some()
-    }
-
-    /// Makes room for one write more of a branch. Memory: nothing changed.
-    pub fn reserve(&mut self, xid: &Xid) -> Result<(), AllocError>
+    /// Makes room for a branch's write of this key, and says where the branch's list stands; None: the branch
+    /// has written 64 different keys, and this is another. Memory: it may write the key, and nothing changed.
+    pub fn room_for(&mut self, xid: &Xid, key: &[u8]) -> Result<Option<usize>, AllocError>
         ensures stays { SameWrites self.old self.new }
-        ensures room { OnOk result (1 ≤ room_of self.new xid.now) }
+        ensures ok { IfOk result (λ found. HasRoomFor self.new xid.now key.now found) }
+        ensures err { OnErr result (is_within_limit (writes_of self.old xid.now) key.now ≡ true) }
     {
-        match self.lists.get_mut(xid) {
-            Some(list) => list.reserve(1),
-            None => {
-                let list = Vec::with_capacity(self.alloc, 1)?;
-                self.lists.insert(*xid, list)?;
-                Ok(())
+        match self.lists.get_index_of(xid) {
+            None => Ok(Some(begin(self.alloc, &mut self.lists, xid)?)),
+            Some(place) => {
+                if !is_within_limit(self.lists[place].as_slice(), key) {
+                    return Ok(None);
+                }
+                grow(&mut self.lists, place)?;
+                Ok(Some(place))
             }
         }
     }
 
-    /// A write of a branch that has room for it, in the place of an earlier one of its key. It takes no
-    /// memory.
-    pub fn put(&mut self, xid: &Xid, write: Write)
-        requires room { 1 ≤ room_of self.old xid.now }
-        requires limit { is_within_limit (writes_of self.old xid.now) write.key ≡ true }
+    /// A write of the branch whose list stands here and has room for it, in the place of an earlier one of
+    /// its key. It takes no memory.
+    pub fn put_at(&mut self, place: usize, write: Write)
+        requires room { (x : Xid) × HasRoomFor self.old x write.key (Some place) }
         requires sound { IsSoundWrite write }
-        ensures { Leaves self.old self.new xid.now
-            (with_write (writes_of self.old xid.now) write.key write.value) }
+        ensures { (x : Xid) → position (same x) (keys_of self.old) ≡ Some place → Leaves self.old self.new x
+            (with_write (writes_of self.old x) write.key write.value) }
     {
-        match self.lists.get_mut(xid) {
-            Some(list) => put(list, write),
-            None => unreachable!(),
-        }
+        put(&mut self.lists[place], write);
     }
 
     /// The writes of a branch that a log says it promised. Memory: nothing changed.
@@ -117,4 +110,26 @@ impl BranchWrites {
     {
         let _ = self.lists.swap_remove(xid);
     }
+}
+
+/// Begins the list of a branch that has none, with room for one write, and says where it stands. Memory:
+/// nothing changed.
+fn begin(alloc: Global, lists: &mut Lists, xid: &Xid) -> Result<usize, AllocError>
+    requires { lookup (same xid.now) lists.old.entries ≡ None }
+    ensures stays { SameWrites (table_of lists.old.entries) (table_of lists.new.entries) }
+    ensures room { IfOk result (λ place. HasRoomAt (table_of lists.new.entries) xid.now place) }
+{
+    let list = Vec::with_capacity(alloc, 1)?;
+    let (place, _) = lists.insert_full(*xid, list)?;
+    Ok(place)
+}
+
+/// Makes room for one write more in the list that stands here. Memory: nothing changed.
+fn grow(lists: &mut Lists, place: usize) -> Result<(), AllocError>
+    requires { (x : Xid) × (position (same x) (keys_of lists.old.entries) ≡ Some place) }
+    ensures stays { SameWrites (table_of lists.old.entries) (table_of lists.new.entries) }
+    ensures room { OnOk result ((x : Xid) → position (same x) (keys_of lists.old.entries) ≡ Some place
+        → HasRoomAt (table_of lists.new.entries) x place) }
+{
+    lists[place].reserve(1)
 }

@@ -4,10 +4,13 @@ ghost use Rattle.std.specs.Prelude.{◌≡◌, ◌<◌, IfOk, find, position};
 ghost use Rattle.std.specs.Vec.{vec_capacity, vec_len};
 ghost use Rattle.std.specs.Option.{option_copied};
 ghost use Rattle.tree_model.specs.Plays.{with_write};
-ghost use Rattle.kv_store.specs.writes.Writes.{is_of};
+ghost use Rattle.kv_store.specs.writes.Writes.{is_of, is_within_limit};
 
 use std::alloc::{AllocError, Global};
 use tree_model::Write;
+
+/// The most different keys that a branch writes.
+const KEYS: usize = 64;
 
 /// Whether a write is of this key.
 fn is_of(write: &Write, key: &[u8]) -> bool
@@ -28,6 +31,14 @@ pub(crate) fn find<'a>(writes: &'a [Write], key: &[u8]) -> Option<&'a Write>
     ensures { option_copied result ≡ find (is_of key.now) writes.now }
 {
     writes.iter().find(|write| is_of(write, key))
+}
+
+/// Whether a branch with these writes may write this key: it has, or it has written fewer than 64 different
+/// ones.
+pub(crate) fn is_within_limit(writes: &[Write], key: &[u8]) -> bool
+    ensures { result ≡ is_within_limit writes.now key.now }
+{
+    writes.len() < KEYS || find(writes, key).is_some()
 }
 
 /// Adds a write, in the place of an earlier one of its key.

@@ -1,4 +1,4 @@
-use Rattle.std.proofs.Common.{◌≡◌, ◌∷◌, ◌+◌, ◌<◌, length, drop, subst, arith}
+use Rattle.std.proofs.Common.{◌∷◌, ◌+◌, ◌<◌, length, drop, subst, arith}
 use Rattle.std.proofs.lemmas.List.{drop_all}
 use Rattle.kv_core.proofs.Holding.{item_and_rest}
 use Rattle.kv_core.proofs.Noting.{IsNoting, noting_ends, noting_goes_on, noting_starts}

@@ -1,8 +1,6 @@
-use Rattle.std.proofs.Common.{◌≡◌, ◌∙◌, Option, Some, None, sym, ap, subst}
-use Rattle.xa_xid.specs.declared.xid.Xid.{Xid}
-use Rattle.xa_heur.specs.declared.decision.Decision.{Decision}
+use Rattle.std.proofs.Common.{Some, None, ap, subst}
 use Rattle.xa_heur.specs.Decisions.{decided_as}
-use Rattle.xa_heur.specs.Cases.{Notes, decision_in, decision_or}
+use Rattle.xa_heur.specs.Cases.{Notes, decision_or}
 use Rattle.tree_model.specs.declared.names.Outcome.TheVariants.{Aborted, Committed}
 use Rattle.tree_model.specs.declared.records.Branch.TheVariants.{Foreign}
 use Rattle.kv_core.specs.Decisions.{known_after}

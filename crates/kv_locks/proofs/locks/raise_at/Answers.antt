@@ -1,24 +1,20 @@
-use Rattle.std.proofs.Common.{rules, ◌≡◌, true, Some, None, [], ap, sym, ◌∙◌}
-use Rattle.key_tables.specs.Holders.{given, holds}
-use Rattle.key_tables.proofs.Tables.{becomes, found, items_in, list_at_key}
+use Rattle.std.proofs.Common.{rules, ◌≡◌, Some, ap, sym, ◌∙◌, slice_get}
+use Rattle.std.specs.Map.{values_of}
+use Rattle.key_tables.specs.Holders.{holds}
+use Rattle.kv_locks.proofs.Places.{held_here, takes_here}
 use Rattle.kv_locks.proofs.locks.raise_at.Goals as goal
 
 pub raise-requires : goal.raise-requires
 raise-requires c =
-    let had : found c.args.holders.now.entries c.args.key.now ≡ Some c.in-Some.list.now = search rules in
-    ap (λ hs. holds hs c.args.xid.now) (sym (list_at_key c.args.holders.now.entries c.args.key.now
-    ∙ ap items_in had)) ∙ c.requires
-
-pub unreachable-requires : goal.unreachable-requires
-unreachable-requires c =
-    let none : found c.args.holders.now.entries c.args.key.now ≡ None = search rules in
-    let idle : holds [] c.args.xid.now ≡ true = ap (λ hs. holds hs c.args.xid.now)
-    (sym (list_at_key c.args.holders.now.entries c.args.key.now ∙ ap items_in none)) ∙ c.requires in
-    absurd (cc)
+    let had : slice_get (values_of c.args.holders.now.entries) c.args.place
+    ≡ Some c.in-Some.list.now = search rules in
+    ap (λ hs. holds hs c.args.xid.now) (sym (held_here c.args.holders.now c.requires.0 c.args.place
+    c.in-Some.list.now c.in-Some.list.now c.args.xid.now c.get_index_mut.ensures.unique c.requires.1 had))
+    ∙ c.requires.2
 
 pub returns : goal.returns
 returns c =
-    let had : found c.args.holders.now.entries c.args.key.now ≡ Some c.in-Some.list.now = search rules in
-    becomes _ _ c.args.key.now (Some c.raise.new.holders) _ (search rules) (search rules)
-    (c.raise.ensures ∙ ap (λ hs. given hs c.args.xid.now c.args.mode)
-    (sym (list_at_key c.args.holders.now.entries c.args.key.now ∙ ap items_in had)))
+    let had : slice_get (values_of c.args.holders.now.entries) c.args.place
+    ≡ Some c.in-Some.list.now = search rules in
+    λ k at. takes_here c.args.holders.now k c.args.place c.in-Some.list.now c.raise.new.holders c.args.xid.now
+    c.get_index_mut.ensures.unique at had c.args.mode c.raise.ensures

@@ -11,7 +11,8 @@ invariant_of-self c =
     c.args.mode ≡ None = search rules in
     let held : holds (holders_of (table_of c.self.inside.holders.entries) c.args.key.now) c.args.xid.now
     ≡ true = search rules in
-    kept_given _ _ _ _ c.args.xid.now c.args.key.now c.args.mode c.self.invariant free c.raise_at.ensures
+    kept_given _ _ _ _ c.args.xid.now c.args.key.now c.args.mode c.self.invariant free
+    (c.raise_at.ensures c.args.key.now (search rules))
     (λ y l h. h) (c.self.invariant.listed c.args.xid.now c.args.key.now held)
 
 pub invariant_of-self-2 : goal.invariant_of-self-2
