@@ -62,10 +62,24 @@ pub enum Event {
     Deliver(u64),
     /// Delivers the least numbered message that was not delivered yet, again and again, at most 10,000 times.
     Settle,
-    /// Restarts a process, which keeps so many bytes behind its forced front; all of them, where no number
-    /// stands.
+    /// Restarts a process, which keeps so many bytes behind its forced front, or all of them.
     Restart(ProcessId, Option<u64>),
     Trim(ProcessId),
+}
+
+impl Event {
+    /// The same event again.
+    pub fn copied(&self, alloc: Global) -> Result<Event, AllocError>
+        ensures { IfOk result (λ copy. copy ≡ self.now) }
+    {
+        Ok(match self {
+            Event::Act(act) => Event::Act(act.copied(alloc)?),
+            Event::Deliver(number) => Event::Deliver(*number),
+            Event::Settle => Event::Settle,
+            Event::Restart(process, bytes) => Event::Restart(*process, *bytes),
+            Event::Trim(process) => Event::Trim(*process),
+        })
+    }
 }
 
 /// What happens at one process.

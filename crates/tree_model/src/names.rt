@@ -52,14 +52,14 @@ impl Outcome {
     }
 }
 
-/// A transaction's name: the root that began it, the root's boot, its number in that boot (both from 1), and
-/// the presumption that the root chose.
+/// A transaction's name: the root that began it, the presumption that the root chose, the root's boot, and
+/// its number in that boot (both from 1).
 #[derive(Clone, Copy, PartialEq, Eq)]
 pub struct Txn {
     pub root: ProcessId,
+    pub presumption: Presumption,
     pub boot: u64,
     pub sequence: u64,
-    pub presumption: Presumption,
 }
 
 impl Txn {

@@ -170,8 +170,7 @@ impl Record {
         }
     }
 
-    /// The parent that stands with the record in the log of a process below this one; none where its case
-    /// has no ticket, and where it is of no case.
+    /// The parent that a log below that one names with it; none where it is of no case with a ticket.
     pub fn named_parent(&self, parent: Option<ProcessId>) -> Option<ProcessId>
         ensures { result ≡ case_parent parent (record_case self.now) }
     {
@@ -258,10 +257,10 @@ pub enum Subject {
     Other,
 }
 
-/// A record that a step made: its kind, what it is of, and whether it was forced.
+/// A record that a step made: what it is of, its kind, and whether it was forced.
 #[derive(Clone, Copy, PartialEq, Eq)]
 pub struct Logged {
-    pub kind: RecordKind,
     pub subject: Subject,
+    pub kind: RecordKind,
     pub forced: bool,
 }
