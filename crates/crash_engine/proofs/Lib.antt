@@ -1,4 +1,3 @@
-pub mod Going
 pub mod PointLaws
 pub mod Trying
 pub mod Reports

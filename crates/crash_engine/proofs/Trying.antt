@@ -10,11 +10,11 @@ use Rattle.core_law.specs.worlds.Runs.{IsOpened}
 use Rattle.core_law.specs.worlds.Worlds.{WorldState}
 use Rattle.tree_world.specs.Worlds.{state}
 use Rattle.crash_engine.specs.declared.auditing.Audited.{Audited}
-use Rattle.crash_engine.specs.declared.run.Run.{Run}
+use Rattle.tree_engine.specs.declared.run.Run.{Run}
 use Rattle.crash_engine.specs.declared.trial.Found.{Found}
 use Rattle.crash_engine.specs.Audits.{Audits, asks_by}
-use Rattle.crash_engine.specs.Runs.{HasCome}
-use Rattle.crash_engine.proofs.Going.{ran}
+use Rattle.tree_engine.specs.Runs.{HasCome}
+use Rattle.tree_engine.proofs.Going.{ran}
 use Rattle.crash_engine.specs.declared.points.Point.{Point}
 use Rattle.crash_engine.specs.declared.trial.Trial.{Trial}
 use Rattle.crash_engine.specs.Points.{crash_of, points_in}
@@ -26,7 +26,7 @@ pub comes_to : (tree : List TreeEntry) (start : WorldState) (given : List Event)
     → IsTree tree → IsOpened start tree
     → HasCome start given run → Plays tree given run.refusal (state run.world)
 comes_to tree start given run is opens h = ran tree start (state run.world) given
-    run.refusal run.given is opens h
+    run.refusal run.made is opens h
 
 -- its tree is still one
 pub still_tree : (tree : List TreeEntry) (start : WorldState) (given : List Event) (run : Run)

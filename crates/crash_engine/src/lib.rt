@@ -6,7 +6,6 @@ mod ending;
 mod engine;
 mod lines;
 mod points;
-mod run;
 mod trial;
 
 pub use ending::Ending;

@@ -4,16 +4,16 @@ ghost use Rattle.std.specs.Prelude.{◌≡◌, ◌++◌, ◌∷◌, [], IfErr, I
 ghost use Rattle.tree_model.specs.declared.trees.TreeEntry.{TreeEntry};
 ghost use Rattle.tree_model.specs.Trees.{IsTree};
 ghost use Rattle.tree_world.specs.Worlds.{state};
-ghost use Rattle.crash_engine.specs.Runs.{Begins};
+ghost use Rattle.tree_engine.specs.Runs.{Begins};
 ghost use Rattle.crash_engine.specs.Trials.{Adds, AddsTrials, EndsWith, Leaves, Tries, trial_of};
 
 use crate::auditing::{Audited, Left, asks_of, audit_of, doubts_of, mismatches_of};
 use crate::points::{Point, crash_events, points_of};
-use crate::run::Run;
 use report_io::Failure;
 use std::alloc::{AllocError, Global};
-use tree_engine::Refusal;
+use tree_engine::{Refusal, Run};
 use tree_model::{Event, ProcessId, StepError, Tree};
+use tree_world::copied_tree;
 
 /// What a crash ends with.
 #[derive(Drop)]
@@ -32,6 +32,15 @@ pub struct Trial {
     pub events: usize,
     pub point: Point,
     pub found: Found,
+}
+
+/// A run of a tree that opens.
+fn opened(alloc: Global, tree: &Tree) -> Result<Run, Failure>
+    requires { IsTree tree.now }
+    ensures begins { IfOk result (λ run. Begins tree.now run) }
+    ensures memory { IfErr result (λ e. e ≡ Failure.Memory) }
+{
+    Run::open(alloc, copied_tree(alloc, tree.entries())?)
 }
 
 /// What an audit leaves.
@@ -70,11 +79,11 @@ fn crash(alloc: Global, run: &mut Run, events: &[Event], point: Point) -> Result
         → Tries tree events.now point found) }
     ensures memory { IfErr result (λ e. e ≡ Failure.Memory) }
 {
-    run.go_on(events)?;
-    run.go_on(&crash_events(alloc, point)?)?;
+    run.make_all(alloc, events)?;
+    run.make_all(alloc, &crash_events(alloc, point)?)?;
     let audited = audit_of(alloc, run.world())?;
-    run.go_on(&asks_of(alloc, &audited)?)?;
-    run.go_on(&[Event::Settle])?;
+    run.make_all(alloc, &asks_of(alloc, &audited)?)?;
+    run.make_all(alloc, &[Event::Settle])?;
     found_of(alloc, run)
 }
 
@@ -89,7 +98,7 @@ pub fn try_point(
     ensures tries { IfOk result (λ found. Tries tree.now events.now point found) }
     ensures memory { IfErr result (λ e. e ≡ Failure.Memory) }
 {
-    let mut run = Run::open(alloc, tree)?;
+    let mut run = opened(alloc, tree)?;
     let found = crash(alloc, &mut run, events, point);
     run.close();
     found
@@ -145,7 +154,7 @@ fn try_behind(
         trials.old.items trials.new.items) }
     ensures memory { IfErr result (λ e. e ≡ Failure.Memory) }
 {
-    run.go_on(events)?;
+    run.make_all(alloc, events)?;
     let refusal = run.refusal();
     if refusal.is_some() {
         return Ok(refusal);
@@ -167,7 +176,7 @@ pub fn try_event(
         trials.old.items trials.new.items) }
     ensures memory { IfErr result (λ e. e ≡ Failure.Memory) }
 {
-    let mut run = Run::open(alloc, tree)?;
+    let mut run = opened(alloc, tree)?;
     let refusal = try_behind(alloc, tree, &mut run, events, trials);
     run.close();
     refusal

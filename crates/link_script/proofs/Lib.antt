@@ -7,3 +7,4 @@ pub mod Misses
 pub mod NameLaws
 pub mod LineLaws
 pub mod Faults
+pub mod Reading

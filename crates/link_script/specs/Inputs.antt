@@ -1,7 +1,8 @@
 -- Which bytes are a script, and what is wrong with others.
-use Rattle.std.specs.Prelude.{◌≡◌, ℕ, ◌+◌, ◌<◌, ◌≤◌, List, length, Some, Result, Ok, Err}
+use Rattle.std.specs.Prelude.{◌≡◌, ℕ, ◌+◌, ◌<◌, ◌≤◌, false, true, List, length, Option, None, Some, Result, Ok, Err}
 use Rattle.std.specs.Str.{IsUtf8}
 use Rattle.std.specs.Str.Lines.{lines_of_parts}
+use Rattle.tree_model.specs.declared.names.ProcessId.{ProcessId}
 use Rattle.tree_model.specs.declared.trees.TreeEntry.{TreeEntry}
 use Rattle.tree_model.specs.declared.events.Event.{Event}
 use Rattle.tree_model.specs.Trees.{IsTree, IsFirstFault, root_of}
@@ -11,7 +12,7 @@ use Rattle.link_script.specs.declared.script.ScriptError.{ScriptError}
 use Rattle.link_script.specs.declared.script.ScriptError.TheVariants.{Memory, Fault}
 use Rattle.link_script.specs.Documents.{IsTreeText}
 use Rattle.link_script.specs.Rules.{pieces, around_rule}
-use Rattle.script_words.specs.Lines.{asked_in}
+use Rattle.script_words.specs.Lines.{asked_in, is_skipped}
 use Rattle.link_script.specs.Events.{event_at}
 use Rattle.link_script.specs.Script.{events_at}
 use Rattle.trace_lines.specs.Trace.{lines_text}
@@ -37,6 +38,40 @@ pub record IsFront (bytes : List ℕ) (tree : List TreeEntry) (rule : ℕ)
 abbrev pub script_events : List (List ℕ) → List (List ℕ) → List TreeEntry → Result (List Event) ℕ
 script_events fronts behind tree =
     events_at (event_at (root_of tree)) (length fronts + 1 + 1) (lines_of_parts behind)
+
+-- the lines of a script behind the line of three dashes: the root of its tree, how many lines stand before
+-- them, and what they are
+pub record LinesState : Type 0 where
+  pub root : ProcessId
+  pub before : ℕ
+  pub lines : List (List ℕ)
+
+-- what they ask for
+abbrev pub asked_by : LinesState → Result (List Event) ℕ
+asked_by s = events_at (event_at s.root) (s.before + 1) s.lines
+
+-- what was read of the line with this number, if there is one
+abbrev pub Asks : ProcessId → ℕ → Option (List ℕ) → Result (Option Event) ScriptError → Type 0
+Asks root n line (Err Memory) = Unit {0}
+Asks root n None (Ok None) = Unit {0}
+Asks root n (Some line) (Ok None) = is_skipped line ≡ true
+Asks root n (Some line) (Ok (Some e)) = (is_skipped line ≡ false) × (event_at root line ≡ Some e)
+Asks root n (Some line) (Err (Fault (Line k))) =
+    (is_skipped line ≡ false) × (event_at root line ≡ None) × (k ≡ n)
+Asks root n line read = ⊥
+
+-- memory was refused, or the first line that is the line of no event has the fault's number
+abbrev pub IsLineError : ScriptError → Result (List Event) ℕ → Type 0
+IsLineError Memory asked = Unit {0}
+IsLineError (Fault (Line n)) asked = asked ≡ Err n
+IsLineError error asked = ⊥
+
+-- bytes that are a script of this tree as far as its lines, which are these
+abbrev pub IsOpenScript : List ℕ → List TreeEntry → LinesState → Type 0
+IsOpenScript bytes tree s =
+    (fronts : List (List ℕ)) × (behind : List (List ℕ)) × HasTreeText bytes fronts behind tree
+    × IsTree tree
+    × (asked_in (lines_of_parts behind) ≤ 100000) × (asked_by s ≡ script_events fronts behind tree)
 
 -- bytes that are a script of this tree and these events
 abbrev pub IsScript : List ℕ → List TreeEntry → List Event → Type 0

@@ -2,8 +2,6 @@
 use Rattle.std.specs.Prelude.{ℕ, ◌+◌, List, [], ◌∷◌, ◌++◌, Option, Some, None, Result, Ok, Err, if◌then◌else◌, ◌≡◌}
 use Rattle.script_words.specs.Lines.{is_skipped}
 use Rattle.tree_model.specs.declared.events.Event.{Event}
-use Rattle.link_script.specs.declared.lines.LineError.{LineError}
-use Rattle.link_script.specs.declared.lines.LineError.TheVariants.{Memory, Line}
 
 -- these events, and then those that are read
 abbrev pub with_front : List Event → Result (List Event) ℕ → Result (List Event) ℕ
@@ -22,8 +20,3 @@ events_at read n [] = Ok []
 events_at read n (line ∷ lines) =
     if is_skipped line then events_at read (n + 1) lines
     else line_then n (read line) (events_at read (n + 1) lines)
-
--- memory was refused, or this is the number of the first line that is the line of no event
-abbrev pub IsLineFault : LineError → Result (List Event) ℕ → Type 0
-IsLineFault Memory read = Unit {0}
-IsLineFault (Line n) read = read ≡ Err n

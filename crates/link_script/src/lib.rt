@@ -10,5 +10,6 @@ mod names;
 mod script;
 
 pub use front::{Front, read_front};
+pub use lines::Lines;
 pub use names::process_of;
-pub use script::{MOST_EVENTS, ScriptError, ScriptFault, read};
+pub use script::{MOST_EVENTS, ScriptError, ScriptFault, open, read};

@@ -1,47 +1,18 @@
 //! The lines of a script.
 
-ghost use Rattle.std.specs.Prelude.{◌≡◌, ◌+◌, ◌<◌, ◌≤◌, ◌^◌, IfOk, IfErr, MatchOption, List, ℕ, Some, None, Ok, Err, length, map};
+ghost use Rattle.std.specs.Prelude.{◌≡◌, ◌+◌, ◌<◌, ◌≤◌, ◌^◌, IfOk, IfErr, MatchOption, List, ℕ, Some, None, Ok, length, map, slice_get};
 ghost use Rattle.std.specs.Str.Lines.{lines as lines_in, lines_of_parts};
 ghost use Rattle.link_script.specs.Rules.{pieces, is_rule as is_rule_at, around_rule};
 ghost use Rattle.trace_lines.specs.Trace.{lines_text};
-ghost use Rattle.link_script.specs.Script.{events_at, IsLineFault};
-ghost use Rattle.link_script.specs.Events.{event_at};
+ghost use Rattle.link_script.specs.Inputs.{Asks, IsLineError, asked_by};
 
 use crate::event::event_of;
+use crate::script::{ScriptError, ScriptFault};
 use script_words::says_nothing;
 use spellings::word::cut;
-use std::alloc::{AllocError, AllocFailed, Global};
+use std::alloc::Global;
+use std::marker::Model;
 use tree_model::{Event, ProcessId};
-
-/// Why lines could not be read.
-#[derive(Clone, Copy)]
-pub enum LineError {
-    Memory,
-    /// The line of this number asks for no event.
-    Line(u64),
-}
-
-impl From<AllocError> for LineError {
-    ghost use Rattle.std.specs.Prelude.{◌≡◌};
-    ghost use Rattle.link_script.specs.declared.lines.LineError.TheVariants.{Memory};
-
-    ghost from_gives = { λ _ e. e ≡ Memory };
-
-    fn from(_e: AllocError) -> LineError {
-        LineError::Memory
-    }
-}
-
-impl<T: Drop> From<AllocFailed<T>> for LineError {
-    ghost use Rattle.std.specs.Prelude.{◌≡◌};
-    ghost use Rattle.link_script.specs.declared.lines.LineError.TheVariants.{Memory};
-
-    ghost from_gives = { λ _ e. e ≡ Memory };
-
-    fn from(_e: AllocFailed<T>) -> LineError {
-        LineError::Memory
-    }
-}
 
 /// Whether a line that ends in a line feed is just three dashes.
 fn is_rule(line: &str) -> bool
@@ -75,28 +46,88 @@ pub fn around(text: &str) -> Option<(&str, u64, &str)>
     }
 }
 
-/// The events of these lines, behind so many lines of the script.
-pub fn events_of(
-    alloc: Global,
+/// The lines of a script behind the line of three dashes.
+#[derive(Drop)]
+pub struct Lines<'a> {
+    /// The root of the script's tree.
     root: ProcessId,
+    /// How many lines of the script stand before them.
     before: u64,
-    lines: &[&str],
-) -> Result<Vec<Event>, LineError>
-    requires { before + length lines.now < 2 ^ 64 }
-    ensures ok { IfOk result (λ v. events_at (event_at root) (before + 1)
-        (map (λ s. s.now) lines.now) ≡ Ok v.items) }
-    ensures err { IfErr result (λ e. IsLineFault e
-        (events_at (event_at root) (before + 1) (map (λ s. s.now) lines.now))) }
-{
-    let mut events = Vec::new(alloc);
-    for (i, line) in lines.iter().enumerate() {
-        if says_nothing(line) {
-            continue;
-        }
-        match event_of(alloc, root, line)? {
-            Some(event) => events.push(event)?,
-            None => return Err(LineError::Line(before + i as u64 + 1)),
+    lines: Vec<&'a str>,
+}
+
+impl<'a> Model for Lines<'a> {
+    ghost use Rattle.std.specs.Prelude.{◌+◌, ◌<◌, ◌^◌, length, map};
+    ghost use Rattle.link_script.specs.Inputs.{LinesState};
+
+    ghost Value = { LinesState };
+
+    ghost view = { λ l. record {
+      root = l.root;
+      before = l.before;
+      lines = map (λ s. s.now) l.lines.items;
+    } };
+
+    ghost invariant = { λ l. l.before + length l.lines.items < 2 ^ 64 };
+}
+
+impl<'a> Lines<'a> {
+    /// These lines, behind so many of a script over a tree with this root.
+    pub(crate) fn new(root: ProcessId, before: u64, lines: Vec<&'a str>) -> Lines<'a>
+        requires { before + length lines.items < 2 ^ 64 }
+        ensures root { result.root ≡ root }
+        ensures before { result.before ≡ before }
+        ensures lines { result.lines ≡ map (λ s. s.now) lines.entry.items }
+    {
+        Lines {
+            root,
+            before,
+            lines,
         }
     }
-    Ok(events)
+
+    /// How many lines there are.
+    pub fn len(&self) -> usize
+        ensures { result ≡ length self.now.lines }
+    {
+        self.lines.len()
+    }
+
+    /// The event that the line at this place asks for, from 0; None where it is empty or begins with `#`, and
+    /// where there are not so many. Line, with its number in the script: it is the line of no event.
+    pub fn event(&self, alloc: Global, place: usize) -> Result<Option<Event>, ScriptError>
+        ensures { Asks self.now.root (self.now.before + place + 1)
+            (slice_get self.now.lines place) result }
+    {
+        let Some(line) = self.lines.get(place) else {
+            return Ok(None);
+        };
+        if says_nothing(line) {
+            return Ok(None);
+        }
+        match event_of(alloc, self.root, line) {
+            Err(_) => Err(ScriptError::Memory),
+            Ok(None) => {
+                let number = self.before + place as u64 + 1;
+                Err(ScriptError::Fault(ScriptFault::Line(number)))
+            }
+            Ok(event) => Ok(event),
+        }
+    }
+
+    /// What all of them ask for, in order; or the fault Line of the first that is the line of no event.
+    pub fn events(&self, alloc: Global) -> Result<Vec<Event>, ScriptError>
+        ensures ok { IfOk result (λ events. asked_by self.now ≡ Ok events.items) }
+        ensures err { IfErr result (λ error. IsLineError error (asked_by self.now)) }
+    {
+        let mut events = Vec::new(alloc);
+        for place in 0..self.len() {
+            match self.event(alloc, place) {
+                Err(error) => return Err(error),
+                Ok(None) => continue,
+                Ok(Some(event)) => events.push(event)?,
+            }
+        }
+        Ok(events)
+    }
 }

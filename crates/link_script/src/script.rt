@@ -1,12 +1,12 @@
 //! A whole script.
 
 ghost use Rattle.std.specs.Prelude.{◌≡◌, IfOk, IfErr};
-ghost use Rattle.link_script.specs.Inputs.{script_fault_number, IsScript, IsScriptError};
+ghost use Rattle.link_script.specs.Inputs.{script_fault_number, IsOpenScript, IsScript, IsScriptError};
 
 use crate::front::read_front;
-use crate::lines::{LineError, events_of};
+use crate::lines::Lines;
 use script_words::count_asked;
-use std::alloc::{AllocError, Global};
+use std::alloc::{AllocError, AllocFailed, Global};
 use thiserror::Error;
 use tree_model::{Event, Tree, TreeError};
 
@@ -69,10 +69,22 @@ impl From<AllocError> for ScriptError {
     }
 }
 
-/// The tree and the events of a script: the tree's text, a line `---`, and a line for each event. Empty
-/// lines and lines that begin with `#` are skipped.
-pub fn read(alloc: Global, bytes: &[u8]) -> Result<(Tree, Vec<Event>), ScriptError>
-    ensures ok { IfOk result (λ (tree, events). IsScript bytes.now tree events.items) }
+impl<T: Drop> From<AllocFailed<T>> for ScriptError {
+    ghost use Rattle.std.specs.Prelude.{◌≡◌};
+    ghost use Rattle.link_script.specs.declared.script.ScriptError.TheVariants.{Memory};
+
+    ghost from_gives = { λ _ e. e ≡ Memory };
+
+    fn from(_e: AllocFailed<T>) -> ScriptError {
+        ScriptError::Memory
+    }
+}
+
+/// The tree of a script and its lines, which are read one after another: the tree's text, a line `---`, and
+/// a line for each event. Empty lines and lines that begin with `#` are skipped. The faults are Utf8,
+/// TreeText, Tree and TooLong.
+pub fn open<'a>(alloc: Global, bytes: &'a [u8]) -> Result<(Tree, Lines<'a>), ScriptError>
+    ensures ok { IfOk result (λ (tree, lines). IsOpenScript bytes.now tree lines) }
     ensures err { IfErr result (λ error. IsScriptError bytes.now error) }
 {
     let front = match read_front(alloc, bytes) {
@@ -82,9 +94,21 @@ pub fn read(alloc: Global, bytes: &[u8]) -> Result<(Tree, Vec<Event>), ScriptErr
     if count_asked(&front.lines) > MOST_EVENTS {
         return Err(ScriptError::Fault(ScriptFault::TooLong));
     }
-    match events_of(alloc, front.tree.root(), front.rule, &front.lines) {
-        Ok(events) => Ok((front.tree, events)),
-        Err(LineError::Memory) => Err(ScriptError::Memory),
-        Err(LineError::Line(number)) => Err(ScriptError::Fault(ScriptFault::Line(number))),
+    let root = front.tree.root();
+    Ok((front.tree, Lines::new(root, front.rule, front.lines)))
+}
+
+/// The tree and the events of a script, all of its lines read. The faults are those of `open`, and Line.
+pub fn read(alloc: Global, bytes: &[u8]) -> Result<(Tree, Vec<Event>), ScriptError>
+    ensures ok { IfOk result (λ (tree, events). IsScript bytes.now tree events.items) }
+    ensures err { IfErr result (λ error. IsScriptError bytes.now error) }
+{
+    let (tree, lines) = match open(alloc, bytes) {
+        Ok(opened) => opened,
+        Err(error) => return Err(error),
+    };
+    match lines.events(alloc) {
+        Ok(events) => Ok((tree, events)),
+        Err(error) => Err(error),
     }
 }

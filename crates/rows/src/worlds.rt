@@ -143,11 +143,10 @@ pub(crate) fn a_world_runs(alloc: Global) -> Option<bool> {
 /// root has failed.
 pub(crate) fn a_root_fails_with_its_device(alloc: Global) -> Option<bool> {
     let txn = first_txn(Presumption::PresumeCommit);
-    let commit = Event::Act(Act::Commit(txn));
     let mut world = world_of(alloc, 3)?;
     let ran = runs(&mut world, &joining(txn));
-    let first = world.apply(&commit);
-    let second = world.apply(&commit);
+    let first = world.apply(Event::Act(Act::Commit(txn)));
+    let second = world.apply(Event::Act(Act::Commit(txn)));
     world.close();
     Some(ran && first == Err(StepError::Device) && second == Err(StepError::Failed))
 }
@@ -164,7 +163,7 @@ fn put(alloc: Global, txn: Txn) -> Result<Event, AllocError> {
 fn commits(alloc: Global, world: &mut World<FaultStore>, txn: Txn) -> Result<bool, AllocError> {
     let write = put(alloc, txn)?;
     let ending = [Event::Settle, Event::Act(Act::Commit(txn)), Event::Settle];
-    Ok(runs(world, &joining(txn)) && world.apply(&write).is_ok() && runs(world, &ending))
+    Ok(runs(world, &joining(txn)) && world.apply(write).is_ok() && runs(world, &ending))
 }
 
 /// Commits so many transactions, one after another, and answers whether each event was made.

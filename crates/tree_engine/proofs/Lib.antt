@@ -1,3 +1,4 @@
 pub mod Sums
 pub mod Traces
+pub mod Going
 pub mod TreeReports

@@ -2,33 +2,37 @@
 use Rattle.std.proofs.Common.{◌≡◌, ℕ, Some, None, List, Result, Ok, Err, IfOk}
 use Rattle.tree_model.specs.declared.trees.TreeEntry.{TreeEntry}
 use Rattle.tree_model.specs.declared.events.Event.{Event}
-use Rattle.tree_model.specs.Trees.{IsTree}
-use Rattle.core_law.specs.worlds.Refusals.{IsForItself, LeadsTo, Refusal}
-use Rattle.core_law.specs.worlds.Runs.{IsOpened}
-use Rattle.core_law.proofs.worlds.Whole.{run_of}
+use Rattle.core_law.specs.worlds.Refusals.{Refusal}
 use Rattle.core_law.specs.worlds.Worlds.{WorldState}
-use Rattle.link_script.specs.Inputs.{IsScript}
+use Rattle.link_script.specs.Inputs.{IsOpenScript, IsScript, LinesState, asked_by}
+use Rattle.link_script.proofs.Reading.{script_of}
+use Rattle.tree_world.specs.Worlds.{state}
 use Rattle.report_io.specs.declared.status.Status.{Status}
 use Rattle.report_io.specs.declared.status.Status.TheVariants.{Ended, Refused, Stopped}
 use Rattle.tree_engine.specs.declared.tree.Output.{Output}
+use Rattle.tree_engine.specs.declared.run.Run.{Run}
+use Rattle.tree_engine.specs.Runs.{Begins, HasCome, PlaysScript}
 use Rattle.tree_engine.specs.Trees.{IsTreeReport, Plays, RunsOver, RunsScript, Tells, ending}
+use Rattle.tree_engine.proofs.Going.{ran}
+
+-- what the lines of a script lead an opened tree to is a run of the script
+pub plays_script : (input : List ℕ) (tree : List TreeEntry) (lines : LinesState) (first run : Run)
+    → IsOpenScript input tree lines → Begins tree first
+    → ((events : List Event) × (asked_by lines ≡ Ok events) × HasCome (state first.world) events run)
+    → PlaysScript input run
+plays_script input tree lines first run opened begins made = record {
+  tree = tree;
+  events = made.0;
+  script = script_of input tree lines made.0 opened made.1;
+  plays = ran tree (state first.world) (state run.world) made.0 run.refusal run.made begins.is_tree
+      begins.opened made.2;
+  numbered = made.2.numbered;
+}
 
 ends_so : (output : Output) (refusal : Refusal) (status : Status) (input text : List ℕ)
     → status ≡ ending refusal → RunsScript output status input text → IsTreeReport output status input text
 ends_so output None status input text is runs = rw is (rw is at runs)
 ends_so output (Some refused) status input text is runs = rw is (rw is at runs)
-
--- what events lead an opened tree to is a run of the model
-pub played : (tree : List TreeEntry) (start end : WorldState) (events : List Event)
-    (refusal : Refusal) → IsTree tree
-    → IsOpened start tree → LeadsTo start events refusal end → IsForItself refusal
-    → Plays tree events refusal end
-played tree start end events refusal is opens leads itself = record {
-  start = start;
-  opens = opens;
-  leads = leads;
-  run = run_of tree start end events refusal is opens leads itself;
-}
 
 -- what is told of a script's run is the report of the script
 pub reported : {A E : Type 0} (text_of : A × Status → List ℕ) (output : Output)

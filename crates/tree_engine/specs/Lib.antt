@@ -2,3 +2,4 @@ pub mod Counts
 pub mod Texts
 pub mod Logs
 pub mod Trees
+pub mod Runs

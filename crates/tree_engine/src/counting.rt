@@ -6,9 +6,9 @@ ghost use Rattle.tree_world.specs.Worlds.{state};
 ghost use Rattle.tree_engine.specs.Trees.{IsNumbered, counts_text, ending, last_line, trace_of};
 
 use crate::rows::RunCounts;
+use crate::run::Refusal;
 use crate::text::push_counts;
 use crate::trace::trace;
-use crate::tree::Refusal;
 use log_store::MemoryStore;
 use report_io::{Failure, Status};
 use std::alloc::{AllocError, Global};

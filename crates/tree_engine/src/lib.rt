@@ -6,10 +6,12 @@ mod counts;
 mod kinds;
 mod logs;
 mod rows;
+mod run;
 mod text;
 mod trace;
 mod tree;
 
 pub use report_io::{Failure, Status};
+pub use run::{Refusal, Run};
 pub use trace::push_refused;
-pub use tree::{Output, Refusal, refusal, run_tree};
+pub use tree::{Output, refusal, run_tree};

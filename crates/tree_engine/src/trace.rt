@@ -6,7 +6,7 @@ ghost use Rattle.short_steps.specs.Shown.{shown_part};
 ghost use Rattle.tree_world.specs.Worlds.{state};
 ghost use Rattle.tree_engine.specs.Trees.{AddsStep, IsNumbered, ending, last_line, opened_text, opening_text, part_text, refused_text, trace_of};
 
-use crate::tree::Refusal;
+use crate::run::Refusal;
 use log_store::MemoryStore;
 use report_io::{Failure, Status};
 use std::alloc::{AllocError, Global};

@@ -1,23 +1,24 @@
 //! The engine of tree scripts.
 
-ghost use Rattle.std.specs.Prelude.{◌≡◌, ℕ, List, IfErr, IfOk, string_bytes};
+ghost use Rattle.std.specs.Prelude.{◌≡◌, ℕ, [], List, IfErr, IfOk, Ok, OnOk, string_bytes};
 ghost use Rattle.std.specs.Io.KnownBytes.{Appends, Keeps};
-ghost use Rattle.tree_model.specs.Trees.{IsTree};
+ghost use Rattle.tree_model.specs.declared.events.Event.{Event as AnyEvent};
+ghost use Rattle.link_script.specs.Inputs.{IsLineError, IsScriptError, asked_by};
 ghost use Rattle.report_io.specs.declared.status.Status.{Status as AnyStatus};
 ghost use Rattle.report_io.specs.Streams.{IsInput, WritesFront};
-ghost use Rattle.core_law.specs.worlds.Runs.{IsOpened};
 ghost use Rattle.tree_world.specs.Worlds.{state};
-ghost use Rattle.tree_engine.specs.Trees.{IsNumbered, IsTreeReport, Plays, Tells, ending, fault_text};
+ghost use Rattle.tree_engine.specs.Runs.{HasCome, PlaysScript};
+ghost use Rattle.tree_engine.specs.Trees.{IsNumbered, IsTreeReport, Tells, ending, fault_text};
 
 use crate::counting::counted_trace;
 use crate::logs::left_text;
+use crate::run::{Refusal, Run};
 use crate::trace::trace;
-use link_script::{ScriptError, ScriptFault, read};
+use link_script::{Lines, ScriptError, ScriptFault, open};
 use log_store::MemoryStore;
 use report_io::{Failure, Status, read_all, write_all};
 use std::alloc::{AllocError, Global};
 use std::io::{Read, Write};
-use tree_model::{Event, StepError, Tree};
 use tree_world::World;
 
 /// What is written of a run.
@@ -30,9 +31,6 @@ pub enum Output {
     /// Its trace, and behind it a line for each process with how many records it wrote and messages it sent.
     Counts,
 }
-
-/// How many events were made, and why the next was refused; or none was.
-pub type Refusal = Option<(usize, StepError)>;
 
 /// Reads a tree script, makes its events, and writes the trace, with the counts behind it where they are
 /// asked for, or the logs; or one line that says why the script is refused. A refused event ends the trace
@@ -75,11 +73,10 @@ fn report(alloc: Global, output: Output, input: &[u8]) -> Result<(Vec<u8>, Statu
     ensures report { IfOk result (λ r. IsTreeReport output r.1 input.now r.0.items) }
     ensures memory { IfErr result (λ e. e ≡ Failure.Memory) }
 {
-    match read(alloc, input) {
-        Ok((tree, events)) => {
-            let (world, refusal) = play_out(alloc, tree, events)?;
-            let told = told(alloc, output, &world, refusal);
-            world.close();
+    match play(alloc, input) {
+        Ok(run) => {
+            let told = told(alloc, output, run.world(), run.refusal());
+            run.close();
             told
         }
         Err(ScriptError::Fault(fault)) => Ok((refusal(alloc, fault)?, Status::Refused)),
@@ -117,55 +114,45 @@ fn refusal_line(alloc: Global, fault: ScriptFault) -> Result<String, AllocError>
     }
 }
 
-/// Opens the tree.
-fn opened(alloc: Global, tree: Tree) -> Result<World<MemoryStore>, Failure>
-    requires { IsTree tree }
-    ensures opened { IfOk result (λ world. IsOpened (state world) tree) }
-    ensures memory { IfErr result (λ e. e ≡ Failure.Memory) }
+/// Reads a script, and makes the event of each line as it is read.
+fn play(alloc: Global, input: &[u8]) -> Result<Run, ScriptError>
+    ensures ok { IfOk result (λ run. PlaysScript input.now run) }
+    ensures err { IfErr result (λ error. IsScriptError input.now error) }
 {
-    match World::new(alloc, tree) {
-        Ok(world) => Ok(world),
-        Err(_) => Err(Failure::Memory),
-    }
-}
-
-/// Runs these events on the tree: what it comes to, and how many events were made and why the next was
-/// refused. A store in memory has no device that fails.
-fn play(
-    alloc: Global,
-    tree: Tree,
-    events: &[Event],
-) -> Result<(World<MemoryStore>, Refusal), Failure>
-    requires { IsTree tree }
-    ensures plays { IfOk result (λ r. Plays tree events.now r.1 (state r.0)) }
-    ensures numbered { IfOk result (λ r. IsNumbered r.1) }
-    ensures memory { IfErr result (λ e. e ≡ Failure.Memory) }
-{
-    let mut world = opened(alloc, tree)?;
-    match world.run(events) {
-        Ok(()) => Ok((world, None)),
-        Err((made, refusal)) => {
-            if refusal == StepError::Memory || refusal == StepError::Device {
-                world.close();
-                return Err(Failure::Memory);
-            }
-            Ok((world, Some((made, refusal))))
+    let (tree, lines) = match open(alloc, input) {
+        Ok(opened) => opened,
+        Err(error) => return Err(error),
+    };
+    let Ok(mut run) = Run::open(alloc, tree) else {
+        return Err(ScriptError::Memory);
+    };
+    match make_lines(alloc, &mut run, &lines) {
+        Ok(()) => Ok(run),
+        Err(error) => {
+            run.close();
+            Err(error)
         }
     }
 }
 
-/// The same, and lets go of the events, so that their room serves what is written.
-fn play_out(
-    alloc: Global,
-    tree: Tree,
-    events: Vec<Event>,
-) -> Result<(World<MemoryStore>, Refusal), Failure>
-    requires { IsTree tree }
-    ensures plays { IfOk result (λ r. Plays tree events.items r.1 (state r.0)) }
-    ensures numbered { IfOk result (λ r. IsNumbered r.1) }
-    ensures memory { IfErr result (λ e. e ≡ Failure.Memory) }
+/// Makes the event of each of these lines in a tree that has just opened.
+fn make_lines(alloc: Global, run: &mut Run, lines: &Lines) -> Result<(), ScriptError>
+    requires { HasCome (state run.old.world) [] run.old }
+    ensures ok { OnOk result ((events : List AnyEvent) × (asked_by lines.now ≡ Ok events)
+        × HasCome (state run.old.world) events run.new) }
+    ensures err { IfErr result (λ error. IsLineError error (asked_by lines.now)) }
 {
-    play(alloc, tree, &events)
+    for place in 0..lines.len() {
+        match lines.event(alloc, place) {
+            Err(error) => return Err(error),
+            Ok(None) => continue,
+            Ok(Some(event)) => match run.make(event) {
+                Ok(()) => continue,
+                Err(_) => return Err(ScriptError::Memory),
+            },
+        }
+    }
+    Ok(())
 }
 
 /// What is written of the tree that has come so far, and how its run ended.

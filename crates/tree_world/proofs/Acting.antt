@@ -16,6 +16,10 @@ use Rattle.tree_world.specs.Nodes.{NoStepAt, SameNodes, StepsAt}
 use Rattle.world_journal.specs.Journals.{Enters, JournalState, Keeps, marked_by}
 use Rattle.tree_world.proofs.Handling.{world}
 
+-- a journal keeps all that it has
+pub kept : (j : JournalState) → Keeps j j
+kept j = record { net = refl; delivered = refl; entries = refl }
+
 -- it was entered, in a journal that kept all
 pub world_steps : (tree : List TreeEntry) (nodes after : ProcessId → Option CoreState) (j k l : JournalState)
     (q : ProcessId) (i : Input) (r : Reaction) → Keeps j k → StepsAt nodes after q i r → Enters k l q i r
@@ -121,16 +125,15 @@ refused_so nodes after q i made e is stops = subst (λ (m : Result Reaction Step
     (NoStepAt nodes after q i)) is stops
 
 pub acted : (tree : List TreeEntry) (nodes after : ProcessId → Option CoreState) (j k l : JournalState)
-    (q p : ProcessId) (a b : Act) (made : Result Reaction StepError) (closed : Result (Unit {0}) StepError)
-    → p ≡ q → b ≡ a → Keeps j k → IfOk made (StepsAt nodes after p (ActInput a))
-    → OnOk closed ((r : Reaction) × (made ≡ Ok r) × Enters k l p (ActInput b) r)
+    (q p : ProcessId) (a : Act) (made : Result Reaction StepError) (closed : Result (Unit {0}) StepError)
+    → p ≡ q → Keeps j k → IfOk made (StepsAt nodes after p (ActInput a))
+    → OnOk closed ((r : Reaction) × (made ≡ Ok r) × Enters k l p (ActInput a) r)
     → OnOk closed (Steps (world tree nodes j) (world tree after l) q (ActInput a) j.delivered)
-acted tree nodes after j k l q p a b made (Err e) at copied keeps steps ends = tt
-acted tree nodes after j k l q p a b made (Ok u) at copied keeps steps ends =
+acted tree nodes after j k l q p a made (Err e) at keeps steps ends = tt
+acted tree nodes after j k l q p a made (Ok u) at keeps steps ends =
     subst (λ (x : ProcessId). Steps (world tree nodes j) (world tree after l) x (ActInput a) j.delivered) at
     (world_steps tree nodes after j k l p (ActInput a) ends.0 keeps
-    (made_so nodes after p (ActInput a) made ends.0 ends.1 steps)
-    (subst (λ (x : Act). Enters k l p (ActInput x) ends.0) copied ends.2))
+    (made_so nodes after p (ActInput a) made ends.0 ends.1 steps) ends.2)
 
 pub act_stopped : (tree : List TreeEntry) (nodes after : ProcessId → Option CoreState)
     (j k l : JournalState) (q p : ProcessId) (a : Act) (made : Result Reaction StepError)

@@ -1,6 +1,7 @@
 -- How far a settle has come.
 use Rattle.std.proofs.Common.{◌≡◌, ◌∙◌, sym, ap, subst, refl, ℕ, zero, suc, ◌+◌, ◌<◌, ◌≤◌, Option, Some, None, arith}
-use Rattle.tree_model.specs.declared.events.Event.TheVariants.{Deliver}
+use Rattle.tree_model.specs.declared.events.Event.{Event}
+use Rattle.tree_model.specs.declared.events.Event.TheVariants.{Act as ActOf, Deliver, Settle, Restart, Trim}
 use Rattle.tree_model.specs.declared.events.StepError.{StepError}
 use Rattle.tree_model.specs.declared.events.StepError.TheVariants.{Memory}
 use Rattle.core_law.specs.worlds.Worlds.{Delivers, NoneDelivered, Same, Settles, SettleStops, Stops, WorldState, least_open, settles_by}
@@ -90,3 +91,11 @@ short limit i first now new within made same =
       settles = made;
       stops = none_by now new (least_open 1 now.delivered) (same_as_before now new same);
     }
+
+-- memory ran out before an event was made
+pub not_begun : (w : WorldState) (e : Event) → Stops w e Memory w
+not_begun w (ActOf a) = same_as_before w w refl
+not_begun w (Deliver k) = same_as_before w w refl
+not_begun w Settle = short 10000 0 w w w (omega arith) refl refl
+not_begun w (Restart q bytes) = same_as_before w w refl
+not_begun w (Trim q) = same_as_before w w refl

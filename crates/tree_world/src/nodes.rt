@@ -31,10 +31,10 @@ impl<L: LogStore> Nodes<L> {
         ensures err { IfErr result (NoStepAt (nodes_at self.old.nodes.entries)
             (nodes_at self.new.nodes.entries) process (input_of input.entry)) }
     {
-        match self.nodes.get_mut(&process) {
-            None => Err(StepError::NoSuch),
-            Some(node) => node.handle(input),
-        }
+        let Some(node) = self.nodes.get_mut(&process) else {
+            return Err(StepError::NoSuch);
+        };
+        node.handle(input)
     }
 
     /// A process restarts, and keeps so many bytes behind its forced front; all of them, where no number is

@@ -5,6 +5,7 @@ ghost use Rattle.tree_model.specs.Plays.{process_of_act};
 ghost use Rattle.core_law.specs.Steps.{trim_reaction};
 ghost use Rattle.core_law.specs.worlds.Worlds.{Applies, Stops};
 ghost use Rattle.core_law.specs.worlds.Runs.{Leads, LeadsUntil};
+ghost use Rattle.world_journal.specs.Journals.{IsReady};
 ghost use Rattle.tree_world.specs.Worlds.{logs_at, running_state};
 
 use crate::nodes::Nodes;
@@ -91,18 +92,27 @@ impl<L: LogStore> RunningTree<L> {
     }
 
     /// Makes an event.
-    pub(crate) fn make(&mut self, event: &Event) -> Result<(), StepError>
+    pub(crate) fn make(&mut self, event: Event) -> Result<(), StepError>
+        ensures ok { OnOk result (Applies (running_state self.old) event (running_state self.new)) }
+        ensures err { IfErr result (λ e. Stops (running_state self.old) event e (running_state self.new)) }
+    {
+        match event {
+            Event::Act(act) => self.act(act),
+            Event::Deliver(number) => self.deliver(number),
+            Event::Settle => self.settle(),
+            Event::Restart(process, bytes) => self.restart(process, bytes),
+            Event::Trim(process) => self.trim(process),
+        }
+    }
+
+    /// The same of an event that stays with its caller.
+    fn make_copy(&mut self, event: &Event) -> Result<(), StepError>
         ensures ok { OnOk result (Applies (running_state self.old) event.now (running_state self.new)) }
         ensures err { IfErr result (λ e. Stops (running_state self.old) event.now
             e (running_state self.new)) }
     {
-        match event {
-            Event::Act(act) => self.act(act),
-            Event::Deliver(number) => self.deliver(*number),
-            Event::Settle => self.settle(),
-            Event::Restart(process, bytes) => self.restart(*process, *bytes),
-            Event::Trim(process) => self.trim(*process),
-        }
+        let copy = event.copied(self.alloc)?;
+        self.make(copy)
     }
 
     /// Makes these events, in order, up to the first that is refused.
@@ -113,7 +123,7 @@ impl<L: LogStore> RunningTree<L> {
         ensures within { IfErr result (λ refusal. refusal.0 < length events.now) }
     {
         for (made, event) in events.iter().enumerate() {
-            if let Err(refusal) = self.make(event) {
+            if let Err(refusal) = self.make_copy(event) {
                 return Err((made, refusal));
             }
         }
@@ -121,16 +131,16 @@ impl<L: LogStore> RunningTree<L> {
     }
 
     /// What an application asks, or an operator.
-    fn act(&mut self, act: &Act) -> Result<(), StepError>
+    fn act(&mut self, act: Act) -> Result<(), StepError>
         ensures ok { OnOk result (Applies (running_state self.old)
-            (Event.Act act.now) (running_state self.new)) }
-        ensures err { IfErr result (λ e. Stops (running_state self.old) (Event.Act act.now)
+            (Event.Act act) (running_state self.new)) }
+        ensures err { IfErr result (λ e. Stops (running_state self.old) (Event.Act act)
             e (running_state self.new)) }
     {
-        let process = process_of(self.tree.root(), act);
-        let copy = self.journal.take_act(act)?;
-        let made = self.nodes.step(process, InputRef::Act(act));
-        self.journal.close_act(process, copy, made)
+        self.journal.make_room()?;
+        let process = process_of(self.tree.root(), &act);
+        let made = self.nodes.step(process, InputRef::Act(&act));
+        self.journal.close_act(process, act, made)
     }
 
     /// Delivers the message with this number.
@@ -141,6 +151,17 @@ impl<L: LogStore> RunningTree<L> {
             e (running_state self.new)) }
     {
         self.journal.make_room()?;
+        self.deliver_ready(number)
+    }
+
+    /// The same, where a step can be entered.
+    fn deliver_ready(&mut self, number: u64) -> Result<(), StepError>
+        requires { IsReady self.old.journal }
+        ensures ok { OnOk result (Applies (running_state self.old)
+            (Event.Deliver number) (running_state self.new)) }
+        ensures err { IfErr result (λ e. Stops (running_state self.old) (Event.Deliver number)
+            e (running_state self.new)) }
+    {
         let Some(envelope) = self.journal.message(number) else {
             return Err(StepError::NoSuch);
         };
@@ -160,7 +181,7 @@ impl<L: LogStore> RunningTree<L> {
             let Some(number) = self.journal.least_open()? else {
                 return Ok(());
             };
-            self.deliver(number)?;
+            self.deliver_ready(number)?;
         }
         Ok(())
     }

@@ -110,9 +110,9 @@ impl<L: LogStore> World<L> {
     /// by an operator's decision; commit is decided only where every participant voted yes or read-only;
     /// every answer that finds its asker in doubt tells the root's outcome; a mismatch stands until it is
     /// forgotten; an operator's record comes from an operator alone (R*).
-    pub fn apply(&mut self, event: &Event) -> Result<(), StepError>
-        ensures ok { OnOk result (Applies (state self.old) event.now (state self.new)) }
-        ensures err { IfErr result (λ e. Stops (state self.old) event.now e (state self.new)) }
+    pub fn apply(&mut self, event: Event) -> Result<(), StepError>
+        ensures ok { OnOk result (Applies (state self.old) event (state self.new)) }
+        ensures err { IfErr result (λ e. Stops (state self.old) event e (state self.new)) }
         ensures goes_on { (es : List Made) (w : ModelWorld) → FollowsBehindFaults es w (state self.old)
             → GoesOnBehindFaults es w (state self.new) }
         ensures headline { KeepsHeadline (state self.new) }

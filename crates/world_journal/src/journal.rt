@@ -20,7 +20,6 @@ use tree_model::{Act, Entry, Envelope, Happening, Input, ProcessId, Reaction, St
 /// A step is entered without a growth, so that memory cannot run out behind it: room for one is made before.
 #[derive(Drop)]
 pub struct Journal {
-    alloc: Global,
     steps: ShortSteps,
     /// The marks of the first messages; the others are not delivered.
     delivered: Marks,
@@ -51,7 +50,6 @@ impl Journal {
         ensures entries { result.entries ≡ [] }
     {
         Journal {
-            alloc,
             steps: ShortSteps::new(alloc),
             delivered: Marks::new(alloc),
         }
@@ -85,16 +83,6 @@ impl Journal {
         self.steps.sent()
     }
 
-    /// The act once more, and room for its step.
-    pub fn take_act(&mut self, act: &Act) -> Result<Act, AllocError>
-        ensures keeps { Keeps self.old self.new }
-        ensures ready { OnOk result (IsReady self.new) }
-        ensures taken { IfOk result (λ copy. copy ≡ act.now) }
-    {
-        self.make_room()?;
-        act.copied(self.alloc)
-    }
-
     /// The message with this number, where a step can be entered; None where no message has it.
     pub fn message(&self, number: u64) -> Option<&Envelope>
         requires { IsReady self.now }
@@ -103,9 +91,10 @@ impl Journal {
         self.steps.message(number)
     }
 
-    /// The number of the first message that was not delivered.
+    /// The number of the first message that was not delivered, and room for the step that it leads to.
     pub fn least_open(&mut self) -> Result<Option<u64>, AllocError>
         ensures keeps { Keeps self.old self.new }
+        ensures ready { OnOk result (IsReady self.new) }
         ensures first { IfOk result (λ first. first ≡ least_open_in 1 self.old.delivered) }
     {
         self.make_room()?;

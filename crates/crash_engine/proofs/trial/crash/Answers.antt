@@ -10,10 +10,10 @@ pub audit_of-requires : goal.audit_of-requires
 audit_of-requires c =
     let start = state c.args.run.now.world in
     let events = c.args.events.now in
-    let first = c.in_ok-go_on.ensures.goes_on start [] c.requires.1.begins in
-    let crashed = c.in_ok-go_on-2.ensures.goes_on start events first in
+    let first = c.in_ok-make_all.ensures.goes_on start [] c.requires.1.begins in
+    let crashed = c.in_ok-make_all-2.ensures.goes_on start events first in
     subst (λ w. IsTree w.tree) (sym c.world.ensures)
-    (still_tree c.requires.0 start (events ++ c.deref.result.now) c.go_on-2.new.self
+    (still_tree c.requires.0 start (events ++ c.deref.result.now) c.make_all-2.new.self
     c.requires.1.is_tree c.requires.1.opened crashed)
 
 pub found_of-requires : goal.found_of-requires
@@ -22,11 +22,11 @@ found_of-requires c =
     let events = c.args.events.now in
     let crash = c.deref.result.now in
     let asks = c.deref-2.result.now in
-    let first = c.in_ok-go_on.ensures.goes_on start [] c.requires.1.begins in
-    let crashed = c.in_ok-go_on-2.ensures.goes_on start events first in
-    let asked = c.in_ok-go_on-3.ensures.goes_on start (events ++ crash) crashed in
-    let ended = c.in_ok-go_on-4.ensures.goes_on start ((events ++ crash) ++ asks) asked in
-    still_tree c.requires.0 start _ c.go_on-4.new.self c.requires.1.is_tree c.requires.1.opened ended
+    let first = c.in_ok-make_all.ensures.goes_on start [] c.requires.1.begins in
+    let crashed = c.in_ok-make_all-2.ensures.goes_on start events first in
+    let asked = c.in_ok-make_all-3.ensures.goes_on start (events ++ crash) crashed in
+    let ended = c.in_ok-make_all-4.ensures.goes_on start ((events ++ crash) ++ asks) asked in
+    still_tree c.requires.0 start _ c.make_all-4.new.self c.requires.1.is_tree c.requires.1.opened ended
 
 pub returns-clause-tries : goal.returns-clause-tries
 returns-clause-tries c =
@@ -34,14 +34,14 @@ returns-clause-tries c =
     let events = c.args.events.now in
     let crash = c.deref.result.now in
     let asks = c.deref-2.result.now in
-    let first = c.in_ok-go_on.ensures.goes_on start [] c.requires.1.begins in
-    let crashed = c.in_ok-go_on-2.ensures.goes_on start events first in
-    let asked = c.in_ok-go_on-3.ensures.goes_on start (events ++ crash) crashed in
-    let ended = c.in_ok-go_on-4.ensures.goes_on start ((events ++ crash) ++ asks) asked in
+    let first = c.in_ok-make_all.ensures.goes_on start [] c.requires.1.begins in
+    let crashed = c.in_ok-make_all-2.ensures.goes_on start events first in
+    let asked = c.in_ok-make_all-3.ensures.goes_on start (events ++ crash) crashed in
+    let ended = c.in_ok-make_all-4.ensures.goes_on start ((events ++ crash) ++ asks) asked in
     let audits = subst (λ w. Audits (state w) c.in_ok-audited.audited) c.world.ensures
     c.in_ok-audited.ensures.audits in
     IfOk-weaker c.found_of.result _ _ (λ f h. λ tree o. tried_so tree events c.args.point
     c.in_ok-audited.audited crash asks start
-    c.go_on-2.new.self c.go_on-4.new.self f o.is_tree o.opened crashed
+    c.make_all-2.new.self c.make_all-4.new.self f o.is_tree o.opened crashed
     (c.deref.ensures.value ∙ c.in_ok-crash_events.ensures) audits
     (c.deref-2.ensures.value ∙ c.in_ok-asks_of.ensures) ended h) c.found_of.ensures.ends

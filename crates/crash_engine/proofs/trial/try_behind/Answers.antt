@@ -9,10 +9,10 @@ use Rattle.crash_engine.proofs.trial.try_behind.Goals as goal
 pub returns-then-is_some-clause-adds : goal.returns-then-is_some-clause-adds
 returns-then-is_some-clause-adds c =
     let start = state c.args.run.now.world in
-    let run = c.go_on.new.self in
+    let run = c.make_all.new.self in
     let tree = c.args.tree.now in
     let events = c.args.events.now in
-    let come = c.in_ok-go_on.ensures.goes_on start [] c.requires.begins in
+    let come = c.in_ok-make_all.ensures.goes_on start [] c.requires.begins in
     let some : is_some c.refusal-refusal.result ≡ true = search rules in
     let same : c.refusal-refusal.result ≡ run.refusal = c.refusal-refusal.ensures in
     let refused : is_some run.refusal ≡ true = ap (λ (r : Refusal). is_some r) (sym same) ∙ some in
@@ -23,10 +23,10 @@ returns-then-is_some-clause-adds c =
 pub returns-clause-adds : goal.returns-clause-adds
 returns-clause-adds c =
     let start = state c.args.run.now.world in
-    let run = c.go_on.new.self in
+    let run = c.make_all.new.self in
     let tree = c.args.tree.now in
     let events = c.args.events.now in
-    let come = c.in_ok-go_on.ensures.goes_on start [] c.requires.begins in
+    let come = c.in_ok-make_all.ensures.goes_on start [] c.requires.begins in
     let none : is_some c.refusal-refusal.result ≡ false = search rules in
     let same : c.refusal-refusal.result ≡ run.refusal = c.refusal-refusal.ensures in
     let made : is_some run.refusal ≡ false = ap (λ (r : Refusal). is_some r) (sym same) ∙ none in

@@ -1,11 +1,15 @@
+use Rattle.std.proofs.Common.{subst, sym}
+use Rattle.tree_world.specs.Worlds.{state}
+use Rattle.tree_engine.specs.Trees.{IsNumbered, Plays}
 use Rattle.tree_engine.proofs.TreeReports.{reported}
 use Rattle.tree_engine.proofs.tree.report.Goals as goal
 
-pub play_out-requires : goal.play_out-requires
-play_out-requires c = c.in-Ok.ensures.ok.3
+pub told-told-requires : goal.told-told-requires
+told-told-requires c = subst IsNumbered (sym c.refusal.ensures) c.in-Ok.ensures.ok.numbered
 
-pub returns-in_ok-world-in-Ok-clause-report : goal.returns-in_ok-world-in-Ok-clause-report
-returns-in_ok-world-in-Ok-clause-report c =
-    reported (λ r. r.0.items) _ _ _ _ _ _ _ c.in-Ok.ensures.ok
-    c.in_ok-world-in-Ok.ensures.plays c.told-told.ensures.text
-    c.told-told.ensures.status
+pub returns-in-Ok-clause-report : goal.returns-in-Ok-clause-report
+returns-in-Ok-clause-report c =
+    let s = c.in-Ok.ensures.ok in
+    let plays = subst (λ w. Plays s.tree s.events c.refusal.result (state w)) (sym c.world.ensures)
+    (subst (λ r. Plays s.tree s.events r (state c.in-Ok.run'.world)) (sym c.refusal.ensures) s.plays) in
+    reported (λ r. r.0.items) _ _ _ _ _ _ _ s.script plays c.told-told.ensures.text c.told-told.ensures.status

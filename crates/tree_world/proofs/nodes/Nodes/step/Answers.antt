@@ -4,14 +4,14 @@ use Rattle.tree_world.proofs.Processes.{process_equality}
 use Rattle.tree_world.proofs.Steps.{stepped, stopped}
 use Rattle.tree_world.proofs.nodes.Nodes.step.Goals as goal
 
-pub returns-in-Some-clause-ok : goal.returns-in-Some-clause-ok
-returns-in-Some-clause-ok g c =
+pub returns-clause-ok : goal.returns-clause-ok
+returns-clause-ok g c =
     stepped _ _ c.args.process (input_of c.args.input) c.in-Some.node.now c.handle.new.self c.handle.result
     (search rules) (search rules)
     (search (rules, process_equality)) c.handle.ensures.ok
 
-pub returns-in-Some-clause-err : goal.returns-in-Some-clause-err
-returns-in-Some-clause-err g c =
+pub returns-clause-err : goal.returns-clause-err
+returns-clause-err g c =
     stopped _ _ c.args.process (input_of c.args.input) c.in-Some.node.now c.handle.new.self c.handle.result
     (search rules) (search rules)
     (search (rules, process_equality)) c.handle.ensures.err

@@ -1,15 +1,18 @@
-use Rattle.std.proofs.Common.{rules}
-use Rattle.tree_world.proofs.Acting.{delivered, delivery_stopped}
+use Rattle.std.proofs.Common.{IfErr, OnOk, subst}
+use Rattle.tree_model.specs.declared.events.Event.TheVariants.{Deliver}
+use Rattle.core_law.specs.worlds.Worlds.{Applies, Stops}
+use Rattle.tree_world.specs.Worlds.{running_state}
+use Rattle.tree_world.proofs.Handling.{stays}
 use Rattle.tree_world.proofs.running_tree.RunningTree.deliver.Goals as goal
 
 pub returns-clause-ok : goal.returns-clause-ok
 returns-clause-ok g c =
-    delivered _ _ _ c.args.self.now.journal c.make_room.new.self c.close_message.new.self c.args.number
-    c.in-Some.envelope.now c.step-made.result c.close_message.result c.in_ok-make_room.ensures.keeps (search rules)
-    c.step-made.ensures.ok c.close_message.ensures.ok
+    subst (λ w. OnOk c.deliver_ready.result (Applies w (Deliver c.args.number)
+    (running_state c.deliver_ready.new.self)))
+    (stays _ _ _ _ c.in_ok-make_room.ensures.keeps) c.deliver_ready.ensures.ok
 
 pub returns-clause-err : goal.returns-clause-err
 returns-clause-err g c =
-    delivery_stopped _ _ _ c.args.self.now.journal c.make_room.new.self c.close_message.new.self c.args.number
-    c.in-Some.envelope.now c.step-made.result c.close_message.result c.in_ok-make_room.ensures.keeps (search rules)
-    c.step-made.ensures.err c.close_message.ensures.err
+    subst (λ w. IfErr c.deliver_ready.result (λ e. Stops w (Deliver c.args.number) e
+    (running_state c.deliver_ready.new.self)))
+    (stays _ _ _ _ c.in_ok-make_room.ensures.keeps) c.deliver_ready.ensures.err

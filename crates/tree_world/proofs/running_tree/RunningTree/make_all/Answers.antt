@@ -5,7 +5,7 @@ use Rattle.tree_world.proofs.running_tree.RunningTree.make_all.Goals as goal
 pub loop-made-preserved : goal.loop-made-preserved
 loop-made-preserved g c =
     run_goes_on (running_state c.args.self.now) (running_state c.loop-made.self)
-    (running_state c.make.new.self) c.args.events.now
+    (running_state c.make_copy.new.self) c.args.events.now
     c.loop-made.made c.index-events-made.result c.loop-made-test.true c.index-events-made.is
     c.loop-made.invariant c.in_default.ensures.ok
 

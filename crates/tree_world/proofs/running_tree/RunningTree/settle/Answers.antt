@@ -14,9 +14,9 @@ loop-preserved g c =
     settles_one_more c.loop.counter (running_state c.args.self.now)
     (world c.loop.self.tree (nodes_at c.loop.self.nodes.nodes.entries)
     c.least_open.new.self) (running_state c.loop.self)
-    (running_state c.deliver.new.self) c.in-Some.number
+    (running_state c.deliver_ready.new.self) c.in-Some.number
     (stays _ _ _ _ c.least_open.ensures.keeps) c.loop.invariant first
-    c.in_ok-deliver.ensures.ok
+    c.in_ok-deliver_ready.ensures.ok
 
 pub returns-in_default-clause-ok : goal.returns-in_default-clause-ok
 returns-in_default-clause-ok g c =
@@ -43,6 +43,6 @@ returns-clause-ok g c =
 pub returns-in_err-number-clause-ok : goal.returns-in_err-number-clause-ok
 returns-in_err-number-clause-ok g c = no_success c.from_residual.result _ _ c.from_residual.ensures.1
 
-pub returns-in_err-deliver-clause-ok : goal.returns-in_err-deliver-clause-ok
-returns-in_err-deliver-clause-ok g c = no_success c.from_residual-in_err-deliver.result _ _
-    c.from_residual-in_err-deliver.ensures.1
+pub returns-in_err-deliver_ready-clause-ok : goal.returns-in_err-deliver_ready-clause-ok
+returns-in_err-deliver_ready-clause-ok g c = no_success c.from_residual-in_err-deliver_ready.result _ _
+    c.from_residual-in_err-deliver_ready.ensures.1

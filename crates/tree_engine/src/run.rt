@@ -1,50 +1,40 @@
 //! A run that goes on until an event is refused.
 
-ghost use Rattle.std.specs.Prelude.{◌≡◌, ◌+◌, ◌++◌, [], IfErr, IfOk, List, OnOk};
+ghost use Rattle.std.specs.Prelude.{◌≡◌, ◌+◌, ◌++◌, ◌∷◌, [], IfErr, IfOk, List, OnOk};
 ghost use Rattle.tree_model.specs.declared.events.Event.{Event as AnyEvent};
 ghost use Rattle.tree_model.specs.Trees.{IsTree};
 ghost use Rattle.core_law.specs.worlds.Worlds.{WorldState};
-ghost use Rattle.crash_engine.specs.Runs.{Begins, HasCome};
+ghost use Rattle.tree_engine.specs.Runs.{Begins, HasCome};
 
 use log_store::MemoryStore;
 use report_io::Failure;
 use std::alloc::Global;
-use tree_engine::Refusal;
 use tree_model::{Event, StepError, Tree};
-use tree_world::{World, copied_tree};
+use tree_world::World;
 
-/// A tree that runs, how many events it was given, and which of them was refused, if one was: then none
-/// behind it is made.
+/// How many events were made, and why the next was refused; or none was.
+pub type Refusal = Option<(usize, StepError)>;
+
+/// A tree that runs, how many events were made, and which was refused, if one was: then none behind it is
+/// made.
 pub struct Run {
     pub(crate) world: World<MemoryStore>,
-    pub(crate) given: usize,
+    pub(crate) made: usize,
     pub(crate) refusal: Refusal,
-}
-
-/// Two numbers of events together. 2^64 events are taken for want of memory.
-fn sum(one: usize, more: usize) -> Result<usize, Failure>
-    ensures sum { IfOk result (λ sum. sum ≡ one + more) }
-    ensures memory { IfErr result (λ e. e ≡ Failure.Memory) }
-{
-    match one.checked_add(more) {
-        None => Err(Failure::Memory),
-        Some(sum) => Ok(sum),
-    }
 }
 
 impl Run {
     /// A tree that opens over logs in memory. The tree is one that passed its check.
-    pub fn open(alloc: Global, tree: &Tree) -> Result<Run, Failure>
-        requires { IsTree tree.now }
-        ensures begins { IfOk result (λ run. Begins tree.now run) }
+    pub fn open(alloc: Global, tree: Tree) -> Result<Run, Failure>
+        requires { IsTree tree }
+        ensures begins { IfOk result (λ run. Begins tree run) }
         ensures memory { IfErr result (λ e. e ≡ Failure.Memory) }
     {
-        let copy = copied_tree(alloc, tree.entries())?;
-        match World::new(alloc, copy) {
+        match World::new(alloc, tree) {
             Err(_) => Err(Failure::Memory),
             Ok(world) => Ok(Run {
                 world,
-                given: 0,
+                made: 0,
                 refusal: None,
             }),
         }
@@ -54,7 +44,7 @@ impl Run {
     pub fn close(self) {
         let Run {
             world,
-            given: _,
+            made: _,
             refusal: _,
         } = self;
         world.close();
@@ -74,27 +64,43 @@ impl Run {
         self.refusal
     }
 
-    /// Gives it these events behind those that it was given. A store in memory has no device that fails.
-    pub fn go_on(&mut self, events: &[Event]) -> Result<(), Failure>
+    /// Makes this event behind those that it was given. A store in memory has no device that fails; 2^64
+    /// events are taken for want of memory.
+    pub fn make(&mut self, event: Event) -> Result<(), Failure>
         ensures goes_on { OnOk result ((start : WorldState) (given : List AnyEvent)
-            → HasCome start given self.old → HasCome start (given ++ events.now) self.new) }
+            → HasCome start given self.old → HasCome start (given ++ event ∷ []) self.new) }
         ensures memory { IfErr result (λ e. e ≡ Failure.Memory) }
     {
         if self.refusal.is_some() {
             return Ok(());
         }
-        match self.world.run(events) {
+        let Some(made) = self.made.checked_add(1) else {
+            return Err(Failure::Memory);
+        };
+        match self.world.apply(event) {
             Ok(()) => {
-                self.given = sum(self.given, events.len())?;
+                self.made = made;
                 Ok(())
             }
-            Err((made, refusal)) => {
+            Err(refusal) => {
                 if refusal == StepError::Memory || refusal == StepError::Device {
                     return Err(Failure::Memory);
                 }
-                self.refusal = Some((sum(self.given, made)?, refusal));
+                self.refusal = Some((self.made, refusal));
                 Ok(())
             }
         }
+    }
+
+    /// Makes these events, one after another.
+    pub fn make_all(&mut self, alloc: Global, events: &[Event]) -> Result<(), Failure>
+        ensures goes_on { OnOk result ((start : WorldState) (given : List AnyEvent)
+            → HasCome start given self.old → HasCome start (given ++ events.now) self.new) }
+        ensures memory { IfErr result (λ e. e ≡ Failure.Memory) }
+    {
+        for event in events {
+            self.make(event.copied(alloc)?)?;
+        }
+        Ok(())
     }
 }

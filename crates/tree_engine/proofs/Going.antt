@@ -1,5 +1,5 @@
 -- Events behind events.
-use Rattle.std.proofs.Common.{◌≡◌, ◌≢◌, ◌∙◌, ap, sym, subst, ℕ, zero, suc, ◌+◌, true, false, is_some, Some, None, List, [], ◌∷◌, ◌++◌, length, take, refl, arith, length-append}
+use Rattle.std.proofs.Common.{◌≡◌, ◌≢◌, ◌∙◌, ap, sym, subst, ℕ, zero, suc, ◌+◌, ◌<◌, ◌^◌, true, false, is_some, Some, None, List, [], ◌∷◌, ◌++◌, length, take, refl, arith, length-append}
 use Rattle.std.specs.Prelude.{slice_get}
 use Rattle.std.proofs.Math.Seq.{take-append-add}
 use Rattle.tree_model.specs.declared.events.Event.{Event}
@@ -9,9 +9,9 @@ use Rattle.tree_model.specs.declared.trees.TreeEntry.{TreeEntry}
 use Rattle.tree_model.specs.Trees.{IsTree}
 use Rattle.core_law.specs.worlds.Refusals.{Refusal}
 use Rattle.core_law.specs.worlds.Runs.{IsOpened, Leads, LeadsUntil}
-use Rattle.core_law.specs.worlds.Worlds.{WorldState}
+use Rattle.core_law.specs.worlds.Worlds.{Applies, Stops, WorldState}
 use Rattle.core_law.proofs.worlds.Whole.{run_of}
-use Rattle.crash_engine.specs.Runs.{ComesTo}
+use Rattle.tree_engine.specs.Runs.{ComesTo}
 use Rattle.tree_engine.specs.Trees.{Plays}
 
 leads_on : (s m e : WorldState) (xs ys : List Event) → Leads s xs m → Leads m ys e → Leads s (xs ++ ys) e
@@ -59,9 +59,19 @@ until_on s m e xs ys n r led h = record {
   stops = h.stops;
 }
 
+-- one event was made
+pub one_led : (now new : WorldState) (e : Event) → Applies now e new → Leads now (e ∷ []) new
+one_led now new e made = (new, made, refl)
+
+-- it was refused
+pub one_stopped : (now new : WorldState) (e : Event) (r : StepError) → Stops now e r new
+    → LeadsUntil now (e ∷ []) 0 r new
+one_stopped now new e r stops =
+    record { event = e; next = refl; before = now; leads = refl; stops = stops }
+
 -- a run of no event
 pub begins : (s : WorldState) → ComesTo s [] None 0 s
-begins s = record { leads = refl; number = λ none. refl; itself = tt }
+begins s = record { leads = refl; number = λ none. refl; itself = tt; numbered = tt }
 
 -- where an event was refused, none behind it is made
 pub none_more : (s now : WorldState) (given events : List Event) (refusal : Refusal)
@@ -72,6 +82,7 @@ none_more s now given events (Some r) n is h = record {
   leads = until_stays s now given events r.0 r.1 h.leads;
   number = λ none. absurd (cc);
   itself = h.itself;
+  numbered = h.numbered;
 }
 
 -- all were made
@@ -84,20 +95,22 @@ all_more s now new given events None n m is h led sum = record {
   leads = leads_on s now new given events h.leads led;
   number = λ none. sum ∙ ap (λ k. k + length events) (h.number refl) ∙ sym (length-append given events);
   itself = tt;
+  numbered = tt;
 }
 
 -- one was refused
 pub one_refused : (s now new : WorldState) (given events : List Event)
     (refusal : Refusal) (n k m : ℕ) (e : StepError)
     → is_some refusal ≡ false → ComesTo s given refusal n now
-    → LeadsUntil now events k e new → m ≡ n + k → e ≢ Memory
+    → LeadsUntil now events k e new → m ≡ n + k → m + 1 < 2 ^ 64 → e ≢ Memory
     → e ≢ Device → ComesTo s (given ++ events) (Some (m, e)) n new
-one_refused s now new given events (Some r) n k m e is h until sum memory device = absurd (cc)
-one_refused s now new given events None n k m e is h until sum memory device = record {
+one_refused s now new given events (Some r) n k m e is h until sum few memory device = absurd (cc)
+one_refused s now new given events None n k m e is h until sum few memory device = record {
   leads = subst (λ j. LeadsUntil s (given ++ events) j e new) (sym (sum ∙ ap (λ j. j + k) (h.number refl)))
       (until_on s now new given events k e h.leads until);
   number = λ none. absurd (cc);
   itself = (memory, device);
+  numbered = few;
 }
 
 -- what a run comes to is a run of the model

@@ -7,7 +7,9 @@ use Rattle.core_law.specs.worlds.Runs.{IsOpened}
 use Rattle.core_law.specs.worlds.Refusals.{IsForItself, LeadsTo, Refusal}
 use Rattle.core_law.specs.worlds.Worlds.{WorldState}
 use Rattle.tree_world.specs.Worlds.{state}
-use Rattle.crash_engine.specs.declared.run.Run.{Run}
+use Rattle.tree_engine.specs.declared.run.Run.{Run}
+use Rattle.tree_engine.specs.Trees.{IsNumbered, Plays}
+use Rattle.link_script.specs.Inputs.{IsScript}
 
 -- so many given events led from one state to another, up to the refused one, if one was
 pub record ComesTo (start : WorldState) (given : List Event) (refusal : Refusal) (count : ℕ)
@@ -15,13 +17,22 @@ pub record ComesTo (start : WorldState) (given : List Event) (refusal : Refusal)
   pub leads : LeadsTo start given refusal now
   pub number : refusal ≡ None → count ≡ length given
   pub itself : IsForItself refusal
+  pub numbered : IsNumbered refusal
 
 -- the events that a run was given led from this state to where it stands
 abbrev pub HasCome : WorldState → List Event → Run → Type 0
-HasCome start given run = ComesTo start given run.refusal run.given (state run.world)
+HasCome start given run = ComesTo start given run.refusal run.made (state run.world)
 
 -- a run of a tree that has just opened
 pub record Begins (tree : List TreeEntry) (run : Run) : Type 0 where
   pub is_tree : IsTree tree
   pub opened : IsOpened (state run.world) tree
   pub begins : HasCome (state run.world) [] run
+
+-- a run of the script that the input is
+pub record PlaysScript (input : List ℕ) (run : Run) : Type 0 where
+  pub tree : List TreeEntry
+  pub events : List Event
+  pub script : IsScript input tree events
+  pub plays : Plays tree events run.refusal (state run.world)
+  pub numbered : IsNumbered run.refusal
