@@ -11,22 +11,13 @@ use Rattle.link_script.specs.declared.script.ScriptError.TheVariants.{Memory, Fa
 use Rattle.link_script.specs.declared.script.ScriptFault.{ScriptFault}
 use Rattle.link_script.specs.declared.script.ScriptFault.TheVariants.{Utf8, TreeText, Tree, TooLong, Line}
 use Rattle.link_script.specs.Events.{event_at}
-use Rattle.link_script.specs.Inputs.{Asks, IsLineError, IsOpenScript, IsScript, IsScriptError, LinesState, asked_by}
+use Rattle.link_script.specs.Inputs.{Asks, IsLineError, IsOpenScript, IsScript, LinesState, asked_by}
 use Rattle.link_script.specs.Script.{events_at, with_front}
 use Rattle.link_script.proofs.Asked.{ends, goes_on, skips, stops}
 
 -- these events, and then those of the lines from this place on, are all that is asked for
 abbrev pub HasRead : LinesState → ℕ → List Event → Type 0
 HasRead s i es = with_front es (events_at (event_at s.root) (s.before + i + 1) (drop i s.lines)) ≡ asked_by s
-
-nothing_before : (r : Result (List Event) ℕ) → with_front [] r ≡ r
-nothing_before (Ok es) = refl
-nothing_before (Err n) = refl
-
-pub read_none : (s : LinesState) → HasRead s 0 []
-read_none s =
-    let at : s.before + 0 + 1 ≡ s.before + 1 = omega arith in
-    ap (λ n. with_front [] (events_at (event_at s.root) n s.lines)) at ∙ nothing_before (asked_by s)
 
 -- the line at a place within
 line_at : (ls : List (List ℕ)) (i : ℕ) → i < length ls → slice_get ls i ≡ Some (get_or ls i [])
@@ -77,13 +68,3 @@ reads_all s i es past so_far =
 pub script_of : (bytes : List ℕ) (tree : List TreeEntry) (s : LinesState) (es : List Event)
     → IsOpenScript bytes tree s → asked_by s ≡ Ok es → IsScript bytes tree es
 script_of bytes tree s es o read = (o.0, o.1, o.2, o.3, o.4, sym o.5 ∙ read)
-
--- one of them is the line of no event
-pub fault_of : (bytes : List ℕ) (tree : List TreeEntry) (s : LinesState) (error : ScriptError)
-    → IsOpenScript bytes tree s → IsLineError error (asked_by s) → IsScriptError bytes error
-fault_of bytes tree s Memory o read = tt
-fault_of bytes tree s (Fault (Line n)) o read = (o.0, o.1, tree, o.2, o.3, o.4, sym o.5 ∙ read)
-fault_of bytes tree s (Fault Utf8) o read = absurd read
-fault_of bytes tree s (Fault TreeText) o read = absurd read
-fault_of bytes tree s (Fault (Tree t)) o read = absurd read
-fault_of bytes tree s (Fault TooLong) o read = absurd read
