@@ -21,7 +21,7 @@ pub struct States {
 }
 
 impl States {
-    ghost use Rattle.std.specs.Prelude.{◌≡◌, ◌≢◌, ◌<◌, ◌||◌, not, length, IfOk, IfErr, OnErr, MatchResult, Err, Some, None, true, false};
+    ghost use Rattle.std.specs.Prelude.{◌≡◌, ◌≢◌, ◌≤◌, ◌||◌, not, length, IfOk, IfErr, OnErr, MatchResult, Err, Some, None, true, false};
     ghost use Rattle.xa_tables.specs.declared.call.Call.TheVariants as call;
     ghost use Rattle.xa_assoc.specs.Associations.{active_of, start_plan, resume_plan, suspend_plan, end_plan};
     ghost use Rattle.xa_branch.specs.Branches.{Finds, StandsAt, in_doubt};
@@ -198,12 +198,12 @@ impl States {
         self.branches.find(xid)
     }
 
-    /// The known branch that stands at a place comes to the state behind the row that it takes. It takes no
-    /// memory.
+    /// The known branch that stands at a place comes to the state behind the row that it takes. Where no
+    /// branch stands nothing changes. It takes no memory.
     pub fn finish(&mut self, place: usize, to: BranchState)
-        requires { place < length self.old.branches.branches }
-        ensures { (x : AnyXid) → StandsAt self.old.branches.branches x place
+        ensures taken { (x : AnyXid) → StandsAt self.old.branches.branches x place
             → Takes self.old self.new x to }
+        ensures nowhere { length self.old.branches.branches ≤ place → Same self.old self.new }
     {
         self.branches.place(place, to);
     }

@@ -170,16 +170,17 @@ impl Branches {
         true
     }
 
-    /// The known branch that stands at a place moves to a state; a caller picks the row of the table.
+    /// The known branch that stands at a place moves to a state; a caller picks the row of the table. Where no
+    /// branch stands nothing changes.
     pub fn place(&mut self, index: usize, to: BranchState)
-        requires { index < length self.old.branches }
-        ensures { (x : Xid) → position (same x) (keys_of self.old.branches) ≡ Some index
+        ensures moved { (x : Xid) → position (same x) (keys_of self.old.branches) ≡ Some index
             → Moves self.old self.new x to }
+        ensures nowhere { length self.old.branches ≤ index → Stays self.old self.new }
     {
         if to == BranchState::S0 {
             let _ = self.states.shift_remove_index(index);
-        } else {
-            self.states[index] = to;
+        } else if let Some(state) = self.states.get_index_mut(index) {
+            *state = to;
         }
     }
 

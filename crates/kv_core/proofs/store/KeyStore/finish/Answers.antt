@@ -46,7 +46,7 @@ invariant_of-self c =
     c.requires.turn.1 in
     let gone : is_let_go c.args.turn.to ≡ true = sym c.is_let_go.ensures ∙ c.if-is_let_go.true in
     let takes : TakesTurn s after c.args.xid.now c.args.turn = record {
-      tables = c.finish.ensures c.args.xid.now stands;
+      tables = c.finish.ensures.taken c.args.xid.now stands;
       keeps = subst (λ b. MatchBool b (Leaves s.writes after.writes c.args.xid.now [] × Releases s.locks
           after.locks c.args.xid.now) ((after.writes ≡ s.writes) × (after.locks ≡ s.locks)))
           (sym gone) (c.remove.ensures, c.release.ensures);
@@ -78,7 +78,7 @@ invariant_of-self-else-is_let_go c =
     c.requires.turn.1 in
     let goes_on : is_let_go c.args.turn.to ≡ false = sym c.is_let_go.ensures ∙ c.if-is_let_go.false in
     let takes : TakesTurn s after c.args.xid.now c.args.turn = record {
-      tables = c.finish.ensures c.args.xid.now stands;
+      tables = c.finish.ensures.taken c.args.xid.now stands;
       keeps = subst (λ b. MatchBool b (Leaves s.writes after.writes c.args.xid.now [] × Releases s.locks
           after.locks c.args.xid.now) ((after.writes ≡ s.writes) × (after.locks ≡ s.locks)))
           (sym goes_on) (refl, refl);
@@ -107,7 +107,7 @@ returns-then-is_let_go c =
     let stands : StandsAt s.tables.branches.branches c.args.xid.now c.args.place = search rules in
     let gone : is_let_go c.args.turn.to ≡ true = sym c.is_let_go.ensures ∙ c.if-is_let_go.true in
     subst (λ v. TakesTurn v after c.args.xid.now c.args.turn) c.self.view_is (record {
-      tables = c.finish.ensures c.args.xid.now stands;
+      tables = c.finish.ensures.taken c.args.xid.now stands;
       keeps = subst (λ b. MatchBool b (Leaves s.writes after.writes c.args.xid.now [] × Releases s.locks
           after.locks c.args.xid.now) ((after.writes ≡ s.writes) × (after.locks ≡ s.locks)))
           (sym gone) (c.remove.ensures, c.release.ensures);
@@ -134,7 +134,7 @@ returns-else-is_let_go c =
     let stands : StandsAt s.tables.branches.branches c.args.xid.now c.args.place = search rules in
     let goes_on : is_let_go c.args.turn.to ≡ false = sym c.is_let_go.ensures ∙ c.if-is_let_go.false in
     subst (λ v. TakesTurn v after c.args.xid.now c.args.turn) c.self.view_is (record {
-      tables = c.finish.ensures c.args.xid.now stands;
+      tables = c.finish.ensures.taken c.args.xid.now stands;
       keeps = subst (λ b. MatchBool b (Leaves s.writes after.writes c.args.xid.now [] × Releases s.locks
           after.locks c.args.xid.now) ((after.writes ≡ s.writes) × (after.locks ≡ s.locks)))
           (sym goes_on) (refl, refl);

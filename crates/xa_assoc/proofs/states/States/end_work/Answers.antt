@@ -24,4 +24,4 @@ returns c =
     (end_listed lost c.args.succeeds (has_active c.end-code.new.self x)
     (state_at old x) old.associations t x c.requires.at)
     (c.left-to.ensures ∙ ap (λ b. left_by b (has_active c.end-code.new.self x)) c.is_failed.ensures)
-    (c.place.ensures x c.requires.place.stands) refl
+    (c.place.ensures.moved x c.requires.place.stands) refl

@@ -18,4 +18,4 @@ returns-clause-answer c =
     t x call.StartJoin (start_plan old.associations t x) S1 S1 c.in_ok-code.code
     (start_is_plan old.associations t x) c.in_ok-code.ensures.answer not_proto not_limit
     (start_listed (state_at old x) old.associations t x c.requires.at) refl
-    (c.place.ensures x c.requires.place.stands) refl
+    (c.place.ensures.moved x c.requires.place.stands) refl

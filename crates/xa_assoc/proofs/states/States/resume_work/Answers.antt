@@ -20,4 +20,4 @@ returns-clause-answer c =
     c.in_ok-code.code (resume_is_plan old.associations t x lost) c.in_ok-code.ensures.answer not_proto
     not_limit
     (resume_listed lost (state_at old x) old.associations t x c.requires.at) c.resumed.ensures
-    (c.place.ensures x c.requires.place.stands) refl
+    (c.place.ensures.moved x c.requires.place.stands) refl

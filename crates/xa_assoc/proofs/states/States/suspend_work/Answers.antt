@@ -20,4 +20,4 @@ returns-clause-answer c =
     (suspend_is_plan old.associations t x lost c.args.migrate) c.in_ok-code.ensures.answer not_proto not_limit
     (suspend_listed lost c.args.migrate (has_active c.suspend.new.self x)
     (state_at old x) old.associations t x c.requires.at) c.left-to.ensures
-    (c.place.ensures x c.requires.place.stands) refl
+    (c.place.ensures.moved x c.requires.place.stands) refl

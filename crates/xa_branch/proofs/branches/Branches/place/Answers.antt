@@ -5,8 +5,8 @@ use Rattle.xa_branch.specs.contracts.branches.Branches.{the_view}
 use Rattle.xa_branch.proofs.Moved.{goes_at, moves_at}
 use Rattle.xa_branch.proofs.branches.Branches.place.Goals as goal
 
-pub returns-then-eq : goal.returns-then-eq
-returns-then-eq c = λ x at.
+pub returns-then-eq-clause-moved : goal.returns-then-eq-clause-moved
+returns-then-eq-clause-moved c = λ x at.
     let old = c.args.self.now in
     let new = the_view (record {
       alloc = c.self.inside.alloc;
@@ -19,7 +19,7 @@ returns-then-eq c = λ x at.
     c.shift_remove_index.result (search rules) (search rules) at c.shift_remove_index.ensures.entry
     c.shift_remove_index.ensures.entries c.shift_remove_index.ensures.updates (search rules))
 
-pub returns-else-eq : goal.returns-else-eq
-returns-else-eq c = λ x at.
+pub returns-in-Some-clause-moved : goal.returns-in-Some-clause-moved
+returns-in-Some-clause-moved c = λ x at.
     let stays : c.args.to ≢ S0 = search rules in
     moves_at _ _ x c.args.index c.args.to stays at (search rules) (search rules)
