@@ -9,7 +9,7 @@ ghost use Rattle.kv_store.specs.Versions.{value_at};
 
 use kv_store::Versions;
 use std::alloc::{AllocError, Global};
-use tree_model::{Bytes, LogRecord, Record, Sequence, Write};
+use tree_model::{Bytes, LogRecord, Record, Write};
 
 /// Adds the keys of these writes.
 fn add_keys<'a>(keys: &mut Vec<&'a [u8]>, writes: &'a [Write]) -> Result<(), AllocError>
@@ -43,8 +43,8 @@ fn keys_in<'a>(records: &'a [LogRecord], alloc: Global) -> Result<Vec<&'a [u8]>,
 fn pair(key: &[u8], value: &[u8], alloc: Global) -> Result<(Bytes, Bytes), AllocError>
     ensures { IfOk result (λ pair. pair ≡ (key.now, value.now)) }
 {
-    let key = Sequence::from_vec(Vec::from_slice(alloc, key)?);
-    let value = Sequence::from_vec(Vec::from_slice(alloc, value)?);
+    let key = Bytes::from_slice(alloc, key)?;
+    let value = Bytes::from_slice(alloc, value)?;
     Ok((key, value))
 }
 

@@ -27,7 +27,7 @@ use kv_store::writes::BranchWrites;
 use kv_turns::{Entry, Turn, branch_of};
 use std::alloc::{AllocError, Global};
 use std::marker::Model;
-use tree_model::{Bytes, Outcome, Sequence, Write};
+use tree_model::{Bytes, Outcome, Write};
 use xa_assoc::{States, WorkError};
 use xa_codes::{Code, Flags};
 use xa_heur::{Decision, Heuristics};
@@ -122,7 +122,7 @@ fn note(heuristics: &mut Heuristics, xid: &Xid, entry: Option<Entry>)
 fn bytes_of(bytes: &[u8], alloc: Global) -> Result<Bytes, AllocError>
     ensures { IfOk result (λ copy. copy ≡ bytes.now) }
 {
-    Ok(Sequence::from_vec(Vec::from_slice(alloc, bytes)?))
+    Bytes::from_slice(alloc, bytes)
 }
 
 /// The same, where there are bytes.

@@ -148,7 +148,7 @@ fn info_of(alloc: Global, value: Option<&Value>) -> Result<Option<Bytes>, Docume
     match value.as_str() {
         Some(text) => {
             if is_info(text) {
-                Ok(Some(Bytes::from_vec(Vec::from_slice(alloc, text.as_bytes())?)))
+                Ok(Some(Bytes::from_slice(alloc, text.as_bytes())?))
             } else {
                 Err(DocumentError::TreeText)
             }

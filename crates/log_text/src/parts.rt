@@ -100,7 +100,7 @@ pub fn value_at(bytes: &[u8]) -> Option<(&[u8], &[u8])>
 pub fn bytes_of(bytes: &[u8], alloc: Global) -> Result<Bytes, AllocError>
     ensures { IfOk result (λ copy. copy ≡ bytes.now) }
 {
-    Ok(Sequence::from_vec(Vec::from_slice(alloc, bytes)?))
+    Bytes::from_slice(alloc, bytes)
 }
 
 /// What a write leaves at its key: nothing, or the value.

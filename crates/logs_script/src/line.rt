@@ -7,13 +7,13 @@ use link_script::process_of;
 use spellings::hexadecimal::{decode, is_hexadecimal};
 use spellings::word::cut;
 use std::alloc::{AllocError, Global};
-use tree_model::{Bytes, ProcessId, Sequence};
+use tree_model::{ProcessId, Sequence};
 
 /// The bytes of a process's log.
 #[derive(Drop)]
 pub struct ProcessLog {
     pub process: ProcessId,
-    pub bytes: Bytes,
+    pub bytes: Sequence<u8>,
 }
 
 /// Logs of processes, in the order of their lines.
@@ -21,7 +21,7 @@ pub type ProcessLogs = Sequence<ProcessLog>;
 
 /// The bytes that a word spells in hexadecimal, at least one.
 #[tactic(auto, unfolding(crate::specs::Lines::bytes_at))]
-fn decoded(alloc: Global, digits: &str) -> Result<Option<Bytes>, AllocError>
+fn decoded(alloc: Global, digits: &str) -> Result<Option<Sequence<u8>>, AllocError>
     ensures { IfOk result (λ bytes. bytes ≡ bytes_at digits.now) }
 {
     if digits.is_empty() {
@@ -32,7 +32,7 @@ fn decoded(alloc: Global, digits: &str) -> Result<Option<Bytes>, AllocError>
     }
     let mut bytes = vec![in alloc; 0u8; digits.len() / 2]?;
     decode(digits, &mut bytes);
-    Ok(Some(Bytes::from_vec(bytes)))
+    Ok(Some(Sequence::from_vec(bytes)))
 }
 
 /// The log of a line: `log`, the process, and its bytes in hexadecimal where there are any.

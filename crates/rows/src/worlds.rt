@@ -153,8 +153,8 @@ pub(crate) fn a_root_fails_with_its_device(alloc: Global) -> Option<bool> {
 
 /// A child's write of a transaction of the root.
 fn put(alloc: Global, txn: Txn) -> Result<Event, AllocError> {
-    let key = Bytes::from_vec(Vec::from_slice(alloc, b"k")?);
-    let value = Bytes::from_vec(Vec::from_slice(alloc, b"v")?);
+    let key = Bytes::from_slice(alloc, b"k")?;
+    let value = Bytes::from_slice(alloc, b"v")?;
     let case = Case { txn, ticket: None };
     Ok(Event::Act(Act::Work(case, CHILD, Op::Put(key, value))))
 }

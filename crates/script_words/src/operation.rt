@@ -114,5 +114,5 @@ fn are_visible(word: &[u8]) -> bool
 fn bytes_of(alloc: Global, text: &str) -> Result<Bytes, AllocError>
     ensures { IfOk result (λ bytes. bytes ≡ text.now) }
 {
-    Ok(Bytes::from_vec(Vec::from_slice(alloc, text.as_bytes())?))
+    Bytes::from_slice(alloc, text.as_bytes())
 }

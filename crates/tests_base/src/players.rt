@@ -36,7 +36,7 @@ pub(crate) fn child_case() -> Case {
 
 /// These bytes.
 pub(crate) fn bytes(alloc: Global, text: &[u8]) -> Result<Bytes, AllocError> {
-    Ok(Bytes::from_vec(Vec::from_slice(alloc, text)?))
+    Bytes::from_slice(alloc, text)
 }
 
 /// A put of the key `x`.

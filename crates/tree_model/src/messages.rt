@@ -4,12 +4,10 @@ ghost use Rattle.std.specs.Prelude.{◌≡◌, IfOk};
 
 use crate::lists::Sequence;
 use crate::names::{Case, Outcome, ProcessId, Ticket};
+use short_bytes::Bytes;
 use std::alloc::{AllocError, Global};
 
-/// A key (1 to 64 bytes) or a value (0 to 256 bytes).
-pub type Bytes = Sequence<u8>;
-
-/// One operation on a manager's data.
+/// One operation on a manager's data: keys have 1 to 64 bytes, values 0 to 256.
 #[derive(Drop)]
 pub enum Op {
     Put(Bytes, Bytes),

@@ -5,8 +5,8 @@ ghost use Rattle.tree_model.specs.LogNames.{case_parent};
 ghost use Rattle.tree_model.specs.Records.{branch_case, case_subject, kind_of, record_case, subject_of};
 
 use crate::lists::Sequence;
-use crate::messages::Bytes;
 use crate::names::{Case, Outcome, ProcessId, Tickets};
+use short_bytes::Bytes;
 use std::alloc::{AllocError, Global};
 use xa_xid::Xid;
 

@@ -7,8 +7,8 @@ ghost use Rattle.tree_model.specs.Names.{same_process};
 ghost use Rattle.tree_model.specs.Nodes.{is_listed as is_listed_in};
 ghost use Rattle.tree_model.specs.Trees.{tree_error_number, times_listed as times_listed_in, lists_twice as lists_twice_in, is_unlisted, has_unknown_parent, parent_of as parent_in, level_within, has_cycle, is_too_deep, has_wrong_roots, is_listed_manager, has_managed_child, has_fault, is_managed as is_managed_in, is_top, root_of as root_in, is_manager_kind, IsTree, IsFirstFault};
 
-use crate::messages::Bytes;
 use crate::names::{Kind, ProcessId};
+use short_bytes::Bytes;
 use std::marker::Model;
 use thiserror::Error;
 

@@ -8,7 +8,7 @@ use crate::world::World;
 use log_store::LogStore;
 use logs_script::ProcessLog;
 use std::alloc::{AllocError, Global};
-use tree_model::Bytes;
+use tree_model::Sequence;
 
 /// What the type says of bytes: each is below 256. It does nothing.
 fn are_bytes(bytes: &[u8])
@@ -29,7 +29,7 @@ pub fn logs_left<L: LogStore>(
         are_bytes(&text);
         logs.push(ProcessLog {
             process: entry.id,
-            bytes: Bytes::from_vec(text),
+            bytes: Sequence::from_vec(text),
         })?;
     }
     Ok(logs)
