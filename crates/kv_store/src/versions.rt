@@ -195,7 +195,7 @@ fn push(alloc: Global, keys: &mut Keys, key: &[u8], version: Version) -> Result<
     match keys.get_mut(key) {
         Some(list) => list.push(version)?,
         None => {
-            let mut list = Vec::new(alloc);
+            let mut list = Vec::with_capacity(alloc, 1)?;
             list.push(version)?;
             let _ = keys.insert(Vec::from_slice(alloc, key)?, list)?;
         }
