@@ -3,7 +3,7 @@ use Rattle.key_tables.specs.declared.holders.Mode.TheVariants.{Shared}
 use Rattle.kv_locks.specs.Locks.{Gives}
 use Rattle.kv_core.specs.Stores.{IsTidy, KeySight, is_let_go, state_of}
 use Rattle.kv_core.proofs.Tidy.{tidy_read}
-use Rattle.kv_core.proofs.store.KeyStore.read_for.Goals.{in-Ok, in-Err+in-Some-1, in-Err+in-None-1}
+use Rattle.kv_core.proofs.store.KeyStore.read_for.Goals.{in-Ok, in-Err+in-None-1, in-Err+in-Some+in-Short-1, in-Err+in-Some+in-Long-1}
 use Rattle.kv_core.proofs.store.KeyStore.read_for.Goals as goal
 
 pub invariant_of-self : goal.invariant_of-self
@@ -16,13 +16,14 @@ invariant_of-self c =
       decisions = c.self.inside.heuristics;
     } in
     let works : is_let_go (state_of s c.args.xid.now) ≡ false = search rules in
+    let kept : c.shared.new.self ≡ c.self.inside.locks → IsTidy (record s { locks = c.shared.new.self }) =
+    λ stays. subst (λ l. IsTidy (record s { locks = l })) (sym stays) c.self.invariant in
     elim c.match-shared.branch [
       | in-Ok w ↦ (let gave : Gives s.locks c.shared.new.self c.args.xid.now
           c.args.key.now Shared = search rules in
           tidy_read s c.shared.new.self c.args.xid.now c.args.key.now Shared c.self.invariant works
           gave.free gave.made)
-      | in-Err+in-Some-1 w ↦ (let stays : c.shared.new.self ≡ c.self.inside.locks = search rules in
-          subst (λ l. IsTidy (record s { locks = l })) (sym stays) c.self.invariant)
-      | in-Err+in-None-1 w ↦ (let stays : c.shared.new.self ≡ c.self.inside.locks = search rules in
-          subst (λ l. IsTidy (record s { locks = l })) (sym stays) c.self.invariant)
+      | in-Err+in-Some+in-Short-1 w ↦ kept (search rules)
+      | in-Err+in-Some+in-Long-1 w ↦ kept (search rules)
+      | in-Err+in-None-1 w ↦ kept (search rules)
     ]
