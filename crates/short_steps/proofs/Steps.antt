@@ -18,12 +18,12 @@ use Rattle.core_law.specs.worlds.Worlds.{step_entry}
 use Rattle.short_steps.specs.declared.short_step.Aside.{Aside}
 use Rattle.short_steps.specs.declared.short_step.Cause.{Cause}
 use Rattle.short_steps.specs.declared.short_step.Cause.TheVariants.{Act as ActCause, Message as MessageCause, Restart as RestartCause, Trim as TrimCause}
-use Rattle.short_steps.specs.declared.short_step.ShortStep.{ShortStep}
 use Rattle.short_steps.specs.declared.short_step.LastStep.{LastStep}
+use Rattle.short_steps.specs.declared.placed_step.PlacedStep.{PlacedStep}
 use Rattle.short_steps.specs.Shown.{entry_part}
 use Rattle.short_steps.specs.Spans.{part_in}
 use Rattle.short_steps.specs.Kept.{is_placed}
-use Rattle.short_steps.specs.Steps.{IsSent, IsWhole, Parts, act_by, all_entries, aside_by, aside_in, aside_of, asides_by, cause_by, entries_of, entry_in, entry_of_part, happening_in, last_entries, last_entry, last_reaction, last_step, parts_begun, parts_placed, reaction_by, reaction_in, reaction_with, short_step, somes}
+use Rattle.short_steps.specs.Steps.{IsSent, IsWhole, Parts, act_by, all_entries, aside_by, aside_in, aside_of, asides_by, cause_by, ends_of, entries_of, entry_in, entry_of_part, happening_in, last_entries, last_entry, last_reaction, last_step, parts_begun, parts_placed, placed_step, process_of, reaction_by, reaction_in, reaction_with, short_step, somes}
 use Rattle.short_steps.proofs.Spans.{Finds, finds_mapped, part_behind, part_more}
 
 -- What is found in the parts is found in more of them.
@@ -37,27 +37,27 @@ sent_more : (ls ms : List Envelope) (k : ℕ) → Finds (sent_as ls k) (sent_as 
 sent_more ls ms zero l h = h
 sent_more ls ms (suc k) l h = found_more ls ms k l h
 
-finds_aside : (bs cs : List Aside) (o : Option ℕ) → Finds (aside_in bs o) (aside_in (bs ++ cs) o)
-finds_aside bs cs None a is = is
-finds_aside bs cs (Some k) a is = found_more bs cs k a is
+finds_aside : (bs cs : List Aside) (n : ℕ) → Finds (aside_in bs n) (aside_in (bs ++ cs) n)
+finds_aside bs cs zero a is = is
+finds_aside bs cs (suc k) a is = found_more bs cs k a is
 
 -- parts that grew
 pub record Grows (ps qs : Parts) : Type 0 where
   pub acts : (k : ℕ) → Finds (slice_get ps.acts k) (slice_get qs.acts k)
-  pub asides : (o : Option ℕ) → Finds (aside_in ps.asides o) (aside_in qs.asides o)
+  pub asides : (n : ℕ) → Finds (aside_in ps.asides n) (aside_in qs.asides n)
   pub records : (k n : ℕ) → Finds (part_in ps.records k n) (part_in qs.records k n)
   pub parts : (k n : ℕ) → Finds (part_in ps.sent k n) (part_in qs.sent k n)
   pub sent : (k : ℕ) → Finds (sent_as ps.sent k) (sent_as qs.sent k)
 
 finds_happening : (ps qs : Parts) → Grows ps qs → (c : Cause)
     → Finds (happening_in ps c) (happening_in qs c)
-finds_happening ps qs g (ActCause k) =
+finds_happening ps qs g (ActCause q k) =
     finds_mapped (λ a. Handles (ActInput a)) (slice_get ps.acts k) (slice_get qs.acts k) (g.acts k)
-finds_happening ps qs g (MessageCause k) =
+finds_happening ps qs g (MessageCause q k) =
     finds_mapped (λ (l : Envelope). Handles (MessageInput k l.message)) (sent_as ps.sent k)
     (sent_as qs.sent k) (g.sent k)
-finds_happening ps qs g (RestartCause k) = λ h is. is
-finds_happening ps qs g TrimCause = λ h is. is
+finds_happening ps qs g (RestartCause q k) = λ h is. is
+finds_happening ps qs g (TrimCause q) = λ h is. is
 
 finds_with : (o p : Option (List Logged)) (l m : Option (List Envelope)) (a b : Option Aside)
     → Finds o p → Finds l m → Finds a b → Finds (reaction_with o l a) (reaction_with p m b)
@@ -66,7 +66,7 @@ finds_with (Some ws) p None m a b f g h r is = absurd (cc)
 finds_with (Some ws) p (Some ls) m a b f g h r is =
     rw (f ws refl, g ls refl) (finds_mapped (reaction_by ws ls) a b h r is)
 
-finds_reaction : (ps qs : Parts) → Grows ps qs → (y : ShortStep)
+finds_reaction : (ps qs : Parts) → Grows ps qs → (y : PlacedStep)
     → Finds (reaction_in ps y) (reaction_in qs y)
 finds_reaction ps qs g y =
     finds_with (part_in ps.records y.written.start y.written.end) _
@@ -80,11 +80,12 @@ finds_entry_of None i p q f g e is = absurd (cc)
 finds_entry_of (Some h) i p q f g e is =
     rw (f h refl) (finds_mapped (λ (p : ProcessId × Reaction). step_entry p.0 h p.1) p q g e is)
 
-finds_entry : (ps qs : Parts) → Grows ps qs → (y : ShortStep) → Finds (entry_in ps y) (entry_in qs y)
+finds_entry : (ps qs : Parts) → Grows ps qs → (y : PlacedStep) → Finds (entry_in ps y) (entry_in qs y)
 finds_entry ps qs g y =
-    finds_entry_of (happening_in ps y.cause) _ (option_map (λ r. (y.process, r)) (reaction_in ps y)) _
+    finds_entry_of (happening_in ps y.cause) _ (option_map (λ r. (process_of y.cause, r)) (reaction_in ps y)) _
     (finds_happening ps qs g y.cause)
-    (finds_mapped (λ r. (y.process, r)) (reaction_in ps y) (reaction_in qs y) (finds_reaction ps qs g y))
+    (finds_mapped (λ r. (process_of y.cause, r)) (reaction_in ps y) (reaction_in qs y)
+    (finds_reaction ps qs g y))
 
 finds_all : {A B : Type 0} (f g : A → Option B) (xs : List A) (ys : List B) → ((x : A) → Finds (f x) (g x))
     → map f xs ≡ map Some ys → map g xs ≡ map Some ys
@@ -117,17 +118,24 @@ mapped_twice f g None = refl
 mapped_twice f g (Some a) = refl
 
 -- what happened is read back from its cause
-cause_back : (ps : Parts) (h : Happening) (r : Reaction) → IsSent ps.sent h
-    → happening_in (parts_begun ps h r) (cause_by (length ps.acts) h) ≡ Some h
-cause_back ps (Handles (ActInput a)) r sent =
+cause_back : (ps : Parts) (q : ProcessId) (h : Happening) (r : Reaction) → IsSent ps.sent h
+    → happening_in (parts_begun ps h r) (cause_by (length ps.acts) q h) ≡ Some h
+cause_back ps q (Handles (ActInput a)) r sent =
     ap (λ o. option_map (λ b. Handles (ActInput b)) o) (last_found ps.acts a)
-cause_back ps (Handles (MessageInput k m)) r sent =
+cause_back ps q (Handles (MessageInput k m)) r sent =
     mapped_twice (λ n. Handles (MessageInput k n)) (λ (l : Envelope). l.message) (sent_as ps.sent k)
     ∙ ap (λ o. option_map (λ n. Handles (MessageInput k n)) o) sent
-cause_back ps (Restarting k) r sent = refl
-cause_back ps Trimming r sent = refl
+cause_back ps q (Restarting k) r sent = refl
+cause_back ps q Trimming r sent = refl
 
--- what few reactions have is read back from its place
+-- and the process
+process_back : (n : ℕ) (q : ProcessId) (h : Happening) → process_of (cause_by n q h) ≡ q
+process_back n q (Handles (ActInput a)) = refl
+process_back n q (Handles (MessageInput k m)) = refl
+process_back n q (Restarting k) = refl
+process_back n q Trimming = refl
+
+-- what few reactions have is read back from its number
 aside_back_of : (asides : List Aside) (b : Option Txn) (t : Option Told) (k : Option ℕ)
     → let a : Aside = record { begun = b; told = t; kept = k } in
     aside_in (asides ++ asides_by a) (aside_by (length asides) a) ≡ Some a
@@ -143,7 +151,8 @@ aside_back asides a = aside_back_of asides a.begun a.told a.kept
 -- the entry of a step that begins
 begun_entry : (ps : Parts) (q : ProcessId) (h : Happening) (r : Reaction) → IsSent ps.sent h
     → last_entry (parts_begun ps h r) (last_step ps q h r) ≡ Some (step_entry q h r)
-begun_entry ps q h r sent = rw (cause_back ps h r sent, aside_back ps.asides (aside_of r)) refl
+begun_entry ps q h r sent =
+    rw (cause_back ps q h r sent, process_back (length ps.acts) q h, aside_back ps.asides (aside_of r)) refl
 
 -- The entries of all steps.
 
@@ -152,12 +161,12 @@ somes_all : {A : Type 0} (xs : List A) → somes (map Some xs) ≡ xs
 somes_all [] = refl
 somes_all (x ∷ xs) = ap (λ ys. x ∷ ys) (somes_all xs)
 
-entries_are : (ps : Parts) (xs : List ShortStep) (l : Option LastStep) (w : IsWhole ps xs l)
+entries_are : (ps : Parts) (xs : List PlacedStep) (l : Option LastStep) (w : IsWhole ps xs l)
     → entries_of ps xs l ≡ w.entries
 entries_are ps xs l w = ap somes w.read ∙ somes_all w.entries
 
 -- with one step more there is one entry more
-pub begun : (ps : Parts) (xs : List ShortStep) (q : ProcessId) (h : Happening) (r : Reaction)
+pub begun : (ps : Parts) (xs : List PlacedStep) (q : ProcessId) (h : Happening) (r : Reaction)
     → IsWhole ps xs None → IsSent ps.sent h
     → (entries_of (parts_begun ps h r) xs (Some (last_step ps q h r))
     ≡ entries_of ps xs None ++ step_entry q h r ∷ [])
@@ -178,7 +187,7 @@ begun ps xs q h r w sent =
     )
 
 -- likewise, where there is no last step
-pub begun_behind : (ps : Parts) (xs : List ShortStep) (l : Option LastStep) (q : ProcessId) (h : Happening)
+pub begun_behind : (ps : Parts) (xs : List PlacedStep) (l : Option LastStep) (q : ProcessId) (h : Happening)
     (r : Reaction) → is_placed l ≡ true → IsWhole ps xs l → IsSent ps.sent h
     → (entries_of (parts_begun ps h r) xs (Some (last_step ps q h r))
     ≡ entries_of ps xs l ++ step_entry q h r ∷ [])
@@ -206,17 +215,21 @@ placed_grows ps l = record {
   sent = sent_more ps.sent l.messages;
 }
 
+-- the step that is kept, with the places of its parts
+abbrev pub step_of : Parts → LastStep → PlacedStep
+step_of ps l = placed_step (ends_of ps) (short_step ps l)
+
 -- the step shows what it showed before
 placed_reaction : (ps : Parts) (l : LastStep)
-    → reaction_in (parts_placed ps l) (short_step ps l) ≡ last_reaction ps l
+    → reaction_in (parts_placed ps l) (step_of ps l) ≡ last_reaction ps l
 placed_reaction ps l = rw (part_behind ps.records l.written, part_behind ps.sent l.messages) refl
 
 placed_entry : (ps : Parts) (l : LastStep) (e : Entry) → last_entry ps l ≡ Some e
-    → entry_in (parts_placed ps l) (short_step ps l) ≡ Some e
+    → entry_in (parts_placed ps l) (step_of ps l) ≡ Some e
 placed_entry ps l e is =
     rw (placed_reaction ps l)
     (finds_entry_of (happening_in ps l.cause) (happening_in (parts_placed ps l) l.cause)
-    (option_map (λ r. (l.process, r)) (last_reaction ps l)) _
+    (option_map (λ r. (process_of l.cause, r)) (last_reaction ps l)) _
     (finds_happening ps (parts_placed ps l) (placed_grows ps l) l.cause) (λ p h. h) e is)
 
 -- what is read of the steps, and of the last one
@@ -238,31 +251,31 @@ split_last (p ∷ os) o (e ∷ es) is =
     )
 
 -- the entries stay
-pub placed : (ps : Parts) (xs : List ShortStep) (l : LastStep) → IsWhole ps xs (Some l)
-    → (entries_of (parts_placed ps l) (xs ++ short_step ps l ∷ []) None ≡ entries_of ps xs (Some l))
-    × IsWhole (parts_placed ps l) (xs ++ short_step ps l ∷ []) None
+pub placed : (ps : Parts) (xs : List PlacedStep) (l : LastStep) → IsWhole ps xs (Some l)
+    → (entries_of (parts_placed ps l) (xs ++ step_of ps l ∷ []) None ≡ entries_of ps xs (Some l))
+    × IsWhole (parts_placed ps l) (xs ++ step_of ps l ∷ []) None
 placed ps xs l w =
     let parts = split_last (map (entry_in ps) xs) (last_entry ps l) w.entries w.read in
-    let whole : IsWhole (parts_placed ps l) (xs ++ short_step ps l ∷ []) None = record {
+    let whole : IsWhole (parts_placed ps l) (xs ++ step_of ps l ∷ []) None = record {
       entries = w.entries;
-      read = append-nil (map (entry_in (parts_placed ps l)) (xs ++ short_step ps l ∷ []))
-          ∙ map_push (entry_in (parts_placed ps l)) xs (short_step ps l)
+      read = append-nil (map (entry_in (parts_placed ps l)) (xs ++ step_of ps l ∷ []))
+          ∙ map_push (entry_in (parts_placed ps l)) xs (step_of ps l)
           ∙ ap (λ o. map (entry_in (parts_placed ps l)) xs ++ o ∷ []) (placed_entry ps l parts.1 parts.3)
           ∙ ap (λ os. os ++ Some parts.1 ∷ [])
           (finds_all (entry_in ps) (entry_in (parts_placed ps l)) xs parts.0
           (finds_entry ps (parts_placed ps l) (placed_grows ps l)) parts.2)
           ∙ sym (map_push Some parts.0 parts.1) ∙ ap (map Some) (sym parts.4);
     } in (
-      entries_are (parts_placed ps l) (xs ++ short_step ps l ∷ []) None whole
+      entries_are (parts_placed ps l) (xs ++ step_of ps l ∷ []) None whole
           ∙ sym (entries_are ps xs (Some l) w),
       whole,
     )
 
 -- likewise, of the step that is the last
-pub placed_last : (ps : Parts) (xs : List ShortStep) (l : Option LastStep) (y : LastStep) → l ≡ Some y
+pub placed_last : (ps : Parts) (xs : List PlacedStep) (l : Option LastStep) (y : LastStep) → l ≡ Some y
     → IsWhole ps xs l
-    → (entries_of (parts_placed ps y) (xs ++ short_step ps y ∷ []) None ≡ entries_of ps xs l)
-    × IsWhole (parts_placed ps y) (xs ++ short_step ps y ∷ []) None
+    → (entries_of (parts_placed ps y) (xs ++ step_of ps y ∷ []) None ≡ entries_of ps xs l)
+    × IsWhole (parts_placed ps y) (xs ++ step_of ps y ∷ []) None
 placed_last ps xs None y is w = absurd (cc)
 placed_last ps xs (Some l) y is w = let same : l ≡ y = cc in rw (sym same) (placed ps xs l w)
 
@@ -273,7 +286,7 @@ read_length os [] is = rw is refl
 read_length os (e ∷ es) is = rw is (ap (λ n. suc n) (read_length (map Some es) es refl))
 
 -- there are as many entries as steps
-pub as_many : (ps : Parts) (xs : List ShortStep) (l : Option LastStep) → IsWhole ps xs l
+pub as_many : (ps : Parts) (xs : List PlacedStep) (l : Option LastStep) → IsWhole ps xs l
     → length (entries_of ps xs l) ≡ length xs + length (last_entries ps l)
 as_many ps xs l w =
     ap length (entries_are ps xs l w) ∙ read_length (all_entries ps xs l) w.entries w.read
@@ -281,12 +294,12 @@ as_many ps xs l w =
     ∙ ap (λ n. n + length (last_entries ps l)) (length-map xs (entry_in ps))
 
 -- behind the steps comes the last, if there is one
-pub as_many_placed : (ps : Parts) (xs : List ShortStep) (l : Option LastStep) → IsWhole ps xs l → l ≡ None
+pub as_many_placed : (ps : Parts) (xs : List PlacedStep) (l : Option LastStep) → IsWhole ps xs l → l ≡ None
     → length (entries_of ps xs l) ≡ length xs
 as_many_placed ps xs None w is = omega (arith, as_many ps xs None w)
 as_many_placed ps xs (Some l) w is = absurd (cc)
 
-pub as_many_last : (ps : Parts) (xs : List ShortStep) (l : Option LastStep) (y : LastStep) → IsWhole ps xs l
+pub as_many_last : (ps : Parts) (xs : List PlacedStep) (l : Option LastStep) (y : LastStep) → IsWhole ps xs l
     → l ≡ Some y → length (entries_of ps xs l) ≡ length xs + 1
 as_many_last ps xs None y w is = absurd (cc)
 as_many_last ps xs (Some l) y w is = omega (arith, as_many ps xs (Some l) w)
@@ -299,26 +312,26 @@ read_at (p ∷ os) (e ∷ es) zero o read is = let first : p ≡ Some e = cc in 
 read_at (p ∷ os) (e ∷ es) (suc k) o read is =
     let others : os ≡ map Some es = cc in read_at os es k o others is
 
-step_at : (xs : List ShortStep) (ps : Parts) (os : List (Option Entry)) (k : ℕ) (x : ShortStep)
+step_at : (xs : List PlacedStep) (ps : Parts) (os : List (Option Entry)) (k : ℕ) (x : PlacedStep)
     → slice_get xs k ≡ Some x → slice_get (map (entry_in ps) xs ++ os) k ≡ Some (entry_in ps x)
 step_at [] ps os k x is = absurd (cc)
 step_at (y ∷ xs) ps os zero x is = let same : y ≡ x = cc in rw same refl
 step_at (y ∷ xs) ps os (suc k) x is = step_at xs ps os k x is
 
 -- the entry of a step stands in its place
-pub entry_found : (ps : Parts) (xs : List ShortStep) (l : Option LastStep) (k : ℕ) (x : ShortStep)
+pub entry_found : (ps : Parts) (xs : List PlacedStep) (l : Option LastStep) (k : ℕ) (x : PlacedStep)
     → IsWhole ps xs l → slice_get xs k ≡ Some x → entry_in ps x ≡ slice_get (entries_of ps xs l) k
 entry_found ps xs l k x w is =
     read_at (all_entries ps xs l) w.entries k (entry_in ps x) w.read (step_at xs ps (last_entries ps l) k x is)
     ∙ ap (λ es. slice_get es k) (sym (entries_are ps xs l w))
 
-last_at : (xs : List ShortStep) (ps : Parts) (o : Option Entry)
+last_at : (xs : List PlacedStep) (ps : Parts) (o : Option Entry)
     → slice_get (map (entry_in ps) xs ++ o ∷ []) (length xs) ≡ Some o
 last_at [] ps o = refl
 last_at (y ∷ xs) ps o = last_at xs ps o
 
 -- that of the last step stands behind them
-pub last_entry_found : (ps : Parts) (xs : List ShortStep) (l : Option LastStep) (y : LastStep) (k : ℕ)
+pub last_entry_found : (ps : Parts) (xs : List PlacedStep) (l : Option LastStep) (y : LastStep) (k : ℕ)
     → IsWhole ps xs l → l ≡ Some y → k ≡ length xs → last_entry ps y ≡ slice_get (entries_of ps xs l) k
 last_entry_found ps xs None y k w is at = absurd (cc)
 last_entry_found ps xs (Some l) y k w is at =
@@ -328,12 +341,12 @@ last_entry_found ps xs (Some l) y k w is at =
     ∙ ap (λ es. slice_get es (length xs)) (sym (entries_are ps xs (Some l) w)))
 
 -- behind that there is none
-pub entry_past : (ps : Parts) (xs : List ShortStep) (l : Option LastStep) (k : ℕ) → IsWhole ps xs l
+pub entry_past : (ps : Parts) (xs : List PlacedStep) (l : Option LastStep) (k : ℕ) → IsWhole ps xs l
     → l ≡ None → length xs ≤ k → slice_get (entries_of ps xs l) k ≡ None
 entry_past ps xs l k w is past =
     slice_get_past (entries_of ps xs l) k (omega (arith, past, as_many_placed ps xs l w is))
 
-pub entry_past_last : (ps : Parts) (xs : List ShortStep) (l : Option LastStep) (y : LastStep) (k : ℕ)
+pub entry_past_last : (ps : Parts) (xs : List PlacedStep) (l : Option LastStep) (y : LastStep) (k : ℕ)
     → IsWhole ps xs l → l ≡ Some y → length xs ≤ k → (k ≡ length xs → ⊥)
     → slice_get (entries_of ps xs l) k ≡ None
 entry_past_last ps xs l y k w is past other =
@@ -357,20 +370,20 @@ read_some (p ∷ os) (e ∷ es) (suc k) o read is =
     let others : os ≡ map Some es = cc in read_some os es k o others is
 
 -- the part of the entry in its place
-pub part_found : (ps : Parts) (xs : List ShortStep) (l : Option LastStep) (k : ℕ) (x : ShortStep)
+pub part_found : (ps : Parts) (xs : List PlacedStep) (l : Option LastStep) (k : ℕ) (x : PlacedStep)
     → IsWhole ps xs l → slice_get xs k ≡ Some x
-    → option_map (λ r. (x.process, r)) (reaction_in ps x)
+    → option_map (λ r. (process_of x.cause, r)) (reaction_in ps x)
     ≡ option_map entry_part (slice_get (entries_of ps xs l) k)
 part_found ps xs l k x w is =
     let some = read_some (all_entries ps xs l) w.entries k (entry_in ps x) w.read
     (step_at xs ps (last_entries ps l) k x is) in
-    part_of_entry (happening_in ps x.cause) (option_map (λ r. (x.process, r)) (reaction_in ps x))
+    part_of_entry (happening_in ps x.cause) (option_map (λ r. (process_of x.cause, r)) (reaction_in ps x))
     (slice_get (entries_of ps xs l) k) some.0 (entry_found ps xs l k x w is)
     (sym (entry_found ps xs l k x w is) ∙ some.1)
 
-pub last_part_found : (ps : Parts) (xs : List ShortStep) (l : Option LastStep) (y : LastStep) (k : ℕ)
+pub last_part_found : (ps : Parts) (xs : List PlacedStep) (l : Option LastStep) (y : LastStep) (k : ℕ)
     → IsWhole ps xs l → l ≡ Some y → k ≡ length xs
-    → option_map (λ r. (y.process, r)) (last_reaction ps y)
+    → option_map (λ r. (process_of y.cause, r)) (last_reaction ps y)
     ≡ option_map entry_part (slice_get (entries_of ps xs l) k)
 last_part_found ps xs None y k w is at = absurd (cc)
 last_part_found ps xs (Some l) y k w is at =
@@ -380,5 +393,5 @@ last_part_found ps xs (Some l) y k w is at =
     let found : last_entry ps l ≡ slice_get (entries_of ps xs (Some l)) k =
     last_entry_found ps xs (Some l) l k w refl at in
     rw (sym same) (part_of_entry (happening_in ps l.cause)
-    (option_map (λ r. (l.process, r)) (last_reaction ps l))
+    (option_map (λ r. (process_of l.cause, r)) (last_reaction ps l))
     (slice_get (entries_of ps xs (Some l)) k) some.0 found (sym found ∙ some.1))

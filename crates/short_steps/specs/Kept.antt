@@ -7,7 +7,7 @@ use Rattle.tree_model.specs.declared.events.Entry.{Entry}
 use Rattle.short_steps.specs.declared.parts.Parts.{Parts as PartsKept}
 use Rattle.short_steps.specs.declared.short_step.LastStep.{LastStep}
 use Rattle.short_steps.specs.declared.short_step.ShortStep.{ShortStep}
-use Rattle.short_steps.specs.Steps.{IsWhole, Parts, entries_of}
+use Rattle.short_steps.specs.Steps.{IsWhole, Parts, ends_after, ends_of, entries_of, first_starts, placed_steps}
 
 -- the lists that are kept
 abbrev pub parts_of : PartsKept → Parts
@@ -58,7 +58,7 @@ abbrev pub steps_seen : PartsKept → Vec ShortStep → Option LastStep → Step
 steps_seen ps xs l = record {
   sent = ps.sent.items;
   waiting = waiting_in l;
-  entries = entries_of (parts_of ps) xs.items l;
+  entries = entries_of (parts_of ps) (placed_steps xs.items) l;
   room = record {
     is_placed = is_placed l;
     acts = vec_capacity ps.acts - length ps.acts.items;
@@ -66,9 +66,10 @@ steps_seen ps xs l = record {
   };
 }
 
--- each step has its entry
-abbrev pub AreWhole : PartsKept → Vec ShortStep → Option LastStep → Type 0
-AreWhole ps xs l = IsWhole (parts_of ps) xs.items l
+-- each step has its entry, and the lists of records and messages end where those of the kept steps do
+pub record AreWhole (ps : PartsKept) (xs : Vec ShortStep) (l : Option LastStep) : Type 0 where
+  pub whole : IsWhole (parts_of ps) (placed_steps xs.items) l
+  pub ends : ends_after first_starts xs.items ≡ ends_of (parts_of ps)
 
 -- a step can be entered without a growth
 pub record HasRoom (r : Room) : Type 0 where

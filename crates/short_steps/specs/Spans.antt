@@ -1,6 +1,5 @@
 -- Parts of a list.
-use Rattle.std.specs.Prelude.{ℕ, zero, suc, Option, Some, None, List, [], ◌∷◌, ◌++◌, length, option_map}
-use Rattle.short_steps.specs.declared.span.Span.{Span}
+use Rattle.std.specs.Prelude.{ℕ, zero, suc, Option, Some, None, List, [], ◌∷◌, option_map}
 
 -- so many values at the front, if there are as many
 abbrev pub front_in : {A : Type 0} → List A → ℕ → Option (List A)
@@ -14,7 +13,3 @@ part_in xs zero end = front_in xs end
 part_in xs (suc k) zero = None
 part_in [] (suc k) (suc n) = None
 part_in (x ∷ xs) (suc k) (suc n) = part_in xs k n
-
--- where values stand that were added to a list
-abbrev pub span_behind : {A : Type 0} → List A → List A → Span
-span_behind xs ys = record { start = length xs; end = length (xs ++ ys) }

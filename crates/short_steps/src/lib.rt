@@ -4,6 +4,7 @@
 
 mod copies;
 mod parts;
+mod placed_step;
 mod short_step;
 mod short_steps;
 mod shown;

@@ -6,10 +6,11 @@ ghost use Rattle.std.specs.Option.{option_copied};
 ghost use Rattle.tree_model.specs.declared.messages.Message.{Message as AnyMessage};
 ghost use Rattle.tree_model.specs.Plays.{sent_as};
 ghost use Rattle.short_steps.specs.Shown.{shown_part};
-ghost use Rattle.short_steps.specs.Steps.{aside_by, aside_in, aside_of, asides_by, entry_of_part, happening_in, last_reaction, last_step, parts_begun, parts_placed, reaction_in, short_step};
+ghost use Rattle.short_steps.specs.Steps.{aside_by, aside_in, aside_of, asides_by, ends_of, entry_of_part, happening_in, last_reaction, last_step, parts_begun, parts_placed, process_of, reaction_in, short_step};
 ghost use Rattle.short_steps.specs.Kept.{CanBegin, CanPlace, parts_of};
 
-use crate::short_step::{Aside, Cause, LastStep, ShortStep, keep_act, keep_aside};
+use crate::placed_step::PlacedStep;
+use crate::short_step::{Aside, Cause, Ends, LastStep, ShortStep, keep_act, keep_aside};
 use crate::shown::Shown;
 use crate::span::{keep_all, part_of};
 use std::alloc::{AllocError, Global};
@@ -57,46 +58,47 @@ impl Parts {
         ensures { IfOk result (λ found. found ≡ happening_in (parts_of self.now) cause) }
     {
         Ok(match cause {
-            Cause::Act(place) => match self.acts.get(place) {
+            Cause::Act { place, .. } => match self.acts.get(place) {
                 None => None,
                 Some(act) => Some(Happening::Input(Input::Act(act.copied(alloc)?))),
             },
-            Cause::Message(number) => match self.message(number) {
+            Cause::Message { number, .. } => match self.message(number) {
                 None => None,
                 Some(envelope) => {
                     let message = envelope.message.copied(alloc)?;
                     Some(Happening::Input(Input::Message(number, message)))
                 }
             },
-            Cause::Restart(kept) => Some(Happening::Restart(kept)),
-            Cause::Trim => Some(Happening::Trim),
+            Cause::Restart { kept, .. } => Some(Happening::Restart(kept)),
+            Cause::Trim { .. } => Some(Happening::Trim),
         })
     }
 
-    /// What few reactions have, where it has this place.
-    fn aside(&self, place: Option<usize>) -> Option<Aside>
-        ensures { result ≡ aside_in self.now.asides.items place }
+    /// What few reactions have, by its number, from 1; nothing of it for 0, and None behind the last.
+    fn aside(&self, number: usize) -> Option<Aside>
+        ensures { result ≡ aside_in self.now.asides.items number }
     {
-        match place {
-            None => Some(Aside {
+        if number == 0 {
+            Some(Aside {
                 begun: None,
                 told: None,
                 kept: None,
-            }),
-            Some(place) => self.asides.get(place).copied(),
+            })
+        } else {
+            self.asides.get(number - 1).copied()
         }
     }
 
     /// What a step shows, lent; None, where what it names is not there.
-    pub(crate) fn shown(&self, step: &ShortStep) -> Option<Shown<'_>>
+    pub(crate) fn shown(&self, step: &PlacedStep) -> Option<Shown<'_>>
         ensures { option_map shown_part result
-            ≡ option_map (λ r. (step.now.process, r)) (reaction_in (parts_of self.now) step.now) }
+            ≡ option_map (λ r. (process_of step.now.cause, r)) (reaction_in (parts_of self.now) step.now) }
     {
         let written = part_of(&self.records, step.written)?;
         let messages = part_of(&self.sent, step.messages)?;
         let aside = self.aside(step.aside)?;
         Some(Shown {
-            process: step.process,
+            process: step.cause.process(),
             begun: aside.begun,
             written,
             told: aside.told,
@@ -108,11 +110,11 @@ impl Parts {
     /// What the last step shows, lent; None, where what it names is not there.
     pub(crate) fn last_shown<'a>(&self, last: &'a LastStep) -> Option<Shown<'a>>
         ensures { option_map shown_part result
-            ≡ option_map (λ r. (last.now.process, r)) (last_reaction (parts_of self.now) last.now) }
+            ≡ option_map (λ r. (process_of last.now.cause, r)) (last_reaction (parts_of self.now) last.now) }
     {
         let aside = self.aside(last.aside)?;
         Some(Shown {
-            process: last.process,
+            process: last.cause.process(),
             begun: aside.begun,
             written: last.written.as_slice(),
             told: aside.told,
@@ -179,8 +181,8 @@ impl Parts {
         ensures last { result ≡ last_step (parts_of self.old) process happening reaction }
         ensures parts { parts_of self.new ≡ parts_begun (parts_of self.old) happening reaction }
     {
-        let cause = keep_act(&mut self.acts, happening);
-        begin_by(&mut self.asides, process, cause, reaction)
+        let cause = keep_act(&mut self.acts, process, happening);
+        begin_by(&mut self.asides, cause, reaction)
     }
 
     /// The same of a step that handles the message with this number, whatever the message says.
@@ -196,22 +198,35 @@ impl Parts {
         ensures parts { (m : AnyMessage) → parts_of self.new ≡ parts_begun (parts_of self.old)
             (Happening.Input (Input.Message number m)) reaction }
     {
-        begin_by(&mut self.asides, process, Cause::Message(number), reaction)
+        begin_by(
+            &mut self.asides,
+            Cause::Message { process, number },
+            reaction,
+        )
     }
 
-    /// Keeps the records and the messages of the last step, for which there is room: the step, which names
-    /// them.
+    /// Where the records and the messages of all steps end.
+    fn ends(&self) -> Ends
+        ensures { result ≡ ends_of (parts_of self.now) }
+    {
+        Ends {
+            written: self.records.len(),
+            messages: self.sent.len(),
+        }
+    }
+
+    /// Keeps the records and the messages of the last step, for which there is room: what is kept of the step.
     pub(crate) fn place(&mut self, last: LastStep) -> ShortStep
         requires { CanPlace self.old last }
         ensures step { result ≡ short_step (parts_of self.old) last }
         ensures parts { parts_of self.new ≡ parts_placed (parts_of self.old) last }
         ensures begins { CanBegin self.old → CanBegin self.new }
     {
+        keep_all(&mut self.records, last.written);
+        keep_all(&mut self.sent, last.messages);
         ShortStep {
-            process: last.process,
             cause: last.cause,
-            written: keep_all(&mut self.records, last.written),
-            messages: keep_all(&mut self.sent, last.messages),
+            ends: self.ends(),
             aside: last.aside,
         }
     }
@@ -219,15 +234,9 @@ impl Parts {
 
 /// A step with this cause and all that its reaction has, of which what few reactions have is kept. There has
 /// to be room for that.
-fn begin_by(
-    asides: &mut Vec<Aside>,
-    process: ProcessId,
-    cause: Cause,
-    reaction: Reaction,
-) -> LastStep
+fn begin_by(asides: &mut Vec<Aside>, cause: Cause, reaction: Reaction) -> LastStep
     requires { vec_len asides.old < vec_capacity asides.old }
     ensures last { result ≡ record {
-      process = process;
       cause = cause;
       written = reaction.written;
       messages
@@ -242,7 +251,6 @@ fn begin_by(
         kept: reaction.kept,
     };
     LastStep {
-        process,
         cause,
         written: reaction.written,
         messages: reaction.messages,

@@ -2,22 +2,36 @@
 
 ghost use Rattle.std.specs.Prelude.{◌≡◌, ◌++◌, ◌<◌, length};
 ghost use Rattle.std.specs.Vec.{vec_capacity, vec_len};
-ghost use Rattle.short_steps.specs.Steps.{act_by, aside_by, asides_by, cause_by, is_bare as is_bare_of};
+ghost use Rattle.short_steps.specs.Steps.{act_by, aside_by, asides_by, cause_by, is_bare as is_bare_of, process_of};
 
-use crate::span::Span;
 use tree_model::{Act, Envelopes, Happening, Input, Logged, ProcessId, Sequence, Told, Txn};
 
-/// Why a step was made: what happened, where an act and a message are named and not held.
+/// Which process made a step, and why: what happened, where an act and a message are named and not held. The
+/// process lies in the padding behind the tag, so it takes no room of its own.
 #[derive(Clone, Copy)]
 pub enum Cause {
     /// The act at this place of the journal's acts, from 0.
-    Act(usize),
+    Act { process: ProcessId, place: usize },
     /// The message with this number, from 1.
-    Message(u64),
+    Message { process: ProcessId, number: u64 },
     /// A restart that kept so many records behind the forced front.
-    Restart(u64),
+    Restart { process: ProcessId, kept: u64 },
     /// A trim of the log.
-    Trim,
+    Trim { process: ProcessId },
+}
+
+impl Cause {
+    /// The process that made the step.
+    pub(crate) fn process(self) -> ProcessId
+        ensures { result ≡ process_of self }
+    {
+        match self {
+            Cause::Act { process, .. } => process,
+            Cause::Message { process, .. } => process,
+            Cause::Restart { process, .. } => process,
+            Cause::Trim { process } => process,
+        }
+    }
 }
 
 /// What few reactions have, so that it stands apart from the steps.
@@ -31,51 +45,58 @@ pub struct Aside {
     pub kept: Option<u64>,
 }
 
-/// A step with its reaction, of which the parts stand in lists.
+/// Where the records and the messages of a step end, and those of the next one start.
+#[derive(Clone, Copy)]
+pub struct Ends {
+    /// The end of its records, in the list of all records.
+    pub written: usize,
+    /// The end of its messages, in the list of all messages.
+    pub messages: usize,
+}
+
+/// What is kept of a step. Its records and its messages start where those of the step before it end.
 #[derive(Clone, Copy)]
 pub struct ShortStep {
-    /// The process that made it.
-    pub process: ProcessId,
-    /// Why it was made.
+    /// Which process made it, and why.
     pub cause: Cause,
-    /// Where the records that it wrote stand, in order.
-    pub written: Span,
-    /// Where the messages that it sent stand, in order.
-    pub messages: Span,
-    /// The place of what else its reaction has, from 0; None, where it has nothing else.
-    pub aside: Option<usize>,
+    /// Where its records and its messages end.
+    pub ends: Ends,
+    /// The number of what else its reaction has, from 1; 0, where it has nothing else.
+    pub aside: usize,
 }
+
+// A long run keeps hundreds of thousands of them.
+const _: () = prove!(size_of::<ShortStep>() == 40);
 
 /// The last step, which has its records and its messages until there is room for them in the lists.
 #[derive(Drop)]
 pub struct LastStep {
-    /// The process that made it.
-    pub process: ProcessId,
-    /// Why it was made.
+    /// Which process made it, and why.
     pub cause: Cause,
     /// The records that it wrote, in order.
     pub written: Sequence<Logged>,
     /// The messages that it sent, in order.
     pub messages: Envelopes,
-    /// The place of what else its reaction has, from 0; None, where it has nothing else.
-    pub aside: Option<usize>,
+    /// The number of what else its reaction has, from 1; 0, where it has nothing else.
+    pub aside: usize,
 }
 
-/// Keeps an act, where it was one: the cause of what happened. There has to be room for an act.
-pub(crate) fn keep_act(acts: &mut Vec<Act>, happening: Happening) -> Cause
+/// Keeps an act, where it was one: the cause of what happened at this process. There has to be room for an
+/// act.
+pub(crate) fn keep_act(acts: &mut Vec<Act>, process: ProcessId, happening: Happening) -> Cause
     requires { vec_len acts.old < vec_capacity acts.old }
-    ensures cause { result ≡ cause_by (length acts.old.items) happening }
+    ensures cause { result ≡ cause_by (length acts.old.items) process happening }
     ensures acts { acts.new.items ≡ acts.old.items ++ act_by happening }
 {
     match happening {
         Happening::Input(Input::Act(act)) => {
             let place = acts.len();
             acts.push_reserved(act);
-            Cause::Act(place)
+            Cause::Act { process, place }
         }
-        Happening::Input(Input::Message(number, _)) => Cause::Message(number),
-        Happening::Restart(kept) => Cause::Restart(kept),
-        Happening::Trim => Cause::Trim,
+        Happening::Input(Input::Message(number, _)) => Cause::Message { process, number },
+        Happening::Restart(kept) => Cause::Restart { process, kept },
+        Happening::Trim => Cause::Trim { process },
     }
 }
 
@@ -86,17 +107,15 @@ fn is_bare(aside: &Aside) -> bool
     aside.begun.is_none() && aside.told.is_none() && aside.kept.is_none()
 }
 
-/// Keeps what few reactions have, where any of it is there: its place, or None. There has to be room for
-/// it.
-pub(crate) fn keep_aside(asides: &mut Vec<Aside>, aside: Aside) -> Option<usize>
+/// Keeps what few reactions have, where any of it is there: its number, or 0. There has to be room for it.
+pub(crate) fn keep_aside(asides: &mut Vec<Aside>, aside: Aside) -> usize
     requires { vec_len asides.old < vec_capacity asides.old }
-    ensures place { result ≡ aside_by (length asides.old.items) aside }
+    ensures number { result ≡ aside_by (length asides.old.items) aside }
     ensures asides { asides.new.items ≡ asides.old.items ++ asides_by aside }
 {
     if is_bare(&aside) {
-        return None;
+        return 0;
     }
-    let place = asides.len();
     asides.push_reserved(aside);
-    Some(place)
+    asides.len()
 }

@@ -10,14 +10,15 @@ ghost use Rattle.short_steps.specs.Shown.{entry_part, shown_part};
 
 use crate::copies::copy_to;
 use crate::parts::Parts;
+use crate::placed_step::step_at;
 use crate::short_step::{LastStep, ShortStep};
 use crate::shown::Shown;
 use std::alloc::{AllocError, Global};
 use std::marker::Model;
 use tree_model::{Entry, Envelope, Happening, Input, ProcessId, Reaction};
 
-/// Steps that were made, each with its reaction. Their parts stand in lists, and each step has the places of
-/// its own. One that handled a message has the number of it.
+/// Steps that were made, each with its reaction. Their parts stand in lists, one step's behind another's, and
+/// each step has where its own end. One that handled a message has the number of it.
 ///
 /// How many records and messages a step has is not known before it is made, and it is entered without a
 /// growth: so the last one has its own until they are placed in the lists.
@@ -94,8 +95,8 @@ impl ShortSteps {
     pub fn shown(&self, place: usize) -> Option<Shown<'_>>
         ensures { option_map shown_part result ≡ option_map entry_part (slice_get self.now.entries place) }
     {
-        match self.steps.get(place) {
-            Some(step) => self.parts.shown(step),
+        match step_at(&self.steps, place) {
+            Some(step) => self.parts.shown(&step),
             None => match &self.last {
                 None => None,
                 Some(last) => {
@@ -113,10 +114,10 @@ impl ShortSteps {
     pub fn entry(&self, place: usize) -> Result<Option<Entry>, AllocError>
         ensures { IfOk result (λ found. found ≡ slice_get self.now.entries place) }
     {
-        match self.steps.get(place) {
+        match step_at(&self.steps, place) {
             Some(step) => self
                 .parts
-                .entry(self.alloc, step.cause, self.parts.shown(step)),
+                .entry(self.alloc, step.cause, self.parts.shown(&step)),
             None => match &self.last {
                 None => Ok(None),
                 Some(last) => {

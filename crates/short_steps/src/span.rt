@@ -2,7 +2,7 @@
 
 ghost use Rattle.std.specs.Prelude.{◌≡◌, ◌+◌, ◌≤◌, ◌++◌, length, option_map};
 ghost use Rattle.std.specs.Vec.{vec_capacity, vec_len};
-ghost use Rattle.short_steps.specs.Spans.{part_in, span_behind};
+ghost use Rattle.short_steps.specs.Spans.{part_in};
 
 use tree_model::Sequence;
 
@@ -20,17 +20,11 @@ pub(crate) fn part_of<T>(list: &[T], span: Span) -> Option<&[T]>
     list.get(span.start..span.end)
 }
 
-/// Adds these values to a list, which has to have room for them: where they stand.
-pub(crate) fn keep_all<T: Drop>(list: &mut Vec<T>, values: Sequence<T>) -> Span
+/// Adds these values to a list, which has to have room for them.
+pub(crate) fn keep_all<T: Drop>(list: &mut Vec<T>, values: Sequence<T>)
     requires { vec_len list.old + length values ≤ vec_capacity list.old }
-    ensures span { result ≡ span_behind list.old.items values }
-    ensures list { list.new.items ≡ list.old.items ++ values }
+    ensures { list.new.items ≡ list.old.items ++ values }
 {
-    let start = list.len();
     let mut values = values.into_vec();
     list.append(&mut values).unwrap();
-    Span {
-        start,
-        end: list.len(),
-    }
 }

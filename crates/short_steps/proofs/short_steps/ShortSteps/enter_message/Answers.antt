@@ -1,13 +1,11 @@
-use Rattle.std.proofs.Common.{◌≡◌, ◌∙◌, ap, sym, subst, refl, true, ◌++◌, ◌∷◌, [], Option, Some, None, IfSome, rules}
-use Rattle.std.specs.Prelude.{is_some}
-use Rattle.tree_model.specs.declared.messages.Envelope.{Envelope}
+use Rattle.std.proofs.Common.{◌≡◌, ◌∙◌, ap, sym, true, ◌++◌, ◌∷◌, [], Some, rules}
 use Rattle.tree_model.specs.declared.events.Happening.TheVariants.{Input as Handles}
 use Rattle.tree_model.specs.declared.events.Input.TheVariants.{Message as MessageInput}
 use Rattle.tree_model.specs.Plays.{sent_as}
 use Rattle.core_law.specs.worlds.Worlds.{step_entry}
 use Rattle.short_steps.specs.Kept.{StepsState, is_placed, parts_of}
 use Rattle.short_steps.specs.declared.short_step.LastStep.{LastStep}
-use Rattle.short_steps.specs.Steps.{Parts, entries_of, parts_begun}
+use Rattle.short_steps.specs.Steps.{Parts, ends_of, entries_of, parts_begun, placed_steps}
 use Rattle.short_steps.proofs.Steps.{begun_behind, message_sent}
 use Rattle.short_steps.proofs.short_steps.ShortSteps.enter_message.Goals as goal
 
@@ -16,9 +14,14 @@ invariant_of-self c =
     let placed : is_placed c.self.inside.last ≡ true =
     ap (λ (j : StepsState). j.room.is_placed) c.self.view_is ∙ c.requires.room.placed in
     let found = message_sent c.self.inside.parts.sent.items c.args.number (search rules) in
-    rw (c.begin_message.ensures.parts found.0.message, c.begin_message.ensures.last found.0.message)
-    (begun_behind (parts_of c.self.inside.parts) c.self.inside.steps.items c.self.inside.last c.args.process
-    (Handles (MessageInput c.args.number found.0.message)) c.args.reaction placed c.self.invariant found.2).1
+    record {
+      whole = rw (c.begin_message.ensures.parts found.0.message, c.begin_message.ensures.last found.0.message)
+          (begun_behind (parts_of c.self.inside.parts) (placed_steps c.self.inside.steps.items)
+          c.self.inside.last c.args.process
+          (Handles (MessageInput c.args.number found.0.message)) c.args.reaction placed
+          c.self.invariant.whole found.2).1;
+      ends = c.self.invariant.ends ∙ sym (ap ends_of (c.begin_message.ensures.parts found.0.message));
+    }
 
 pub returns-clause-entries : goal.returns-clause-entries
 returns-clause-entries c =
@@ -26,16 +29,16 @@ returns-clause-entries c =
     ap (λ (j : StepsState). j.room.is_placed) c.self.view_is ∙ c.requires.room.placed in
     let found = message_sent c.self.inside.parts.sent.items c.args.number (search rules) in
     let h = Handles (MessageInput c.args.number found.0.message) in
-    let entries : entries_of (parts_of c.begin_message.new.self) c.self.inside.steps.items
+    let entries : entries_of (parts_of c.begin_message.new.self) (placed_steps c.self.inside.steps.items)
     (Some c.begin_message.result)
-    ≡ entries_of (parts_of c.self.inside.parts) c.self.inside.steps.items c.self.inside.last
+    ≡ entries_of (parts_of c.self.inside.parts) (placed_steps c.self.inside.steps.items) c.self.inside.last
     ++ step_entry c.args.process h c.args.reaction ∷ [] =
-    ap (λ ps. entries_of ps c.self.inside.steps.items (Some c.begin_message.result))
+    ap (λ ps. entries_of ps (placed_steps c.self.inside.steps.items) (Some c.begin_message.result))
     (c.begin_message.ensures.parts found.0.message)
     ∙ ap (λ l. entries_of (parts_begun (parts_of c.self.inside.parts) h c.args.reaction)
-    c.self.inside.steps.items (Some l)) (c.begin_message.ensures.last found.0.message)
-    ∙ (begun_behind (parts_of c.self.inside.parts) c.self.inside.steps.items c.self.inside.last c.args.process
-    h c.args.reaction placed c.self.invariant found.2).0 in
+    (placed_steps c.self.inside.steps.items) (Some l)) (c.begin_message.ensures.last found.0.message)
+    ∙ (begun_behind (parts_of c.self.inside.parts) (placed_steps c.self.inside.steps.items)
+    c.self.inside.last c.args.process h c.args.reaction placed c.self.invariant.whole found.2).0 in
     let is = ap (λ (j : StepsState). sent_as j.sent c.args.number) (sym c.self.view_is) ∙ found.1 in
     rw is (entries
     ∙ ap (λ (j : StepsState). j.entries ++ step_entry c.args.process h c.args.reaction ∷ [])

@@ -1,7 +1,7 @@
-use Rattle.std.proofs.Common.{◌≡◌, ◌∙◌, ap, ◌++◌, ◌∷◌, [], rules}
+use Rattle.std.proofs.Common.{◌≡◌, ◌∙◌, ap, sym, ◌++◌, ◌∷◌, [], rules}
 use Rattle.short_steps.specs.Kept.{StepsState, parts_of}
-use Rattle.short_steps.specs.Steps.{entries_of, parts_placed, short_step}
-use Rattle.short_steps.proofs.Steps.{placed_last}
+use Rattle.short_steps.specs.Steps.{ends_after, ends_of, entries_of, first_starts, parts_placed, placed_steps, short_step}
+use Rattle.short_steps.proofs.Placed.{ends_behind, kept}
 use Rattle.short_steps.proofs.short_steps.ShortSteps.make_room.Goals as goal
 
 pub invariant_of-self-in-Some-take : goal.invariant_of-self-in-Some-take
@@ -13,9 +13,15 @@ invariant_of-self-in-Some-take c =
     let steps : c.push_reserved.new.self.items
     ≡ c.self.inside.steps.items ++ short_step (parts_of c.self.inside.parts) c.in-Some-take.last ∷ [] =
     search (rules, old) in
-    rw (parts, steps, c.take.ensures.after)
-    (placed_last (parts_of c.self.inside.parts) c.self.inside.steps.items c.self.inside.last
-    c.in-Some-take.last (search rules) c.self.invariant).1
+    record {
+      whole = rw (parts, steps, c.take.ensures.after)
+          (kept (parts_of c.self.inside.parts) c.self.inside.steps.items c.self.inside.last
+          c.in-Some-take.last (search rules) c.self.invariant.ends c.self.invariant.whole).1;
+      ends = ap (ends_after first_starts) steps
+          ∙ ends_behind first_starts c.self.inside.steps.items
+          (short_step (parts_of c.self.inside.parts) c.in-Some-take.last)
+          ∙ sym (ap ends_of parts);
+    }
 
 pub returns-in-Some-take-clause-ok : goal.returns-in-Some-take-clause-ok
 returns-in-Some-take-clause-ok c =
@@ -26,11 +32,12 @@ returns-in-Some-take-clause-ok c =
     let steps : c.push_reserved.new.self.items
     ≡ c.self.inside.steps.items ++ short_step (parts_of c.self.inside.parts) c.in-Some-take.last ∷ [] =
     search (rules, old) in
-    let entries : entries_of (parts_of c.place-step.new.self) c.push_reserved.new.self.items c.take.new.self
-    ≡ entries_of (parts_of c.self.inside.parts) c.self.inside.steps.items c.self.inside.last =
+    let entries : entries_of (parts_of c.place-step.new.self) (placed_steps c.push_reserved.new.self.items)
+    c.take.new.self
+    ≡ entries_of (parts_of c.self.inside.parts) (placed_steps c.self.inside.steps.items) c.self.inside.last =
     rw (parts, steps, c.take.ensures.after)
-    (placed_last (parts_of c.self.inside.parts) c.self.inside.steps.items c.self.inside.last
-    c.in-Some-take.last (search rules) c.self.invariant).0 in
+    (kept (parts_of c.self.inside.parts) c.self.inside.steps.items c.self.inside.last
+    c.in-Some-take.last (search rules) c.self.invariant.ends c.self.invariant.whole).0 in
     record {
       sent = search (rules, parts);
       waiting = search rules;
