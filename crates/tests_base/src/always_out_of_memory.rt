@@ -4,7 +4,10 @@ use crate::players::{CHILD, ROOT, bytes, child_case, put};
 use link_script::read;
 use std::test::Fail;
 use trace_lines::case_text;
-use tree_model::{Act, Envelope, Event, Message, Op, Presumption, Record};
+use tree_model::{Act, Bytes, Envelope, Event, Message, Op, Presumption, Record};
+
+// A key and a value stand in each act, message, write and record.
+const _: () = prove!(size_of::<Bytes>() == 16);
 
 #[test]
 fn a_script_is_read(rt: HostRuntime) -> Result<(), Fail> {
@@ -19,6 +22,18 @@ fn a_script_is_read(rt: HostRuntime) -> Result<(), Fail> {
         )
     );
     assert!(rt; case_text(alloc, &child_case())?.as_slice() == b"a1.1@2.1.1".as_slice());
+    Ok(())
+}
+
+#[test]
+fn few_bytes_and_many_are_copied(rt: HostRuntime) -> Result<(), Fail> {
+    let alloc = rt.alloc();
+    for len in [0, 1, 14, 15, 256] {
+        let text = vec![in alloc; b'v'; len]?;
+        let copy = bytes(alloc, text.as_slice())?.copied(alloc)?;
+        assert!(rt; copy.as_slice() == text.as_slice());
+        assert_eq!(rt; copy.len(), len);
+    }
     Ok(())
 }
 
