@@ -118,20 +118,13 @@ fn note(heuristics: &mut Heuristics, xid: &Xid, entry: Option<Entry>)
     }
 }
 
-/// A list of its own of these bytes.
-fn bytes_of(bytes: &[u8], alloc: Global) -> Result<Bytes, AllocError>
-    ensures { IfOk result (λ copy. copy ≡ bytes.now) }
-{
-    Bytes::from_slice(alloc, bytes)
-}
-
-/// The same, where there are bytes.
+/// A copy of these bytes, where there are any.
 fn copied(bytes: Option<&[u8]>, alloc: Global) -> Result<Option<Bytes>, AllocError>
     ensures { IfOk result (λ copy. copy ≡ option_map (λ v. v.now) bytes.entry) }
 {
     match bytes {
         None => Ok(None),
-        Some(bytes) => Ok(Some(bytes_of(bytes, alloc)?)),
+        Some(bytes) => Ok(Some(Bytes::from_slice(alloc, bytes)?)),
     }
 }
 
@@ -315,7 +308,7 @@ impl KeyStore {
             return Err(WorkError::TooManyWrites);
         };
         let write = Write {
-            key: bytes_of(key, self.alloc)?,
+            key: Bytes::from_slice(self.alloc, key)?,
             value: copied(value, self.alloc)?,
         };
         match self.locks.exclusive(xid, key) {

@@ -1,6 +1,6 @@
 //! A whole script.
 
-ghost use Rattle.std.specs.Prelude.{◌≡◌, IfOk, IfErr};
+ghost use Rattle.std.specs.Prelude.{◌≡◌, ◌≢◌, ℕ, IfOk, IfErr};
 ghost use Rattle.link_script.specs.Inputs.{script_fault_number, IsOpenScript, IsScript, IsScriptError};
 
 use crate::front::read_front;
@@ -86,6 +86,7 @@ impl<T: Drop> From<AllocFailed<T>> for ScriptError {
 pub fn open<'a>(alloc: Global, bytes: &'a [u8]) -> Result<(Tree, Lines<'a>), ScriptError>
     ensures ok { IfOk result (λ (tree, lines). IsOpenScript bytes.now tree lines) }
     ensures err { IfErr result (λ error. IsScriptError bytes.now error) }
+    ensures no_line { IfErr result (λ error. (n : ℕ) → error ≢ ScriptError.Fault (ScriptFault.Line n)) }
 {
     let front = match read_front(alloc, bytes) {
         Ok(front) => front,

@@ -21,14 +21,14 @@ invariant_of-self-in-Ok c =
     let gave : Gives s.locks c.exclusive.new.self c.args.xid.now c.args.key.now Exclusive = search rules in
     let room : HasRoomFor c.room_for.new.self c.args.xid.now c.args.key.now
     (Some c.in-Some.place) = search rules in
-    let key_is : c.in_ok-bytes_of.field-0 ≡ c.args.key.now = search rules in
+    let key_is : c.in_ok-from_slice.field-0 ≡ c.args.key.now = search rules in
     let value_is : c.in_ok-copied.field-0 ≡ value = search rules in
     let left : Leaves c.room_for.new.self c.put_at.new.self c.args.xid.now
     (with_write (writes_of c.room_for.new.self c.args.xid.now) c.args.key.now value) =
     subst (λ k. Leaves c.room_for.new.self c.put_at.new.self c.args.xid.now
     (with_write (writes_of c.room_for.new.self c.args.xid.now) k value)) key_is
     (subst (λ v. Leaves c.room_for.new.self c.put_at.new.self c.args.xid.now
-    (with_write (writes_of c.room_for.new.self c.args.xid.now) c.in_ok-bytes_of.field-0 v)) value_is
+    (with_write (writes_of c.room_for.new.self c.args.xid.now) c.in_ok-from_slice.field-0 v)) value_is
     (c.put_at.ensures c.args.xid.now room.1.stands)) in
     tidy_wrote s c.put_at.new.self c.exclusive.new.self c.args.xid.now c.args.key.now value
     c.self.invariant works gave.free gave.made
