@@ -167,7 +167,7 @@ module _ (tree : List TreeEntry) (me p : ProcessId) (leaf : role_of tree me
               refl,
               (
                 refl,
-                goes_at tree net (i.0 - 1) _ goes
+                goes_at tree net s.place _ goes
                     s.stands,
               ),
             ),
@@ -177,7 +177,7 @@ module _ (tree : List TreeEntry) (me p : ProcessId) (leaf : role_of tree me
           ≡ true
       heard_given m i d e =
           let s : IsSent net me i.0 m = subst (λ (x : Input). InputStands net me x) i.1 stands in
-          given d (sent_at (is_about d) net (i.0 - 1) _ s.stands e)
+          given d (sent_at (is_about d) net s.place _ s.stands e)
 
       prepared : (d : Case) (k : ℕ) → Hears h (Prepare d k) → Own d
       prepared d k i =

@@ -1,10 +1,15 @@
 -- A run, told process by process.
-use Rattle.std.proofs.Common.{if◌then◌else◌, ◌≡◌, ◌∙◌, ap, sym, inl, inr, Bool, true, false, List, ◌∷◌, ◌++◌, Some, None, refl, subst}
+use Rattle.std.proofs.Common.{◌+◌, ◌-◌, ℕ, if◌then◌else◌, ◌≡◌, ◌∙◌, ap, sym, inl, inr, Bool, true, false, List, ◌∷◌, ◌++◌, Some, None, refl, subst}
 use Rattle.tree_model.specs.declared.names.ProcessId.{ProcessId}
+use Rattle.tree_model.specs.declared.messages.Envelope.{Envelope}
+use Rattle.tree_model.specs.declared.events.Input.{Input}
+use Rattle.tree_model.specs.declared.events.Input.TheVariants.{Act as ActInput, Message as MessageInput}
+use Rattle.tree_model.specs.declared.events.Happening.{Happening}
+use Rattle.tree_model.specs.declared.events.Happening.TheVariants.{Input as Handles, Restart, Trim}
 use Rattle.tree_model.specs.declared.trees.TreeEntry.{TreeEntry}
 use Rattle.tree_model.specs.NameLaws.{same_process_tells}
-use Rattle.tree_model.specs.Nodes.{place_of, is_listed, Node, Effect}
-use Rattle.tree_model.specs.World.{World, Move, Stepped, Refuses, Makes, node_makes, world_makes, world_stepped, put_at, Made, IsRun, opens, makes, made_by, node_by, net_by}
+use Rattle.tree_model.specs.Nodes.{place_of, is_listed, Node, Effect, Version}
+use Rattle.tree_model.specs.World.{World, Move, Stepped, Refuses, Makes, node_makes, world_makes, world_stepped, put_at, Made, IsRun, opens, makes, made_by, node_by, net_by, Stands, InputStands, InputIsNew, IsNew, IsRunBy, first_opens, next, reopens}
 
 -- what a move makes of the world is what it makes of its process
 pub record MakesAt (tree : List TreeEntry) (w : World) (m : Move) (e : Effect) (w' : World) : Type 0 where
@@ -76,3 +81,25 @@ net_by_run tree _ _ opens = refl
 net_by_run tree _ _ (makes es w m e w' run stands step) =
     ap (λ (x : World). x.net) (makes_at tree w m e w' step).world
     ∙ ap (λ l. l ++ e.messages) (net_by_run tree es w run)
+
+-- A run that is opened again is a run.
+
+input_stands : (net : List Envelope) (before : ℕ) (q : ProcessId) (i : Input) → InputIsNew net before q i
+    → InputStands net q i
+input_stands net before q (ActInput a) n = tt
+input_stands net before q (MessageInput k m) n =
+    record { sender = n.sender; place = before + (k - 1); stands = n.stands }
+
+stands_new : (net : List Envelope) (before : ℕ) (q : ProcessId) (h : Happening) → IsNew net before q h
+    → Stands net q h
+stands_new net before q (Handles i) n = input_stands net before q i n
+stands_new net before q (Restart k) n = tt
+stands_new net before q Trim n = tt
+
+pub runs_by_are_runs : (tree : List TreeEntry) (v : Version) (before : ℕ) (es : List Made) (w : World)
+    → IsRunBy tree v before es w → IsRun tree es w
+runs_by_are_runs tree _ _ _ _ (first_opens v) = opens
+runs_by_are_runs tree _ _ _ _ (next v before es w m e w' run by new step) =
+    makes es w m e w' (runs_by_are_runs tree v before es w run)
+    (stands_new w.net before m.step.process m.step.happening new) step
+runs_by_are_runs tree _ _ _ _ (reopens v before es w run down) = runs_by_are_runs tree v before es w run

@@ -90,10 +90,17 @@ pub record DataAnswer : Type 0 where
   pub does : Bool
   pub holding : Holding
 
--- an input, with what a manager's data answer to it
+-- the version of the reaction table: by the first a coordinator below the root acknowledges a decision at once, by the
+-- second once its children have acknowledged it
+pub data Version : Type 0 where
+  First : Version
+  Second : Version
+
+-- an input, with what a manager's data answer to it, and the version by which it is handled
 pub record Heard : Type 0 where
   pub input : Input
   pub data_answer : DataAnswer
+  pub version : Version
 
 -- A process.
 

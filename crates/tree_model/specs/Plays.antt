@@ -23,7 +23,7 @@ use Rattle.tree_model.specs.declared.trees.TreeEntry.{TreeEntry}
 use Rattle.tree_model.specs.Names.{same_case, process_of}
 use Rattle.tree_model.specs.Records.{same_bytes}
 use Rattle.tree_model.specs.Texts.{reaction_lines}
-use Rattle.tree_model.specs.Nodes.{place_of, is_listed, Node, Heard, DataAnswer, Holding, ReadsOnly, Holds, reaction_of}
+use Rattle.tree_model.specs.Nodes.{First, place_of, is_listed, Node, Heard, DataAnswer, Holding, ReadsOnly, Holds, reaction_of}
 use Rattle.tree_model.specs.World.{World, opened_world, Move, Stepped, Refuses, Makes, node_makes, put_at, Made}
 
 -- Plain leaves.
@@ -112,6 +112,7 @@ abbrev pub move_of : ProcessId → Happening → DataAnswer → Move
 move_of q happening a = record {
   step = record { process = q; happening = happening; fault = None };
   data_answer = a;
+  version = First;
 }
 
 -- the player after a move, with what is delivered now; a refusal stops the run

@@ -21,7 +21,7 @@ use Rattle.tree_model.specs.declared.events.Input.TheVariants.{Act as ActInput, 
 use Rattle.tree_model.specs.declared.trees.TreeEntry.{TreeEntry}
 use Rattle.tree_model.specs.Names.{same_txn, same_case, root_case, child_case}
 use Rattle.tree_model.specs.Records.{boot_of, has, is_end, is_commit, is_abort, is_prepare, is_collecting, promised_by, named_by, owing_by}
-use Rattle.tree_model.specs.Nodes.{Place, AtRoot, AtLeaf, DataAnswer, Heard, Node, kept, Effect, after}
+use Rattle.tree_model.specs.Nodes.{First, Place, AtRoot, AtLeaf, DataAnswer, Heard, Node, kept, Effect, after}
 use Rattle.tree_model.specs.Memory.{Open, Asked, memory_of, next_txn, next_ticket, active_ticket, ticket_of_child}
 use Rattle.tree_model.specs.Standings.{some_case, coordinator_view, manager_view, mark_of, Unmarked}
 use Rattle.tree_model.specs.CoordinatorRows.{Seat, Row, ByAct, active_commit, active_abort, active_join, active_work, collecting_abort, on_joined, on_vote, on_ack, on_inquiry}
@@ -37,7 +37,7 @@ leaf_place me p tree = record { me = me; role = AtLeaf p; tree = tree }
 
 -- the message with this number, with what a manager's data answer to it
 abbrev pub hears_message : ℕ → Message → DataAnswer → Heard
-hears_message k m a = record { input = MessageInput k m; data_answer = a }
+hears_message k m a = record { input = MessageInput k m; data_answer = a; version = First }
 
 -- the view of a case after a message about the case d, and of d itself the row's
 pub record MovesBranch (place : Place) (n : Node) (h : Heard) (d : Case) (row : LeafRow) : Type 0 where
@@ -47,7 +47,7 @@ pub record MovesBranch (place : Place) (n : Node) (h : Heard) (d : Case) (row : 
 
 -- an act, with what a manager's data answer to it
 abbrev pub hears_act : Act → DataAnswer → Heard
-hears_act x a = record { input = ActInput x; data_answer = a }
+hears_act x a = record { input = ActInput x; data_answer = a; version = First }
 
 -- the fresh ticket's case
 abbrev pub fresh_case : Place → Node → Case → Case

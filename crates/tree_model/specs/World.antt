@@ -1,5 +1,5 @@
 -- The whole tree: every process, and every message ever sent. A step is made at one process.
-use Rattle.std.specs.Prelude.{◌≡◌, ◌≤◌, ◌-◌, ℕ, true, if◌then◌else◌, Option, Some, None, List, [], ◌∷◌, ◌++◌, slice_get, take, filter, ⊤}
+use Rattle.std.specs.Prelude.{◌≡◌, ◌≤◌, ◌+◌, ◌-◌, length, ℕ, true, if◌then◌else◌, Option, Some, None, List, [], ◌∷◌, ◌++◌, slice_get, take, filter, ⊤}
 use Rattle.tree_model.specs.declared.names.ProcessId.{ProcessId}
 use Rattle.tree_model.specs.declared.messages.Message.{Message}
 use Rattle.tree_model.specs.declared.messages.Envelope.{Envelope}
@@ -15,16 +15,17 @@ use Rattle.tree_model.specs.declared.events.StepError.{StepError}
 use Rattle.tree_model.specs.declared.events.StepError.TheVariants.{Failed}
 use Rattle.tree_model.specs.declared.trees.TreeEntry.{TreeEntry}
 use Rattle.tree_model.specs.Names.{same_process}
-use Rattle.tree_model.specs.Nodes.{Place, place_of, is_listed, Node, opened_node, Heard, DataAnswer, Effect, no_effect, after, fails_in, reaction_of}
+use Rattle.tree_model.specs.Nodes.{Place, place_of, is_listed, Node, opened_node, Heard, Version, Second, DataAnswer, Effect, no_effect, after, fails_in, reaction_of}
 use Rattle.tree_model.specs.Reactions.{Reacts, Refused, Does, is_passed_over, reacts}
 use Rattle.tree_model.specs.Restarts.{restart_effect, restarted, restart_fails, trim_effect, trims, trim_fails}
 
 -- One process.
 
--- a step, with what a manager's data answer in it
+-- a step, with what a manager's data answer in it, and the version by which it is made
 pub record Move : Type 0 where
   pub step : Step
   pub data_answer : DataAnswer
+  pub version : Version
 
 -- a move at its process: it is refused, or has an effect and leaves a process
 pub data Stepped : Type 0 where
@@ -70,7 +71,7 @@ trim_makes place n (Some f) = Makes (fault_effect (trim_effect place n) 0) (trim
 -- a move by what happens; a process that has failed refuses a trim
 abbrev pub happening_makes : Place → Node → Move → Happening → Stepped
 happening_makes place n m (Handles i) =
-    let h : Heard = record { input = i; data_answer = m.data_answer } in
+    let h : Heard = record { input = i; data_answer = m.data_answer; version = m.version } in
     if is_passed_over place n i then passes_over n m.step.fault
     else input_makes n h m.step.fault (reacts place n h)
 happening_makes place n m (Restart k) = restart_makes place n k m.step.fault
@@ -107,11 +108,11 @@ world_makes tree w m =
     let q = m.step.process in
     if is_listed tree q then world_stepped w q (node_makes (place_of tree q) (w.at q) m) else None
 
--- a message that stands in the net, with its number, for the process
+-- a message that stands in the net, for the process, whatever its number
 pub record IsSent (net : List Envelope) (q : ProcessId) (number : ℕ) (message : Message) : Type 0 where
   pub sender : ProcessId
-  pub counted : 1 ≤ number
-  pub stands : slice_get net (number - 1) ≡ Some (record { from = sender; to = q; message = message })
+  pub place : ℕ
+  pub stands : slice_get net place ≡ Some (record { from = sender; to = q; message = message })
 
 -- a delivered message was sent to the process; an act may always come
 abbrev pub InputStands : List Envelope → ProcessId → Input → Type 0
@@ -148,6 +149,44 @@ pub data Continues (tree : List TreeEntry) (start : World) : List Made → World
       → Stands w.net m.step.process m.step.happening
       → world_makes tree w m ≡ Some (e, w')
       → Continues tree start (record { move = m; effect = e } ∷ es) w'
+
+-- Runs that are opened again.
+
+-- a message that was sent since so many were, for the process, under this number among those: the first has 1
+pub record IsNumbered (net : List Envelope) (before : ℕ) (q : ProcessId) (number : ℕ)
+    (message : Message) : Type 0 where
+  pub sender : ProcessId
+  pub counted : 1 ≤ number
+  pub stands : slice_get net (before + (number - 1)) ≡ Some
+      (record { from = sender; to = q; message = message })
+
+-- the number of a message that is delivered, among those that were sent since so many were
+abbrev pub InputIsNew : List Envelope → ℕ → ProcessId → Input → Type 0
+InputIsNew net before q (ActInput a) = ⊤
+InputIsNew net before q (MessageInput number message) = IsNumbered net before q number message
+
+-- what happens delivers no message of those that were sent before
+abbrev pub IsNew : List Envelope → ℕ → ProcessId → Happening → Type 0
+IsNew net before q (Handles i) = InputIsNew net before q i
+IsNew net before q _ = ⊤
+
+-- every process of the tree is down
+abbrev pub IsDown : List TreeEntry → World → Type 0
+IsDown tree w = (q : ProcessId) → is_listed tree q ≡ true → (w.at q).failed ≡ true
+
+-- The moves made, the newest first, lead from the opened tree to the world; since the tree was opened last, and so many
+-- messages had been sent, each was made by this version, and each message that was delivered was sent since. A tree of which
+-- every process is down may be opened again, by the second version: then each process goes on from its log.
+pub data IsRunBy (tree : List TreeEntry) : Version → ℕ → List Made → World → Type 0 where
+  first_opens : (v : Version) → IsRunBy tree v 0 [] opened_world
+  next : (v : Version) (before : ℕ) (es : List Made) (w : World) (m : Move) (e : Effect) (w' : World)
+      → IsRunBy tree v before es w
+      → m.version ≡ v
+      → IsNew w.net before m.step.process m.step.happening
+      → world_makes tree w m ≡ Some (e, w')
+      → IsRunBy tree v before (record { move = m; effect = e } ∷ es) w'
+  reopens : (v : Version) (before : ℕ) (es : List Made) (w : World) → IsRunBy tree v before es w
+      → IsDown tree w → IsRunBy tree Second (length w.net) es w
 
 -- The world is told process by process.
 

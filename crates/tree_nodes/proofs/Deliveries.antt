@@ -21,5 +21,5 @@ sent_at q (m ∷ ls) (suc k) l e f = right _ _ (sent_at q ls k l e f)
 pub was_sent : (q : Message → Bool) (net : List Envelope) (me : ProcessId) (i : Input) (k : ℕ) (m : Message)
     → InputStands net me i → i ≡ MessageInput k m → q m ≡ true → sent q net ≡ true
 was_sent q net me i k m s e f =
-    let t : IsSent net me k m = subst (λ (x : Input). InputStands net me x) e s in sent_at q net (k - 1) _
+    let t : IsSent net me k m = subst (λ (x : Input). InputStands net me x) e s in sent_at q net t.place _
     t.stands f

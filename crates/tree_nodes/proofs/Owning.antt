@@ -55,7 +55,7 @@ pub delivered : (net : List Envelope) (q : ProcessId) (i : Input) (k : ℕ) (m :
     → i ≡ MessageInput k m → GoesToOwner q m
 delivered net q i k m a s e =
     let t : IsSent net q k m = subst (λ (x : Input). InputStands net q x) e s in
-    goes_at net (k - 1) _ a t.stands
+    goes_at net t.place _ a t.stands
 
 -- Records of own cases.
 

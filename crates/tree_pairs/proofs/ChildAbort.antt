@@ -48,3 +48,9 @@ rolls_back r h g = grind arith
 
 pub acknowledges : Keeps Inv move.MayAcknowledgeCommit move.acknowledges
 acknowledges r h g = grind arith
+
+pub learns_commit : Keeps Inv move.MayLearnCommit move.learns_commit_forced
+learns_commit r h g = grind arith
+
+pub acknowledges_settled : Keeps Inv move.MayAcknowledge move.acknowledges
+acknowledges_settled r h g = grind arith

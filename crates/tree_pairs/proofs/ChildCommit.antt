@@ -67,3 +67,9 @@ acknowledges r h g = grind arith
 
 pub drops_and_acknowledges : Keeps Inv move.MayDropAndAcknowledge move.drops_and_acknowledges
 drops_and_acknowledges r h g = grind arith
+
+pub learns_abort : Keeps Inv move.MayLearnAbort move.learns_abort_forced
+learns_abort r h g = grind arith
+
+pub acknowledges_settled : Keeps Inv move.MayAcknowledge move.acknowledges
+acknowledges_settled r h g = grind arith

@@ -111,6 +111,23 @@ pub passes_abort_forced : Together (λ a b. cascaded.MayPassAbort b) child.rolls
     cascaded.passes_abort_forced
 passes_abort_forced a b h k i g = grind arith
 
+pub waits_to_acknowledge_commit : Together (λ a b. cascaded.MayPassCommit b) child.learns_commit_forced
+    cascaded.passes_commit_forced
+waits_to_acknowledge_commit a b h k i g = grind arith
+
+pub waits_to_acknowledge_abort : Together (λ a b. cascaded.MayPassAbort b) child.learns_abort_forced
+    cascaded.passes_abort_forced
+waits_to_acknowledge_abort a b h k i g = grind arith
+
+pub aborts_silently : Together (λ a b. parent.MayAbort b) child.drops parent.aborts_forced
+aborts_silently a b h k i g = grind arith
+
+pub ends_commit : Together (λ a b. parent.MayEndCommit b) child.acknowledges parent.ends
+ends_commit a b h k i g = grind arith
+
+pub ends_abort : Together (λ a b. parent.MayEndAbort b) child.acknowledges parent.ends
+ends_abort a b h k i g = grind arith
+
 pub hardens : Together (λ a b. Unit {0}) child.hardens_child parent.hardens_parent
 hardens a b h k i g = grind arith
 
@@ -215,6 +232,11 @@ one_step = record {
   passes_commit = passes_commit;
   passes_abort = passes_abort;
   passes_abort_forced = passes_abort_forced;
+  waits_to_acknowledge_commit = waits_to_acknowledge_commit;
+  waits_to_acknowledge_abort = waits_to_acknowledge_abort;
+  aborts_silently = aborts_silently;
+  ends_commit = ends_commit;
+  ends_abort = ends_abort;
   hardens = hardens;
   trims = trims;
   fails = fails;

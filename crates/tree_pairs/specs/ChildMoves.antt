@@ -1,7 +1,7 @@
 -- What a child does with its ticket: a manager's rows, and a cascaded coordinator's rows as a child.
 use Rattle.std.specs.Prelude.{◌≡◌, Bool, true, false, not, ◌||◌, ◌⊎◌}
 use Rattle.tree_pairs.specs.Reading.{Reading}
-use Rattle.tree_pairs.specs.Standing.{IsInDoubt, IsForgotten, IsHeuristic}
+use Rattle.tree_pairs.specs.Standing.{IsInDoubt, IsForgotten, IsHeuristic, IsSettled}
 
 -- JOIN found no open ticket: a fresh number is issued, and JOINED tells of it.
 pub record MayIssue (r : Reading) : Type 0 where
@@ -128,6 +128,23 @@ pub record MayAcknowledgeAbort (r : Reading) : Type 0 where
 -- an outcome that is owed an ACK came to a ticket that knows it, or knows nothing
 abbrev pub acknowledges : Reading → Reading
 acknowledges r = record r { sent_ack = true }
+
+-- A coordinator's own record of the outcome is forced, and its ACK waits for its children: of a commit, under Presumed Abort.
+abbrev pub learns_commit_forced : Reading → Reading
+learns_commit_forced r = record r {
+  learnt_commit_kept = true;
+  learnt_commit_forced = true;
+  child_committed = not r.heuristic_kept || r.child_committed;
+}
+
+-- And of an abort, under Presumed Commit.
+abbrev pub learns_abort_forced : Reading → Reading
+learns_abort_forced r = record r { child_refused = true; learnt_abort_kept = true; learnt_abort_forced = true }
+
+-- The ticket is settled: an ACK of it is true at any time.
+pub record MayAcknowledge (r : Reading) : Type 0 where
+  pub up : r.child_failed ≡ false
+  pub settled : IsSettled r
 
 -- The ticket is in doubt and its child asks.
 pub record MayAsk (r : Reading) : Type 0 where

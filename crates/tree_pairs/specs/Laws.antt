@@ -25,6 +25,8 @@ pub record ChildRowsUnderAbort : Type 0 where
   pub commits : Keeps PresumedAbort child.MayLearnCommit child.commits_forced
   pub rolls_back : Keeps PresumedAbort child.MayLearnAbort child.rolls_back
   pub acknowledges : Keeps PresumedAbort child.MayAcknowledgeCommit child.acknowledges
+  pub learns_commit : Keeps PresumedAbort child.MayLearnCommit child.learns_commit_forced
+  pub acknowledges_settled : Keeps PresumedAbort child.MayAcknowledge child.acknowledges
   pub asks : Keeps PresumedAbort child.MayAsk child.asks
 
 -- Each row of a child keeps the invariant, under Presumed Commit.
@@ -40,6 +42,8 @@ pub record ChildRowsUnderCommit : Type 0 where
   pub commits : Keeps PresumedCommit child.MayLearnCommit child.commits
   pub rolls_back : Keeps PresumedCommit child.MayLearnAbort child.rolls_back_forced
   pub acknowledges : Keeps PresumedCommit child.MayAcknowledgeAbort child.acknowledges
+  pub learns_abort : Keeps PresumedCommit child.MayLearnAbort child.learns_abort_forced
+  pub acknowledges_settled : Keeps PresumedCommit child.MayAcknowledge child.acknowledges
   pub asks : Keeps PresumedCommit child.MayAsk child.asks
 
 -- An operator's decision and the Forgot behind it keep the invariant, also where the device fails, under

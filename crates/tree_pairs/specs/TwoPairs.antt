@@ -87,6 +87,15 @@ pub record OneStep : Type 0 where
   -- The same, with Abort forced.
   pub passes_abort_forced : Together (λ a b. cascaded.MayPassAbort b) child.rolls_back_forced
       cascaded.passes_abort_forced
+  -- The second version: COMMIT, or ABORT, finds it Prepared, and its ACK waits; ABORT finds it waiting for votes; the last ACK
+  -- that is owed to it came, and its own goes up.
+  pub waits_to_acknowledge_commit : Together (λ a b. cascaded.MayPassCommit b) child.learns_commit_forced
+      cascaded.passes_commit_forced
+  pub waits_to_acknowledge_abort : Together (λ a b. cascaded.MayPassAbort b) child.learns_abort_forced
+      cascaded.passes_abort_forced
+  pub aborts_silently : Together (λ a b. parent.MayAbort b) child.drops parent.aborts_forced
+  pub ends_commit : Together (λ a b. parent.MayEndCommit b) child.acknowledges parent.ends
+  pub ends_abort : Together (λ a b. parent.MayEndAbort b) child.acknowledges parent.ends
   -- A record of another case is forced.
   pub hardens : Together (λ a b. Unit {0}) child.hardens_child parent.hardens_parent
   -- A trim takes the case.

@@ -242,14 +242,14 @@ module _ (me : ProcessId) (parent : Option ProcessId) (tree : List TreeEntry) (n
       heard_goes m i =
           let s : IsSent net me i.0 m = subst (λ (x : Input). InputStands net me x) i.1 stands in (
             record { from = s.sender; to = me; message = m },
-            (refl, goes_at tree net (i.0 - 1) _ goes s.stands),
+            (refl, goes_at tree net s.place _ goes s.stands),
           )
 
       heard_given : (m : Message) → Hears h m → (d : Case) → is_about d m ≡ true → sent (gives_case d) net
           ≡ true
       heard_given m i d e =
           let s : IsSent net me i.0 m = subst (λ (x : Input). InputStands net me x) i.1 stands in
-          given d (sent_at (is_about d) net (i.0 - 1) _ s.stands e)
+          given d (sent_at (is_about d) net s.place _ s.stands e)
 
       told_own : (o : Outcome) (c : Case) → Hears h (tells_outcome o c) → Own tree me net goes c
       told_own CommittedOutcome c i =

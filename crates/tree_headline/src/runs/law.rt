@@ -1,10 +1,11 @@
 //! The headline, and what leads to it.
-ghost use Rattle.std.specs.Prelude.{List};
+ghost use Rattle.std.specs.Prelude.{List, ℕ};
 ghost use Rattle.tree_headline.specs.auditor.Audits.{AllUp, AuditsAreTrue};
 ghost use Rattle.tree_headline.specs.CoordinatorLaws.{CascadedLaws, RootLaws};
 ghost use Rattle.tree_model.specs.Outcomes.{Headline};
 ghost use Rattle.tree_model.specs.Trees.{IsTree};
-ghost use Rattle.tree_model.specs.World.{IsRun, Made, World};
+ghost use Rattle.tree_model.specs.Nodes.{Version};
+ghost use Rattle.tree_model.specs.World.{IsRun, IsRunBy, Made, World};
 ghost use Rattle.tree_model.specs.declared.trees.TreeEntry.{TreeEntry};
 ghost use Rattle.tree_nodes.specs.WorldHolds.{AboutGiven, AllGo, WorldHolds};
 
@@ -17,6 +18,12 @@ ghost use Rattle.tree_nodes.specs.WorldHolds.{AboutGiven, AllGo, WorldHolds};
 pub fn headline()
     ensures { (tree : List TreeEntry) (es : List Made) (w : World) → IsTree tree → IsRun tree es w
         → Headline tree es w }
+{}
+
+/// So it holds over an earlier part by either version and a later one together.
+pub fn headline_of_reopened_trees()
+    ensures { (tree : List TreeEntry) (v : Version) (before : ℕ) (es : List Made) (w : World) → IsTree tree
+        → IsRunBy tree v before es w → Headline tree es w }
 {}
 
 /// Behind every run of every tree in which no process is failed, the audit of the logs' kept records gives

@@ -6,7 +6,7 @@ use Rattle.tree_model.specs.declared.events.Input.TheVariants.{Message as Messag
 use Rattle.tree_model.specs.declared.events.StepError.TheVariants.{Failed}
 use Rattle.tree_model.specs.declared.events.Fault.{Fault}
 use Rattle.tree_model.specs.declared.trees.TreeEntry.{TreeEntry}
-use Rattle.tree_model.specs.Nodes.{Heard, DataAnswer, Effect, Node, Place, Role, fails_in, place_of, role_of, is_listed}
+use Rattle.tree_model.specs.Nodes.{First, Heard, DataAnswer, Effect, Node, Place, Role, fails_in, place_of, role_of, is_listed}
 use Rattle.tree_model.specs.Reactions.{Refused, Does, reacts, hears, passes_at}
 use Rattle.tree_model.specs.World.{World, Refuses, world_makes, world_stepped, node_makes, input_makes, passes_over, restart_makes, trim_makes, fault_effect}
 use Rattle.tree_model.specs.Restarts.{restarted, restart_effect, trims, trim_effect}
@@ -36,11 +36,11 @@ delivered : (tree : List TreeEntry) (w : World) (q : ProcessId) (i : ℕ) (messa
     → Takes (role_of tree q) (place_of tree q) (w.at q) i message
     → world_makes tree w (delivers q i message a) ≡ Some (e, w')
     → ((w.at q).failed ≡ false) × (w' ≡ handled w q
-    (record { input = MessageInput i message; data_answer = a })
+    (record { input = MessageInput i message; data_answer = a; version = First })
     (hears (role_of tree q) (place_of tree q) (w.at q) a message))
 unfolding world_makes node_makes reacts
 delivered tree w q i message a e w' taken s =
-    let h : Heard = record { input = MessageInput i message; data_answer = a } in
+    let h : Heard = record { input = MessageInput i message; data_answer = a; version = First } in
     delivered_by (is_listed tree q) (w.at q).failed w q h
     (hears (role_of tree q) (place_of tree q) (w.at q) a message) e w'
     (subst (λ (b : Bool). (if is_listed tree q then world_stepped w q (if b then passes_over (w.at q) None
@@ -54,7 +54,7 @@ pub delivered_as : (tree : List TreeEntry) (w : World) (q : ProcessId) (role : R
     → role_of tree q ≡ role → world_makes tree w (delivers q i message a) ≡ Some (e, w')
     → Takes role (record { me = q; role = role; tree = tree }) (w.at q) i message
     → ((w.at q).failed ≡ false) × (w' ≡ handled w q
-    (record { input = MessageInput i message; data_answer = a })
+    (record { input = MessageInput i message; data_answer = a; version = First })
     (hears role (record { me = q; role = role; tree = tree }) (w.at q) a message))
 delivered_as tree w q role i message a e w' known s taken =
     let taken' = subst (λ (r : Role). Takes r (record { me = q; role = r; tree = tree }) (w.at q) i message)
@@ -62,7 +62,7 @@ delivered_as tree w q role i message a e w' known s taken =
     let both = delivered tree w q i message a e w' taken' s in (
       both.0,
       subst (λ (r : Role). w' ≡ handled w q
-          (record { input = MessageInput i message; data_answer = a })
+          (record { input = MessageInput i message; data_answer = a; version = First })
           (hears r (record { me = q; role = r; tree = tree }) (w.at q) a message)) known both.1,
     )
 
@@ -87,12 +87,12 @@ failed_in : (tree : List TreeEntry) (w : World) (q : ProcessId) (i : ℕ) (messa
     → Takes (role_of tree q) (place_of tree q) (w.at q) i message
     → world_makes tree w (fails_at q i message a f) ≡ Some (e, w')
     → ((w.at q).failed ≡ false) × (w' ≡ made_at w q
-    (fails_in (w.at q) (record { input = MessageInput i message; data_answer = a })
+    (fails_in (w.at q) (record { input = MessageInput i message; data_answer = a; version = First })
     (hears (role_of tree q) (place_of tree q) (w.at q) a message) f.appended f.forced)
     (fault_effect (hears (role_of tree q) (place_of tree q) (w.at q) a message) f.appended))
 unfolding world_makes node_makes reacts
 failed_in tree w q i message a f e w' taken s =
-    let h : Heard = record { input = MessageInput i message; data_answer = a } in
+    let h : Heard = record { input = MessageInput i message; data_answer = a; version = First } in
     failed_by (is_listed tree q) (w.at q).failed w q h
     (hears (role_of tree q) (place_of tree q) (w.at q) a message) f e w'
     (subst (λ (b : Bool). (if is_listed tree q then world_stepped w q (if b then passes_over (w.at q) (Some f)
@@ -105,7 +105,7 @@ pub failed_as : (tree : List TreeEntry) (w : World) (q : ProcessId) (role : Role
     → role_of tree q ≡ role → world_makes tree w (fails_at q i message a f) ≡ Some (e, w')
     → Takes role (record { me = q; role = role; tree = tree }) (w.at q) i message
     → ((w.at q).failed ≡ false) × (w' ≡ made_at w q
-    (fails_in (w.at q) (record { input = MessageInput i message; data_answer = a })
+    (fails_in (w.at q) (record { input = MessageInput i message; data_answer = a; version = First })
     (hears role (record { me = q; role = role; tree = tree }) (w.at q) a message) f.appended f.forced)
     (fault_effect (hears role (record { me = q; role = role; tree = tree }) (w.at q) a message)
     f.appended))
@@ -115,7 +115,7 @@ failed_as tree w q role i message a f e w' known s taken =
     let both = failed_in tree w q i message a f e w' taken' s in (
       both.0,
       subst (λ (r : Role). w' ≡ made_at w q
-          (fails_in (w.at q) (record { input = MessageInput i message; data_answer = a })
+          (fails_in (w.at q) (record { input = MessageInput i message; data_answer = a; version = First })
           (hears r (record { me = q; role = r; tree = tree }) (w.at q) a message) f.appended f.forced)
           (fault_effect (hears r (record { me = q; role = r; tree = tree }) (w.at q) a message) f.appended))
           known both.1,

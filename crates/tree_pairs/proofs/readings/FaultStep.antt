@@ -7,7 +7,7 @@ use Rattle.tree_model.specs.declared.messages.Message.TheVariants.{Prepare}
 use Rattle.tree_model.specs.declared.records.Record.{Record}
 use Rattle.tree_model.specs.declared.events.Input.TheVariants.{Message as MessageInput}
 use Rattle.tree_model.specs.Names.{child_case, process_of}
-use Rattle.tree_model.specs.Nodes.{Place, Role, AtLeaf, Node, Heard, Holds, Effect, fails_in, entries_written, place_of}
+use Rattle.tree_model.specs.Nodes.{First, Place, Role, AtLeaf, Node, Heard, Holds, Effect, fails_in, entries_written, place_of}
 use Rattle.tree_model.specs.Standings.{manager_view}
 use Rattle.tree_model.specs.ManagerRows.{active_prepare_holding}
 use Rattle.tree_model.specs.Reactions.{manager_hears, leaf_effect, leaf_of}
@@ -154,7 +154,7 @@ manager_fails tree w w' above c t p i n a ws f e pair inv ready made =
     let place : Place = record { me = t.child; role = AtLeaf p; tree = tree } in
     let k = w.at t.child in
     let d = child_case c.txn t in
-    let h : Heard = record { input = MessageInput i (Prepare d n); data_answer = a } in
+    let h : Heard = record { input = MessageInput i (Prepare d n); data_answer = a; version = First } in
     let ready' : IsReady (manager_view place k d) n a ws = subst
     (λ (r : Role). IsReady (manager_view (record { me = t.child; role = r; tree = tree }) k d) n a ws)
     pair.leaf ready in

@@ -13,7 +13,7 @@ use Rattle.tree_model.specs.declared.events.Input.TheVariants.{Message as Messag
 use Rattle.tree_model.specs.declared.trees.TreeEntry.{TreeEntry}
 use Rattle.tree_model.specs.Names.{same_case, child_case, process_of}
 use Rattle.tree_model.specs.Records.{same_branch}
-use Rattle.tree_model.specs.Nodes.{Place, Role, AtLeaf, Node, kept, Heard, Holds, Effect, after, is_listed, is_leaf, role_of, place_of}
+use Rattle.tree_model.specs.Nodes.{First, Place, Role, AtLeaf, Node, kept, Heard, Holds, Effect, after, is_listed, is_leaf, role_of, place_of}
 use Rattle.tree_model.specs.Memory.{Memory, Phase, Idle, Open, Asked, Over, memory_of}
 use Rattle.tree_model.specs.CoordinatorRows.{forced, post}
 use Rattle.tree_model.specs.ManagerRows.{active_prepare_holding}
@@ -176,7 +176,7 @@ manager_votes_elsewhere tree w w' above c t p o i n a ws e pair other ready made
     let place : Place = record { me = t.child; role = AtLeaf p; tree = tree } in
     let k = w.at t.child in
     let d = child_case c.txn t in
-    let h : Heard = record { input = MessageInput i (Prepare o n); data_answer = a } in
+    let h : Heard = record { input = MessageInput i (Prepare o n); data_answer = a; version = First } in
     let both = delivered_as tree w t.child (AtLeaf p) i (Prepare o n) a e w' pair.leaf made refl in
     let ready' : IsReady (manager_view place k o) n a ws = subst
     (λ (r : Role). IsReady (manager_view (record { me = t.child; role = r; tree = tree }) k o) n a ws)

@@ -13,7 +13,7 @@ use Rattle.tree_model.specs.declared.standings.Vote.TheVariants.{Yes as VoteYes}
 use Rattle.tree_model.specs.declared.events.Input.TheVariants.{Message as MessageInput}
 use Rattle.tree_model.specs.Names.{child_case, root_case}
 use Rattle.tree_model.specs.Records.{in_list, none_of}
-use Rattle.tree_model.specs.Nodes.{Place, Role, AtRoot, Node, kept, Heard, Effect}
+use Rattle.tree_model.specs.Nodes.{First, Place, Role, AtRoot, Node, kept, Heard, Effect}
 use Rattle.tree_model.specs.Memory.{Memory, memory_of, yes_of, voted_so}
 use Rattle.tree_model.specs.Standings.{CoordinatorView, coordinator_view, coordinator_standing, view_at, case_of_child}
 use Rattle.tree_model.specs.CoordinatorRows.{on_vote, quiet, collecting_after, collecting_full, collecting_read_only, decides, root_commits}
@@ -104,7 +104,7 @@ root_decides tree w w' above x t i a e pair pa inv last made =
     let place : Place = record { me = x.root; role = AtRoot; tree = tree } in
     let n = w.at x.root in
     let c = root_case x in
-    let h : Heard = record { input = MessageInput i (Yes (child_case x t)); data_answer = a } in
+    let h : Heard = record { input = MessageInput i (Yes (child_case x t)); data_answer = a; version = First } in
     let both = delivered_as tree w x.root AtRoot i (Yes (child_case x t)) a e w' pair.root made refl in
     let last' : IsLastVote (coordinator_view place n c) (case_of_child place n x t) x t =
     subst (λ (r : Role). IsLastVote

@@ -13,7 +13,7 @@ use Rattle.tree_model.specs.declared.standings.Standing.TheVariants.{Prepared}
 use Rattle.tree_model.specs.declared.events.Input.TheVariants.{Message as MessageInput}
 use Rattle.tree_model.specs.Names.{child_case, process_of}
 use Rattle.tree_model.specs.Records.{promised_by}
-use Rattle.tree_model.specs.Nodes.{Place, Role, AtLeaf, Below, Node, kept, Heard, DataAnswer, Holds, Effect}
+use Rattle.tree_model.specs.Nodes.{First, Place, Role, AtLeaf, Below, Node, kept, Heard, DataAnswer, Holds, Effect}
 use Rattle.tree_model.specs.Memory.{Memory, memory_of}
 use Rattle.tree_model.specs.Standings.{coordinator_view, coordinator_standing, view_at, manager_view, unknown_branch}
 use Rattle.tree_model.specs.CoordinatorRows.{each, on_abort, prepared_abort_by}
@@ -43,7 +43,7 @@ manager_votes_yes tree w w' above c t p i n a ws e pair ready made =
     let place : Place = record { me = t.child; role = AtLeaf p; tree = tree } in
     let k = w.at t.child in
     let d = child_case c.txn t in
-    let h : Heard = record { input = MessageInput i (Prepare d n); data_answer = a } in
+    let h : Heard = record { input = MessageInput i (Prepare d n); data_answer = a; version = First } in
     let both = delivered_as tree w t.child (AtLeaf p) i (Prepare d n) a e w' pair.leaf made refl in
     let ready' : IsReady (manager_view place k d) n a ws = subst
     (λ (r : Role). IsReady (manager_view (record { me = t.child; role = r; tree = tree }) k d) n a ws)
@@ -80,7 +80,7 @@ pub cascaded_passes_abort : CascadedPassesAbort
 cascaded_passes_abort tree w w' above c t p i a e pair pa stands promised made =
     let place : Place = record { me = process_of c; role = Below p; tree = tree } in
     let n = w.at (process_of c) in
-    let h : Heard = record { input = MessageInput i (Abort c); data_answer = a } in
+    let h : Heard = record { input = MessageInput i (Abort c); data_answer = a; version = First } in
     let both = delivered_as tree w (process_of c) (Below p) i (Abort c) a e w' pair.below made refl in
     let stands' : (coordinator_view place n c).standing ≡ Prepared = subst
     (λ (r : Role). (coordinator_view (record { me = process_of c; role = r; tree = tree }) n

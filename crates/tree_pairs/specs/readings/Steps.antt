@@ -10,7 +10,7 @@ use Rattle.tree_model.specs.declared.events.Happening.TheVariants.{Input as Hand
 use Rattle.tree_model.specs.declared.events.Fault.{Fault}
 use Rattle.tree_model.specs.declared.trees.TreeEntry.{TreeEntry}
 use Rattle.tree_model.specs.Names.{same_process, process_of}
-use Rattle.tree_model.specs.Nodes.{Node, AtRoot, AtLeaf, Below, role_of, Heard, DataAnswer, Effect, after}
+use Rattle.tree_model.specs.Nodes.{First, Node, AtRoot, AtLeaf, Below, role_of, Heard, DataAnswer, Effect, after}
 use Rattle.tree_model.specs.World.{World, Move, put_at}
 use Rattle.tree_model.specs.Standings.{Mark, Unmarked, Promised, Decided, ToldOf, Finished}
 use Rattle.tree_pairs.specs.readings.ReadingOf.{is_root_ticket, wire, no_wire}
@@ -43,6 +43,7 @@ abbrev pub delivers : ProcessId → ℕ → Message → DataAnswer → Move
 delivers q i message a = record {
   step = record { process = q; happening = Handles (MessageInput i message); fault = None };
   data_answer = a;
+  version = First;
 }
 
 -- The parent of the pair is the root's case of this transaction, and the child is another process.
@@ -55,6 +56,7 @@ abbrev pub fails_at : ProcessId → ℕ → Message → DataAnswer → Fault →
 fails_at q i message a f = record {
   step = record { process = q; happening = Handles (MessageInput i message); fault = Some f };
   data_answer = a;
+  version = First;
 }
 
 -- A branch whose last record says this asks its parent at a restart.
@@ -70,11 +72,12 @@ abbrev pub restarts_at : ProcessId → ℕ → DataAnswer → Move
 restarts_at q k a = record {
   step = record { process = q; happening = Restart k; fault = None };
   data_answer = a;
+  version = First;
 }
 
 -- A process trims its log, and its device does not fail.
 abbrev pub trims_at : ProcessId → DataAnswer → Move
-trims_at q a = record { step = record { process = q; happening = Trim; fault = None }; data_answer = a }
+trims_at q a = record { step = record { process = q; happening = Trim; fault = None }; data_answer = a; version = First }
 
 -- A process is neither the parent's nor the child's, nor the root.
 pub record IsElsewhere (q : ProcessId) (c : Case) (t : Ticket) : Type 0 where

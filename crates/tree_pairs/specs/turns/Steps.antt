@@ -12,7 +12,7 @@ use Rattle.tree_pairs.specs.turns.Written.{Writes}
 
 -- an input with what a manager's data answer in the move
 abbrev pub heard_in : Move → Input → Heard
-heard_in m i = record { input = i; data_answer = m.data_answer }
+heard_in m i = record { input = i; data_answer = m.data_answer; version = m.version }
 
 -- What a move at a process was, with its effect and what it left of the process.
 pub data StepOf (place : Place) (n : Node) (m : Move) : Effect → Node → Type 0 where

@@ -15,6 +15,8 @@ returns c = record {
     commits = child_abort.commits;
     rolls_back = child_abort.rolls_back;
     acknowledges = child_abort.acknowledges;
+    learns_commit = child_abort.learns_commit;
+    acknowledges_settled = child_abort.acknowledges_settled;
     asks = child_abort.asks;
   };
   presumed_commit = record {
@@ -29,6 +31,8 @@ returns c = record {
     commits = child_commit.commits;
     rolls_back = child_commit.rolls_back;
     acknowledges = child_commit.acknowledges;
+    learns_abort = child_commit.learns_abort;
+    acknowledges_settled = child_commit.acknowledges_settled;
     asks = child_commit.asks;
   };
 }
