@@ -14,7 +14,7 @@ use Rattle.tree_model.specs.declared.standings.Standing.TheVariants.{Unknown, Pr
 use Rattle.tree_model.specs.Names.{same_ticket, same_outcome}
 use Rattle.tree_model.specs.NameLaws.{same_ticket_tells}
 use Rattle.tree_model.specs.Records.{in_list, none_of, owing_by}
-use Rattle.tree_model.specs.Nodes.{entries_written}
+use Rattle.tree_model.specs.Nodes.{First, entries_written}
 use Rattle.tree_model.specs.Memory.{Memory, Phase, Idle, Open, Asked, Over, has_acked}
 use Rattle.tree_model.specs.Standings.{unknown_view, view_at, still_owed}
 use Rattle.tree_model.specs.CoordinatorRows.{Seat, decided_ack, other_tickets}
@@ -114,7 +114,7 @@ pub acked_commit : (me : ProcessId) (c : Case) (p : Presumption) (t : Ticket) (r
     → standing_with p rs c m ≡ Committing
     → in_list (still_owed m.acks CommittedOutcome (owing_by c rs)) t ≡ b
     → none_of (other_tickets t (still_owed m.acks CommittedOutcome (owing_by c rs))) ≡ none
-    → let row = decided_ack (root_at me c) t (view_at Committing rs c m) in
+    → let row = decided_ack First (root_at me c) CommittedOutcome t (view_at Committing rs c m) in
     let rs' = rs ++ entries_written row.written in
     view_at (standing_with p rs' c (acked m t CommittedOutcome)) rs' c (acked m t CommittedOutcome) ≡ row.view
 acked_commit me c p t rs m true true h there last = simp (pushed, there, last) refl
@@ -130,7 +130,7 @@ pub acked_abort : (me : ProcessId) (c : Case) (p : Presumption) (t : Ticket) (rs
     → standing_with p rs c m ≡ Aborting
     → in_list (still_owed m.acks AbortedOutcome (owing_by c rs)) t ≡ b
     → none_of (other_tickets t (still_owed m.acks AbortedOutcome (owing_by c rs))) ≡ none
-    → let row = decided_ack (root_at me c) t (view_at Aborting rs c m) in
+    → let row = decided_ack First (root_at me c) AbortedOutcome t (view_at Aborting rs c m) in
     let rs' = rs ++ entries_written row.written in
     view_at (standing_with p rs' c (acked m t AbortedOutcome)) rs' c (acked m t AbortedOutcome) ≡ row.view
 acked_abort me c p t rs m true true h there last = simp (pushed, there, last) refl

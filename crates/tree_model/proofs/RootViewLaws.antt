@@ -24,7 +24,7 @@ use Rattle.tree_model.specs.declared.standings.Standing.TheVariants.{Unknown, Ac
 use Rattle.tree_model.specs.Names.{same_txn, same_case, root_case, child_case}
 use Rattle.tree_model.specs.NameLaws.{same_case-refl, same_txn-refl}
 use Rattle.tree_model.specs.Records.{has, in_list, none_of, boot_of, boot_after, is_end, is_commit, is_abort, is_prepare, is_collecting, owing_by}
-use Rattle.tree_model.specs.Nodes.{Place, Node, kept, Heard, entries_written, DataAnswer}
+use Rattle.tree_model.specs.Nodes.{First, Place, Node, kept, Heard, entries_written, DataAnswer}
 use Rattle.tree_model.specs.Memory.{Memory, Phase, Idle, Open, Asked, Over, memory_of, root_remembers, asks_votes, closes, with_vote, takes_vote, takes_ack, is_counted, all_voted, yes_of, undecided_of, sends_work, accepts_ticket, has_child, ticket_of_child}
 use Rattle.tree_model.specs.Standings.{CoordinatorView, unknown_view, coordinator_view, coordinator_standing, view_at}
 use Rattle.tree_model.specs.CoordinatorRows.{Seat, Row, active_commit, active_abort, Reason, ByVote, ByAct, collecting_abort, collecting_abort_by, collecting_after, collecting_vote, collecting_full, collecting_read_only, read_only_end, decides, root_commits, decided_ack, other_tickets, on_ack, on_vote, on_joined, on_inquiry, quiet, sends, post, plain, active_joined, active_join, active_work}
@@ -565,10 +565,10 @@ module _ (me : ProcessId) (tree : List TreeEntry) (n : Node) (x : Txn) where
   ack_by : (k : ℕ) (a : DataAnswer) (t : Ticket) (o : Outcome) (s : Standing)
       → standing_with x.presumption rs c m ≡ s
       → (s ≡ Active → ⊥) → (s ≡ Collecting → ⊥) → takes_ack m t o m.phase ≡ acked m t o
-      → MovesTxn place n (hears_message k (Ack (child_case x t) o) a) x (on_ack seat t o (view_at s rs c m) s)
+      → MovesTxn place n (hears_message k (Ack (child_case x t) o) a) x (on_ack First seat t o (view_at s rs c m) s)
   ack_by k a t CommittedOutcome Committing h na nc noted =
       let v = view_at Committing rs c m in
-      ack_noted k a t CommittedOutcome (decided_ack seat t v) noted
+      ack_noted k a t CommittedOutcome (decided_ack First seat CommittedOutcome t v) noted
       (last_of t v (in_list v.owed t) (none_of (other_tickets t v.owed)))
       (acked_commit me c x.presumption t rs m (in_list v.owed t)
       (none_of (other_tickets t v.owed)) h refl refl)
@@ -577,7 +577,7 @@ module _ (me : ProcessId) (tree : List TreeEntry) (n : Node) (x : Txn) where
       (refused_commit c x.presumption t rs m h)
   ack_by k a t AbortedOutcome Aborting h na nc noted =
       let v = view_at Aborting rs c m in
-      ack_noted k a t AbortedOutcome (decided_ack seat t v) noted
+      ack_noted k a t AbortedOutcome (decided_ack First seat AbortedOutcome t v) noted
       (last_of t v (in_list v.owed t) (none_of (other_tickets t v.owed)))
       (acked_abort me c x.presumption t rs m (in_list v.owed t)
       (none_of (other_tickets t v.owed)) h refl refl)
@@ -613,11 +613,11 @@ module _ (me : ProcessId) (tree : List TreeEntry) (n : Node) (x : Txn) where
       (ack_memory k t o ∙ unheard)
       (λ y q. ack_elsewhere k t o y q)
 
-  on_ack_open : (t : Ticket) (o : Outcome) (v : CoordinatorView) → on_ack seat t o v Active ≡ quiet v
+  on_ack_open : (t : Ticket) (o : Outcome) (v : CoordinatorView) → on_ack First seat t o v Active ≡ quiet v
   on_ack_open t CommittedOutcome v = refl
   on_ack_open t AbortedOutcome v = refl
 
-  on_ack_asked : (t : Ticket) (o : Outcome) (v : CoordinatorView) → on_ack seat t o v Collecting ≡ quiet v
+  on_ack_asked : (t : Ticket) (o : Outcome) (v : CoordinatorView) → on_ack First seat t o v Collecting ≡ quiet v
   on_ack_asked t CommittedOutcome v = refl
   on_ack_asked t AbortedOutcome v = refl
 
@@ -625,13 +625,13 @@ module _ (me : ProcessId) (tree : List TreeEntry) (n : Node) (x : Txn) where
       → standing_with x.presumption rs c m ≡ s
       → (m.phase ≡ Open → ⊥) → (m.phase ≡ Asked → ⊥) → takes_ack m t o m.phase ≡ acked m t o
       → MovesTxn place n (hears_message k (Ack (child_case x t) o) a) x
-      (on_ack seat t o (coordinator_view place n c) s)
+      (on_ack First seat t o (coordinator_view place n c) s)
   ack_closed k a t o alike s h closed decided noted =
       let not_active : s ≡ Active → ⊥ = λ e. closed
       (phase_active x.presumption m.phase (active_facts _ _ _ _ _ _ _ (h ∙ e)).heard) in
       let not_collecting : s ≡ Collecting → ⊥ = λ e. decided (asked_of alike (h ∙ e)) in
       let P : CoordinatorView → Type 0 = λ v. MovesTxn place n (hears_message k (Ack (child_case x t) o) a) x
-      (on_ack seat t o v s) in
+      (on_ack First seat t o v s) in
       subst P (sym (seen_as s h)) (ack_by k a t o s h not_active not_collecting noted)
 
   now_active : IsOpenAlike place n c → (s : Standing) → standing_with x.presumption rs c m ≡ s
@@ -649,15 +649,15 @@ module _ (me : ProcessId) (tree : List TreeEntry) (n : Node) (x : Txn) where
   ack_phase : (k : ℕ) (a : DataAnswer) (t : Ticket) (o : Outcome) → IsOpenAlike place n c → (ph : Phase)
       → m.phase ≡ ph → (s : Standing) → standing_with x.presumption rs c m ≡ s
       → MovesTxn place n (hears_message k (Ack (child_case x t) o) a) x
-      (on_ack seat t o (coordinator_view place n c) s)
+      (on_ack First seat t o (coordinator_view place n c) s)
   ack_phase k a t o alike Open e s h =
       let v = coordinator_view place n c in
       ack_unheard k a t o _ (ap (λ ph. takes_ack m t o ph) e)
-      (ap (λ q. on_ack seat t o v q) (now_active alike s h e) ∙ on_ack_open t o v)
+      (ap (λ q. on_ack First seat t o v q) (now_active alike s h e) ∙ on_ack_open t o v)
   ack_phase k a t o alike Asked e s h =
       let v = coordinator_view place n c in
       ack_unheard k a t o _ (ap (λ ph. takes_ack m t o ph) e)
-      (ap (λ q. on_ack seat t o v q) (now_collecting alike s h e) ∙ on_ack_asked t o v)
+      (ap (λ q. on_ack First seat t o v q) (now_collecting alike s h e) ∙ on_ack_asked t o v)
   ack_phase k a t o alike Idle e s h = ack_closed k a t o alike s h (λ q. not_idle (sym e ∙ q))
       (λ q. not_idle_asked (sym e ∙ q)) (ap (λ ph. takes_ack m t o ph) e)
     where
@@ -677,7 +677,7 @@ module _ (me : ProcessId) (tree : List TreeEntry) (n : Node) (x : Txn) where
 
   pub ack_views : (k : ℕ) (a : DataAnswer) (t : Ticket) (o : Outcome) → let v = coordinator_view place n c in
       IsOpenAlike place n c → MovesTxn place n (hears_message k (Ack (child_case x t) o) a) x
-      (on_ack seat t o v v.standing)
+      (on_ack First seat t o v v.standing)
   ack_views k a t o alike = ack_phase k a t o alike m.phase refl (coordinator_view place n c).standing
       (stands_as (coordinator_view place n c).standing refl)
 

@@ -22,7 +22,7 @@ use Rattle.tree_model.specs.declared.events.Conclusion.{Conclusion}
 use Rattle.tree_model.specs.declared.events.Conclusion.TheVariants.{Committed as ConcludedCommitted, Aborted as ConcludedAborted, ReadOnly}
 use Rattle.tree_model.specs.Names.{same_ticket, child_case, presumed}
 use Rattle.tree_model.specs.Records.{in_list, none_of}
-use Rattle.tree_model.specs.Nodes.{Written}
+use Rattle.tree_model.specs.Nodes.{Written, Version, First, Second}
 use Rattle.tree_model.specs.Memory.{has_child, is_counted, all_voted, yes_of, undecided_of, works_of}
 use Rattle.tree_model.specs.Standings.{CoordinatorView, unknown_view}
 
@@ -177,13 +177,18 @@ active_abort s v =
 pub data Reason : Type 0 where
   ByVote : Reason
   ByAct : Reason
-  ByAbort : Reason
+  ByAbort : Version → Reason
 
--- what the parent hears of the abort
-abbrev pub abort_heard_above : Seat → Reason → List Envelope
-abort_heard_above s ByVote = up s (No s.own)
-abort_heard_above s ByAct = []
-abort_heard_above s ByAbort = acknowledges_abort s s.own.txn.presumption
+-- behind ABORT: by the first version it is acknowledged at once, by the second where nobody owes an acknowledgement
+abbrev pub abort_answered : Seat → Version → List Ticket → List Envelope
+abort_answered s First us = acknowledges_abort s s.own.txn.presumption
+abort_answered s Second us = if none_of us then acknowledges_abort s s.own.txn.presumption else []
+
+-- what the parent hears of the abort, which these tickets are told
+abbrev pub abort_heard_above : Seat → Reason → List Ticket → List Envelope
+abort_heard_above s ByVote us = up s (No s.own)
+abort_heard_above s ByAct us = []
+abort_heard_above s (ByAbort v) us = abort_answered s v us
 
 -- ABORT to these tickets; under Presumed Commit the record is forced, and each of them owes
 abbrev pub collecting_abort_by : Seat → Reason → CoordinatorView → List Ticket → Presumption → Row
@@ -191,7 +196,7 @@ collecting_abort_by s why v us PresumeAbort =
     record {
       written = plain (AbortRecord s.own []);
       told = tells s ConcludedAborted;
-      messages = abort_heard_above s why ++ each s Abort us;
+      messages = abort_heard_above s why us ++ each s Abort us;
       accepts = [];
       counts = [];
       view = unknown_view;
@@ -200,7 +205,7 @@ collecting_abort_by s why v us PresumeCommit =
     record {
       written = forced (AbortRecord s.own us);
       told = tells s ConcludedAborted;
-      messages = abort_heard_above s why ++ each s Abort us;
+      messages = abort_heard_above s why us ++ each s Abort us;
       accepts = [];
       counts = [];
       view = awaits Aborting us v;
@@ -285,18 +290,23 @@ collecting_vote s t w v =
 
 -- Prepared, below the root.
 
--- COMMIT to the promised; under Presumed Abort it is forced and acknowledged, and each of them owes
-abbrev pub prepared_commit_by : Seat → CoordinatorView → Presumption → Row
-prepared_commit_by s v PresumeAbort =
+-- by the first version a decision of the parent is acknowledged as it is obeyed
+abbrev pub acknowledges_at_once : Version → Seat → Outcome → List Envelope
+acknowledges_at_once First s o = up s (Ack s.own o)
+acknowledges_at_once Second s o = []
+
+-- COMMIT to the promised; under Presumed Abort it is forced, and each of them owes
+abbrev pub prepared_commit_by : Version → Seat → CoordinatorView → Presumption → Row
+prepared_commit_by ver s v PresumeAbort =
     record {
       written = forced (CommitRecord s.own v.promised);
       told = None;
-      messages = up s (Ack s.own CommittedOutcome) ++ each s Commit v.promised;
+      messages = acknowledges_at_once ver s CommittedOutcome ++ each s Commit v.promised;
       accepts = [];
       counts = [];
       view = awaits Committing v.promised v;
     }
-prepared_commit_by s v PresumeCommit =
+prepared_commit_by ver s v PresumeCommit =
     record {
       written = plain (CommitRecord s.own []);
       told = None;
@@ -307,12 +317,12 @@ prepared_commit_by s v PresumeCommit =
     }
 
 -- COMMIT of the parent, by the presumption of the transaction
-abbrev pub prepared_commit : Seat → CoordinatorView → Row
-prepared_commit s v = prepared_commit_by s v s.own.txn.presumption
+abbrev pub prepared_commit : Version → Seat → CoordinatorView → Row
+prepared_commit ver s v = prepared_commit_by ver s v s.own.txn.presumption
 
 -- ABORT to the promised; under Presumed Commit it is forced and acknowledged, and each of them owes
-abbrev pub prepared_abort_by : Seat → CoordinatorView → Presumption → Row
-prepared_abort_by s v PresumeAbort =
+abbrev pub prepared_abort_by : Version → Seat → CoordinatorView → Presumption → Row
+prepared_abort_by ver s v PresumeAbort =
     record {
       written = plain (AbortRecord s.own []);
       told = None;
@@ -321,19 +331,19 @@ prepared_abort_by s v PresumeAbort =
       counts = [];
       view = unknown_view;
     }
-prepared_abort_by s v PresumeCommit =
+prepared_abort_by ver s v PresumeCommit =
     record {
       written = forced (AbortRecord s.own v.promised);
       told = None;
-      messages = up s (Ack s.own AbortedOutcome) ++ each s Abort v.promised;
+      messages = acknowledges_at_once ver s AbortedOutcome ++ each s Abort v.promised;
       accepts = [];
       counts = [];
       view = awaits Aborting v.promised v;
     }
 
 -- ABORT of the parent, by the presumption of the transaction
-abbrev pub prepared_abort : Seat → CoordinatorView → Row
-prepared_abort s v = prepared_abort_by s v s.own.txn.presumption
+abbrev pub prepared_abort : Version → Seat → CoordinatorView → Row
+prepared_abort ver s v = prepared_abort_by ver s v s.own.txn.presumption
 
 -- PREPARE again: YES again
 abbrev pub prepared_prepare : Seat → CoordinatorView → Row
@@ -345,13 +355,15 @@ prepared_ask s v = sends (up s (Inquire s.own)) v
 
 -- Committing and Aborting.
 
--- COMMIT again: it is acknowledged
-abbrev pub committing_commit : Seat → CoordinatorView → Row
-committing_commit s v = sends (up s (Ack s.own CommittedOutcome)) v
+-- COMMIT again: by the first version it is acknowledged again
+abbrev pub committing_commit : Version → Seat → CoordinatorView → Row
+committing_commit First s v = sends (up s (Ack s.own CommittedOutcome)) v
+committing_commit Second s v = quiet v
 
--- ABORT of a case that was aborted: it is acknowledged
-abbrev pub aborting_abort : Seat → CoordinatorView → Row
-aborting_abort s v = sends (up s (Ack s.own AbortedOutcome)) v
+-- ABORT of a case that was aborted: likewise
+abbrev pub aborting_abort : Version → Seat → CoordinatorView → Row
+aborting_abort First s v = sends (up s (Ack s.own AbortedOutcome)) v
+aborting_abort Second s v = quiet v
 
 -- PREPARE of a case that was aborted: NO
 abbrev pub aborting_prepare : Seat → CoordinatorView → Row
@@ -361,14 +373,19 @@ aborting_prepare s v = sends (up s (No s.own)) v
 unfoldable pub other_tickets : Ticket → List Ticket → List Ticket
 other_tickets t ts = filter (λ u. not (same_ticket t u)) ts
 
+-- by the second version a decision is acknowledged behind the last acknowledgement of it
+abbrev pub acknowledges_at_last : Version → Seat → Outcome → List Envelope
+acknowledges_at_last First s o = []
+acknowledges_at_last Second s o = up s (Ack s.own o)
+
 -- these still owe an acknowledgement; where there are none, an unforced End record ends the case
-abbrev pub decided_ack_by : Seat → List Ticket → CoordinatorView → Row
-decided_ack_by s left v =
+abbrev pub decided_ack_by : Version → Seat → Outcome → List Ticket → CoordinatorView → Row
+decided_ack_by ver s o left v =
     if none_of left
     then record {
       written = plain (EndRecord s.own);
       told = None;
-      messages = [];
+      messages = acknowledges_at_last ver s o;
       accepts = [];
       counts = [];
       view = unknown_view;
@@ -376,8 +393,8 @@ decided_ack_by s left v =
     else quiet (record v { owed = left })
 
 -- an acknowledgement that agrees with the decision; the last one that is owed ends the case
-abbrev pub decided_ack : Seat → Ticket → CoordinatorView → Row
-decided_ack s t v = if in_list v.owed t then decided_ack_by s (other_tickets t v.owed) v else quiet v
+abbrev pub decided_ack : Version → Seat → Outcome → Ticket → CoordinatorView → Row
+decided_ack ver s o t v = if in_list v.owed t then decided_ack_by ver s o (other_tickets t v.owed) v else quiet v
 
 -- the message that tells an outcome
 abbrev pub tells_outcome : Outcome → Case → Message
@@ -419,10 +436,10 @@ on_vote s t w v Collecting = collecting_vote s t w v
 on_vote s t w v _ = quiet v
 
 -- an acknowledgement of a child; it does something only where it agrees with the decision
-abbrev pub on_ack : Seat → Ticket → Outcome → CoordinatorView → Standing → Row
-on_ack s t CommittedOutcome v Committing = decided_ack s t v
-on_ack s t AbortedOutcome v Aborting = decided_ack s t v
-on_ack s t _ v _ = quiet v
+abbrev pub on_ack : Version → Seat → Ticket → Outcome → CoordinatorView → Standing → Row
+on_ack ver s t CommittedOutcome v Committing = decided_ack ver s CommittedOutcome t v
+on_ack ver s t AbortedOutcome v Aborting = decided_ack ver s AbortedOutcome t v
+on_ack ver s t _ v _ = quiet v
 
 -- an inquiry of a child that belongs to the case
 abbrev pub on_inquiry : Seat → Ticket → CoordinatorView → Standing → Row
@@ -445,17 +462,17 @@ on_prepare s v Unknown = unknown_prepare s v
 on_prepare s v _ = quiet v
 
 -- COMMIT of the parent
-abbrev pub on_commit : Seat → CoordinatorView → Standing → Row
-on_commit s v Prepared = prepared_commit s v
-on_commit s v Committing = committing_commit s v
-on_commit s v Unknown = unknown_commit s v
-on_commit s v _ = quiet v
+abbrev pub on_commit : Version → Seat → CoordinatorView → Standing → Row
+on_commit ver s v Prepared = prepared_commit ver s v
+on_commit ver s v Committing = committing_commit ver s v
+on_commit ver s v Unknown = unknown_commit s v
+on_commit ver s v _ = quiet v
 
 -- ABORT of the parent
-abbrev pub on_abort : Seat → CoordinatorView → Standing → Row
-on_abort s v Active = active_abort s v
-on_abort s v Collecting = collecting_abort s ByAbort v
-on_abort s v Prepared = prepared_abort s v
-on_abort s v Aborting = aborting_abort s v
-on_abort s v Unknown = unknown_abort s v
-on_abort s v _ = quiet v
+abbrev pub on_abort : Version → Seat → CoordinatorView → Standing → Row
+on_abort ver s v Active = active_abort s v
+on_abort ver s v Collecting = collecting_abort s (ByAbort ver) v
+on_abort ver s v Prepared = prepared_abort ver s v
+on_abort ver s v Aborting = aborting_abort ver s v
+on_abort ver s v Unknown = unknown_abort s v
+on_abort ver s v _ = quiet v

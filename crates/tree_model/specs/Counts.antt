@@ -12,6 +12,7 @@ use Rattle.tree_model.specs.declared.standings.Vote.TheVariants.{Yes as VoteYes}
 use Rattle.tree_model.specs.Records.{in_list, none_of}
 use Rattle.tree_model.specs.Nodes.{Written, Holds}
 use Rattle.tree_model.specs.Standings.{CoordinatorView, ManagerView, unknown_view}
+use Rattle.tree_model.specs.Nodes.{First}
 use Rattle.tree_model.specs.CoordinatorRows.{Seat, Row, active_commit, on_vote, on_ack}
 use Rattle.tree_model.specs.ManagerRows.{Leaf, LeafRow}
 use Rattle.tree_model.specs.ManagerRows as leaf
@@ -63,7 +64,7 @@ hears_yes s w t = walks w (on_vote s t VoteYes w.view w.view.standing)
 
 -- the acknowledgement of a child comes
 abbrev pub hears_ack : Seat → Walked → Ticket → Walked
-hears_ack s w t = walks w (on_ack s t Committed w.view w.view.standing)
+hears_ack s w t = walks w (on_ack First s t Committed w.view w.view.standing)
 
 -- the children that acknowledge a commit: under Presumed Commit none does
 abbrev pub acknowledging : Presumption → List Ticket → List Ticket

@@ -27,7 +27,7 @@ use Rattle.tree_model.specs.declared.events.Told.{Told}
 use Rattle.tree_model.specs.declared.trees.TreeEntry.{TreeEntry}
 use Rattle.tree_model.specs.Names.{child_case, root_case, presumed}
 use Rattle.tree_model.specs.Records.{boot_of}
-use Rattle.tree_model.specs.Nodes.{Role, AtRoot, Below, AtLeaf, Place, is_listed, is_child, is_leaf, role_of, DataAnswer, Heard, Node, kept, Effect, no_effect}
+use Rattle.tree_model.specs.Nodes.{Version, Role, AtRoot, Below, AtLeaf, Place, is_listed, is_child, is_leaf, role_of, DataAnswer, Heard, Node, kept, Effect, no_effect}
 use Rattle.tree_model.specs.Memory.{Memory, memory_of, next_txn, next_ticket, active_ticket, ticket_of_child, of_ticket}
 use Rattle.tree_model.specs.Standings.{CoordinatorView, ManagerView, coordinator_view, manager_view, some_case, case_of_child}
 use Rattle.tree_model.specs.CoordinatorRows.{Seat, Row, post, active_join, active_work, active_commit, active_abort, collecting_abort, ByAct, prepared_ask, tells_outcome, on_vote, on_ack, on_inquiry, on_joined, on_prepare, on_commit, on_abort}
@@ -186,10 +186,10 @@ vote_for place parent n t w (Some c) =
     let v = coordinator_view place n c in row_effect c (on_vote (seat_of place parent c) t w v v.standing)
 
 -- a ticket's acknowledgement in the case to which it belongs; where there is none, nothing is done
-abbrev pub ack_for : Place → Option ProcessId → Node → Ticket → Outcome → Option Case → Effect
-ack_for place parent n t o None = no_effect
-ack_for place parent n t o (Some c) =
-    let v = coordinator_view place n c in row_effect c (on_ack (seat_of place parent c) t o v v.standing)
+abbrev pub ack_for : Version → Place → Option ProcessId → Node → Ticket → Outcome → Option Case → Effect
+ack_for ver place parent n t o None = no_effect
+ack_for ver place parent n t o (Some c) =
+    let v = coordinator_view place n c in row_effect c (on_ack ver (seat_of place parent c) t o v v.standing)
 
 -- where the child belongs to no case, it gets what is presumed
 abbrev pub inquiry_for : Place → Option ProcessId → Node → Txn → Ticket → Option Case → Effect
@@ -203,20 +203,20 @@ abbrev pub child_says : Case → (Ticket → Effect) → Effect
 child_says d f = of_ticket d.ticket no_effect f
 
 -- the messages of children; any other does nothing
-abbrev pub hears_from_child : Place → Option ProcessId → Node → Message → Effect
-hears_from_child place parent n (Joined d t) =
+abbrev pub hears_from_child : Version → Place → Option ProcessId → Node → Message → Effect
+hears_from_child ver place parent n (Joined d t) =
     let v = coordinator_view place n d in row_effect d (on_joined t v v.standing)
-hears_from_child place parent n (Yes d) = child_says d
+hears_from_child ver place parent n (Yes d) = child_says d
     (λ t. vote_for place parent n t VoteYes (case_of_child place n d.txn t))
-hears_from_child place parent n (No d) = child_says d
+hears_from_child ver place parent n (No d) = child_says d
     (λ t. vote_for place parent n t VoteNo (case_of_child place n d.txn t))
-hears_from_child place parent n (Read d) = child_says d
+hears_from_child ver place parent n (Read d) = child_says d
     (λ t. vote_for place parent n t VoteRead (case_of_child place n d.txn t))
-hears_from_child place parent n (Ack d o) = child_says d
-    (λ t. ack_for place parent n t o (case_of_child place n d.txn t))
-hears_from_child place parent n (Inquire d) =
+hears_from_child ver place parent n (Ack d o) = child_says d
+    (λ t. ack_for ver place parent n t o (case_of_child place n d.txn t))
+hears_from_child ver place parent n (Inquire d) =
     child_says d (λ t. inquiry_for place parent n d.txn t (case_of_child place n d.txn t))
-hears_from_child place parent n _ = no_effect
+hears_from_child ver place parent n _ = no_effect
 
 -- Messages of the parent.
 
@@ -227,16 +227,16 @@ joins_with place p n d m None = sends_only (post place.me p
     (Joined d (next_ticket place.me (boot_of (kept n)) m)) ∷ [])
 
 -- the messages at a coordinator below the root: its parent's, then its children's
-abbrev pub cascaded_hears : Place → ProcessId → Node → Message → Effect
-cascaded_hears place p n (Join d) =
+abbrev pub cascaded_hears : Version → Place → ProcessId → Node → Message → Effect
+cascaded_hears ver place p n (Join d) =
     let m = memory_of place n d in joins_with place p n d m (active_ticket m.active d)
-cascaded_hears place p n (Prepare d k) =
+cascaded_hears ver place p n (Prepare d k) =
     let v = coordinator_view place n d in row_effect d (on_prepare (seat_of place (Some p) d) v v.standing)
-cascaded_hears place p n (Commit d) =
-    let v = coordinator_view place n d in row_effect d (on_commit (seat_of place (Some p) d) v v.standing)
-cascaded_hears place p n (Abort d) =
-    let v = coordinator_view place n d in row_effect d (on_abort (seat_of place (Some p) d) v v.standing)
-cascaded_hears place p n message = hears_from_child place (Some p) n message
+cascaded_hears ver place p n (Commit d) =
+    let v = coordinator_view place n d in row_effect d (on_commit ver (seat_of place (Some p) d) v v.standing)
+cascaded_hears ver place p n (Abort d) =
+    let v = coordinator_view place n d in row_effect d (on_abort ver (seat_of place (Some p) d) v v.standing)
+cascaded_hears ver place p n message = hears_from_child ver place (Some p) n message
 
 -- A manager.
 
@@ -316,10 +316,10 @@ acts (Below p) place n a = coordinator_acts place (Some p) n a
 acts (AtLeaf p) place n a = manager_acts place p n a
 
 -- what a process of this role does with a message
-abbrev pub hears : Role → Place → Node → DataAnswer → Message → Effect
-hears AtRoot place n a m = hears_from_child place None n m
-hears (Below p) place n a m = cascaded_hears place p n m
-hears (AtLeaf p) place n a m = manager_hears place p n a m
+abbrev pub hears : Role → Version → Place → Node → DataAnswer → Message → Effect
+hears AtRoot ver place n a m = hears_from_child ver place None n m
+hears (Below p) ver place n a m = cascaded_hears ver place p n m
+hears (AtLeaf p) ver place n a m = manager_hears place p n a m
 
 -- the child that an act names is listed; an act without one names none
 abbrev pub names_listed : List TreeEntry → Act → Bool
@@ -351,7 +351,7 @@ is_passed_over place n i = passes_at place.role place n i
 abbrev pub handles : Place → Node → Heard → Input → Reacts
 handles place n h (ActInput a) = if n.failed then Refused Failed else acts place.role place n a
 handles place n h (MessageInput k m) =
-    if n.failed then Refused Failed else Does (hears place.role place n h.data_answer m)
+    if n.failed then Refused Failed else Does (hears place.role h.version place n h.data_answer m)
 
 -- the child that an act names is listed; a message names none
 abbrev pub act_is_listed : List TreeEntry → Input → Bool

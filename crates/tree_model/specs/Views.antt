@@ -208,7 +208,7 @@ pub record RootViews (me : ProcessId) (tree : List TreeEntry) (n : Node) (x : Tx
   pub acknowledgement : (k : ℕ) (a : DataAnswer) (t : Ticket) (o : Outcome) → let place =
       root_place me tree in let c = root_case x in let v = coordinator_view place n c in
       IsOpenAlike place n c → MovesTxn place n (hears_message k (Ack (child_case x t) o) a) x
-      (on_ack (root_seat me c) t o v v.standing)
+      (on_ack First (root_seat me c) t o v v.standing)
   pub inquiry : (k : ℕ) (a : DataAnswer) (t : Ticket) → let place = root_place me tree in let c =
       root_case x in let v = coordinator_view place n c in
       MovesTxn place n (hears_message k (Inquire (child_case x t)) a) x

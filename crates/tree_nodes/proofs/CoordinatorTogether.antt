@@ -18,7 +18,7 @@ use Rattle.tree_model.specs.declared.messages.Message.TheVariants.{Prepare, Comm
 use Rattle.tree_model.specs.declared.trees.TreeEntry.{TreeEntry}
 use Rattle.tree_model.specs.Names.{root_case}
 use Rattle.tree_model.specs.Records.{has, none_of, is_end, is_commit, is_abort, is_prepare, is_collecting, owing_by}
-use Rattle.tree_model.specs.Nodes.{Place, Node, Heard, kept, entries_written}
+use Rattle.tree_model.specs.Nodes.{Version, Place, Node, Heard, kept, entries_written}
 use Rattle.tree_model.specs.Memory.{Memory, Phase, Idle, Open, Asked, Over, memory_of, is_counted, all_voted, phase_after}
 use Rattle.tree_model.specs.Standings.{CoordinatorView, coordinator_view, phase_standing}
 use Rattle.tree_model.specs.CoordinatorRows.{Reason, Row, tells_outcome}
@@ -149,13 +149,14 @@ module _ (me : ProcessId) (parent : Option ProcessId) (tree : List TreeEntry) (n
       abort_comes_late : HearsParent parent h (Abort c) → Closed (kept n) c m.phase → now ≡ m.phase
       abort_comes_late i f = abort_left me parent tree n h c i.from i.is_parent i.hears.0 i.hears.1 f.0 f.1
 
-      acknowledged_left : (o : Outcome) (q : Presumption) (s : Standing) → v.standing ≡ s → Acknowledges o q s
+      acknowledged_left : (x : Version) (o : Outcome) (q : Presumption) (s : Standing) → v.standing ≡ s
+          → Acknowledges x o q s
           → HearsParent parent h (tells_outcome o c) → now ≡ m.phase
-      acknowledged_left _ _ _ e commit_presumed_abort i = commit_comes i
-      acknowledged_left _ _ _ e (commit_again q) i = commit_comes i
-      acknowledged_left _ _ _ e abort_presumed_commit i =
+      acknowledged_left _ _ _ _ e (commit_presumed_abort x) i = commit_comes i
+      acknowledged_left _ _ _ _ e (commit_again q) i = commit_comes i
+      acknowledged_left _ _ _ _ e (abort_presumed_commit x) i =
           abort_comes_late i (closed_at Unknown e (λ f. cc) (λ f. cc))
-      acknowledged_left _ _ _ e (abort_again q) i =
+      acknowledged_left _ _ _ _ e (abort_again q) i =
           abort_comes_late i (closed_at Aborting e (λ f. cc) (λ f. cc))
 
       rested : Rests place parent n h c → Together (kept n ++ []) c now
@@ -245,7 +246,7 @@ module _ (me : ProcessId) (parent : Option ProcessId) (tree : List TreeEntry) (n
           left (prepare_comes_late j i (closed_at Prepared e (λ k. cc) (λ k. cc)).0)
       own_together _ (asks i e) = left (ask_left me parent tree n h c c i)
       own_together _ (refuses j i e) = left (prepare_comes_late j i (refuses_closed v.standing e refl).0)
-      own_together _ (acknowledges o i e) = left (acknowledged_left o c.txn.presumption v.standing refl e i)
+      own_together _ (acknowledges o i e) = left (acknowledged_left h.version o c.txn.presumption v.standing refl e i)
       own_together _ (waits_for_acks t o i e f g) =
           left (ack_left me parent tree n h c t o i.txn i.hears.0 i.hears.1)
       own_together _ (ends t o i e f g) =

@@ -72,9 +72,9 @@ module _ (place : Place) (n : Node) (h : Heard) (e : Effect) (root : place.role 
       let there : ReactsTo (MessageInput j (Join d)) ≡ Does e =
       subst (λ (x : Input). ReactsTo x ≡ Does e) i r in
       ap (λ (x : Effect). x.messages)
-      (sym (does_so (hears place.role place n h.data_answer (Join d)) e
-      (if_up (Does (hears place.role place n h.data_answer (Join d))) n.failed up there)))
-      ∙ ap (λ (y : Role). (hears y place n h.data_answer (Join d)).messages) root
+      (sym (does_so (hears place.role h.version place n h.data_answer (Join d)) e
+      (if_up (Does (hears place.role h.version place n h.data_answer (Join d))) n.failed up there)))
+      ∙ ap (λ (y : Role). (hears y h.version place n h.data_answer (Join d)).messages) root
 
 module _ (place : Place) (net : List Envelope) (n : Node)
     (issued : IsIssuer place.role → Issued place net n) (once : JoinedOnce net) where

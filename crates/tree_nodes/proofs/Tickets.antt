@@ -365,7 +365,7 @@ module _ (place : Place) (n : Node) (h : Heard) (e : Effect) (d : Case) (j : ℕ
 
   by_role : (role : Role) → IsIssuer role → starts_at role h ≡ true
       → active_ticket (memory_of place n d).active d ≡ None
-      → SaysNext (hears role place n h.data_answer (Join d))
+      → SaysNext (hears role h.version place n h.data_answer (Join d))
   by_role (Below p) i s a = gives_so p (active_ticket (memory_of place n d).active d) a
   by_role (AtLeaf p) i s a = leaf_gives p h.data_answer.starts
       (active_ticket (memory_of place n d).active d) s a
@@ -381,6 +381,6 @@ module _ (place : Place) (n : Node) (h : Heard) (e : Effect) (d : Case) (j : ℕ
   join_said issuer i up r none starts =
       let there : ReactsTo (MessageInput j (Join d)) ≡ Does e =
       subst (λ (x : Input). ReactsTo x ≡ Does e) i r in
-      subst SaysNext (does_so (hears place.role place n h.data_answer (Join d)) e
-      (if_up (Does (hears place.role place n h.data_answer (Join d))) n.failed up there))
+      subst SaysNext (does_so (hears place.role h.version place n h.data_answer (Join d)) e
+      (if_up (Does (hears place.role h.version place n h.data_answer (Join d))) n.failed up there))
       (by_role place.role issuer starts none)

@@ -1,6 +1,6 @@
 -- Each message that a coordinator's turn or restart sends goes where it belongs, and is of a case that was
 -- given.
-use Rattle.std.proofs.Common.{◌≡◌, ◌≢◌, ◌∙◌, ◌⊎◌, inl, inr, ◌-◌, ◌+◌, ℕ, Bool, true, false, Option, Some, None, List, [], ◌∷◌, ◌++◌, map, take, refl, sym, ap, subst, arith}
+use Rattle.std.proofs.Common.{◌≡◌, ◌≢◌, ◌∙◌, ◌⊎◌, inl, inr, ◌-◌, ◌+◌, ℕ, Bool, true, false, Option, Some, None, List, [], ◌∷◌, ◌++◌, map, take, refl, sym, ap, subst, arith, if◌then◌else◌}
 use Rattle.std.specs.List.{flat_map}
 use Rattle.tree_model.specs.declared.names.Case.{Case}
 use Rattle.tree_model.specs.declared.names.Outcome.{Outcome}
@@ -21,17 +21,17 @@ use Rattle.tree_model.specs.declared.trees.TreeEntry.{TreeEntry}
 use Rattle.tree_model.specs.Names.{child_case, presumed, process_of}
 use Rattle.tree_model.specs.NameLaws.{same_case-refl}
 use Rattle.tree_model.specs.Records.{has, in_list, is_abort, is_collecting, is_commit, is_end, is_prepare, none_of, owing_by, promised_by}
-use Rattle.tree_model.specs.Nodes.{Effect, Heard, Node, Place, AtRoot, is_listed, kept, role_of}
+use Rattle.tree_model.specs.Nodes.{Version, First, Second, Effect, Heard, Node, Place, AtRoot, is_listed, kept, role_of}
 use Rattle.tree_model.specs.Memory.{Idle, Open, Asked, fresh_memory, memory_of, undecided_of, works_of, yes_of}
 use Rattle.tree_model.specs.Outcomes.{has_accepted, sent}
 use Rattle.tree_model.specs.Standings.{case_of_child, coordinator_standing, coordinator_view, decided_outcome, still_owed, view_at}
-use Rattle.tree_model.specs.CoordinatorRows.{Reason, ByVote, ByAct, ByAbort, Row, abort_heard_above, acknowledges_abort, each, post, posted_up, tells_outcome}
+use Rattle.tree_model.specs.CoordinatorRows.{Reason, ByVote, ByAct, ByAbort, Row, abort_heard_above, acknowledges_abort, acknowledges_at_last, acknowledges_at_once, each, post, posted_up, tells_outcome}
 use Rattle.tree_model.specs.Reactions.{seat_of}
 use Rattle.tree_model.specs.Restarts.{coordinator_reopens, coordinator_resumes, left_of, recorded_view, resumes_by}
 use Rattle.tree_model.specs.World.{InputStands, IsSent}
 use Rattle.tree_pairs.specs.readings.ReadingOf.{gives_case, is_decision_naming}
 use Rattle.tree_pairs.specs.turns.LeafTurns.{Hears}
-use Rattle.tree_pairs.specs.turns.CoordinatorTurns.{CaseTurn, rests, invites, accepts, sends_work, finds_nobody, asks_for_votes, gives_up, counts_vote, reads_only, commits, promises, hears_no, aborts, passes_commit, passes_abort, repeats_yes, asks, refuses, acknowledges, waits_for_acks, ends, answers, CoordinatorTurn, does_nothing, of_case, begins, gives_again, gives_fresh, presumes}
+use Rattle.tree_pairs.specs.turns.CoordinatorTurns.{CaseTurn, Decided, by_commit, by_abort, rests, invites, accepts, sends_work, finds_nobody, asks_for_votes, gives_up, counts_vote, reads_only, commits, promises, hears_no, aborts, passes_commit, passes_abort, repeats_yes, asks, refuses, acknowledges, waits_for_acks, ends, answers, CoordinatorTurn, does_nothing, of_case, begins, gives_again, gives_fresh, presumes}
 use Rattle.tree_pairs.proofs.turns.Operators.{reopens_none}
 use Rattle.tree_nodes.specs.Lasts.{Nested, logs_of}
 use Rattle.tree_nodes.specs.WorldHolds.{AboutGiven, AllGo, Coordinates, GoesBy, IsChildRole, IsParent, is_about, is_naming, is_record_of}
@@ -44,6 +44,7 @@ use Rattle.tree_nodes.proofs.RootLogs.{recorded_stands}
 use Rattle.tree_nodes.proofs.Tests.{either, in_either, in_first, in_front, in_second, not_both}
 use Rattle.tree_nodes.proofs.Tickets.{active_is_own}
 use Rattle.tree_nodes.proofs.Worlds.{has_other}
+use Rattle.tree_steps.proofs.cascades.Standings.{aborting_facts, committing_facts}
 use Rattle.tree_steps.proofs.crashes.CrashPairs.{is_active}
 use Rattle.tree_steps.proofs.crashes.Named.{all_owed, owing-by}
 use Rattle.tree_headline.proofs.ManagerMessages.{goes_at}
@@ -172,6 +173,21 @@ module _ (me : ProcessId) (parent : Option ProcessId) (tree : List TreeEntry) (n
           (has_other (is_prepare c) (is_record_of c) (kept n) promise_record
           (prepared_promised c (sym (viewed place n c) ∙ k))))
 
+      commit_record : (r : Record) → is_commit c r ≡ true → is_record_of c r ≡ true
+      commit_record r e = grind arith
+
+      abort_record : (r : Record) → is_abort c r ≡ true → is_record_of c r ≡ true
+      abort_record r e = grind arith
+
+      own_decided : (p : ProcessId) → parent ≡ Some p → (o : Outcome) (s : Standing)
+          → (coordinator_view place n c).standing ≡ s → Decided o s → Own tree me net goes c
+      own_decided p e _ _ f by_commit =
+          recorded p e c (nested.kept_was_written (is_record_of c) (λ z. refl)
+          (has_other (is_commit c) (is_record_of c) (kept n) commit_record (committing_facts place n c f).0))
+      own_decided p e _ _ f by_abort =
+          recorded p e c (nested.kept_was_written (is_record_of c) (λ z. refl)
+          (has_other (is_abort c) (is_record_of c) (kept n) abort_record (aborting_facts place n c f).0))
+
       yes_up : ((p : ProcessId) → parent ≡ Some p → Own tree me net goes c)
           → Sent (posted_up me parent (Yes c))
       yes_up f = up_well parent (Yes c) (λ p e. coordinators.up_yes tree me net goes p (child_role p e) c (f p e))
@@ -218,17 +234,36 @@ module _ (me : ProcessId) (parent : Option ProcessId) (tree : List TreeEntry) (n
       yesses_are ys vs e t g =
           viewed_is c t (in_yesses (coordinator_view place n c).accepted vs t (ap (λ ts. in_list ts t) e ∙ g))
 
-      abort_above : (why : Reason)
+      at_once : (ver : Version) (o : Outcome) → (coordinator_view place n c).standing ≡ Prepared
+          → Sent (acknowledges_at_once ver (seat_of place parent c) o)
+      at_once First o k = ack_up o (λ p e. own_prepared p e k)
+      at_once Second o k = tt
+
+      at_last : (ver : Version) (o : Outcome) → Decided o (coordinator_view place n c).standing
+          → Sent (acknowledges_at_last ver (seat_of place parent c) o)
+      at_last First o k = tt
+      at_last Second o k = ack_up o (λ p e. own_decided p e o (coordinator_view place n c).standing refl k)
+
+      abort_above : (why : Reason) (us : List Ticket)
           → (coordinator_view place n c).standing ≡ Active
           ⊎ ((coordinator_view place n c).standing ≡ Collecting)
-          → Sent (abort_heard_above (seat_of place parent c) why)
-      abort_above ByVote k = no_up (λ p e. own_live p e k)
-      abort_above ByAct k = tt
-      abort_above ByAbort k = acknowledged c.txn.presumption
+          → Sent (abort_heard_above (seat_of place parent c) why us)
+      abort_above ByVote us k = no_up (λ p e. own_live p e k)
+      abort_above ByAct us k = tt
+      abort_above (ByAbort ver) us k = answered ver
         where
           acknowledged : (q : Presumption) → Sent (acknowledges_abort (seat_of place parent c) q)
           acknowledged PresumeAbort = tt
           acknowledged PresumeCommit = ack_up AbortedOutcome (λ p e. own_live p e k)
+
+          by_test : (b : Bool)
+              → Sent (if b then acknowledges_abort (seat_of place parent c) c.txn.presumption else [])
+          by_test true = acknowledged c.txn.presumption
+          by_test false = tt
+
+          answered : (ver : Version) → Sent (abort_heard_above (seat_of place parent c) (ByAbort ver) us)
+          answered First = acknowledged c.txn.presumption
+          answered Second = by_test (none_of us)
 
       abort_acknowledged : (q : Presumption) → (coordinator_view place n c).standing ≡ Active
           → Sent (acknowledges_abort (seat_of place parent c) q)
@@ -299,37 +334,37 @@ module _ (me : ProcessId) (parent : Option ProcessId) (tree : List TreeEntry) (n
           subst (λ o. Sent (posted_up me o (Yes c))) refl
           (yes_up up c (λ q g. own_live up c q g (inr i.vote.stands)))
       turn_sends c _ (hears_no t us PresumeAbort i e f) =
-          both up c (abort_heard_above (seat_of place parent c) ByVote) _
-          (abort_above up c ByVote (inr i.stands))
+          both up c (abort_heard_above (seat_of place parent c) ByVote us) _
+          (abort_above up c ByVote us (inr i.stands))
           (aborts_to up c us (undecided_is up c us _ e))
       turn_sends c _ (hears_no t us PresumeCommit i e f) =
-          both up c (abort_heard_above (seat_of place parent c) ByVote) _
-          (abort_above up c ByVote (inr i.stands))
+          both up c (abort_heard_above (seat_of place parent c) ByVote us) _
+          (abort_above up c ByVote us (inr i.stands))
           (aborts_to up c us (undecided_is up c us _ e))
       turn_sends c _ (aborts why us PresumeAbort i e f a) =
-          both up c (abort_heard_above (seat_of place parent c) why) _ (abort_above up c why (inr e))
+          both up c (abort_heard_above (seat_of place parent c) why us) _ (abort_above up c why us (inr e))
           (aborts_to up c us (undecided_is up c us _ f))
       turn_sends c _ (aborts why us PresumeCommit i e f a) =
-          both up c (abort_heard_above (seat_of place parent c) why) _ (abort_above up c why (inr e))
+          both up c (abort_heard_above (seat_of place parent c) why us) _ (abort_above up c why us (inr e))
           (aborts_to up c us (undecided_is up c us _ f))
       turn_sends c _ (passes_commit PresumeAbort i e f) =
-          both up c (posted_up me parent (Ack c CommittedOutcome)) _
-          (ack_up up c CommittedOutcome (λ q g. own_prepared up c q g e))
+          both up c (acknowledges_at_once h.version (seat_of place parent c) CommittedOutcome) _
+          (at_once up c h.version CommittedOutcome e)
           (commits_to up c (coordinator_view place n c).promised (promised_is c))
       turn_sends c _ (passes_commit PresumeCommit i e f) =
           commits_to up c (coordinator_view place n c).promised (promised_is c)
       turn_sends c _ (passes_abort PresumeAbort i e f) =
           aborts_to up c (coordinator_view place n c).promised (promised_is c)
       turn_sends c _ (passes_abort PresumeCommit i e f) =
-          both up c (posted_up me parent (Ack c AbortedOutcome)) _
-          (ack_up up c AbortedOutcome (λ q g. own_prepared up c q g e))
+          both up c (acknowledges_at_once h.version (seat_of place parent c) AbortedOutcome) _
+          (at_once up c h.version AbortedOutcome e)
           (aborts_to up c (coordinator_view place n c).promised (promised_is c))
       turn_sends c _ (repeats_yes k i e) = yes_up up c (λ q g. own_prepared up c q g e)
       turn_sends c _ (asks i e) = inquire_up up c (λ q g. own_prepared up c q g e)
       turn_sends c _ (refuses k i e) = no_up up c (λ q g. asked_own c k i.hears)
       turn_sends c _ (acknowledges o i e) = ack_up up c o (λ q g. told_own o c i.hears)
       turn_sends c _ (waits_for_acks t o i e f a) = tt
-      turn_sends c _ (ends t o i e f a) = tt
+      turn_sends c _ (ends t o i e f a) = at_last up c h.version o e
       turn_sends c _ (answers t o i e) =
           (coordinators.down_told tree me net goes c t (belongs_is i.txn t c i.belongs) o, tt)
 

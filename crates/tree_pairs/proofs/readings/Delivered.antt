@@ -37,15 +37,15 @@ delivered : (tree : List TreeEntry) (w : World) (q : ProcessId) (i : ℕ) (messa
     → world_makes tree w (delivers q i message a) ≡ Some (e, w')
     → ((w.at q).failed ≡ false) × (w' ≡ handled w q
     (record { input = MessageInput i message; data_answer = a; version = First })
-    (hears (role_of tree q) (place_of tree q) (w.at q) a message))
+    (hears (role_of tree q) First (place_of tree q) (w.at q) a message))
 unfolding world_makes node_makes reacts
 delivered tree w q i message a e w' taken s =
     let h : Heard = record { input = MessageInput i message; data_answer = a; version = First } in
     delivered_by (is_listed tree q) (w.at q).failed w q h
-    (hears (role_of tree q) (place_of tree q) (w.at q) a message) e w'
+    (hears (role_of tree q) First (place_of tree q) (w.at q) a message) e w'
     (subst (λ (b : Bool). (if is_listed tree q then world_stepped w q (if b then passes_over (w.at q) None
     else input_makes (w.at q) h None (if (w.at q).failed then Refused Failed
-    else Does (hears (role_of tree q) (place_of tree q) (w.at q) a message))) else None) ≡ Some (e, w')) taken
+    else Does (hears (role_of tree q) First (place_of tree q) (w.at q) a message))) else None) ≡ Some (e, w')) taken
     s)
 
 -- the same, where the process's role is known
@@ -55,7 +55,7 @@ pub delivered_as : (tree : List TreeEntry) (w : World) (q : ProcessId) (role : R
     → Takes role (record { me = q; role = role; tree = tree }) (w.at q) i message
     → ((w.at q).failed ≡ false) × (w' ≡ handled w q
     (record { input = MessageInput i message; data_answer = a; version = First })
-    (hears role (record { me = q; role = role; tree = tree }) (w.at q) a message))
+    (hears role First (record { me = q; role = role; tree = tree }) (w.at q) a message))
 delivered_as tree w q role i message a e w' known s taken =
     let taken' = subst (λ (r : Role). Takes r (record { me = q; role = r; tree = tree }) (w.at q) i message)
     (sym known) taken in
@@ -63,7 +63,7 @@ delivered_as tree w q role i message a e w' known s taken =
       both.0,
       subst (λ (r : Role). w' ≡ handled w q
           (record { input = MessageInput i message; data_answer = a; version = First })
-          (hears r (record { me = q; role = r; tree = tree }) (w.at q) a message)) known both.1,
+          (hears r First (record { me = q; role = r; tree = tree }) (w.at q) a message)) known both.1,
     )
 
 -- The same with a fault.
@@ -88,16 +88,16 @@ failed_in : (tree : List TreeEntry) (w : World) (q : ProcessId) (i : ℕ) (messa
     → world_makes tree w (fails_at q i message a f) ≡ Some (e, w')
     → ((w.at q).failed ≡ false) × (w' ≡ made_at w q
     (fails_in (w.at q) (record { input = MessageInput i message; data_answer = a; version = First })
-    (hears (role_of tree q) (place_of tree q) (w.at q) a message) f.appended f.forced)
-    (fault_effect (hears (role_of tree q) (place_of tree q) (w.at q) a message) f.appended))
+    (hears (role_of tree q) First (place_of tree q) (w.at q) a message) f.appended f.forced)
+    (fault_effect (hears (role_of tree q) First (place_of tree q) (w.at q) a message) f.appended))
 unfolding world_makes node_makes reacts
 failed_in tree w q i message a f e w' taken s =
     let h : Heard = record { input = MessageInput i message; data_answer = a; version = First } in
     failed_by (is_listed tree q) (w.at q).failed w q h
-    (hears (role_of tree q) (place_of tree q) (w.at q) a message) f e w'
+    (hears (role_of tree q) First (place_of tree q) (w.at q) a message) f e w'
     (subst (λ (b : Bool). (if is_listed tree q then world_stepped w q (if b then passes_over (w.at q) (Some f)
     else input_makes (w.at q) h (Some f) (if (w.at q).failed then Refused Failed
-    else Does (hears (role_of tree q) (place_of tree q) (w.at q) a message))) else None) ≡ Some (e, w')) taken
+    else Does (hears (role_of tree q) First (place_of tree q) (w.at q) a message))) else None) ≡ Some (e, w')) taken
     s)
 
 pub failed_as : (tree : List TreeEntry) (w : World) (q : ProcessId) (role : Role) (i : ℕ)
@@ -106,8 +106,8 @@ pub failed_as : (tree : List TreeEntry) (w : World) (q : ProcessId) (role : Role
     → Takes role (record { me = q; role = role; tree = tree }) (w.at q) i message
     → ((w.at q).failed ≡ false) × (w' ≡ made_at w q
     (fails_in (w.at q) (record { input = MessageInput i message; data_answer = a; version = First })
-    (hears role (record { me = q; role = role; tree = tree }) (w.at q) a message) f.appended f.forced)
-    (fault_effect (hears role (record { me = q; role = role; tree = tree }) (w.at q) a message)
+    (hears role First (record { me = q; role = role; tree = tree }) (w.at q) a message) f.appended f.forced)
+    (fault_effect (hears role First (record { me = q; role = role; tree = tree }) (w.at q) a message)
     f.appended))
 failed_as tree w q role i message a f e w' known s taken =
     let taken' = subst (λ (r : Role). Takes r (record { me = q; role = r; tree = tree }) (w.at q) i message)
@@ -116,8 +116,8 @@ failed_as tree w q role i message a f e w' known s taken =
       both.0,
       subst (λ (r : Role). w' ≡ made_at w q
           (fails_in (w.at q) (record { input = MessageInput i message; data_answer = a; version = First })
-          (hears r (record { me = q; role = r; tree = tree }) (w.at q) a message) f.appended f.forced)
-          (fault_effect (hears r (record { me = q; role = r; tree = tree }) (w.at q) a message) f.appended))
+          (hears r First (record { me = q; role = r; tree = tree }) (w.at q) a message) f.appended f.forced)
+          (fault_effect (hears r First (record { me = q; role = r; tree = tree }) (w.at q) a message) f.appended))
           known both.1,
     )
 

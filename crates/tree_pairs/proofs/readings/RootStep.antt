@@ -66,7 +66,7 @@ named_yes v t = in_list-yes v.accepted (v.votes ++ (t, VoteYes) ∷ []) t
 effect_decides : (place : Place) (n : Node) (x : Txn) (t : Ticket)
     → IsLastVote (coordinator_view place n (root_case x)) (case_of_child place n x t) x t
     → x.presumption ≡ PresumeAbort
-    → hears_from_child place None n (Yes (child_case x t))
+    → hears_from_child First place None n (Yes (child_case x t))
     ≡ row_effect (root_case x) (record
     (root_commits (seat_of place None (root_case x))
     (with_yes (coordinator_view place n (root_case x)) t)
@@ -120,7 +120,7 @@ root_decides tree w w' above x t i a e pair pa inv last made =
     ∙ (ap (λ (ts : List Ticket). in_list ts t) (accepted_view place n c last'.collecting)
     ∙ ap (λ (r : Reading). r.accepted) old) in
     ap (λ (y : World). reading_of tree y above c t) both.1
-    ∙ row_commits tree w above x t pair i h (hears_from_child place None n (Yes (child_case x t)))
+    ∙ row_commits tree w above x t pair i h (hears_from_child First place None n (Yes (child_case x t)))
     (seat_of place None c) (yes_with v t) refl
     (ap (λ (y : Effect). y.written) same) (ap (λ (y : Effect). y.accepts) same)
     (ap (λ (y : Effect). y.counts) same) (ap (λ (y : Effect). y.told) same)

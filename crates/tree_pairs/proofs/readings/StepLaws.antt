@@ -68,13 +68,13 @@ promised_view place n c e = view_at-promised (coordinator_standing (kept n) c (m
 
 effect_aborts : (place : Place) (p : ProcessId) (n : Node) (c : Case)
     → (coordinator_view place n c).standing ≡ Prepared → c.txn.presumption ≡ PresumeAbort
-    → cascaded_hears place p n (Abort c) ≡ row_effect c
-    (prepared_abort_by (seat_of place (Some p) c) (coordinator_view place n c) PresumeAbort)
+    → cascaded_hears First place p n (Abort c) ≡ row_effect c
+    (prepared_abort_by First (seat_of place (Some p) c) (coordinator_view place n c) PresumeAbort)
 effect_aborts place p n c stands pa =
     let v = coordinator_view place n c in
     let s = seat_of place (Some p) c in
-    ap (λ (x : Standing). row_effect c (on_abort s v x)) stands
-    ∙ ap (λ (q : Presumption). row_effect c (prepared_abort_by s v q)) pa
+    ap (λ (x : Standing). row_effect c (on_abort First s v x)) stands
+    ∙ ap (λ (q : Presumption). row_effect c (prepared_abort_by First s v q)) pa
 
 pub cascaded_passes_abort : CascadedPassesAbort
 cascaded_passes_abort tree w w' above c t p i a e pair pa stands promised made =
@@ -85,11 +85,11 @@ cascaded_passes_abort tree w w' above c t p i a e pair pa stands promised made =
     let stands' : (coordinator_view place n c).standing ≡ Prepared = subst
     (λ (r : Role). (coordinator_view (record { me = process_of c; role = r; tree = tree }) n
     c).standing ≡ Prepared) pair.below stands in
-    let same : cascaded_hears place p n (Abort c) ≡ row_effect c
-    (prepared_abort_by (seat_of place (Some p) c) (coordinator_view place n c) PresumeAbort) =
+    let same : cascaded_hears First place p n (Abort c) ≡ row_effect c
+    (prepared_abort_by First (seat_of place (Some p) c) (coordinator_view place n c) PresumeAbort) =
     effect_aborts place p n c stands' pa in
     ap (λ (x : World). reading_of tree x above c t) both.1
-    ∙ row_aborts tree w above c t p pair i h (cascaded_hears place p n (Abort c))
+    ∙ row_aborts tree w above c t p pair i h (cascaded_hears First place p n (Abort c))
     (seat_of place (Some p) c) refl
     (ap (λ (x : Effect). x.written) same) (ap (λ (x : Effect). x.accepts) same)
     (ap (λ (x : Effect). x.counts) same) (ap (λ (x : Effect). x.told) same)

@@ -25,10 +25,10 @@ use Rattle.tree_model.specs.declared.events.Input.{Input}
 use Rattle.tree_model.specs.declared.events.Input.TheVariants.{Act as ActInput, Message as MessageInput}
 use Rattle.tree_model.specs.Names.{root_case, child_case, presumed}
 use Rattle.tree_model.specs.Records.{in_list, none_of}
-use Rattle.tree_model.specs.Nodes.{Place, Node, Effect, is_child, is_leaf, role_of}
+use Rattle.tree_model.specs.Nodes.{Version, First, Second, Place, Node, Effect, is_child, is_leaf, role_of}
 use Rattle.tree_model.specs.Memory.{has_child, is_counted, all_voted, yes_of, works_of, memory_of, active_ticket, ticket_of_child}
 use Rattle.tree_model.specs.Standings.{CoordinatorView, unknown_view, coordinator_view, case_of_child}
-use Rattle.tree_model.specs.CoordinatorRows.{Seat, Row, quiet, sends, post, posted_up, plain, up, each, prepares, tells_outcome, active_work, active_commit, active_commit_alone, active_commit_with, acknowledges_abort, active_abort, prepared_ask, abort_heard_above, collecting_abort_by, collecting_abort, Reason, ByVote, ByAct, ByAbort, collecting_read_only, read_only_end, decides, root_commits, collecting_full, collecting_after, prepared_commit_by, prepared_abort_by, unknown_commit_by, decided_ack_by, other_tickets, on_vote, on_ack, on_inquiry, on_joined, on_prepare, on_commit, on_abort}
+use Rattle.tree_model.specs.CoordinatorRows.{Seat, Row, quiet, sends, post, posted_up, plain, up, each, prepares, tells_outcome, active_work, active_commit, active_commit_alone, active_commit_with, acknowledges_abort, active_abort, prepared_ask, abort_heard_above, collecting_abort_by, collecting_abort, Reason, ByVote, ByAct, ByAbort, collecting_read_only, read_only_end, decides, root_commits, collecting_full, collecting_after, prepared_commit_by, prepared_abort_by, unknown_commit_by, decided_ack_by, acknowledges_at_once, acknowledges_at_last, abort_answered, committing_commit, aborting_abort, other_tickets, on_vote, on_ack, on_inquiry, on_joined, on_prepare, on_commit, on_abort}
 use Rattle.tree_model.specs.Reactions.{Reacts, Refused, Does, row_effect, seat_of, coordinator_acts, begins_at, join_by, work_by, work_for, commit_by, abort_by, ask_by, live_by, vote_for, ack_for, inquiry_for, hears_from_child, cascaded_hears, joins_with, child_says}
 use Rattle.tree_pairs.specs.turns.Written.{AtMostOne, wrote_none, wrote_one, IsForCase, IsFromCase, down, upward, invites, AllSent, is_active, is_next, Writes, writes_nothing, for_act, for_child, for_parent, presumes, gives}
 
@@ -73,10 +73,26 @@ module _ (s : Seat) where
   abort_up PresumeAbort = tt
   abort_up PresumeCommit = sent_up (Ack s.own AbortedOutcome) refl
 
-  heard_above : (why : Reason) → Sent (abort_heard_above s why)
-  heard_above ByVote = sent_up (No s.own) refl
-  heard_above ByAct = tt
-  heard_above ByAbort = abort_up s.own.txn.presumption
+  none_or : (b : Bool) (ls : List Envelope) → Sent ls → Sent (if b then ls else [])
+  none_or true ls f = f
+  none_or false ls f = tt
+
+  answered : (x : Version) (us : List Ticket) → Sent (abort_answered s x us)
+  answered First us = abort_up s.own.txn.presumption
+  answered Second us = none_or (none_of us) _ (abort_up s.own.txn.presumption)
+
+  heard_above : (why : Reason) (us : List Ticket) → Sent (abort_heard_above s why us)
+  heard_above ByVote us = sent_up (No s.own) refl
+  heard_above ByAct us = tt
+  heard_above (ByAbort x) us = answered x us
+
+  at_once : (x : Version) (o : Outcome) → Sent (acknowledges_at_once x s o)
+  at_once First o = sent_up (Ack s.own o) refl
+  at_once Second o = tt
+
+  at_last : (x : Version) (o : Outcome) → Sent (acknowledges_at_last x s o)
+  at_last First o = tt
+  at_last Second o = sent_up (Ack s.own o) refl
 
   -- Rows.
 
@@ -105,13 +121,13 @@ module _ (s : Seat) where
       → One (collecting_abort_by s why v us p)
   aborts_by why v us PresumeAbort = (
     wrote_one (AbortRecord s.own []) false refl refl,
-    sent_both (abort_heard_above s why)
-        (each s Abort us) (heard_above why) (aborts_down us),
+    sent_both (abort_heard_above s why us)
+        (each s Abort us) (heard_above why us) (aborts_down us),
   )
   aborts_by why v us PresumeCommit = (
     wrote_one (AbortRecord s.own us) true refl refl,
-    sent_both (abort_heard_above s why)
-        (each s Abort us) (heard_above why) (aborts_down us),
+    sent_both (abort_heard_above s why us)
+        (each s Abort us) (heard_above why us) (aborts_down us),
   )
 
   aborted : (why : Reason) (v : CoordinatorView) → One (collecting_abort s why v)
@@ -157,58 +173,59 @@ module _ (s : Seat) where
   voted t w v Aborting = (wrote_none, tt)
   voted t w v Heuristic = (wrote_none, tt)
 
-  passes_commit : (v : CoordinatorView) (p : Presumption) → One (prepared_commit_by s v p)
-  passes_commit v PresumeAbort = (
+  passes_commit : (x : Version) (v : CoordinatorView) (p : Presumption) → One (prepared_commit_by x s v p)
+  passes_commit x v PresumeAbort = (
     wrote_one (CommitRecord s.own v.promised) true refl refl,
-    sent_both (up s (Ack s.own CommittedOutcome)) (each s Commit v.promised)
-        (sent_up (Ack s.own CommittedOutcome) refl) (commits_down v.promised),
+    sent_both (acknowledges_at_once x s CommittedOutcome) (each s Commit v.promised)
+        (at_once x CommittedOutcome) (commits_down v.promised),
   )
-  passes_commit v PresumeCommit =
+  passes_commit x v PresumeCommit =
       (wrote_one (CommitRecord s.own []) false refl refl, commits_down v.promised)
 
-  passes_abort : (v : CoordinatorView) (p : Presumption) → One (prepared_abort_by s v p)
-  passes_abort v PresumeAbort = (wrote_one (AbortRecord s.own []) false refl refl, aborts_down v.promised)
-  passes_abort v PresumeCommit = (
+  passes_abort : (x : Version) (v : CoordinatorView) (p : Presumption) → One (prepared_abort_by x s v p)
+  passes_abort x v PresumeAbort = (wrote_one (AbortRecord s.own []) false refl refl, aborts_down v.promised)
+  passes_abort x v PresumeCommit = (
     wrote_one (AbortRecord s.own v.promised) true refl refl,
-    sent_both (up s (Ack s.own AbortedOutcome)) (each s Abort v.promised)
-        (sent_up (Ack s.own AbortedOutcome) refl) (aborts_down v.promised),
+    sent_both (acknowledges_at_once x s AbortedOutcome) (each s Abort v.promised)
+        (at_once x AbortedOutcome) (aborts_down v.promised),
   )
 
-  ends_by : (left : List Ticket) (v : CoordinatorView) (b : Bool)
+  ends_by : (x : Version) (o : Outcome) (left : List Ticket) (v : CoordinatorView) (b : Bool)
       → One (if b
       then record {
         written = plain (EndRecord s.own);
         told = None;
-        messages = [];
+        messages = acknowledges_at_last x s o;
         accepts = [];
         counts =
             [];
         view = unknown_view;
       }
       else quiet (record v { owed = left }))
-  ends_by left v true = (wrote_one (EndRecord s.own) false refl refl, tt)
-  ends_by left v false = (wrote_none, tt)
+  ends_by x o left v true = (wrote_one (EndRecord s.own) false refl refl, at_last x o)
+  ends_by x o left v false = (wrote_none, tt)
 
-  acked_by : (t : Ticket) (v : CoordinatorView) (b : Bool)
-      → One (if b then decided_ack_by s (other_tickets t v.owed) v else quiet v)
-  acked_by t v true = ends_by (other_tickets t v.owed) v (none_of (other_tickets t v.owed))
-  acked_by t v false = (wrote_none, tt)
+  acked_by : (x : Version) (o : Outcome) (t : Ticket) (v : CoordinatorView) (b : Bool)
+      → One (if b then decided_ack_by x s o (other_tickets t v.owed) v else quiet v)
+  acked_by x o t v true = ends_by x o (other_tickets t v.owed) v (none_of (other_tickets t v.owed))
+  acked_by x o t v false = (wrote_none, tt)
 
-  acked : (t : Ticket) (o : Outcome) (v : CoordinatorView) (st : Standing) → One (on_ack s t o v st)
-  acked t CommittedOutcome v Committing = acked_by t v (in_list v.owed t)
-  acked t AbortedOutcome v Aborting = acked_by t v (in_list v.owed t)
-  acked t CommittedOutcome v Unknown = (wrote_none, tt)
-  acked t CommittedOutcome v Active = (wrote_none, tt)
-  acked t CommittedOutcome v Collecting = (wrote_none, tt)
-  acked t CommittedOutcome v Prepared = (wrote_none, tt)
-  acked t CommittedOutcome v Aborting = (wrote_none, tt)
-  acked t CommittedOutcome v Heuristic = (wrote_none, tt)
-  acked t AbortedOutcome v Unknown = (wrote_none, tt)
-  acked t AbortedOutcome v Active = (wrote_none, tt)
-  acked t AbortedOutcome v Collecting = (wrote_none, tt)
-  acked t AbortedOutcome v Prepared = (wrote_none, tt)
-  acked t AbortedOutcome v Committing = (wrote_none, tt)
-  acked t AbortedOutcome v Heuristic = (wrote_none, tt)
+  acked : (x : Version) (t : Ticket) (o : Outcome) (v : CoordinatorView) (st : Standing)
+      → One (on_ack x s t o v st)
+  acked x t CommittedOutcome v Committing = acked_by x CommittedOutcome t v (in_list v.owed t)
+  acked x t AbortedOutcome v Aborting = acked_by x AbortedOutcome t v (in_list v.owed t)
+  acked x t CommittedOutcome v Unknown = (wrote_none, tt)
+  acked x t CommittedOutcome v Active = (wrote_none, tt)
+  acked x t CommittedOutcome v Collecting = (wrote_none, tt)
+  acked x t CommittedOutcome v Prepared = (wrote_none, tt)
+  acked x t CommittedOutcome v Aborting = (wrote_none, tt)
+  acked x t CommittedOutcome v Heuristic = (wrote_none, tt)
+  acked x t AbortedOutcome v Unknown = (wrote_none, tt)
+  acked x t AbortedOutcome v Active = (wrote_none, tt)
+  acked x t AbortedOutcome v Collecting = (wrote_none, tt)
+  acked x t AbortedOutcome v Prepared = (wrote_none, tt)
+  acked x t AbortedOutcome v Committing = (wrote_none, tt)
+  acked x t AbortedOutcome v Heuristic = (wrote_none, tt)
 
   on_prepares : (v : CoordinatorView) (st : Standing) → One (on_prepare s v st)
   on_prepares v Active = committed v
@@ -223,23 +240,30 @@ module _ (s : Seat) where
   unknown_commits v PresumeAbort = (wrote_none, sent_up (Ack s.own CommittedOutcome) refl)
   unknown_commits v PresumeCommit = (wrote_none, tt)
 
-  on_commits : (v : CoordinatorView) (st : Standing) → One (on_commit s v st)
-  on_commits v Prepared = passes_commit v s.own.txn.presumption
-  on_commits v Unknown = unknown_commits v s.own.txn.presumption
-  on_commits v Committing = (wrote_none, sent_up (Ack s.own CommittedOutcome) refl)
-  on_commits v Active = (wrote_none, tt)
-  on_commits v Collecting = (wrote_none, tt)
-  on_commits v Aborting = (wrote_none, tt)
-  on_commits v Heuristic = (wrote_none, tt)
+  again : (x : Version) (v : CoordinatorView) → One (committing_commit x s v) × One (aborting_abort x s v)
+  again First v = (
+    (wrote_none, sent_up (Ack s.own CommittedOutcome) refl),
+    (wrote_none, sent_up (Ack s.own AbortedOutcome) refl),
+  )
+  again Second v = ((wrote_none, tt), (wrote_none, tt))
 
-  on_aborts : (v : CoordinatorView) (st : Standing) → One (on_abort s v st)
-  on_aborts v Active = (wrote_none, gave_up v s.own.txn.presumption)
-  on_aborts v Collecting = aborted ByAbort v
-  on_aborts v Prepared = passes_abort v s.own.txn.presumption
-  on_aborts v Aborting = (wrote_none, sent_up (Ack s.own AbortedOutcome) refl)
-  on_aborts v Unknown = (wrote_none, abort_up s.own.txn.presumption)
-  on_aborts v Committing = (wrote_none, tt)
-  on_aborts v Heuristic = (wrote_none, tt)
+  on_commits : (x : Version) (v : CoordinatorView) (st : Standing) → One (on_commit x s v st)
+  on_commits x v Prepared = passes_commit x v s.own.txn.presumption
+  on_commits x v Unknown = unknown_commits v s.own.txn.presumption
+  on_commits x v Committing = (again x v).0
+  on_commits x v Active = (wrote_none, tt)
+  on_commits x v Collecting = (wrote_none, tt)
+  on_commits x v Aborting = (wrote_none, tt)
+  on_commits x v Heuristic = (wrote_none, tt)
+
+  on_aborts : (x : Version) (v : CoordinatorView) (st : Standing) → One (on_abort x s v st)
+  on_aborts x v Active = (wrote_none, gave_up v s.own.txn.presumption)
+  on_aborts x v Collecting = aborted (ByAbort x) v
+  on_aborts x v Prepared = passes_abort x v s.own.txn.presumption
+  on_aborts x v Aborting = (again x v).1
+  on_aborts x v Unknown = (wrote_none, abort_up s.own.txn.presumption)
+  on_aborts x v Committing = (wrote_none, tt)
+  on_aborts x v Heuristic = (wrote_none, tt)
 
   inquired : (t : Ticket) (v : CoordinatorView) (st : Standing) → One (on_inquiry s t v st)
   inquired t v Committing = (wrote_none, (down t (Commit (child_case s.own.txn t)) refl, tt))
@@ -410,14 +434,14 @@ module _ (place : Place) (parent : Option ProcessId) (n : Node) where
       child_row i c x t e (on_vote (seat_of place parent c) t w v v.standing)
       (voted (seat_of place parent c) t w v v.standing)
 
-  acknowledges : (i : Input) (x : Txn) (t : Ticket) (o : Outcome) (d : Option Case)
+  acknowledges : (ver : Version) (i : Input) (x : Txn) (t : Ticket) (o : Outcome) (d : Option Case)
       → case_of_child place n x t ≡ d
-      → W i (Does (ack_for place parent n t o d))
-  acknowledges i x t o None e = writes_nothing refl refl
-  acknowledges i x t o (Some c) e =
+      → W i (Does (ack_for ver place parent n t o d))
+  acknowledges ver i x t o None e = writes_nothing refl refl
+  acknowledges ver i x t o (Some c) e =
       let v = coordinator_view place n c in
-      child_row i c x t e (on_ack (seat_of place parent c) t o v v.standing)
-      (acked (seat_of place parent c) t o v v.standing)
+      child_row i c x t e (on_ack ver (seat_of place parent c) t o v v.standing)
+      (acked (seat_of place parent c) ver t o v v.standing)
 
   inquires : (i : Input) (x : Txn) (t : Ticket) (o : Option Case) → case_of_child place n x t ≡ o
       → W i (Does (inquiry_for place parent n x t o))
@@ -436,24 +460,25 @@ module _ (place : Place) (parent : Option ProcessId) (n : Node) where
       → W i (Does (row_effect d (on_joined t v st)))
   joined_takes i d t v st = let k = takes t v st in writes_nothing k.0 k.1
 
-  pub child_writes : (j : ℕ) (m : Message) → W (MessageInput j m) (Does (hears_from_child place parent n m))
-  child_writes j (Joined d t) = let v = coordinator_view place n d in joined_takes
+  pub child_writes : (ver : Version) (j : ℕ) (m : Message)
+      → W (MessageInput j m) (Does (hears_from_child ver place parent n m))
+  child_writes ver j (Joined d t) = let v = coordinator_view place n d in joined_takes
       (MessageInput j (Joined d t)) d t v v.standing
-  child_writes j (Yes d) = says (MessageInput j (Yes d)) d.txn d.ticket _
+  child_writes ver j (Yes d) = says (MessageInput j (Yes d)) d.txn d.ticket _
       (λ t. votes (MessageInput j (Yes d)) d.txn t VoteYes (case_of_child place n d.txn t) refl)
-  child_writes j (No d) = says (MessageInput j (No d)) d.txn d.ticket _
+  child_writes ver j (No d) = says (MessageInput j (No d)) d.txn d.ticket _
       (λ t. votes (MessageInput j (No d)) d.txn t VoteNo (case_of_child place n d.txn t) refl)
-  child_writes j (Read d) = says (MessageInput j (Read d)) d.txn d.ticket _
+  child_writes ver j (Read d) = says (MessageInput j (Read d)) d.txn d.ticket _
       (λ t. votes (MessageInput j (Read d)) d.txn t VoteRead (case_of_child place n d.txn t) refl)
-  child_writes j (Ack d o) = says (MessageInput j (Ack d o)) d.txn d.ticket _
-      (λ t. acknowledges (MessageInput j (Ack d o)) d.txn t o (case_of_child place n d.txn t) refl)
-  child_writes j (Inquire d) = says (MessageInput j (Inquire d)) d.txn d.ticket _
+  child_writes ver j (Ack d o) = says (MessageInput j (Ack d o)) d.txn d.ticket _
+      (λ t. acknowledges ver (MessageInput j (Ack d o)) d.txn t o (case_of_child place n d.txn t) refl)
+  child_writes ver j (Inquire d) = says (MessageInput j (Inquire d)) d.txn d.ticket _
       (λ t. inquires (MessageInput j (Inquire d)) d.txn t (case_of_child place n d.txn t) refl)
-  child_writes j (Join d) = writes_nothing refl refl
-  child_writes j (Work d k op) = writes_nothing refl refl
-  child_writes j (Prepare d k) = writes_nothing refl refl
-  child_writes j (Commit d) = writes_nothing refl refl
-  child_writes j (Abort d) = writes_nothing refl refl
+  child_writes ver j (Join d) = writes_nothing refl refl
+  child_writes ver j (Work d k op) = writes_nothing refl refl
+  child_writes ver j (Prepare d k) = writes_nothing refl refl
+  child_writes ver j (Commit d) = writes_nothing refl refl
+  child_writes ver j (Abort d) = writes_nothing refl refl
 
 module _ (place : Place) (p : ProcessId) (n : Node) where
   abbrev V : Input → Effect → Type 0
@@ -469,25 +494,26 @@ module _ (place : Place) (p : ProcessId) (n : Node) where
       → V (MessageInput j m) (row_effect d r)
   parent_row d j m f r one = for_parent d j m refl f one.0 one.1
 
-  pub cascaded_writes : (j : ℕ) (m : Message) → V (MessageInput j m) (cascaded_hears place p n m)
-  cascaded_writes j (Join d) =
+  pub cascaded_writes : (ver : Version) (j : ℕ) (m : Message)
+      → V (MessageInput j m) (cascaded_hears ver place p n m)
+  cascaded_writes ver j (Join d) =
       gives_by j d (active_ticket (memory_of place n d).active d) refl
-  cascaded_writes j (Prepare d k) =
+  cascaded_writes ver j (Prepare d k) =
       let v = coordinator_view place n d in
       parent_row d j (Prepare d k) refl (on_prepare (seat_of place (Some p) d) v v.standing)
       (on_prepares (seat_of place (Some p) d) v v.standing)
-  cascaded_writes j (Commit d) =
+  cascaded_writes ver j (Commit d) =
       let v = coordinator_view place n d in
-      parent_row d j (Commit d) refl (on_commit (seat_of place (Some p) d) v v.standing)
-      (on_commits (seat_of place (Some p) d) v v.standing)
-  cascaded_writes j (Abort d) =
+      parent_row d j (Commit d) refl (on_commit ver (seat_of place (Some p) d) v v.standing)
+      (on_commits (seat_of place (Some p) d) ver v v.standing)
+  cascaded_writes ver j (Abort d) =
       let v = coordinator_view place n d in
-      parent_row d j (Abort d) refl (on_abort (seat_of place (Some p) d) v v.standing)
-      (on_aborts (seat_of place (Some p) d) v v.standing)
-  cascaded_writes j (Joined d t) = child_writes place (Some p) n j (Joined d t)
-  cascaded_writes j (Work d k op) = child_writes place (Some p) n j (Work d k op)
-  cascaded_writes j (Yes d) = child_writes place (Some p) n j (Yes d)
-  cascaded_writes j (No d) = child_writes place (Some p) n j (No d)
-  cascaded_writes j (Read d) = child_writes place (Some p) n j (Read d)
-  cascaded_writes j (Ack d o) = child_writes place (Some p) n j (Ack d o)
-  cascaded_writes j (Inquire d) = child_writes place (Some p) n j (Inquire d)
+      parent_row d j (Abort d) refl (on_abort ver (seat_of place (Some p) d) v v.standing)
+      (on_aborts (seat_of place (Some p) d) ver v v.standing)
+  cascaded_writes ver j (Joined d t) = child_writes place (Some p) n ver j (Joined d t)
+  cascaded_writes ver j (Work d k op) = child_writes place (Some p) n ver j (Work d k op)
+  cascaded_writes ver j (Yes d) = child_writes place (Some p) n ver j (Yes d)
+  cascaded_writes ver j (No d) = child_writes place (Some p) n ver j (No d)
+  cascaded_writes ver j (Read d) = child_writes place (Some p) n ver j (Read d)
+  cascaded_writes ver j (Ack d o) = child_writes place (Some p) n ver j (Ack d o)
+  cascaded_writes ver j (Inquire d) = child_writes place (Some p) n ver j (Inquire d)

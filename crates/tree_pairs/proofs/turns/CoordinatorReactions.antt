@@ -163,7 +163,7 @@ module _ (place : Place) (parent : Option ProcessId) (n : Node) (h : Heard) wher
       of_case c _ (vote_turn place parent n h c t w (record { txn = x; hears = i; belongs = e }) _ refl)
 
   ack_effect : (x : Txn) (t : Ticket) (u : Outcome) → Hears h (Ack (child_case x t) u)
-      → (o : Option Case) → case_of_child place n x t ≡ o → E (ack_for place parent n t u o)
+      → (o : Option Case) → case_of_child place n x t ≡ o → E (ack_for h.version place parent n t u o)
   ack_effect x t u i None e = does_nothing (belongs_nowhere (λ d. Ack d u) x t (acknowledged u) i e)
   ack_effect x t u i (Some c) e =
       of_case c _ (ack_turn place parent n h c t u (record { txn = x; hears = i; belongs = e }) _ refl)
@@ -195,7 +195,7 @@ module _ (place : Place) (parent : Option ProcessId) (n : Node) (h : Heard) wher
   IsParents _ = ⊥
 
   child_turn : (j : ℕ) (m : Message) → h.input ≡ MessageInput j m → (IsParents m → IsNotTaken parent m)
-      → E (hears_from_child place parent n m)
+      → E (hears_from_child h.version place parent n m)
   child_turn j (Joined d t) i k = of_case d _ (joined_turn place parent n h d t (j, i) _ refl)
   child_turn j (Yes d) i k = says Yes (votes VoteYes) d.txn d.ticket (j, i) _
       (λ t k. vote_effect d.txn t VoteYes k (case_of_child place n d.txn t) refl)
@@ -226,7 +226,7 @@ module _ (place : Place) (p : ProcessId) (n : Node) (h : Heard) where
   from_parent : (j : ℕ) (m : Message) → h.input ≡ MessageInput j m → HearsParent (Some p) h m
   from_parent j m i = record { from = p; is_parent = refl; hears = (j, i) }
 
-  cascaded_turn : (j : ℕ) (m : Message) → h.input ≡ MessageInput j m → B (cascaded_hears place p n m)
+  cascaded_turn : (j : ℕ) (m : Message) → h.input ≡ MessageInput j m → B (cascaded_hears h.version place p n m)
   cascaded_turn j (Join d) i = gives_by d (j, i) (active_ticket (memory_of place n d).active d) refl
   cascaded_turn j (Prepare d k) i =
       of_case d _ (prepare_turn place (Some p) n h d k (from_parent j (Prepare d k) i) _ refl)
@@ -243,7 +243,7 @@ module _ (place : Place) (p : ProcessId) (n : Node) (h : Heard) where
   cascaded_turn j (Inquire d) i = child_turn place (Some p) n h j (Inquire d) i (λ f. absurd f)
 
 root_message_turn : (place : Place) (n : Node) (h : Heard) (j : ℕ) (m : Message) → h.input ≡ MessageInput j m
-    → CoordinatorTurn place None n h (hears_from_child place None n m)
+    → CoordinatorTurn place None n h (hears_from_child h.version place None n m)
 root_message_turn place n h j m i = child_turn place None n h j m i (untaken m)
   where
     untaken : (x : Message) → IsParents place None n h x → IsNotTaken None x
@@ -281,7 +281,7 @@ module _ (place : Place) (n : Node) (h : Heard) where
   act_by_role (AtLeaf p) a i e same = tt
 
   message_by_role : (role : Role) (j : ℕ) (m : Message) → h.input ≡ MessageInput j m
-      → CoordinatorTurnAt role place n h (hears role place n h.data_answer m)
+      → CoordinatorTurnAt role place n h (hears role h.version place n h.data_answer m)
   message_by_role AtRoot j m i = root_message_turn place n h j m i
   message_by_role (Below p) j m i = cascaded_turn place p n h j m i
   message_by_role (AtLeaf p) j m i = tt
@@ -297,7 +297,7 @@ module _ (place : Place) (n : Node) (h : Heard) where
   act_if_up a i false = unless_refused (acts place.role place n a) (act_by_role place.role a i)
 
   message_if_up : (j : ℕ) (m : Message) → h.input ≡ MessageInput j m → (b : Bool)
-      → AllTurn (if b then Refused Failed else Does (hears place.role place n h.data_answer m))
+      → AllTurn (if b then Refused Failed else Does (hears place.role h.version place n h.data_answer m))
   message_if_up j m i true = tt
   message_if_up j m i false = message_by_role place.role j m i
 

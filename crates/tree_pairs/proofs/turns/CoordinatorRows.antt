@@ -15,10 +15,10 @@ use Rattle.tree_model.specs.declared.standings.Vote.{Vote}
 use Rattle.tree_model.specs.declared.standings.Vote.TheVariants.{Yes as VoteYes, No as VoteNo, Read as VoteRead}
 use Rattle.tree_model.specs.Names.{presumed}
 use Rattle.tree_model.specs.Records.{in_list, none_of}
-use Rattle.tree_model.specs.Nodes.{Place, Node, Heard}
+use Rattle.tree_model.specs.Nodes.{Version, First, Second, Place, Node, Heard}
 use Rattle.tree_model.specs.Memory.{has_child, is_counted, all_voted, yes_of}
 use Rattle.tree_model.specs.Standings.{CoordinatorView, unknown_view, coordinator_view}
-use Rattle.tree_model.specs.CoordinatorRows.{Seat, Row, quiet, sends, tells_outcome, up, plain, Reason, ByAbort, active_commit, active_commit_alone, active_commit_with, active_abort, acknowledges_abort, collecting_abort, collecting_read_only, decides, collecting_full, collecting_after, unknown_commit_by, decided_ack_by, other_tickets, on_vote, on_ack, on_inquiry, on_joined, on_prepare, on_commit, on_abort}
+use Rattle.tree_model.specs.CoordinatorRows.{Seat, Row, quiet, sends, tells_outcome, up, plain, Reason, ByAbort, active_commit, active_commit_alone, active_commit_with, active_abort, acknowledges_abort, collecting_abort, collecting_read_only, decides, collecting_full, collecting_after, unknown_commit_by, decided_ack_by, acknowledges_at_last, committing_commit, aborting_abort, other_tickets, on_vote, on_ack, on_inquiry, on_joined, on_prepare, on_commit, on_abort}
 use Rattle.tree_model.specs.Reactions.{seat_of}
 use Rattle.tree_model.specs.Views.{vote_message}
 use Rattle.tree_pairs.specs.turns.LeafTurns.{Hears}
@@ -110,14 +110,17 @@ module _ (place : Place) (parent : Option ProcessId) (n : Node) (h : Heard) (c :
 
   ends_if : (t : Ticket) (o : Outcome) → HearsChild place n h c t (λ d. Ack d o) → Decided o v.standing
       → in_list v.owed t ≡ true → (b : Bool) → none_of (other_tickets t v.owed) ≡ b
-      → T (if b then record (quiet unknown_view) { written = plain (EndRecord c) }
+      → T (if b then record (quiet unknown_view) {
+        written = plain (EndRecord c);
+        messages = acknowledges_at_last h.version s o;
+      }
       else quiet (record v { owed = other_tickets t v.owed }))
   ends_if t o i d e true f = ends t o i d e f
   ends_if t o i d e false f = waits_for_acks t o i d e f
 
   owed_if : (t : Ticket) (o : Outcome) → HearsChild place n h c t (λ d. Ack d o) → Decided o v.standing
       → (b : Bool) → in_list v.owed t ≡ b
-      → T (if b then decided_ack_by s (other_tickets t v.owed) v else quiet v)
+      → T (if b then decided_ack_by h.version s o (other_tickets t v.owed) v else quiet v)
   owed_if t o i d true e = ends_if t o i d e (none_of (other_tickets t v.owed)) refl
   owed_if t o i d false e = rests (owes_nothing t o i (λ g. e))
 
@@ -132,7 +135,7 @@ module _ (place : Place) (parent : Option ProcessId) (n : Node) (h : Heard) (c :
   unowed t o i st e f = rests (owes_nothing t o i (λ g. absurd (f (subst (λ x. Decided o x) e g))))
 
   pub ack_turn : (t : Ticket) (o : Outcome) → HearsChild place n h c t (λ d. Ack d o) → (st : Standing)
-      → v.standing ≡ st → T (on_ack s t o v st)
+      → v.standing ≡ st → T (on_ack h.version s t o v st)
   ack_turn t CommittedOutcome i Committing e =
       owed_if t CommittedOutcome i (subst (λ x. Decided CommittedOutcome x) (sym e) by_commit) _ refl
   ack_turn t AbortedOutcome i Aborting e =
@@ -213,37 +216,50 @@ module _ (place : Place) (parent : Option ProcessId) (n : Node) (h : Heard) (c :
   prepare_turn k i Heuristic e = rests (prepares_nothing k i (is_not Heuristic Active e (λ f. cc)))
 
   acknowledged : (o : Outcome) → HearsParent parent h (tells_outcome o c) → (st : Standing) → v.standing ≡ st
-      → Acknowledges o c.txn.presumption st
+      → Acknowledges h.version o c.txn.presumption st
       → T (sends (up s (Ack c o)) v)
-  acknowledged o i st e a = acknowledges o i (subst (λ x. Acknowledges o c.txn.presumption x) (sym e) a)
+  acknowledged o i st e a = acknowledges o i (subst (λ x. Acknowledges h.version o c.txn.presumption x) (sym e) a)
 
   unknown_commits : HearsParent parent h (Commit c) → v.standing ≡ Unknown → (p : Presumption)
       → c.txn.presumption ≡ p → T (unknown_commit_by s v p)
   unknown_commits i e PresumeAbort f = acknowledged CommittedOutcome i Unknown e
-      (subst (λ x. Acknowledges CommittedOutcome x Unknown) (sym f) commit_presumed_abort)
+      (subst (λ x. Acknowledges h.version CommittedOutcome x Unknown) (sym f) (commit_presumed_abort h.version))
   unknown_commits i e PresumeCommit f = rests (commits_nothing i)
 
   unknown_aborts : HearsParent parent h (Abort c) → v.standing ≡ Unknown → (p : Presumption)
       → c.txn.presumption ≡ p → T (sends (acknowledges_abort s p) v)
   unknown_aborts i e PresumeCommit f = acknowledged AbortedOutcome i Unknown e
-      (subst (λ x. Acknowledges AbortedOutcome x Unknown) (sym f) abort_presumed_commit)
+      (subst (λ x. Acknowledges h.version AbortedOutcome x Unknown) (sym f) (abort_presumed_commit h.version))
   unknown_aborts i e PresumeAbort f =
       rests (aborts_nothing i (is_not Unknown Active e (λ g. cc)) (is_not Unknown Collecting e (λ g. cc)))
 
-  pub commit_turn : HearsParent parent h (Commit c) → (st : Standing) → v.standing ≡ st → T (on_commit s v st)
+  committing_turn : HearsParent parent h (Commit c) → v.standing ≡ Committing → (x : Version) → h.version ≡ x
+      → T (committing_commit x s v)
+  committing_turn i e First f = acknowledged CommittedOutcome i Committing e
+      (subst (λ y. Acknowledges y CommittedOutcome c.txn.presumption Committing) (sym f) (commit_again _))
+  committing_turn i e Second f = rests (commits_nothing i)
+
+  aborting_turn : HearsParent parent h (Abort c) → v.standing ≡ Aborting → (x : Version) → h.version ≡ x
+      → T (aborting_abort x s v)
+  aborting_turn i e First f = acknowledged AbortedOutcome i Aborting e
+      (subst (λ y. Acknowledges y AbortedOutcome c.txn.presumption Aborting) (sym f) (abort_again _))
+  aborting_turn i e Second f =
+      rests (aborts_nothing i (is_not Aborting Active e (λ g. cc)) (is_not Aborting Collecting e (λ g. cc)))
+
+  pub commit_turn : HearsParent parent h (Commit c) → (st : Standing) → v.standing ≡ st → T (on_commit h.version s v st)
   commit_turn i Prepared e = passes_commit c.txn.presumption i e refl
-  commit_turn i Committing e = acknowledged CommittedOutcome i Committing e (commit_again _)
+  commit_turn i Committing e = committing_turn i e h.version refl
   commit_turn i Unknown e = unknown_commits i e c.txn.presumption refl
   commit_turn i Active e = rests (commits_nothing i)
   commit_turn i Collecting e = rests (commits_nothing i)
   commit_turn i Aborting e = rests (commits_nothing i)
   commit_turn i Heuristic e = rests (commits_nothing i)
 
-  pub abort_turn : HearsParent parent h (Abort c) → (st : Standing) → v.standing ≡ st → T (on_abort s v st)
-  abort_turn i Active e = aborts_active ByAbort (abort_comes i.from i.is_parent i.hears) e
-  abort_turn i Collecting e = aborts_collecting ByAbort (abort_comes i.from i.is_parent i.hears) e
+  pub abort_turn : HearsParent parent h (Abort c) → (st : Standing) → v.standing ≡ st → T (on_abort h.version s v st)
+  abort_turn i Active e = aborts_active (ByAbort h.version) (abort_comes i.from i.is_parent i.hears) e
+  abort_turn i Collecting e = aborts_collecting (ByAbort h.version) (abort_comes i.from i.is_parent i.hears) e
   abort_turn i Prepared e = passes_abort c.txn.presumption i e refl
-  abort_turn i Aborting e = acknowledged AbortedOutcome i Aborting e (abort_again _)
+  abort_turn i Aborting e = aborting_turn i e h.version refl
   abort_turn i Unknown e = unknown_aborts i e c.txn.presumption refl
   abort_turn i Committing e =
       rests (aborts_nothing i (is_not Committing Active e (λ g. cc))

@@ -106,13 +106,13 @@ module _ (place : Place) (n : Node) (h : Heard) where
   act_at a i (AtLeaf p) e same = does_leaf p _ (act_turn place p n h a i) e same
 
   message_at : (j : ℕ) (m : Message) → h.input ≡ MessageInput j m → (role : Role) (e : Effect)
-      → Does (hears role place n h.data_answer m) ≡ Does e → TurnAt role place n h e
+      → Does (hears role h.version place n h.data_answer m) ≡ Does e → TurnAt role place n h e
   message_at j m i AtRoot e same = does_writes None _
-      (subst (λ (x : Input). WritesBy place None n x (Does (hears AtRoot place n h.data_answer m))) (sym i)
-      (child_writes place None n j m)) e same
+      (subst (λ (x : Input). WritesBy place None n x (Does (hears AtRoot h.version place n h.data_answer m))) (sym i)
+      (child_writes place None n h.version j m)) e same
   message_at j m i (Below p) e same = does_writes (Some p) _
-      (subst (λ (x : Input). WritesBy place (Some p) n x (Does (hears (Below p) place n h.data_answer m)))
-      (sym i) (cascaded_writes place p n j m)) e same
+      (subst (λ (x : Input). WritesBy place (Some p) n x (Does (hears (Below p) h.version place n h.data_answer m)))
+      (sym i) (cascaded_writes place p n h.version j m)) e same
   message_at j m i (AtLeaf p) e same = does_leaf p _ (message_turn place p n h j m i) e same
 
   act_up : (a : Act) → h.input ≡ ActInput a → (b : Bool) → n.failed ≡ b
@@ -121,9 +121,9 @@ module _ (place : Place) (n : Node) (h : Heard) where
   act_up a i false up = leaf_turns up (acts place.role place n a) (act_at a i place.role)
 
   message_up : (j : ℕ) (m : Message) → h.input ≡ MessageInput j m → (b : Bool) → n.failed ≡ b
-      → A (if b then Refused Failed else Does (hears place.role place n h.data_answer m))
+      → A (if b then Refused Failed else Does (hears place.role h.version place n h.data_answer m))
   message_up j m i true up = tt
-  message_up j m i false up = leaf_turns up (Does (hears place.role place n h.data_answer m))
+  message_up j m i false up = leaf_turns up (Does (hears place.role h.version place n h.data_answer m))
       (message_at j m i place.role)
 
   by_input : (i : Input) → h.input ≡ i → A (handles place n h i)

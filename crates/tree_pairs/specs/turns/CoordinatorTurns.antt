@@ -21,10 +21,10 @@ use Rattle.tree_model.specs.declared.events.Act.TheVariants.{Begin, Join as Join
 use Rattle.tree_model.specs.declared.events.Input.TheVariants.{Act as ActInput}
 use Rattle.tree_model.specs.Names.{root_case, child_case, presumed}
 use Rattle.tree_model.specs.Records.{boot_of, in_list, none_of}
-use Rattle.tree_model.specs.Nodes.{Place, Node, kept, Heard, Effect, no_effect, is_child, is_leaf, role_of}
+use Rattle.tree_model.specs.Nodes.{Version, First, Second, Place, Node, kept, Heard, Effect, no_effect, is_child, is_leaf, role_of}
 use Rattle.tree_model.specs.Memory.{has_child, is_counted, all_voted, yes_of, undecided_of, memory_of, active_ticket, next_ticket, ticket_of_child}
 use Rattle.tree_model.specs.Standings.{CoordinatorView, unknown_view, coordinator_view, case_of_child}
-use Rattle.tree_model.specs.CoordinatorRows.{Row, quiet, sends, post, plain, up, each, to_child, tells_outcome, Reason, ByVote, ByAct, ByAbort, active_work, active_commit_alone, active_commit_with, active_abort, acknowledges_abort, collecting_abort_by, collecting_read_only, read_only_end, root_commits, cascaded_prepares, prepared_commit_by, prepared_abort_by, other_tickets}
+use Rattle.tree_model.specs.CoordinatorRows.{Row, quiet, sends, post, plain, up, each, to_child, tells_outcome, Reason, ByVote, ByAct, ByAbort, active_work, active_commit_alone, active_commit_with, active_abort, acknowledges_abort, collecting_abort_by, collecting_read_only, read_only_end, root_commits, cascaded_prepares, prepared_commit_by, prepared_abort_by, acknowledges_at_last, other_tickets}
 use Rattle.tree_model.specs.Reactions.{seat_of, row_effect, sends_only}
 use Rattle.tree_model.specs.Views.{begin_effect, next_begun, vote_message}
 use Rattle.tree_pairs.specs.turns.LeafTurns.{Hears}
@@ -37,7 +37,7 @@ pub data IsToCommit (parent : Option ProcessId) (h : Heard) (c : Case) : Type 0 
 -- the case is to abort: by the abort act, or by ABORT of its parent
 pub data IsToAbort (parent : Option ProcessId) (h : Heard) (c : Case) : Reason → Type 0 where
   abort_act : (x : Txn) → c ≡ root_case x → h.input ≡ ActInput (AbortAct x) → IsToAbort parent h c ByAct
-  abort_comes : (p : ProcessId) → parent ≡ Some p → Hears h (Abort c) → IsToAbort parent h c ByAbort
+  abort_comes : (p : ProcessId) → parent ≡ Some p → Hears h (Abort c) → IsToAbort parent h c (ByAbort h.version)
 
 -- a child speaks of its ticket, which belongs to the case
 pub record HearsChild (place : Place) (n : Node) (h : Heard) (c : Case) (t : Ticket)
@@ -52,12 +52,13 @@ pub record HearsParent (parent : Option ProcessId) (h : Heard) (m : Message) : T
   pub is_parent : parent ≡ Some from
   pub hears : Hears h m
 
--- a case that stands so acknowledges the outcome: it was decided so, or is unknown, and the other is presumed
-pub data Acknowledges : Outcome → Presumption → Standing → Type 0 where
-  commit_presumed_abort : Acknowledges CommittedOutcome PresumeAbort Unknown
-  commit_again : (p : Presumption) → Acknowledges CommittedOutcome p Committing
-  abort_presumed_commit : Acknowledges AbortedOutcome PresumeCommit Unknown
-  abort_again : (p : Presumption) → Acknowledges AbortedOutcome p Aborting
+-- a case that stands so acknowledges the outcome: it is unknown, and the other is presumed; or, by the first version, it was
+-- decided so
+pub data Acknowledges : Version → Outcome → Presumption → Standing → Type 0 where
+  commit_presumed_abort : (v : Version) → Acknowledges v CommittedOutcome PresumeAbort Unknown
+  commit_again : (p : Presumption) → Acknowledges First CommittedOutcome p Committing
+  abort_presumed_commit : (v : Version) → Acknowledges v AbortedOutcome PresumeCommit Unknown
+  abort_again : (p : Presumption) → Acknowledges First AbortedOutcome p Aborting
 
 -- a case that stands so promises nothing any more
 pub data Refuses : Standing → Type 0 where
@@ -202,11 +203,11 @@ pub data CaseTurn (place : Place) (parent : Option ProcessId) (n : Node) (h : He
   -- Prepared: the outcome comes, or the parent is asked for it
   passes_commit : (p : Presumption) → HearsParent parent h (Commit c)
       → (coordinator_view place n c).standing ≡ Prepared → c.txn.presumption ≡ p
-      → CaseTurn place parent n h c (prepared_commit_by (seat_of place parent c)
+      → CaseTurn place parent n h c (prepared_commit_by h.version (seat_of place parent c)
       (coordinator_view place n c) p)
   passes_abort : (p : Presumption) → HearsParent parent h (Abort c)
       → (coordinator_view place n c).standing ≡ Prepared → c.txn.presumption ≡ p
-      → CaseTurn place parent n h c (prepared_abort_by (seat_of place parent c)
+      → CaseTurn place parent n h c (prepared_abort_by h.version (seat_of place parent c)
       (coordinator_view place n c) p)
   repeats_yes : (k : ℕ) → HearsParent parent h (Prepare c k)
       → (coordinator_view place n c).standing ≡ Prepared
@@ -220,7 +221,7 @@ pub data CaseTurn (place : Place) (parent : Option ProcessId) (n : Node) (h : He
       → CaseTurn place parent n h c
       (sends (up (seat_of place parent c) (No c)) (coordinator_view place n c))
   acknowledges : (o : Outcome) → HearsParent parent h (tells_outcome o c)
-      → Acknowledges o c.txn.presumption (coordinator_view place n c).standing
+      → Acknowledges h.version o c.txn.presumption (coordinator_view place n c).standing
       → CaseTurn place parent n h c
       (sends (up (seat_of place parent c) (Ack c o)) (coordinator_view place n c))
   -- an acknowledgement that is owed comes: others are still owed, or it ends the case
@@ -236,7 +237,11 @@ pub data CaseTurn (place : Place) (parent : Option ProcessId) (n : Node) (h : He
       → Decided o (coordinator_view place n c).standing
       → in_list (coordinator_view place n c).owed t ≡ true
       → none_of (other_tickets t (coordinator_view place n c).owed) ≡ true
-      → CaseTurn place parent n h c (record (quiet unknown_view) { written = plain (EndRecord c) })
+      → CaseTurn place parent n h c
+      (record (quiet unknown_view) {
+        written = plain (EndRecord c);
+        messages = acknowledges_at_last h.version (seat_of place parent c) o;
+      })
   -- a child asks for the outcome
   answers : (t : Ticket) (o : Outcome) → HearsChild place n h c t Inquire
       → Answers c.txn.presumption (coordinator_view place n c).standing o

@@ -9,12 +9,13 @@ use Rattle.tree_model.specs.declared.messages.Envelope.{Envelope}
 use Rattle.tree_model.specs.declared.events.Happening.{Happening}
 use Rattle.tree_model.specs.declared.events.Input.{Input}
 use Rattle.tree_model.specs.declared.events.Input.TheVariants.{Act as ActInput, Message as MessageInput}
+use Rattle.tree_model.specs.declared.records.Record.{Record}
 use Rattle.tree_model.specs.declared.trees.TreeEntry.{TreeEntry}
 use Rattle.tree_model.specs.Names.{child_case}
-use Rattle.tree_model.specs.Records.{is_prepare}
+use Rattle.tree_model.specs.Records.{has, is_abort, is_commit, is_prepare}
 use Rattle.tree_model.specs.Memory.{Asked, memory_of}
 use Rattle.tree_model.specs.Nodes.{Below, Effect, Heard, Node, Place, Role, after, entries_written, fails_in, is_any_forced, kept, place_of, role_of, IsCoordinator}
-use Rattle.tree_model.specs.Outcomes.{sent}
+use Rattle.tree_model.specs.Outcomes.{is_joined_message, sent}
 use Rattle.tree_model.specs.Reactions.{is_early_ack, passes_at}
 use Rattle.tree_model.specs.Restarts.{restart_fails, trim_fails, trims}
 use Rattle.tree_model.specs.Standings.{coordinator_view}
@@ -30,10 +31,12 @@ use Rattle.tree_nodes.specs.CaseOrder.{CaseInOrder}
 use Rattle.tree_nodes.specs.Lasts.{Coordinates as CoordinatorLogs, Lasts, Logs, Nested, logs_of}
 use Rattle.tree_nodes.specs.Numbers.{IsIssuer, Numbers}
 use Rattle.tree_nodes.specs.ProcessSteps.{ChildStep, seen_above}
-use Rattle.tree_nodes.specs.WorldHolds.{AllGo, InvariantOf, IsChildRole, IsFree, IsPair, RoleHolds, gives_other}
+use Rattle.tree_nodes.specs.WorldHolds.{AllGo, InvariantOf, IsChildRole, IsFree, IsPair, RoleHolds, gives_other, is_record_of}
 use Rattle.tree_nodes.proofs.Appends.{either_logs}
 use Rattle.tree_nodes.proofs.CaseOrders.{AllFit}
 use Rattle.tree_nodes.proofs.ChildOf.{NoBranch, no_branch}
+use Rattle.tree_nodes.proofs.PairOf.{given}
+use Rattle.tree_nodes.proofs.Worlds.{has_other}
 use Rattle.tree_nodes.proofs.CoordinatorLogs.{all_fit, cases_in_order}
 use Rattle.tree_nodes.proofs.CoordinatorsHold.{cascaded_nodes_hold}
 use Rattle.tree_nodes.proofs.Levels.{parent_elsewhere}
@@ -142,6 +145,21 @@ module _ (c : Case) (t : Ticket) (p : ProcessId) (tree : List TreeEntry) (n : No
       either_logs n (entries_written e.written) (is_any_forced e.written) (λ (l : Logs). l.failed ≡ false)
       (λ b. up) (λ b. up)
 
+  recorded_issued : (f : Record → Bool) → ((r : Record) → f r ≡ true → is_record_of d r ≡ true)
+      → has f (kept n) ≡ true → v.issued ≡ true
+  recorded_issued f g e =
+      let a = known.keeps.issues.recorded_is_given d (known.nested.kept_was_written (is_record_of d) (λ k. refl)
+      (has_other f (is_record_of d) (kept n) g e)) in
+      let y = given net c.txn t a.1 in
+      subst (λ (x : Case). sent (is_joined_message x t) net ≡ true)
+      (restarts.joined_to net c y.of t free y.joined) y.joined
+
+  commit_of : (r : Record) → is_commit d r ≡ true → is_record_of d r ≡ true
+  commit_of r e = grind arith
+
+  abort_of : (r : Record) → is_abort d r ≡ true → is_record_of d r ≡ true
+  abort_of r e = grind arith
+
   abbrev row_turn : InvariantOf pr (R q v) → (h : Heard) → n.failed ≡ false
       → InputStands net t.child h.input → IsRow h.input
       → Turn
@@ -161,6 +179,8 @@ module _ (c : Case) (t : Ticket) (p : ProcessId) (tree : List TreeEntry) (n : No
     alike = known.alike up d;
     order = known.order d;
     end_decided = known.ends d;
+    commit_given = recorded_issued (is_commit d) commit_of;
+    abort_given = recorded_issued (is_abort d) abort_of;
     asked = known.asked up d;
     stands = here;
     row = row;

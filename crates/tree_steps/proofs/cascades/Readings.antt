@@ -80,6 +80,10 @@ module _ (root outcome above : Bool) (p : ParentHalf) (q : OwnHalf) (v : Wire) w
     reading-aborted_acknowledged b = rw (none_kept, none_ever, issued, no_read, dead-now)
         (simp (and-false, or-true))
 
+    pub reading-aborted_waits : (b : Bool) → R (stands_so false (hardens (aborts b q))) v
+        ≡ move.drops (move.hardens_child (R q v))
+    reading-aborted_waits b = rw (none_kept, none_ever, issued, no_read, dead-now) (simp (and-false, or-true))
+
     pub reading-no : (b : Bool) → R (stands_so false (aborts b q)) (record v { no = true })
         ≡ move.votes_no (R q v)
     reading-no b = rw (none_kept, none_ever, issued, no_read, dead-now) (simp (and-false, or-true))
@@ -102,6 +106,14 @@ module _ (root outcome above : Bool) (p : ParentHalf) (q : OwnHalf) (v : Wire) w
     pub reading-commit_forced : R (stands_so false (hardens (commits q))) (record v { ack = true })
         ≡ move.commits_forced (move.hardens_child (R q v))
     reading-commit_forced = rw (closed, kept) (simp (or_twice, and-false, dead-promised))
+
+    pub reading-commit_waits : R (stands_so false (hardens (commits q))) v
+        ≡ move.learns_commit_forced (move.hardens_child (R q v))
+    reading-commit_waits = rw (closed, kept) (simp (or_twice, and-false, dead-promised))
+
+    pub reading-abort_waits : R (stands_so false (hardens (aborts true q))) v
+        ≡ move.learns_abort_forced (move.hardens_child (R q v))
+    reading-abort_waits = rw (closed, kept) (simp (and-false))
 
     pub reading-commit_plain : R (stands_so false (commits q)) v ≡ move.commits (R q v)
     reading-commit_plain = rw (closed, kept) (simp (and-false, dead-promised))

@@ -101,7 +101,7 @@ gives_another c x t e (Joined d u) f =
     and_not a b e f = grind arith
 gives_another c x t e m f = absurd (cc)
 
-joined_to : (net : List Envelope) (c x : Case) (t : Ticket) → IsFree net c t
+pub joined_to : (net : List Envelope) (c x : Case) (t : Ticket) → IsFree net c t
     → sent (is_joined_message x t) net ≡ true → x ≡ c
 joined_to net c x t free e = elim (same_case_tells x c) [
   | inl s ↦ s.1

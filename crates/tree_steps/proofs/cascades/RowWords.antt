@@ -1,7 +1,7 @@
 -- Which inputs of a cascaded coordinator say READ of a case, promise it, or collect its votes: it was open,
 -- and READ and
 -- the promise close it.
-use Rattle.std.proofs.Common.{◌≡◌, ◌∙◌, inl, inr, Bool, true, false, Some, None, List, [], ◌∷◌, ◌++◌, map, refl, sym, ap, subst}
+use Rattle.std.proofs.Common.{◌≡◌, ◌∙◌, inl, inr, Bool, true, false, Some, None, List, [], ◌∷◌, ◌++◌, map, refl, sym, ap, subst, if◌then◌else◌}
 use Rattle.tree_model.specs.declared.names.Case.{Case}
 use Rattle.tree_model.specs.declared.names.Outcome.{Outcome}
 use Rattle.tree_model.specs.declared.names.Outcome.TheVariants.{Committed as CommittedOutcome, Aborted as AbortedOutcome}
@@ -20,9 +20,9 @@ use Rattle.tree_model.specs.declared.trees.TreeEntry.{TreeEntry}
 use Rattle.tree_model.specs.Names.{child_case, presumed, root_case, same_case}
 use Rattle.tree_model.specs.NameLaws.{same_case_tells}
 use Rattle.tree_model.specs.Records.{boot_of, has, is_collecting, is_prepare, none_of}
-use Rattle.tree_model.specs.CoordinatorRows.{ByAbort, ByAct, ByVote, Reason, Row, Seat, abort_heard_above, acknowledges_abort, active_commit_alone, active_commit_with, cascaded_prepares, collecting_read_only, each, forced, post, read_only_end, tells_outcome}
+use Rattle.tree_model.specs.CoordinatorRows.{abort_answered, ByAbort, ByAct, ByVote, Reason, Row, Seat, abort_heard_above, acknowledges_abort, acknowledges_at_last, acknowledges_at_once, active_commit_alone, active_commit_with, cascaded_prepares, collecting_read_only, each, forced, post, read_only_end, tells_outcome}
 use Rattle.tree_model.specs.Memory.{Idle, cascaded_remembers, memory_of, works_of}
-use Rattle.tree_model.specs.Nodes.{Below, Effect, Heard, Node, Place, entries_written, kept}
+use Rattle.tree_model.specs.Nodes.{Version, First, Second, Below, Effect, Heard, Node, Place, entries_written, kept}
 use Rattle.tree_model.specs.Outcomes.{is_read_message, sent}
 use Rattle.tree_model.specs.Reactions.{row_effect, seat_of}
 use Rattle.tree_model.specs.Standings.{CoordinatorView, coordinator_view}
@@ -110,11 +110,32 @@ module _ (c : Case) where
 
   heard_above : (me p : ProcessId) (x : Case) (why : Reason) (us : List Ticket)
       → (let s : Seat = record { me = me; parent = Some p; own = x } in
-      sent (is_read_message c) (abort_heard_above s why ++ each s Abort us) ≡ false)
+      sent (is_read_message c) (abort_heard_above s why us ++ each s Abort us) ≡ false)
   heard_above me p x ByVote us =
       no_unread me p x _ (each_unread (record { me = me; parent = Some p; own = x }) AbortedOutcome us)
   heard_above me p x ByAct us = each_unread (record { me = me; parent = Some p; own = x }) AbortedOutcome us
-  heard_above me p x ByAbort us = acknowledged me p x x.txn.presumption us
+  heard_above me p x (ByAbort First) us = acknowledged me p x x.txn.presumption us
+  heard_above me p x (ByAbort Second) us = by_test (none_of us)
+    where
+      by_test : (b : Bool)
+          → (let s : Seat = record { me = me; parent = Some p; own = x } in
+          sent (is_read_message c) ((if b then acknowledges_abort s x.txn.presumption else []) ++ each s Abort us)
+          ≡ false)
+      by_test true = acknowledged me p x x.txn.presumption us
+      by_test false = each_unread (record { me = me; parent = Some p; own = x }) AbortedOutcome us
+
+  at_once : (me p : ProcessId) (x : Case) (ver : Version) (o : Outcome) (rest : List Envelope)
+      → sent (is_read_message c) rest ≡ false
+      → sent (is_read_message c)
+      (acknowledges_at_once ver (record { me = me; parent = Some p; own = x }) o ++ rest) ≡ false
+  at_once me p x First o rest f = ack_unread me p x o rest f
+  at_once me p x Second o rest f = f
+
+  at_last : (me p : ProcessId) (x : Case) (ver : Version) (o : Outcome)
+      → sent (is_read_message c) (acknowledges_at_last ver (record { me = me; parent = Some p; own = x }) o) ≡ false
+  unfolding sent has
+  at_last me p x First o = refl
+  at_last me p x Second o = refl
 
 module _ (me p : ProcessId) (tree : List TreeEntry) (n : Node) (h : Heard) (net : List Envelope)
     (alike : (c : Case) → IsOpenAlike (record { me = me; role = Below p; tree = tree }) n c)
@@ -276,7 +297,7 @@ module _ (me p : ProcessId) (tree : List TreeEntry) (n : Node) (h : Heard) (net 
       (heard_above c me p x why us) refl refl
   row_words x r (passes_commit PresumeAbort i e f) =
       unread (row_effect x r)
-      (ack_unread c me p x CommittedOutcome (each (seat x) Commit (view x).promised)
+      (at_once c me p x h.version CommittedOutcome (each (seat x) Commit (view x).promised)
       (each_unread c (seat x) CommittedOutcome (view x).promised)) refl refl
   row_words x r (passes_commit PresumeCommit i e f) =
       unread (row_effect x r) (each_unread c (seat x) CommittedOutcome (view x).promised) refl refl
@@ -284,14 +305,14 @@ module _ (me p : ProcessId) (tree : List TreeEntry) (n : Node) (h : Heard) (net 
       unread (row_effect x r) (each_unread c (seat x) AbortedOutcome (view x).promised) refl refl
   row_words x r (passes_abort PresumeCommit i e f) =
       unread (row_effect x r)
-      (ack_unread c me p x AbortedOutcome (each (seat x) Abort (view x).promised)
+      (at_once c me p x h.version AbortedOutcome (each (seat x) Abort (view x).promised)
       (each_unread c (seat x) AbortedOutcome (view x).promised)) refl refl
   row_words x r (repeats_yes j i e) = unread (row_effect x r) refl refl refl
   row_words x r (asks i e) = unread (row_effect x r) refl refl refl
   row_words x r (refuses j i e) = unread (row_effect x r) refl refl refl
   row_words x r (acknowledges o i e) = unread (row_effect x r) refl refl refl
   row_words x r (waits_for_acks u o i e f g) = unread (row_effect x r) refl refl refl
-  row_words x r (ends u o i e f g) = unread (row_effect x r) refl refl refl
+  row_words x r (ends u o i e f g) = unread (row_effect x r) (at_last c me p x h.version o) refl refl
   row_words x r (answers u o i e) = unread (row_effect x r) (message_unread c me u.child o _) refl refl
 
   pub turn_words : (e : Effect) → CoordinatorTurn place (Some p) n h e → Says e

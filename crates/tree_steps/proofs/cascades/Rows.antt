@@ -1,5 +1,5 @@
 -- Every row of a cascaded coordinator, of the pair's case and of any other, keeps the pair's invariant.
-use Rattle.std.proofs.Common.{◌≡◌, ◌∙◌, inl, inr, ℕ, false, Some, List, [], ◌∷◌, ◌++◌, refl, sym, subst}
+use Rattle.std.proofs.Common.{◌≡◌, ◌∙◌, inl, inr, ℕ, Bool, true, false, Some, List, [], ◌∷◌, ◌++◌, refl, sym, subst, if◌then◌else◌}
 use Rattle.tree_model.specs.declared.names.Case.{Case}
 use Rattle.tree_model.specs.declared.names.Outcome.{Outcome}
 use Rattle.tree_model.specs.declared.names.Outcome.TheVariants.{Committed as CommittedOutcome, Aborted as AbortedOutcome}
@@ -14,8 +14,9 @@ use Rattle.tree_model.specs.declared.records.Record.TheVariants.{Collecting as C
 use Rattle.tree_model.specs.declared.events.Input.TheVariants.{Message as MessageInput}
 use Rattle.tree_model.specs.Names.{presumed, same_case}
 use Rattle.tree_model.specs.NameLaws.{same_case_tells}
-use Rattle.tree_model.specs.CoordinatorRows.{Row, Reason, ByAct, ByAbort, ByVote, Seat, abort_heard_above, acknowledges_abort, each, post, tells_outcome}
-use Rattle.tree_model.specs.Nodes.{Effect, Place}
+use Rattle.tree_model.specs.CoordinatorRows.{abort_answered, acknowledges_at_once, acknowledges_at_last, Row, Reason, ByAct, ByAbort, ByVote, Seat, abort_heard_above, acknowledges_abort, each, post, tells_outcome}
+use Rattle.tree_model.specs.Records.{none_of}
+use Rattle.tree_model.specs.Nodes.{Version, First, Second, Effect, Place}
 use Rattle.tree_model.specs.Reactions.{row_effect, seat_of}
 use Rattle.tree_model.specs.Standings.{CoordinatorView, coordinator_view}
 use Rattle.tree_pairs.specs.turns.CoordinatorTurns.{CaseTurn, CoordinatorTurn, abort_act, abort_comes, accepts, acknowledges, answers, asks, asks_for_votes, aborts, begins, commit_act, commits, counts_vote, does_nothing, ends, finds_nobody, gives_again, gives_fresh, gives_up, hears_no, invites, of_case, passes_abort, passes_commit, prepare_comes, presumes, promises, reads_only, refuses, repeats_yes, rests, sends_work, waits_for_acks}
@@ -24,7 +25,7 @@ use Rattle.tree_steps.proofs.cascades.Messages as words
 use Rattle.tree_steps.proofs.cascades.Messages.{IsSilent, nothing, said_by}
 use Rattle.tree_steps.proofs.cascades.Opens.{IsRow}
 use Rattle.tree_steps.proofs.cascades.Turns.{Fine, Then, Turn, d as own_case, forced_aside, place as place_in, plain_aside, quiet_turn}
-use Rattle.tree_steps.proofs.cascades.TurnsDecided.{acknowledges_own, asks_own, passes_abort_own, passes_commit_own, refuses_own, repeats_yes_own}
+use Rattle.tree_steps.proofs.cascades.TurnsDecided.{acknowledges_own, asks_own, ends_own, passes_abort_own, passes_commit_own, refuses_own, repeats_yes_own}
 use Rattle.tree_steps.proofs.cascades.TurnsVoted.{aborts_own, gives_up_own, hears_no_own, promises_own, reads_only_own}
 use Rattle.tree_steps.proofs.cascades.TurnsVotes.{finds_nobody_own, no_root}
 
@@ -79,17 +80,15 @@ module _ (turn : Turn) where
       promises_own turn u w ys i k
   own_row _ (hears_no u us x i e f) k = hears_no_own turn u us x i k
   own_row _ (aborts _ us x (abort_act y e i) f g l) k = no_root c t y e
-  own_row _ (aborts _ us x (abort_comes y e i) f g l) k = aborts_own turn i.0 i.1 us x l f k
-  own_row _ (passes_commit x i e f) k = passes_commit_own turn i.hears.0 i.hears.1 x f e k
-  own_row _ (passes_abort x i e f) k = passes_abort_own turn i.hears.0 i.hears.1 x f e k
+  own_row _ (aborts _ us x (abort_comes y e i) f g l) k = aborts_own turn h.version i.0 i.1 us x l f k
+  own_row _ (passes_commit x i e f) k = passes_commit_own turn h.version i.hears.0 i.hears.1 x f e k
+  own_row _ (passes_abort x i e f) k = passes_abort_own turn h.version i.hears.0 i.hears.1 x f e k
   own_row _ (repeats_yes j i e) k = repeats_yes_own turn i.hears.0 j i.hears.1 e k
   own_row _ (asks i e) k = asks_own turn e k
   own_row _ (refuses j i e) k = refuses_own turn i.hears.0 j i.hears.1 e k
   own_row _ (acknowledges o i e) k = acknowledges_own turn i.hears.0 o i.hears.1 e k
   own_row _ (waits_for_acks u o i e f g) k = quiet_turn turn _ k refl (words.none_silent c t)
-  own_row _ (ends u o i e f g) k =
-      plain_aside turn _ k (EndRecord d) refl (λ x. refl)
-      (record { no_prepare = refl; no_commit = refl; no_abort = refl }) (words.none_silent c t)
+  own_row _ (ends u o i e f g) k = ends_own turn h.version o e k
   own_row _ (answers u o i e) k = quiet_turn turn _ k refl (message_down o u.child _)
 
   -- Rows of another case.
@@ -122,10 +121,25 @@ module _ (turn : Turn) where
     acknowledged PresumeCommit us = up_ack AbortedOutcome (each (seat x) Abort us) (aborts_down us)
 
     heard_above : (why : Reason) (us : List Ticket)
-        → Silent (abort_heard_above (seat x) why ++ each (seat x) Abort us)
+        → Silent (abort_heard_above (seat x) why us ++ each (seat x) Abort us)
     heard_above ByVote us = up_no (each (seat x) Abort us) (aborts_down us)
     heard_above ByAct us = aborts_down us
-    heard_above ByAbort us = acknowledged x.txn.presumption us
+    heard_above (ByAbort First) us = acknowledged x.txn.presumption us
+    heard_above (ByAbort Second) us = by_test (none_of us)
+      where
+        by_test : (b : Bool)
+            → Silent ((if b then acknowledges_abort (seat x) x.txn.presumption else []) ++ each (seat x) Abort us)
+        by_test true = acknowledged x.txn.presumption us
+        by_test false = aborts_down us
+
+    at_once : (ver : Version) (o : Outcome) (ls : List Envelope) → Silent ls
+        → Silent (acknowledges_at_once ver (seat x) o ++ ls)
+    at_once First o ls s = up_ack o ls s
+    at_once Second o ls s = s
+
+    at_last : (ver : Version) (o : Outcome) → Silent (acknowledges_at_last ver (seat x) o)
+    at_last First o = words.none_silent c t
+    at_last Second o = up_ack o [] (words.none_silent c t)
 
     aside_promise : (ts : List Ticket) → IsAside (own_case turn) (PrepareRecord x ts)
     aside_promise ts = record { no_prepare = other; no_commit = refl; no_abort = refl }
@@ -169,7 +183,7 @@ module _ (turn : Turn) where
     other_row _ (passes_commit PresumeAbort i e f) k =
         forced_aside turn _ k (CommitRecord x (view x).promised) refl (λ y. refl)
         (aside_commit (view x).promised)
-        (up_ack CommittedOutcome _ (words.each_silent c t (seat x) CommittedOutcome (view x).promised))
+        (at_once h.version CommittedOutcome _ (words.each_silent c t (seat x) CommittedOutcome (view x).promised))
     other_row _ (passes_commit PresumeCommit i e f) k =
         plain_aside turn _ k (CommitRecord x []) refl (λ y. refl) (aside_commit [])
         (words.each_silent c t (seat x) CommittedOutcome (view x).promised)
@@ -179,7 +193,7 @@ module _ (turn : Turn) where
     other_row _ (passes_abort PresumeCommit i e f) k =
         forced_aside turn _ k (AbortRecord x (view x).promised) refl (λ y. refl)
         (aside_abort (view x).promised)
-        (up_ack AbortedOutcome _ (aborts_down (view x).promised))
+        (at_once h.version AbortedOutcome _ (aborts_down (view x).promised))
     other_row _ (repeats_yes j i e) k = quiet_turn turn _ k refl up_yes
     other_row _ (asks i e) k = quiet_turn turn _ k refl up_inquire
     other_row _ (refuses j i e) k = quiet_turn turn _ k refl (up_no [] (words.none_silent c t))
@@ -187,7 +201,7 @@ module _ (turn : Turn) where
     other_row _ (waits_for_acks u o i e f g) k = quiet_turn turn _ k refl (words.none_silent c t)
     other_row _ (ends u o i e f g) k =
         plain_aside turn _ k (EndRecord x) refl (λ y. refl)
-        (record { no_prepare = refl; no_commit = refl; no_abort = refl }) (words.none_silent c t)
+        (record { no_prepare = refl; no_commit = refl; no_abort = refl }) (at_last h.version o)
     other_row _ (answers u o i e) k = quiet_turn turn _ k refl (message_down o u.child _)
 
   case_row : (x : Case) (r : Row) → CaseTurn place (Some p) n h x r → Then turn (row_effect x r)

@@ -87,6 +87,8 @@ pub record Turn : Type 0 where
       → has (is_prepare (child_case c.txn t)) (kept n) ≡ true
       → (has (is_commit (child_case c.txn t)) (kept n) ≡ true)
       ⊎ (has (is_abort (child_case c.txn t)) (kept n) ≡ true)
+  pub commit_given : has (is_commit (child_case c.txn t)) (kept n) ≡ true → (wire c t net).issued ≡ true
+  pub abort_given : has (is_abort (child_case c.txn t)) (kept n) ≡ true → (wire c t net).issued ≡ true
   pub asked : (memory_of (record { me = t.child; role = Below p; tree = tree }) n
       (child_case c.txn t)).phase ≡ Asked
       → sent (is_prepare_message (child_case c.txn t)) net ≡ true

@@ -7,33 +7,33 @@ use Rattle.tree_model.specs.declared.names.Presumption.{Presumption}
 use Rattle.tree_model.specs.declared.names.Presumption.TheVariants.{PresumeAbort, PresumeCommit}
 use Rattle.tree_model.specs.declared.names.Ticket.{Ticket}
 use Rattle.tree_model.specs.declared.messages.Message.TheVariants.{Prepare, Yes, No, Commit, Abort, Ack, Inquire}
-use Rattle.tree_model.specs.declared.records.Record.TheVariants.{Commit as CommitRecord, Abort as AbortRecord}
+use Rattle.tree_model.specs.declared.records.Record.TheVariants.{Commit as CommitRecord, Abort as AbortRecord, End as EndRecord}
 use Rattle.tree_model.specs.declared.standings.Standing.{Standing}
 use Rattle.tree_model.specs.declared.standings.Standing.TheVariants.{Unknown, Prepared, Committing, Aborting}
 use Rattle.tree_model.specs.declared.events.Input.TheVariants.{Message as MessageInput}
 use Rattle.tree_model.specs.NameLaws.{same_case-refl}
 use Rattle.tree_model.specs.Records.{has, is_abort, is_commit, is_end, is_prepare}
-use Rattle.tree_model.specs.CoordinatorRows.{Seat, each, post, prepared_abort_by, prepared_commit_by, sends, tells_outcome, up as up_message}
-use Rattle.tree_model.specs.Nodes.{Effect, Place, kept}
+use Rattle.tree_model.specs.CoordinatorRows.{Row, acknowledges_at_last, acknowledges_at_once, plain, quiet, Seat, each, post, prepared_abort_by, prepared_commit_by, sends, tells_outcome, up as up_message}
+use Rattle.tree_model.specs.Nodes.{Version, First, Second, Effect, Place, kept}
 use Rattle.tree_model.specs.Outcomes.{is_outcome_message}
 use Rattle.tree_model.specs.Reactions.{row_effect, seat_of}
-use Rattle.tree_model.specs.Standings.{coordinator_view}
+use Rattle.tree_model.specs.Standings.{coordinator_view, unknown_view}
 use Rattle.tree_pairs.specs.ChildMoves as move
 use Rattle.tree_pairs.specs.Reading.{Reading, is_live}
-use Rattle.tree_pairs.specs.Standing.{IsForgotten, IsInDoubt}
+use Rattle.tree_pairs.specs.Standing.{IsForgotten, IsInDoubt, IsSettled}
 use Rattle.tree_pairs.specs.readings.ReadingOf.{Wire, phase_by}
-use Rattle.tree_pairs.specs.turns.CoordinatorTurns.{Acknowledges, Refuses, abort_again, abort_presumed_commit, aborting_refuses, commit_again, commit_presumed_abort, unknown_refuses}
-use Rattle.tree_nodes.specs.WorldHolds.{NamesBy}
+use Rattle.tree_pairs.specs.turns.CoordinatorTurns.{Acknowledges, Decided, by_abort, by_commit, Refuses, abort_again, abort_presumed_commit, aborting_refuses, commit_again, commit_presumed_abort, unknown_refuses}
+use Rattle.tree_nodes.specs.WorldHolds.{InvariantOf, NamesBy}
 use Rattle.tree_nodes.proofs.Deliveries.{was_sent}
 use Rattle.tree_steps.proofs.children.Moves as moves
 use Rattle.tree_steps.proofs.children.Moves.{Fits}
-use Rattle.tree_steps.proofs.cascades.Halves.{OwnHalf, aborts, aborts_record, commits, commits_record, hardens, stands_so}
+use Rattle.tree_steps.proofs.cascades.Halves.{IsAside, OwnHalf, aside, wrote, aborts, aborts_record, commits, commits_record, hardens, stands_so}
 use Rattle.tree_steps.proofs.cascades.Messages as words
 use Rattle.tree_steps.proofs.cascades.Messages.{Said, hears, nothing, said_by}
 use Rattle.tree_steps.proofs.cascades.Opens.{live}
 use Rattle.tree_steps.proofs.cascades.Readings as readings
 use Rattle.tree_steps.proofs.cascades.Standings.{IsOver, aborting_facts, committing_facts, prepared_facts, unknown_facts}
-use Rattle.tree_steps.proofs.cascades.Turns.{Fine, R, Remembered, Then, Turn, d as own_case, fallen, forced_fine, hard, onward, place as place_in, plain_fine, q as half_in, r0, silent_fine, v as wire_in}
+use Rattle.tree_steps.proofs.cascades.Turns.{Fine, R, Remembered, Then, Turn, d as own_case, fallen, forced_fine, plain_aside, hard, onward, place as place_in, plain_fine, q as half_in, r0, silent_fine, v as wire_in}
 use Rattle.tree_steps.proofs.cascades.TurnsVotes.{abort_sent, prepare_sent}
 
 closed_at : (f : Bool) (s u : Standing) → s ≡ u → is_live (phase_by false u) ≡ false
@@ -63,6 +63,8 @@ module _ (turn : Turn) where
     promise_written,
     order,
     end_decided,
+    commit_given,
+    abort_given,
     stands,
     pr,
     of,
@@ -163,15 +165,15 @@ module _ (turn : Turn) where
       ∙ rw (same_case-refl d) refl
 
   -- COMMIT comes.
-  pub passes_commit_own : (j : ℕ) → h.input ≡ MessageInput j (Commit d) → (x : Presumption)
+  commit_first : (j : ℕ) → h.input ≡ MessageInput j (Commit d) → (x : Presumption)
       → d.txn.presumption ≡ x → (coordinator_view place n d).standing ≡ Prepared
-      → Then turn (row_effect d (prepared_commit_by seat (coordinator_view place n d) x))
-      → Fine turn (row_effect d (prepared_commit_by seat (coordinator_view place n d) x))
-  passes_commit_own j i PresumeAbort f e next =
+      → Then turn (row_effect d (prepared_commit_by First seat (coordinator_view place n d) x))
+      → Fine turn (row_effect d (prepared_commit_by First seat (coordinator_view place n d) x))
+  commit_first j i PresumeAbort f e next =
       let ts = (coordinator_view place n d).promised in
       let closed = prepared_closed e in
       let doubt = doubt_at e in
-      forced_fine turn (row_effect d (prepared_commit_by seat (coordinator_view place n d) PresumeAbort)) next
+      forced_fine turn (row_effect d (prepared_commit_by First seat (coordinator_view place n d) PresumeAbort)) next
       (CommitRecord d ts) refl (λ x. refl) (record nothing { ack = true })
       (ack_said CommittedOutcome CommittedOutcome ts)
       (λ o g. subst (λ (z : Reading). Fits pr (r0 turn) z)
@@ -192,11 +194,11 @@ module _ (turn : Turn) where
           not_forgotten = refl;
         };
       }))))
-  passes_commit_own j i PresumeCommit f e next =
+  commit_first j i PresumeCommit f e next =
       let ts = (coordinator_view place n d).promised in
       let closed = prepared_closed e in
       let doubt = doubt_at e in
-      plain_fine turn (row_effect d (prepared_commit_by seat (coordinator_view place n d) PresumeCommit)) next
+      plain_fine turn (row_effect d (prepared_commit_by First seat (coordinator_view place n d) PresumeCommit)) next
       (CommitRecord d []) refl (λ x. refl) nothing (words.each_silent c t seat CommittedOutcome ts)
       (λ o g. subst (λ (z : Reading). Fits pr (r0 turn) z)
       (sym (ap (λ (x : OwnHalf). R turn (stands_so o x) v) (commits_record d [] b q)
@@ -205,16 +207,64 @@ module _ (turn : Turn) where
       (moves.commits pr (sym of ∙ f) (r0 turn) inv
       (record { up = up; told = commit_sent j i; in_doubt = doubt })))
 
-  -- ABORT comes.
-  pub passes_abort_own : (j : ℕ) → h.input ≡ MessageInput j (Abort d) → (x : Presumption)
+  commit_second : (j : ℕ) → h.input ≡ MessageInput j (Commit d) → (x : Presumption)
       → d.txn.presumption ≡ x → (coordinator_view place n d).standing ≡ Prepared
-      → Then turn (row_effect d (prepared_abort_by seat (coordinator_view place n d) x))
-      → Fine turn (row_effect d (prepared_abort_by seat (coordinator_view place n d) x))
-  passes_abort_own j i PresumeAbort f e next =
+      → Then turn (row_effect d (prepared_commit_by Second seat (coordinator_view place n d) x))
+      → Fine turn (row_effect d (prepared_commit_by Second seat (coordinator_view place n d) x))
+  commit_second j i PresumeAbort f e next =
       let ts = (coordinator_view place n d).promised in
       let closed = prepared_closed e in
       let doubt = doubt_at e in
-      plain_fine turn (row_effect d (prepared_abort_by seat (coordinator_view place n d) PresumeAbort)) next
+      forced_fine turn (row_effect d (prepared_commit_by Second seat (coordinator_view place n d) PresumeAbort)) next
+      (CommitRecord d ts) refl (λ x. refl) nothing (words.each_silent c t seat CommittedOutcome ts)
+      (λ o g. subst (λ (z : Reading). Fits pr (r0 turn) z)
+      (sym (ap (λ (x : OwnHalf). R turn (stands_so o (hardens x)) v)
+      (commits_record d ts b q)
+      ∙ (ap (λ x. R turn (stands_so x (hardens (commits q))) v)
+      (g ∙ stays_closed closed)
+      ∙ readings.reading-commit_waits root outcome above half q v closed doubt.prepared)))
+      (onward turn (move.learns_commit_forced (move.hardens_child (r0 turn)))
+      (moves.learns_commit pr (sym of ∙ f) (move.hardens_child (r0 turn)) (hard turn).invariant
+      (record {
+        up = up;
+        told = commit_sent j i;
+        in_doubt = record {
+          prepared = doubt.prepared;
+          no_commit = doubt.no_commit;
+          no_abort = doubt.no_abort;
+          not_forgotten = refl;
+        };
+      }))))
+  commit_second j i PresumeCommit f e next =
+      let ts = (coordinator_view place n d).promised in
+      let closed = prepared_closed e in
+      let doubt = doubt_at e in
+      plain_fine turn (row_effect d (prepared_commit_by Second seat (coordinator_view place n d) PresumeCommit)) next
+      (CommitRecord d []) refl (λ x. refl) nothing (words.each_silent c t seat CommittedOutcome ts)
+      (λ o g. subst (λ (z : Reading). Fits pr (r0 turn) z)
+      (sym (ap (λ (x : OwnHalf). R turn (stands_so o x) v) (commits_record d [] b q)
+      ∙ (ap (λ x. R turn (stands_so x (commits q)) v) (g ∙ stays_closed closed)
+      ∙ readings.reading-commit_plain root outcome above half q v closed doubt.prepared)))
+      (moves.commits pr (sym of ∙ f) (r0 turn) inv
+      (record { up = up; told = commit_sent j i; in_doubt = doubt })))
+
+  pub passes_commit_own : (ver : Version) (j : ℕ) → h.input ≡ MessageInput j (Commit d) → (x : Presumption)
+      → d.txn.presumption ≡ x → (coordinator_view place n d).standing ≡ Prepared
+      → Then turn (row_effect d (prepared_commit_by ver seat (coordinator_view place n d) x))
+      → Fine turn (row_effect d (prepared_commit_by ver seat (coordinator_view place n d) x))
+  passes_commit_own First j i x f e next = commit_first j i x f e next
+  passes_commit_own Second j i x f e next = commit_second j i x f e next
+
+  -- ABORT comes.
+  abort_first : (j : ℕ) → h.input ≡ MessageInput j (Abort d) → (x : Presumption)
+      → d.txn.presumption ≡ x → (coordinator_view place n d).standing ≡ Prepared
+      → Then turn (row_effect d (prepared_abort_by First seat (coordinator_view place n d) x))
+      → Fine turn (row_effect d (prepared_abort_by First seat (coordinator_view place n d) x))
+  abort_first j i PresumeAbort f e next =
+      let ts = (coordinator_view place n d).promised in
+      let closed = prepared_closed e in
+      let doubt = doubt_at e in
+      plain_fine turn (row_effect d (prepared_abort_by First seat (coordinator_view place n d) PresumeAbort)) next
       (AbortRecord d []) refl (λ x. refl) nothing (words.each_silent c t seat AbortedOutcome ts)
       (λ o g. subst (λ (z : Reading). Fits pr (r0 turn) z)
       (sym (ap (λ (x : OwnHalf). R turn (stands_so o x) v) (aborts_record d [] b q)
@@ -223,11 +273,11 @@ module _ (turn : Turn) where
       ∙ readings.reading-abort_plain root outcome above half q v closed doubt.prepared))))
       (moves.rolls_back pr (sym of ∙ f) (r0 turn) inv
       (record { up = up; told = abort_sent turn j i; in_doubt = doubt })))
-  passes_abort_own j i PresumeCommit f e next =
+  abort_first j i PresumeCommit f e next =
       let ts = (coordinator_view place n d).promised in
       let closed = prepared_closed e in
       let doubt = doubt_at e in
-      forced_fine turn (row_effect d (prepared_abort_by seat (coordinator_view place n d) PresumeCommit)) next
+      forced_fine turn (row_effect d (prepared_abort_by First seat (coordinator_view place n d) PresumeCommit)) next
       (AbortRecord d ts) refl (λ x. refl) (record nothing { ack = true })
       (ack_said AbortedOutcome AbortedOutcome ts)
       (λ o g. subst (λ (z : Reading). Fits pr (r0 turn) z)
@@ -250,6 +300,57 @@ module _ (turn : Turn) where
           not_forgotten = refl;
         };
       }))))
+
+  abort_second : (j : ℕ) → h.input ≡ MessageInput j (Abort d) → (x : Presumption)
+      → d.txn.presumption ≡ x → (coordinator_view place n d).standing ≡ Prepared
+      → Then turn (row_effect d (prepared_abort_by Second seat (coordinator_view place n d) x))
+      → Fine turn (row_effect d (prepared_abort_by Second seat (coordinator_view place n d) x))
+  abort_second j i PresumeAbort f e next =
+      let ts = (coordinator_view place n d).promised in
+      let closed = prepared_closed e in
+      let doubt = doubt_at e in
+      plain_fine turn (row_effect d (prepared_abort_by Second seat (coordinator_view place n d) PresumeAbort)) next
+      (AbortRecord d []) refl (λ x. refl) nothing (words.each_silent c t seat AbortedOutcome ts)
+      (λ o g. subst (λ (z : Reading). Fits pr (r0 turn) z)
+      (sym (ap (λ (x : OwnHalf). R turn (stands_so o x) v) (aborts_record d [] b q)
+      ∙ (ap (λ x. R turn (stands_so o (aborts x q)) v) (promise_written doubt.prepared)
+      ∙ (ap (λ x. R turn (stands_so x (aborts true q)) v) (g ∙ stays_closed closed)
+      ∙ readings.reading-abort_plain root outcome above half q v closed doubt.prepared))))
+      (moves.rolls_back pr (sym of ∙ f) (r0 turn) inv
+      (record { up = up; told = abort_sent turn j i; in_doubt = doubt })))
+  abort_second j i PresumeCommit f e next =
+      let ts = (coordinator_view place n d).promised in
+      let closed = prepared_closed e in
+      let doubt = doubt_at e in
+      forced_fine turn (row_effect d (prepared_abort_by Second seat (coordinator_view place n d) PresumeCommit)) next
+      (AbortRecord d ts) refl (λ x. refl) nothing (words.each_silent c t seat AbortedOutcome ts)
+      (λ o g. subst (λ (z : Reading). Fits pr (r0 turn) z)
+      (sym (ap (λ (x : OwnHalf). R turn (stands_so o (hardens x)) v)
+      (aborts_record d ts b q)
+      ∙ (ap (λ x. R turn (stands_so o (hardens (aborts x q))) v)
+      (promise_written doubt.prepared)
+      ∙ (ap (λ x. R turn (stands_so x (hardens (aborts true q))) v)
+      (g ∙ stays_closed closed)
+      ∙ readings.reading-abort_waits root outcome above half q v closed doubt.prepared))))
+      (onward turn (move.learns_abort_forced (move.hardens_child (r0 turn)))
+      (moves.learns_abort pr (sym of ∙ f) (move.hardens_child (r0 turn)) (hard turn).invariant
+      (record {
+        up = up;
+        told = abort_sent turn j i;
+        in_doubt = record {
+          prepared = doubt.prepared;
+          no_commit = doubt.no_commit;
+          no_abort = doubt.no_abort;
+          not_forgotten = refl;
+        };
+      }))))
+
+  pub passes_abort_own : (ver : Version) (j : ℕ) → h.input ≡ MessageInput j (Abort d) → (x : Presumption)
+      → d.txn.presumption ≡ x → (coordinator_view place n d).standing ≡ Prepared
+      → Then turn (row_effect d (prepared_abort_by ver seat (coordinator_view place n d) x))
+      → Fine turn (row_effect d (prepared_abort_by ver seat (coordinator_view place n d) x))
+  passes_abort_own First j i x f e next = abort_first j i x f e next
+  passes_abort_own Second j i x f e next = abort_second j i x f e next
 
   -- A case that is over.
 
@@ -331,11 +432,11 @@ module _ (turn : Turn) where
       absurd (let k = sym ((subst (λ (y : Presumption). NamesBy y d (kept n)) f order.names).1 g.0)
       ∙ g.1 in cc)
 
-  acknowledges_by : (j : ℕ) (o : Outcome) → h.input ≡ MessageInput j (tells_outcome o d) → (x : Presumption)
+  acknowledges_by : (ver : Version) (j : ℕ) (o : Outcome) → h.input ≡ MessageInput j (tells_outcome o d) → (x : Presumption)
       → d.txn.presumption ≡ x → (s : Standing) → (coordinator_view place n d).standing ≡ s
-      → Acknowledges o x s
+      → Acknowledges ver o x s
       → (q.is_open ≡ false) × Fits pr (r0 turn) (move.acknowledges (r0 turn))
-  acknowledges_by j CommittedOutcome i _ f _ e commit_presumed_abort =
+  acknowledges_by _ j CommittedOutcome i _ f _ e (commit_presumed_abort w) =
       let closed = closed_by Unknown e refl in (
         closed,
         moves.acknowledges_commit pr (sym of ∙ f) (r0 turn) inv (record {
@@ -344,7 +445,7 @@ module _ (turn : Turn) where
           known = inl (forgotten closed (unknown_facts place n d e));
         }),
       )
-  acknowledges_by j CommittedOutcome i x f _ e (commit_again _) =
+  acknowledges_by _ j CommittedOutcome i x f _ e (commit_again _) =
       let closed = closed_by Committing e refl in (
         closed,
         moves.acknowledges_commit pr (sym of ∙ (f ∙ commits_by x f e)) (r0 turn) inv (record {
@@ -353,7 +454,7 @@ module _ (turn : Turn) where
           known = inr (committing_facts place n d e).0;
         }),
       )
-  acknowledges_by j AbortedOutcome i _ f _ e abort_presumed_commit =
+  acknowledges_by _ j AbortedOutcome i _ f _ e (abort_presumed_commit w) =
       let closed = closed_by Unknown e refl in (
         closed,
         moves.acknowledges_abort pr (sym of ∙ f) (r0 turn) inv (record {
@@ -362,7 +463,7 @@ module _ (turn : Turn) where
           known = inl (forgotten closed (unknown_facts place n d e));
         }),
       )
-  acknowledges_by j AbortedOutcome i x f _ e (abort_again _) =
+  acknowledges_by _ j AbortedOutcome i x f _ e (abort_again _) =
       let closed = closed_by Aborting e refl in (
         closed,
         moves.acknowledges_abort pr (sym of ∙ (f ∙ aborts_by x f e)) (r0 turn) inv (record {
@@ -373,9 +474,72 @@ module _ (turn : Turn) where
       )
 
   pub acknowledges_own : (j : ℕ) (o : Outcome) → h.input ≡ MessageInput j (tells_outcome o d)
-      → Acknowledges o d.txn.presumption (coordinator_view place n d).standing
+      → Acknowledges h.version o d.txn.presumption (coordinator_view place n d).standing
       → Then turn (row_effect d (sends (up_message seat (Ack d o)) (coordinator_view place n d)))
       → Fine turn (row_effect d (sends (up_message seat (Ack d o)) (coordinator_view place n d)))
   acknowledges_own j o i a next =
-      let f = acknowledges_by j o i d.txn.presumption refl (coordinator_view place n d).standing refl a in
+      let f = acknowledges_by h.version j o i d.txn.presumption refl (coordinator_view place n d).standing refl a in
       acks o f.0 f.1 next
+
+  -- By the second version the last acknowledgement of its children is acknowledged.
+
+  settled_by : (closed : q.is_open ≡ false) (o : Outcome) (s : Standing) → (coordinator_view place n d).standing ≡ s
+      → Decided o s → IsSettled (r0 turn)
+  settled_by closed _ _ e by_commit =
+      let g = committing_facts place n d e in
+      let i = subst (λ (y : Presumption). InvariantOf y (r0 turn))
+          (sym of ∙ commits_by d.txn.presumption refl e) inv in
+      record {
+        issued = commit_given g.0;
+        closed = rw closed (and-false v.issued);
+        decided = inr (inl (i.learnt_commit_is_forced g.0 up));
+      }
+  settled_by closed _ _ e by_abort =
+      let g = aborting_facts place n d e in
+      let i = subst (λ (y : Presumption). InvariantOf y (r0 turn))
+          (sym of ∙ aborts_by d.txn.presumption refl e) inv in
+      record {
+        issued = abort_given g.0;
+        closed = rw closed (and-false v.issued);
+        decided = promised_or_not i.learnt_abort_is_forced g.0 (has (is_prepare d) (kept n)) refl;
+      }
+    where
+      promised_or_not : ((r0 turn).learnt_abort_kept ≡ true → (r0 turn).child_failed ≡ false
+          → (r0 turn).learnt_abort_forced ≡ true)
+          → has (is_abort (own_case turn)) (kept n) ≡ true
+          → (b : Bool) → has (is_prepare (own_case turn)) (kept n) ≡ b
+          → ((r0 turn).prepared_kept ≡ false)
+          ⊎ (((r0 turn).learnt_commit_forced ≡ true) ⊎ (((r0 turn).learnt_abort_forced ≡ true)
+          ⊎ ((r0 turn).forgot_forced ≡ true)))
+      promised_or_not i f false g = inl g
+      promised_or_not i f true g =
+          inr (inr (inl (i (both_true (has (is_abort d) (kept n)) (has (is_prepare d) (kept n)) f g) up)))
+
+  abbrev ends_row : Version → Outcome → Row
+  ends_row ver o = record (quiet unknown_view) {
+    written = plain (EndRecord d);
+    messages = acknowledges_at_last ver seat o;
+  }
+
+  aside_end : IsAside (own_case turn) (EndRecord (own_case turn))
+  aside_end = record { no_prepare = refl; no_commit = refl; no_abort = refl }
+
+  over_by : (o : Outcome) (s : Standing) → (coordinator_view place n d).standing ≡ s → Decided o s
+      → q.is_open ≡ false
+  over_by _ _ e by_commit = closed_by Committing e refl
+  over_by _ _ e by_abort = closed_by Aborting e refl
+
+  pub ends_own : (ver : Version) (o : Outcome) → Decided o (coordinator_view place n d).standing
+      → Then turn (row_effect d (ends_row ver o)) → Fine turn (row_effect d (ends_row ver o))
+  ends_own First o i next =
+      plain_aside turn _ next (EndRecord d) refl (λ x. refl) aside_end (words.none_silent c t)
+  ends_own Second o i next =
+      let closed = over_by o (coordinator_view place n d).standing refl i in
+      let s : Said = record nothing { ack = true } in
+      plain_fine turn (row_effect d (ends_row Second o)) next (EndRecord d) refl (λ x. refl) s
+      (words.said_first c t (post t.child p (Ack d o)) [] (words.none_silent c t) ∙ rw (same_case-refl d) refl)
+      (λ k f. subst (λ (z : Reading). Fits pr (r0 turn) z)
+      (sym (ap (λ (x : OwnHalf). R turn (stands_so k x) (hears s v)) (aside d (EndRecord d) b q aside_end)
+      ∙ ap (λ x. R turn (stands_so x q) (hears s v)) (f ∙ (stays_closed closed ∙ sym closed))))
+      (moves.acknowledges_settled pr (r0 turn) inv
+      (record { up = up; settled = settled_by closed o (coordinator_view place n d).standing refl i })))

@@ -1,6 +1,6 @@
 -- The rows of the pair's case that end the collecting of votes, and ABORT before the promise, keep the pair's
 -- invariant.
-use Rattle.std.proofs.Common.{◌≡◌, ◌∙◌, inl, ℕ, Bool, true, false, Some, List, [], ◌∷◌, ◌++◌, refl, sym, ap, subst}
+use Rattle.std.proofs.Common.{◌≡◌, ◌∙◌, inl, ℕ, Bool, true, false, Some, List, [], ◌∷◌, ◌++◌, refl, sym, ap, subst, if◌then◌else◌}
 use Rattle.tree_model.specs.declared.names.Case.{Case}
 use Rattle.tree_model.specs.declared.names.Outcome.TheVariants.{Aborted as AbortedOutcome}
 use Rattle.tree_model.specs.declared.names.Presumption.{Presumption}
@@ -14,10 +14,10 @@ use Rattle.tree_model.specs.declared.standings.Vote.TheVariants.{No as VoteNo}
 use Rattle.tree_model.specs.declared.events.Input.{Input}
 use Rattle.tree_model.specs.declared.events.Input.TheVariants.{Message as MessageInput}
 use Rattle.tree_model.specs.NameLaws.{same_case-refl}
-use Rattle.tree_model.specs.Records.{boot_of, has, is_prepare}
+use Rattle.tree_model.specs.Records.{boot_of, has, is_prepare, none_of}
 use Rattle.tree_model.specs.CoordinatorRows.{Row, ByAbort, ByVote, Seat, acknowledges_abort, active_abort, cascaded_prepares, collecting_abort_by, collecting_read_only, each, post, read_only_end}
 use Rattle.tree_model.specs.Memory.{cascaded_remembers, memory_of}
-use Rattle.tree_model.specs.Nodes.{Effect, Place, kept}
+use Rattle.tree_model.specs.Nodes.{Version, First, Second, Effect, Place, kept}
 use Rattle.tree_model.specs.Reactions.{row_effect, seat_of}
 use Rattle.tree_model.specs.Standings.{coordinator_view}
 use Rattle.tree_pairs.specs.ChildMoves as move
@@ -196,14 +196,14 @@ module _ (turn : Turn) where
   pub silent_aborted : (j : ℕ) → h.input ≡ MessageInput j (Abort d) → q.is_open ≡ true → IsSilent turn
   silent_aborted j i e = silent_if turn (aborted_issued turn (abort_sent turn j i)) e
 
-  pub aborts_own : (j : ℕ) → h.input ≡ MessageInput j (Abort d) → (us : List Ticket) (x : Presumption)
+  aborts_first : (j : ℕ) → h.input ≡ MessageInput j (Abort d) → (us : List Ticket) (x : Presumption)
       → d.txn.presumption ≡ x → (coordinator_view place n d).standing ≡ Collecting
-      → Then turn (row_effect d (collecting_abort_by seat ByAbort (coordinator_view place n d) us x))
-      → Fine turn (row_effect d (collecting_abort_by seat ByAbort (coordinator_view place n d) us x))
-  aborts_own j i us PresumeAbort f e next =
+      → Then turn (row_effect d (collecting_abort_by seat (ByAbort First) (coordinator_view place n d) us x))
+      → Fine turn (row_effect d (collecting_abort_by seat (ByAbort First) (coordinator_view place n d) us x))
+  aborts_first j i us PresumeAbort f e next =
       let is_open = at_collecting turn e in
       let s = silent_aborted j i is_open in
-      abort_plain (row_effect d (collecting_abort_by seat ByAbort
+      abort_plain (row_effect d (collecting_abort_by seat (ByAbort First)
       (coordinator_view place n d) us PresumeAbort))
       next [] refl (abort_heard j i) nothing
       (ap (λ (y : Presumption). said_by c t (acknowledges_abort seat y ++ each seat Abort us)) f
@@ -211,10 +211,10 @@ module _ (turn : Turn) where
       (readings.reading-aborted root outcome above half q v is_open s.issued s.none_kept s.none_ever
       s.no_read b)
       (moves.drops pr (r0 turn) inv (record { is_open = rw (s.issued, is_open) refl }))
-  aborts_own j i us PresumeCommit f e next =
+  aborts_first j i us PresumeCommit f e next =
       let is_open = at_collecting turn e in
       let s = silent_aborted j i is_open in
-      abort_forced (row_effect d (collecting_abort_by seat ByAbort
+      abort_forced (row_effect d (collecting_abort_by seat (ByAbort First)
       (coordinator_view place n d) us PresumeCommit))
       next us refl (abort_heard j i) (record nothing { ack = true })
       (ap (λ (y : Presumption). said_by c t (acknowledges_abort seat y ++ each seat Abort us)) f
@@ -225,6 +225,68 @@ module _ (turn : Turn) where
       (onward turn (move.drops_and_acknowledges (move.hardens_child (r0 turn)))
       (moves.drops_and_acknowledges pr (sym of ∙ f) (move.hardens_child (r0 turn)) (hard turn).invariant
       (record { is_open = rw (s.issued, is_open) refl; aborted = abort_sent turn j i })))
+
+  -- by the second version nothing is said where somebody is named
+  aborts_second : (j : ℕ) → h.input ≡ MessageInput j (Abort d) → (us : List Ticket) (x : Presumption)
+      → d.txn.presumption ≡ x → (coordinator_view place n d).standing ≡ Collecting → (b : Bool) → none_of us ≡ b
+      → Then turn (row_effect d (collecting_abort_by seat (ByAbort Second) (coordinator_view place n d) us x))
+      → Fine turn (row_effect d (collecting_abort_by seat (ByAbort Second) (coordinator_view place n d) us x))
+  aborts_second j i us PresumeAbort f e w g next =
+      let is_open = at_collecting turn e in
+      let s = silent_aborted j i is_open in
+      abort_plain (row_effect d (collecting_abort_by seat (ByAbort Second)
+      (coordinator_view place n d) us PresumeAbort))
+      next [] refl (abort_heard j i) nothing
+      (ap (λ (y : Presumption). said_by c t
+      ((if none_of us then acknowledges_abort seat y else []) ++ each seat Abort us)) f
+      ∙ (ap (λ (z : Bool). said_by c t ((if z then [] else []) ++ each seat Abort us)) g
+      ∙ by_test w)) (move.drops (r0 turn))
+      (readings.reading-aborted root outcome above half q v is_open s.issued s.none_kept s.none_ever
+      s.no_read b)
+      (moves.drops pr (r0 turn) inv (record { is_open = rw (s.issued, is_open) refl }))
+    where
+      by_test : (z : Bool) → said_by c t ((if z then [] else []) ++ each seat Abort us) ≡ nothing
+      by_test true = words.each_silent c t seat AbortedOutcome us
+      by_test false = words.each_silent c t seat AbortedOutcome us
+  aborts_second j i us PresumeCommit f e true g next =
+      let is_open = at_collecting turn e in
+      let s = silent_aborted j i is_open in
+      abort_forced (row_effect d (collecting_abort_by seat (ByAbort Second)
+      (coordinator_view place n d) us PresumeCommit))
+      next us refl (abort_heard j i) (record nothing { ack = true })
+      (ap (λ (y : Presumption). said_by c t
+      ((if none_of us then acknowledges_abort seat y else []) ++ each seat Abort us)) f
+      ∙ (ap (λ (z : Bool). said_by c t
+      ((if z then acknowledges_abort seat PresumeCommit else []) ++ each seat Abort us)) g
+      ∙ ack_said us))
+      (move.drops_and_acknowledges (move.hardens_child (r0 turn)))
+      (readings.reading-aborted_acknowledged root outcome above half q v is_open s.issued s.none_kept
+      s.none_ever s.no_read b)
+      (onward turn (move.drops_and_acknowledges (move.hardens_child (r0 turn)))
+      (moves.drops_and_acknowledges pr (sym of ∙ f) (move.hardens_child (r0 turn)) (hard turn).invariant
+      (record { is_open = rw (s.issued, is_open) refl; aborted = abort_sent turn j i })))
+  aborts_second j i us PresumeCommit f e false g next =
+      let is_open = at_collecting turn e in
+      let s = silent_aborted j i is_open in
+      abort_forced (row_effect d (collecting_abort_by seat (ByAbort Second)
+      (coordinator_view place n d) us PresumeCommit))
+      next us refl (abort_heard j i) nothing
+      (ap (λ (z : Bool). said_by c t
+      ((if z then acknowledges_abort seat d.txn.presumption else []) ++ each seat Abort us)) g
+      ∙ words.each_silent c t seat AbortedOutcome us)
+      (move.drops (move.hardens_child (r0 turn)))
+      (readings.reading-aborted_waits root outcome above half q v is_open s.issued s.none_kept
+      s.none_ever s.no_read b)
+      (onward turn (move.drops (move.hardens_child (r0 turn)))
+      (moves.drops pr (move.hardens_child (r0 turn)) (hard turn).invariant
+      (record { is_open = rw (s.issued, is_open) refl })))
+
+  pub aborts_own : (ver : Version) (j : ℕ) → h.input ≡ MessageInput j (Abort d) → (us : List Ticket)
+      (x : Presumption) → d.txn.presumption ≡ x → (coordinator_view place n d).standing ≡ Collecting
+      → Then turn (row_effect d (collecting_abort_by seat (ByAbort ver) (coordinator_view place n d) us x))
+      → Fine turn (row_effect d (collecting_abort_by seat (ByAbort ver) (coordinator_view place n d) us x))
+  aborts_own First j i us x f e next = aborts_first j i us x f e next
+  aborts_own Second j i us x f e next = aborts_second j i us x f e (none_of us) refl next
 
   abbrev GivesUp : Presumption → Row
   GivesUp x = record (active_abort seat (coordinator_view place n d)) {

@@ -141,3 +141,20 @@ drops_and_acknowledges PresumeAbort e r h g = absurd (cc)
 pub never_decided : (r : Reading) → Common r → r.heuristic_kept ≡ false → IsInDoubt r
     → r.heuristic_ever ≡ false
 never_decided r h e g = grind (arith, h.heuristic_stays, h.forced_heuristic, h.forgot_stays)
+
+pub learns_commit : (pr : Presumption) → pr ≡ PresumeAbort → (r : Reading) → InvariantOf pr r
+    → move.MayLearnCommit r
+    → Fits pr r (move.learns_commit_forced r)
+learns_commit PresumeAbort e r h g = under_abort.learns_commit r h g
+learns_commit PresumeCommit e r h g = absurd (cc)
+
+pub learns_abort : (pr : Presumption) → pr ≡ PresumeCommit → (r : Reading) → InvariantOf pr r
+    → move.MayLearnAbort r
+    → Fits pr r (move.learns_abort_forced r)
+learns_abort PresumeCommit e r h g = under_commit.learns_abort r h g
+learns_abort PresumeAbort e r h g = absurd (cc)
+
+pub acknowledges_settled : (pr : Presumption) (r : Reading) → InvariantOf pr r → move.MayAcknowledge r
+    → Fits pr r (move.acknowledges r)
+acknowledges_settled PresumeAbort r h g = under_abort.acknowledges_settled r h g
+acknowledges_settled PresumeCommit r h g = under_commit.acknowledges_settled r h g

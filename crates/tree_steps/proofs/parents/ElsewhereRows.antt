@@ -22,10 +22,10 @@ use Rattle.tree_model.specs.declared.events.Conclusion.{Conclusion}
 use Rattle.tree_model.specs.declared.events.Input.TheVariants.{Message as MessageInput}
 use Rattle.tree_model.specs.Names.{same_case, same_ticket, same_txn, child_case, root_case, process_of}
 use Rattle.tree_model.specs.NameLaws.{same_ticket_tells}
-use Rattle.tree_model.specs.Records.{has, in_list, is_prepare}
-use Rattle.tree_model.specs.Nodes.{kept, after}
+use Rattle.tree_model.specs.Records.{has, in_list, is_prepare, none_of}
+use Rattle.tree_model.specs.Nodes.{Version, First, Second, kept, after}
 use Rattle.tree_model.specs.Memory.{Phase, Idle, Open, Asked, Over, memory_of, undecided_of}
-use Rattle.tree_model.specs.CoordinatorRows.{Row, active_commit_with, collecting_abort_by, read_only_end, root_commits, prepared_commit_by, prepared_abort_by, posted_up, each, to_child, prepares, told_by, tells_outcome, acknowledges_abort, abort_heard_above, Reason, ByVote, ByAct, ByAbort}
+use Rattle.tree_model.specs.CoordinatorRows.{acknowledges_at_once, acknowledges_at_last, Row, active_commit_with, collecting_abort_by, read_only_end, root_commits, prepared_commit_by, prepared_abort_by, posted_up, each, to_child, prepares, told_by, tells_outcome, acknowledges_abort, abort_heard_above, Reason, ByVote, ByAct, ByAbort}
 use Rattle.tree_model.specs.Reactions.{row_effect, seat_of}
 use Rattle.tree_model.specs.Standings.{CoordinatorView, coordinator_view, case_of_child, own_cases, belongs, standing_by, phase_standing}
 use Rattle.tree_model.specs.Outcomes.{has_accepted}
@@ -193,10 +193,23 @@ module _ (turn : Turn) (d : Case) where
     up_acknowledges PresumeAbort own = nothing_sent
     up_acknowledges PresumeCommit own = up_ack AbortedOutcome own
 
-    up_heard : (why : Reason) → Own → Quiet (abort_heard_above (seat_of place parent d) why)
-    up_heard ByVote own = up_no own
-    up_heard ByAct own = nothing_sent
-    up_heard ByAbort own = up_acknowledges d.txn.presumption own
+    none_or : (b : Bool) (ls : List Envelope) → Quiet ls → Quiet (if b then ls else [])
+    none_or true ls f = f
+    none_or false ls f = nothing_sent
+
+    up_heard : (why : Reason) (us : List Ticket) → Own → Quiet (abort_heard_above (seat_of place parent d) why us)
+    up_heard ByVote us own = up_no own
+    up_heard ByAct us own = nothing_sent
+    up_heard (ByAbort First) us own = up_acknowledges d.txn.presumption own
+    up_heard (ByAbort Second) us own = none_or (none_of us) _ (up_acknowledges d.txn.presumption own)
+
+    at_once : (ver : Version) (o : Outcome) → Own → Quiet (acknowledges_at_once ver (seat_of place parent d) o)
+    at_once First o own = up_ack o own
+    at_once Second o own = nothing_sent
+
+    at_last : (ver : Version) (o : Outcome) → Own → Quiet (acknowledges_at_last ver (seat_of place parent d) o)
+    at_last First o own = nothing_sent
+    at_last Second o own = up_ack o own
 
     -- Messages down.
 
@@ -317,12 +330,12 @@ module _ (turn : Turn) (d : Case) where
         → (parent ≡ None → d.ticket ≡ None) → in_list us t ≡ false → Fine turn (row_effect d row)
     aborts_by why v us PresumeAbort row e later rests own top f =
         elsewhere.row_fine turn d other row later.alike rests
-        (ap (λ (x : Row). wire c t x.messages) e ∙ one_behind _ _ (up_heard why own) (each_abort us f))
+        (ap (λ (x : Row). wire c t x.messages) e ∙ one_behind _ _ (up_heard why us own) (each_abort us f))
         (subst (λ (x : Row). Told x.told) (sym e) (told_elsewhere _ top))
         (one_plain (AbortRecord d []) (ap (λ (x : Row). x.written) e) (elsewhere.other_abort turn d other []))
     aborts_by why v us PresumeCommit row e later rests own top f =
         elsewhere.row_fine turn d other row later.alike rests
-        (ap (λ (x : Row). wire c t x.messages) e ∙ one_behind _ _ (up_heard why own) (each_abort us f))
+        (ap (λ (x : Row). wire c t x.messages) e ∙ one_behind _ _ (up_heard why us own) (each_abort us f))
         (subst (λ (x : Row). Told x.told) (sym e) (told_elsewhere _ top))
         (one_forced (AbortRecord d us) (ap (λ (x : Row). x.written) e)
         (elsewhere.other_abort turn d other us))
@@ -371,26 +384,26 @@ module _ (turn : Turn) (d : Case) where
         (one_forced (CommitRecord d []) refl (elsewhere.other_commit turn d other []))
 
     passes_commit : (p : Presumption)
-        → After (prepared_commit_by (seat_of place parent d) (coordinator_view place n d) p)
+        → After (prepared_commit_by h.version (seat_of place parent d) (coordinator_view place n d) p)
         → Rests turn → Own → in_list (coordinator_view place n d).promised t ≡ false
-        → Fine turn (row_effect d (prepared_commit_by (seat_of place parent d)
+        → Fine turn (row_effect d (prepared_commit_by h.version (seat_of place parent d)
         (coordinator_view place n d) p))
     passes_commit PresumeAbort later rests own f =
-        row_fine _ later rests (one_behind _ _ (up_ack CommittedOutcome own) (each_commit _ f)) (inl refl)
+        row_fine _ later rests (one_behind _ _ (at_once h.version CommittedOutcome own) (each_commit _ f)) (inl refl)
         (one_forced _ refl (elsewhere.other_commit turn d other _))
     passes_commit PresumeCommit later rests own f =
         row_fine _ later rests (each_commit _ f) (inl refl)
         (one_plain _ refl (elsewhere.other_commit turn d other []))
 
     passes_abort : (p : Presumption)
-        → After (prepared_abort_by (seat_of place parent d) (coordinator_view place n d) p)
+        → After (prepared_abort_by h.version (seat_of place parent d) (coordinator_view place n d) p)
         → Rests turn → Own → in_list (coordinator_view place n d).promised t ≡ false
-        → Fine turn (row_effect d (prepared_abort_by (seat_of place parent d) (coordinator_view place n d) p))
+        → Fine turn (row_effect d (prepared_abort_by h.version (seat_of place parent d) (coordinator_view place n d) p))
     passes_abort PresumeAbort later rests own f =
         row_fine _ later rests (each_abort _ f) (inl refl)
         (one_plain _ refl (elsewhere.other_abort turn d other []))
     passes_abort PresumeCommit later rests own f =
-        row_fine _ later rests (one_behind _ _ (up_ack AbortedOutcome own) (each_abort _ f)) (inl refl)
+        row_fine _ later rests (one_behind _ _ (at_once h.version AbortedOutcome own) (each_abort _ f)) (inl refl)
         (one_forced _ refl (elsewhere.other_abort turn d other _))
 
     own_outcome : (o : Outcome) → HearsParent parent h (tells_outcome o d) → Own
@@ -457,14 +470,14 @@ module _ (turn : Turn) (d : Case) where
             (turns.voted (coordinator_view place n d) u VoteNo) us p)))
         aborts_no u us PresumeAbort i f later =
             row_fine _ later (rest_vote u VoteNo i.hears)
-            (one_behind _ _ (up_heard ByVote (own_collecting i.stands))
+            (one_behind _ _ (up_heard ByVote us (own_collecting i.stands))
             (each_abort us (ap (λ ts. in_list ts t) (sym f)
             ∙ elsewhere.in_undecided _ _ t (elsewhere.collecting_apart turn d other i.stands))))
             (told_elsewhere _ (root_of u _ i.hears))
             (one_plain _ refl (elsewhere.other_abort turn d other []))
         aborts_no u us PresumeCommit i f later =
             row_fine _ later (rest_vote u VoteNo i.hears)
-            (one_behind _ _ (up_heard ByVote (own_collecting i.stands))
+            (one_behind _ _ (up_heard ByVote us (own_collecting i.stands))
             (each_abort us (ap (λ ts. in_list ts t) (sym f)
             ∙ elsewhere.in_undecided _ _ t (elsewhere.collecting_apart turn d other i.stands))))
             (told_elsewhere _ (root_of u _ i.hears))
@@ -491,7 +504,7 @@ module _ (turn : Turn) (d : Case) where
     turn_elsewhere _ (turns.waits_for_acks u o i e f g) later =
         row_fine _ later (rest_ack u o i) nothing_sent (inl refl) (none_written refl)
     turn_elsewhere _ (turns.ends u o i e f g) later =
-        row_fine _ later (rest_ack u o i) nothing_sent (inl refl)
+        row_fine _ later (rest_ack u o i) (at_last h.version o (own_of u (λ e. Ack e o) i)) (inl refl)
         (one_plain (EndRecord d) refl (elsewhere.other_end turn d other))
     turn_elsewhere _ (turns.answers u o i e) later =
         row_fine _ later (rest_inquiry u i) (answer o i.txn u i.belongs) (inl refl) (none_written refl)

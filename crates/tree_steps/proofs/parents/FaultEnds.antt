@@ -208,10 +208,10 @@ module _ (turn : Turn) where
       (decided.may_end_abort turn b v.standing (subst (λ (x : Outcome). Decided x v.standing) e d) refl f))
 
   pub ends : (u : Ticket) (o : Outcome) → HearsChild place n h c u (λ d. Ack d o) → Decided o v.standing
-      → none_of (other_tickets u v.owed) ≡ true → (x f : ℕ) → Ordered (decided.end_row turn) x f
-      → Fails (decided.end_row turn) x f
+      → none_of (other_tickets u v.owed) ≡ true → (x f : ℕ) → Ordered (decided.end_row turn o) x f
+      → Fails (decided.end_row turn o) x f
   ends u o i d none x f order =
-      let g = row_effect c (decided.end_row turn) in
+      let g = row_effect c (decided.end_row turn o) in
       let b = decided.heard_acks turn u o i d none in
       let late = decided.late_of turn o v.standing d refl in
       one_written turn g x f order (EndRecord c) refl

@@ -156,7 +156,7 @@ module _ (turn : Turn) where
       rests_fault _ x f order refl refl refl
       (rest_prepare turn j i (λ o. refuses_late turn (own.v turn).standing e refl o))
   own_fault _ (turns.acknowledges o i e) x f order =
-      let late = acknowledges_late turn o c.txn.presumption (own.v turn).standing e refl in
+      let late = acknowledges_late turn h.version o c.txn.presumption (own.v turn).standing e refl in
       rests_fault _ x f order refl refl refl (rest_outcome turn o i late.0 late.1)
   own_fault _ (turns.waits_for_acks u o i e g j) x f order =
       rests_fault _ x f order refl refl refl (rested.rest_ack turn o i.txn u i.hears.0 i.hears.1)

@@ -1,5 +1,6 @@
 -- Aborts at the pair's own case while it collects votes, on the pair.
 use Rattle.std.proofs.Common.{◌≡◌, ◌∙◌, inl, inr, Bool, true, false, ◌||◌, ◌&&◌, not, List, [], ◌∷◌, ◌++◌, filter, refl, sym, ap, arith, if◌then◌else◌}
+use Rattle.tree_model.specs.Nodes.{Version, First, Second}
 use Rattle.tree_model.specs.declared.names.Ticket.{Ticket}
 use Rattle.tree_model.specs.declared.names.Presumption.{Presumption}
 use Rattle.tree_model.specs.declared.names.Presumption.TheVariants.{PresumeAbort, PresumeCommit}
@@ -10,7 +11,8 @@ use Rattle.tree_model.specs.declared.standings.Vote.{Vote}
 use Rattle.tree_model.specs.declared.standings.Vote.TheVariants.{Yes as VoteYes, No as VoteNo, Read as VoteRead}
 use Rattle.tree_model.specs.Names.{same_ticket}
 use Rattle.tree_model.specs.NameLaws.{same_txn-refl, same_ticket_tells}
-use Rattle.tree_model.specs.Records.{has, in_list, is_prepare}
+use Rattle.tree_model.specs.Records.{has, in_list, is_prepare, none_of}
+use Rattle.tree_model.specs.declared.messages.Envelope.{Envelope}
 use Rattle.tree_model.specs.Memory.{Memory, Asked, Over, undecided_of, voted_so}
 use Rattle.tree_model.specs.CoordinatorRows.{Row, Reason, ByVote, ByAct, ByAbort, each, collecting_abort_by, abort_heard_above}
 use Rattle.tree_model.specs.Reactions.{row_effect, seat_of}
@@ -100,18 +102,24 @@ module _ (turn : Turn) where
   abbrev told : Bool
   told = p0.accepted && not p0.first_read
 
-  pub heard_up : (why : Reason) → Silent c t net (abort_heard_above (seat_of place parent c) why)
-  heard_up ByVote = wires.silent-no c t net place.me parent c (not_childs turn)
-  heard_up ByAct = simp (wires.sent-none)
-  heard_up ByAbort = acknowledged_up turn c.txn.presumption
+  none_or : (b : Bool) (ls : List Envelope) → Silent c t net ls → Silent c t net (if b then ls else [])
+  none_or true ls f = f
+  none_or false ls f = simp (wires.sent-none)
+
+  pub heard_up : (why : Reason) (us : List Ticket)
+      → Silent c t net (abort_heard_above (seat_of place parent c) why us)
+  heard_up ByVote us = wires.silent-no c t net place.me parent c (not_childs turn)
+  heard_up ByAct us = simp (wires.sent-none)
+  heard_up (ByAbort First) us = acknowledged_up turn c.txn.presumption
+  heard_up (ByAbort Second) us = none_or (none_of us) _ (acknowledged_up turn c.txn.presumption)
 
   pub aborts_to : (why : Reason) (us : List Ticket) (b : Bool) → in_list us t ≡ b
-      → wire c t (net ++ (abort_heard_above (seat_of place parent c) why ++ each (seat_of place parent c)
+      → wire c t (net ++ (abort_heard_above (seat_of place parent c) why us ++ each (seat_of place parent c)
       Abort us))
       ≡ record v0 { abort = b || v0.abort }
   aborts_to why us b e =
-      silent_before c t net (abort_heard_above (seat_of place parent c) why)
-      (each (seat_of place parent c) Abort us) (heard_up why)
+      silent_before c t net (abort_heard_above (seat_of place parent c) why us)
+      (each (seat_of place parent c) Abort us) (heard_up why us)
       ∙ wires.wire-aborts c t net (seat_of place parent c) us b (rw (same_txn-refl c.txn) e)
 
   pub phase : m.phase ≡ Asked → p0.phase ≡ pair.Collecting

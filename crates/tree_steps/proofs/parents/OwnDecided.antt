@@ -11,10 +11,10 @@ use Rattle.tree_model.specs.declared.standings.Standing.{Standing}
 use Rattle.tree_model.specs.declared.standings.Standing.TheVariants.{Unknown, Active, Collecting, Committing, Aborting}
 use Rattle.tree_model.specs.Names.{same_outcome, same_ticket, child_case}
 use Rattle.tree_model.specs.Records.{has, in_list, none_of, owing_by, is_prepare}
-use Rattle.tree_model.specs.Nodes.{after, kept}
+use Rattle.tree_model.specs.Nodes.{Version, First, Second, after, kept}
 use Rattle.tree_model.specs.Memory.{Memory, Phase, Idle, Open, Asked, Over, takes_ack, has_acked}
-use Rattle.tree_model.specs.CoordinatorRows.{Row, quiet, plain, other_tickets}
-use Rattle.tree_model.specs.Reactions.{row_effect}
+use Rattle.tree_model.specs.CoordinatorRows.{Row, quiet, plain, other_tickets, acknowledges_at_last}
+use Rattle.tree_model.specs.Reactions.{row_effect, seat_of}
 use Rattle.tree_model.specs.Standings.{CoordinatorView, unknown_view, still_owed}
 use Rattle.tree_pairs.specs.Reading.{Reading, is_live}
 use Rattle.tree_pairs.specs.Standing as pair
@@ -32,14 +32,14 @@ use Rattle.tree_steps.proofs.parents.Own as own
 use Rattle.tree_steps.proofs.parents.OwnAborts.{in_filter}
 use Rattle.tree_steps.proofs.parents.OwnMoves.{and_then, read_as}
 use Rattle.tree_steps.proofs.parents.OwnPromised.{not_open, not_asked, phase_stays}
-use Rattle.tree_steps.proofs.parents.OwnQuiet.{After}
+use Rattle.tree_steps.proofs.parents.OwnQuiet.{After, not_childs}
 use Rattle.tree_steps.proofs.parents.Quiet.{rested, rest_fits, begun_plain}
 use Rattle.tree_steps.proofs.parents.Readings as readings
 use Rattle.tree_steps.proofs.parents.Rested.{view_so, heard_so, acked_now, has_acked-push}
 use Rattle.tree_steps.proofs.parents.Tables.{committing_facts, aborting_facts, UnknownFacts, ended, committed, aborted, unrecorded, unknown_facts, owing_by-naming, none_in}
 use Rattle.tree_steps.proofs.parents.Turns.{Turn, Says, Fine, Fits_in, R as seen, m as remembered, m' as then_remembered, p0 as half, v0 as net_part, o0 as told_outcome, r0 as reading, root as at_root, fine_plain}
 use Rattle.tree_steps.proofs.parents.Wires as wires
-use Rattle.tree_steps.proofs.parents.Wires.{same_children}
+use Rattle.tree_steps.proofs.parents.Wires.{Silent, same_children}
 use Rattle.tree_steps.proofs.parents.Writes.{stands_so, wrote, begun_after}
 
 acks_late : (m : Memory) (u : Ticket) (o : Outcome) (ph : Phase) → (ph ≡ Open → ⊥) → (ph ≡ Asked → ⊥)
@@ -152,8 +152,15 @@ module _ (turn : Turn) where
       (moves.ends_abort c.txn.presumption q _ fits.invariant
       (may_end_abort b v.standing (subst (λ (x : Outcome). Decided x v.standing) e d) refl f))
 
-  abbrev pub end_row : Row
-  end_row = record (quiet unknown_view) { written = plain (EndRecord c) }
+  abbrev pub end_row : Outcome → Row
+  end_row o = record (quiet unknown_view) {
+    written = plain (EndRecord c);
+    messages = acknowledges_at_last h.version (seat_of place parent c) o;
+  }
+
+  at_last : (ver : Version) (o : Outcome) → Silent c t net (acknowledges_at_last ver (seat_of place parent c) o)
+  at_last First o = simp (wires.sent-none)
+  at_last Second o = wires.silent-ack c t net place.me parent c (not_childs turn) o
 
   -- The last ACK that is owed.
 
@@ -197,11 +204,11 @@ module _ (turn : Turn) where
         ∙ (sym (in_others u v.owed t) ∙ none_in (other_tickets u v.owed) t none))
         f))
 
-    pub ends : After turn end_row → Fine turn (row_effect c end_row)
+    pub ends : After turn (end_row o) → Fine turn (row_effect c (end_row o))
     ends later =
         let x = has (is_prepare c) n.life in
-        fine_plain turn (row_effect c end_row) later.alike m.phase p0.accepted heard_acks ack_says v0
-        (wires.wire-nothing c t net)
+        fine_plain turn (row_effect c (end_row o)) later.alike m.phase p0.accepted heard_acks ack_says v0
+        (wires.wire-silent c t net (acknowledges_at_last h.version (seat_of place parent c) o) (at_last h.version o))
         (EndRecord c) (λ j. refl) refl
         (subst (λ (y : Bool). Fits_in turn
         (seen turn o0 (stands_so false m.phase p0.accepted heard_acks y
@@ -211,8 +218,8 @@ module _ (turn : Turn) where
         (read_as turn _ _ (readings.reading-ended manager above k c t root o0 x (rested turn heard_acks) v0)
         (ends_fits heard_acks ack_fits o c.txn.presumption refl agrees d all_acked))))
       where
-        begun_so : begun_after m.phase (after n h (row_effect c end_row)) c ≡ p0.begun
-        begun_so = begun_plain turn (row_effect c end_row) (EndRecord c) refl refl
+        begun_so : begun_after m.phase (after n h (row_effect c (end_row o))) c ≡ p0.begun
+        begun_so = begun_plain turn (row_effect c (end_row o)) (EndRecord c) refl refl
             (record {
               accepts = refl;
               yes_votes = refl;

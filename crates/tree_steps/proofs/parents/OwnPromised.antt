@@ -1,5 +1,6 @@
 -- The outcome comes to the pair's own case, which has promised, on the pair.
 use Rattle.std.proofs.Common.{◌≡◌, ◌≢◌, ◌∙◌, Bool, true, false, ◌||◌, ◌&&◌, Some, List, [], ◌++◌, refl, sym, ap, subst}
+use Rattle.tree_model.specs.declared.names.Outcome.{Outcome}
 use Rattle.tree_model.specs.declared.names.ProcessId.{ProcessId}
 use Rattle.tree_model.specs.declared.names.Outcome.TheVariants.{Committed as CommittedOutcome, Aborted as AbortedOutcome}
 use Rattle.tree_model.specs.declared.names.Presumption.{Presumption}
@@ -11,9 +12,9 @@ use Rattle.tree_model.specs.declared.standings.Standing.{Standing}
 use Rattle.tree_model.specs.declared.standings.Standing.TheVariants.{Active, Collecting, Prepared}
 use Rattle.tree_model.specs.NameLaws.{same_case-refl, same_txn-refl}
 use Rattle.tree_model.specs.Records.{has, in_list, is_prepare, is_commit}
-use Rattle.tree_model.specs.Nodes.{after, kept}
+use Rattle.tree_model.specs.Nodes.{Version, First, Second, after, kept}
 use Rattle.tree_model.specs.Memory.{Memory, Phase, Open, Asked}
-use Rattle.tree_model.specs.CoordinatorRows.{Row, each, posted_up, prepared_commit_by, prepared_abort_by}
+use Rattle.tree_model.specs.CoordinatorRows.{acknowledges_at_once, Row, each, posted_up, prepared_commit_by, prepared_abort_by}
 use Rattle.tree_model.specs.Outcomes.{is_outcome_message}
 use Rattle.tree_model.specs.Reactions.{row_effect, seat_of}
 use Rattle.tree_model.specs.Standings.{CoordinatorView}
@@ -42,7 +43,7 @@ use Rattle.tree_steps.proofs.parents.Rested.{view_so}
 use Rattle.tree_steps.proofs.parents.Tables.{PreparedFacts, prepared_facts}
 use Rattle.tree_steps.proofs.parents.Turns.{Turn, Fine, Fits_in, R as seen, m as remembered, p0 as half, v0 as net_part, o0 as told_outcome, r0 as reading, root as at_root}
 use Rattle.tree_steps.proofs.parents.Wires as wires
-use Rattle.tree_steps.proofs.parents.Wires.{silent_before}
+use Rattle.tree_steps.proofs.parents.Wires.{Silent, silent_before}
 use Rattle.tree_steps.proofs.parents.Writes.{stands_so, hardens, wrote, begun_after}
 
 -- a half as memory left it
@@ -174,10 +175,10 @@ module _ (turn : Turn) where
       by_test true x = clash p0.abort_kept (stands_for c.txn.presumption q inv x) f
 
   abbrev pub commit_row : Presumption → Row
-  commit_row p = prepared_commit_by (seat_of place parent c) v p
+  commit_row p = prepared_commit_by h.version (seat_of place parent c) v p
 
   abbrev pub abort_row : Presumption → Row
-  abort_row p = prepared_abort_by (seat_of place parent c) v p
+  abort_row p = prepared_abort_by h.version (seat_of place parent c) v p
 
   abbrev X : Bool → Bool → ParentHalf → Wire → Reading
   X b o q x = readings.R manager above k c t b o q x
@@ -203,6 +204,10 @@ module _ (turn : Turn) where
   aborts_to e = wires.wire-aborts c t net (seat_of place parent c) v.promised p0.names
       (rw (same_txn-refl c.txn) (names e))
 
+  at_once : (ver : Version) (o : Outcome) → Silent c t net (acknowledges_at_once ver (seat_of place parent c) o)
+  at_once First o = wires.silent-ack c t net place.me parent c (not_childs turn) o
+  at_once Second o = simp (wires.sent-none)
+
   pub passes_commit : (p : Presumption) → HearsParent parent h (Commit c) → v.standing ≡ Prepared
       → c.txn.presumption ≡ p → After turn (commit_row p) → Fine turn (row_effect c (commit_row p))
   passes_commit PresumeAbort i e q later =
@@ -212,9 +217,9 @@ module _ (turn : Turn) where
       let w : Wire = record v0 { commit = p0.names || v0.commit } in
       let half_then : ParentHalf = hardens (wrote (CommitRecord c v.promised) c t promised p0) in
       own_forced turn (commit_row PresumeAbort) later m.phase (commit_says i) w
-      (silent_before c t net (posted_up place.me parent (Ack c CommittedOutcome))
+      (silent_before c t net (acknowledges_at_once h.version (seat_of place parent c) CommittedOutcome)
       (each (seat_of place parent c) Commit v.promised)
-      (wires.silent-ack c t net place.me parent c (not_childs turn) CommittedOutcome) ∙ commits_to e)
+      (at_once h.version CommittedOutcome) ∙ commits_to e)
       p0 refl (CommitRecord c v.promised) (λ j. refl) refl
       (subst (λ (x : ParentHalf). Fits_in turn
       (seen turn ((root && (is_commit c (CommitRecord c v.promised) || p0.commit_kept)) || o0) x w))
@@ -273,9 +278,9 @@ module _ (turn : Turn) where
       let w : Wire = record v0 { abort = p0.names || v0.abort } in
       let half_then : Bool → ParentHalf = λ y. hardens (wrote (AbortRecord c v.promised) c t y p0) in
       own_forced turn (abort_row PresumeCommit) later m.phase (abort_says e i) w
-      (silent_before c t net (posted_up place.me parent (Ack c AbortedOutcome))
+      (silent_before c t net (acknowledges_at_once h.version (seat_of place parent c) AbortedOutcome)
       (each (seat_of place parent c) Abort v.promised)
-      (wires.silent-ack c t net place.me parent c (not_childs turn) AbortedOutcome) ∙ aborts_to e)
+      (at_once h.version AbortedOutcome) ∙ aborts_to e)
       p0 refl (AbortRecord c v.promised) (λ j. refl) refl
       (subst (λ (x : ParentHalf). Fits_in turn
       (seen turn ((root && (is_commit c (AbortRecord c v.promised) || p0.commit_kept)) || o0) x w))

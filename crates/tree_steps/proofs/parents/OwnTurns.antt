@@ -1,5 +1,6 @@
 -- Each turn of the pair's own case keeps the pair.
 use Rattle.std.proofs.Common.{◌≡◌, ◌∙◌, Bool, true, false, List, [], ◌∷◌, ◌++◌, refl, sym, subst, if◌then◌else◌}
+use Rattle.tree_model.specs.Nodes.{Version}
 use Rattle.tree_model.specs.declared.names.Ticket.{Ticket}
 use Rattle.tree_model.specs.declared.names.Outcome.{Outcome}
 use Rattle.tree_model.specs.declared.names.Outcome.TheVariants.{Committed as CommittedOutcome, Aborted as AbortedOutcome}
@@ -109,15 +110,16 @@ module _ (turn : Turn) where
   refuses_late _ turns.unknown_refuses e o = not_open turn Unknown e (λ z. cc) o
   refuses_late _ turns.aborting_refuses e o = not_open turn Aborting e (λ z. cc) o
 
-  pub acknowledges_late : (o : Outcome) (p : Presumption) (s : Standing) → Acknowledges o p s → v.standing ≡ s
+  pub acknowledges_late : (ver : Version) (o : Outcome) (p : Presumption) (s : Standing)
+      → Acknowledges ver o p s → v.standing ≡ s
       → (m.phase ≡ Open → ⊥) × (m.phase ≡ Asked → ⊥)
-  acknowledges_late _ _ _ turns.commit_presumed_abort e =
+  acknowledges_late _ _ _ _ (turns.commit_presumed_abort w) e =
       (not_open turn Unknown e (λ z. cc), not_asked turn Unknown e (λ z. cc))
-  acknowledges_late _ _ _ (turns.commit_again p) e =
+  acknowledges_late _ _ _ _ (turns.commit_again p) e =
       (not_open turn Committing e (λ z. cc), not_asked turn Committing e (λ z. cc))
-  acknowledges_late _ _ _ turns.abort_presumed_commit e =
+  acknowledges_late _ _ _ _ (turns.abort_presumed_commit w) e =
       (not_open turn Unknown e (λ z. cc), not_asked turn Unknown e (λ z. cc))
-  acknowledges_late _ _ _ (turns.abort_again p) e =
+  acknowledges_late _ _ _ _ (turns.abort_again p) e =
       (not_open turn Aborting e (λ z. cc), not_asked turn Aborting e (λ z. cc))
 
   pub own_turn : (row : Row) → CaseTurn place parent n h c row → After turn row → Fine turn (row_effect c row)
@@ -153,7 +155,7 @@ module _ (turn : Turn) where
       (rest_prepare turn k i (λ o. refuses_late v.standing e refl o))
       (wires.silent-no c t net place.me parent c (not_childs turn))
   own_turn _ (turns.acknowledges o i e) later =
-      let late = acknowledges_late o c.txn.presumption v.standing e refl in
+      let late = acknowledges_late h.version o c.txn.presumption v.standing e refl in
       quiet_row turn _ later refl refl refl refl (rest_outcome turn o i late.0 late.1)
       (wires.silent-ack c t net place.me parent c (not_childs turn) o)
   own_turn _ (turns.waits_for_acks u o i e f g) later =
