@@ -21,6 +21,7 @@ use Rattle.tree_model.specs.Reactions.{row_effect}
 use Rattle.tree_model.specs.SameViews.{SameView}
 use Rattle.log_text.specs.Made.{frame_record}
 use Rattle.rec_log.specs.Sights.{IsRecord}
+use Rattle.core_model.specs.Turns.{this_version}
 use Rattle.coord_effects.specs.declared.seat.Seat.{Seat}
 use Rattle.coord_effects.specs.declared.seat.Reason.{Reason}
 use Rattle.coord_effects.specs.declared.seat.Reason.TheVariants.{Vote, Act, Abort}
@@ -36,7 +37,7 @@ seat s = record { me = s.me; parent = s.parent; own = s.case }
 abbrev pub reason : Reason → AnyReason
 reason Vote = ByVote
 reason Act = ByAct
-reason Abort = ByAbort
+reason Abort = ByAbort this_version
 
 -- the record of a decision that names these
 abbrev pub decision : Case → Outcome → List Ticket → Record

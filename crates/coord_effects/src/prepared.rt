@@ -8,6 +8,7 @@ ghost use Rattle.tree_model.specs.CoordinatorRows.{
   prepared_prepare as prepare_row,
 };
 ghost use Rattle.tree_model.specs.SameViews.{SameView};
+ghost use Rattle.core_model.specs.Turns.{this_version};
 ghost use Rattle.coord_effects.specs.Rows.{Does, seat as seat_meant};
 
 use crate::deciding::{decides_owed, forgets_behind};
@@ -21,7 +22,8 @@ use tree_model::{Message, Outcome, Presumption, Record, Sequence};
 /// and names those that owe an acknowledgement; under Presumed Commit nobody owes one. Memory: nothing
 /// changed.
 pub fn prepared_commit(alloc: Global, seat: Seat, live: &mut Live) -> Result<RowEffect, AllocError>
-    ensures ok { IfOk result (λ effect. Does seat (commit_row (seat_meant seat) live.old) effect live.new) }
+    ensures ok { IfOk result (λ effect. Does seat
+        (commit_row this_version (seat_meant seat) live.old) effect live.new) }
     ensures err { OnErr result (live.new ≡ live.old) }
 {
     let promised = Vec::from_slice(alloc, live.promised())?;
@@ -49,7 +51,8 @@ pub fn prepared_commit(alloc: Global, seat: Seat, live: &mut Live) -> Result<Row
 /// Prepared, ABORT: the promised are told. Under Presumed Commit the abort is forced and acknowledged, and
 /// names those that owe an acknowledgement; under Presumed Abort nobody owes one. Memory: nothing changed.
 pub fn prepared_abort(alloc: Global, seat: Seat, live: &mut Live) -> Result<RowEffect, AllocError>
-    ensures ok { IfOk result (λ effect. Does seat (abort_row (seat_meant seat) live.old) effect live.new) }
+    ensures ok { IfOk result (λ effect. Does seat
+        (abort_row this_version (seat_meant seat) live.old) effect live.new) }
     ensures err { OnErr result (live.new ≡ live.old) }
 {
     let promised = Vec::from_slice(alloc, live.promised())?;

@@ -1,6 +1,6 @@
 //! A coordinator in one of its cases, and the messages that it sends from there.
 
-ghost use Rattle.std.specs.Prelude.{◌≡◌, ◌++◌, IfOk, OnOk};
+ghost use Rattle.std.specs.Prelude.{◌≡◌, ◌++◌, IfOk, List, OnOk};
 ghost use Rattle.tree_model.specs.CoordinatorRows.{abort_heard_above, acknowledges_abort, each, tells, tells_outcome, to_child, unknown_commit, up as up_of};
 ghost use Rattle.tree_model.specs.Reactions.{told_of};
 ghost use Rattle.tree_model.specs.Standings.{CoordinatorView};
@@ -86,9 +86,10 @@ pub fn acknowledge_commit(alloc: Global, seat: Seat) -> Result<Envelopes, AllocE
     }
 }
 
-/// What the parent hears of an abort.
+/// What the parent hears of an abort, whomever it is told.
 pub fn heard_above(alloc: Global, seat: Seat, reason: Reason) -> Result<Envelopes, AllocError>
-    ensures { IfOk result (λ messages. messages ≡ abort_heard_above (seat_meant seat) (reason_meant reason)) }
+    ensures { IfOk result (λ messages. (told : List Ticket) → messages
+        ≡ abort_heard_above (seat_meant seat) (reason_meant reason) told) }
 {
     match reason {
         Reason::Vote => up(alloc, seat, Message::No(seat.case)),

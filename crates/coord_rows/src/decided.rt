@@ -14,6 +14,7 @@ ghost use Rattle.tree_model.specs.CoordinatorRows.{
   unknown_prepare as prepare_row,
 };
 ghost use Rattle.tree_model.specs.SameViews.{SameView};
+ghost use Rattle.core_model.specs.Turns.{this_version};
 ghost use Rattle.coord_effects.specs.Rows.{Does, seat as seat_meant};
 
 use coord_case::Live;
@@ -33,8 +34,8 @@ pub fn decided_ack(
     ticket: Ticket,
     live: &mut Live,
 ) -> Result<RowEffect, AllocError>
-    ensures ok { IfOk result (λ effect. Does seat
-        (ack_row (seat_meant seat) ticket live.old) effect live.new) }
+    ensures ok { IfOk result (λ effect. (outcome : Outcome) → Does seat
+        (ack_row this_version (seat_meant seat) outcome ticket live.old) effect live.new) }
     ensures err { OnErr result (live.new ≡ live.old) }
 {
     if !live.owes(&ticket) {
@@ -79,7 +80,7 @@ pub fn decided_inquiry(
 /// Committing, COMMIT again: it is acknowledged.
 pub fn committing_commit(alloc: Global, seat: Seat) -> Result<RowEffect, AllocError>
     ensures { IfOk result (λ effect. (view : CoordinatorView)
-        → Does seat (commit_again_row (seat_meant seat) view) effect view) }
+        → Does seat (commit_again_row this_version (seat_meant seat) view) effect view) }
 {
     let messages = up(alloc, seat, Message::Ack(seat.case, Outcome::Committed))?;
     Ok(RowEffect::sends(alloc, messages))
@@ -88,7 +89,7 @@ pub fn committing_commit(alloc: Global, seat: Seat) -> Result<RowEffect, AllocEr
 /// Aborting, ABORT again: it is acknowledged.
 pub fn aborting_abort(alloc: Global, seat: Seat) -> Result<RowEffect, AllocError>
     ensures { IfOk result (λ effect. (view : CoordinatorView)
-        → Does seat (abort_again_row (seat_meant seat) view) effect view) }
+        → Does seat (abort_again_row this_version (seat_meant seat) view) effect view) }
 {
     let messages = up(alloc, seat, Message::Ack(seat.case, Outcome::Aborted))?;
     Ok(RowEffect::sends(alloc, messages))

@@ -3,6 +3,7 @@
 
 ghost use Rattle.std.specs.Prelude.{◌≡◌, IfOk, OnErr};
 ghost use Rattle.tree_model.specs.CoordinatorRows.{on_abort as abort_row, on_commit as commit_row};
+ghost use Rattle.core_model.specs.Turns.{this_version};
 ghost use Rattle.coord_effects.specs.Rows.{Does, seat as seat_meant};
 
 use crate::active::active_abort;
@@ -16,7 +17,7 @@ use tree_model::Standing;
 /// COMMIT of the parent. Memory: nothing changed.
 pub fn on_commit(alloc: Global, seat: Seat, live: &mut Live) -> Result<RowEffect, AllocError>
     ensures ok { IfOk result (λ effect. Does seat
-        (commit_row (seat_meant seat) live.old live.old.standing) effect live.new) }
+        (commit_row this_version (seat_meant seat) live.old live.old.standing) effect live.new) }
     ensures err { OnErr result (live.new ≡ live.old) }
 {
     match live.standing() {
@@ -30,7 +31,7 @@ pub fn on_commit(alloc: Global, seat: Seat, live: &mut Live) -> Result<RowEffect
 /// ABORT of the parent. Memory: nothing changed.
 pub fn on_abort(alloc: Global, seat: Seat, live: &mut Live) -> Result<RowEffect, AllocError>
     ensures ok { IfOk result (λ effect. Does seat
-        (abort_row (seat_meant seat) live.old live.old.standing) effect live.new) }
+        (abort_row this_version (seat_meant seat) live.old live.old.standing) effect live.new) }
     ensures err { OnErr result (live.new ≡ live.old) }
 {
     match live.standing() {

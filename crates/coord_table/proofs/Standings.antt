@@ -7,6 +7,7 @@ use Rattle.tree_model.specs.declared.names.Ticket.{Ticket}
 use Rattle.tree_model.specs.Memory.{has_child}
 use Rattle.tree_model.specs.Standings.{CoordinatorView}
 use Rattle.tree_model.specs.CoordinatorRows.{Row, Seat, active_joined, on_ack, on_joined, quiet}
+use Rattle.core_model.specs.Turns.{this_version}
 use Rattle.coord_table.specs.declared.asked.Asked.{Asked}
 use Rattle.coord_table.specs.declared.asked.Asked.TheVariants.{Join, Work, Commit, AbortActive, AbortCollecting, Ask, Joined, Vote, Ack, Inquire, Prepare, Commits, Aborts}
 use Rattle.coord_table.specs.Asks.{asked_row, is_of_root, is_retiring}
@@ -18,7 +19,7 @@ either true r q this that = this
 either false r q this that = that
 
 acked : (s : Seat) (t : Ticket) (o : Outcome) (v : CoordinatorView) → v.standing ≡ Active
-    → (on_ack s t o v Active).view.standing ≡ Active
+    → (on_ack this_version s t o v Active).view.standing ≡ Active
 acked s t Committed v active = active
 acked s t Aborted v active = active
 
@@ -36,7 +37,7 @@ stays_active s (Joined t) v active not_retiring below =
     subst (λ at. (on_joined t v at).view.standing ≡ Active) (sym active) (joined t v active)
 stays_active s (Vote t w) v active not_retiring below = rw active refl
 stays_active s (Ack t o) v active not_retiring below =
-    subst (λ at. (on_ack s t o v at).view.standing ≡ Active) (sym active) (acked s t o v active)
+    subst (λ at. (on_ack this_version s t o v at).view.standing ≡ Active) (sym active) (acked s t o v active)
 stays_active s (Inquire t) v active not_retiring below = rw active refl
 stays_active s Commits v active not_retiring below = rw active refl
 stays_active s Commit v active not_retiring below = absurd (cc)

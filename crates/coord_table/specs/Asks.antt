@@ -3,6 +3,7 @@ use Rattle.std.specs.Prelude.{◌≡◌, ⊤, Bool, true, false}
 use Rattle.tree_model.specs.Records.{in_list}
 use Rattle.tree_model.specs.Standings.{CoordinatorView}
 use Rattle.tree_model.specs.CoordinatorRows.{Row, Seat, ByAct, active_abort, active_commit, active_join, active_work, collecting_abort, on_abort, on_ack, on_commit, on_inquiry, on_joined, on_prepare, on_vote, prepared_ask}
+use Rattle.core_model.specs.Turns.{this_version}
 use Rattle.coord_table.specs.declared.asked.Asked.{Asked}
 use Rattle.coord_table.specs.declared.asked.Asked.TheVariants.{Join, Work, Commit, AbortActive, AbortCollecting, Ask, Joined, Vote, Ack, Inquire, Prepare, Commits, Aborts}
 
@@ -16,11 +17,11 @@ asked_row s AbortCollecting v = collecting_abort s ByAct v
 asked_row s Ask v = prepared_ask s v
 asked_row s (Joined t) v = on_joined t v v.standing
 asked_row s (Vote t w) v = on_vote s t w v v.standing
-asked_row s (Ack t o) v = on_ack s t o v v.standing
+asked_row s (Ack t o) v = on_ack this_version s t o v v.standing
 asked_row s (Inquire t) v = on_inquiry s t v v.standing
 asked_row s Prepare v = on_prepare s v v.standing
-asked_row s Commits v = on_commit s v v.standing
-asked_row s Aborts v = on_abort s v v.standing
+asked_row s Commits v = on_commit this_version s v v.standing
+asked_row s Aborts v = on_abort this_version s v v.standing
 
 -- PREPARE and ABORT end the time of the case's ticket
 abbrev pub is_retiring : Asked → Bool

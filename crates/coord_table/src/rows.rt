@@ -11,6 +11,7 @@ ghost use Rattle.tree_model.specs.CoordinatorRows.{
 };
 ghost use Rattle.tree_model.specs.Standings.{unknown_view};
 ghost use Rattle.tree_model.specs.SameViews.{SameView};
+ghost use Rattle.core_model.specs.Turns.{this_version};
 ghost use Rattle.coord_effects.specs.Rows.{Does, seat as seat_meant};
 ghost use Rattle.coord_table.specs.Asks.{Accepts, asked_row, is_for_any};
 
@@ -69,7 +70,7 @@ fn on_ack(
     live: &mut Live,
 ) -> Result<RowEffect, AllocError>
     ensures ok { IfOk result (λ effect. Does seat
-        (ack_row (seat_meant seat) ticket outcome live.old live.old.standing) effect live.new) }
+        (ack_row this_version (seat_meant seat) ticket outcome live.old live.old.standing) effect live.new) }
     ensures err { OnErr result (live.new ≡ live.old) }
 {
     match (outcome, live.standing()) {

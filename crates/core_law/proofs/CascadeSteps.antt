@@ -12,7 +12,7 @@ use Rattle.tree_model.specs.Nodes.{Below, DataAnswer, Node, Place, after}
 use Rattle.tree_model.specs.Reactions.{Does, act_is_listed, is_passed_over}
 use Rattle.core_model.specs.States.{CoreState}
 use Rattle.core_model.specs.Makes.{Makes, Moves}
-use Rattle.core_model.specs.Turns.{Finds, Refuses, Turn, asked_by, reacted, turn_of, up_turn}
+use Rattle.core_model.specs.Turns.{Finds, Refuses, Turn, asked_by, reacted, turn_of, up_turn, heard_now}
 use Rattle.core_law.specs.Fits.{CascadeFits}
 use Rattle.core_law.specs.Laws.{MadeAs}
 use Rattle.core_law.specs.Ties.{Stands}
@@ -32,7 +32,7 @@ module _ (n : Node) (s s' : CoreState) (me p : ProcessId) (tree : List TreeEntry
   new = record s' { place = cascaded_place me p tree }
 
   abbrev Leads : Input → Turn → Type 0
-  Leads i turn = Follows n (record { input = i; data_answer = a }) old new i turn
+  Leads i turn = Follows n (heard_now a i) old new i turn
 
   up_follows : n.failed ≡ false → Stands n old → CascadeFits (cascaded_place me p tree) n → (i : Input)
       → Finds old (asked_by i) found
@@ -71,7 +71,7 @@ module _ (n : Node) (old new : CoreState) (p : ProcessId) (a : DataAnswer) (i : 
       (turn_of (record old { place = q }) a made.found i) ≡ Does made.effect
       → Moves (record old { place = q }) (record new { place = r }) i
       (turn_of (record old { place = q }) a made.found i)
-      → Stands (after n (record { input = i; data_answer = a }) made.effect) (record new { place = r })
+      → Stands (after n (heard_now a i) made.effect) (record new { place = r })
 
   placed : n.failed ≡ false → (q r : Place) → q
       ≡ cascaded_place old.place.me p old.place.tree → r ≡ q → at_place q r
@@ -82,7 +82,7 @@ module _ (n : Node) (old new : CoreState) (p : ProcessId) (a : DataAnswer) (i : 
       runs s f g l made.effect d m))
 
   made_so : n.failed ≡ false → CascadeFits old.place n → is_passed_over old.place n i ≡ false
-      → MadeAs n (record { input = i; data_answer = a }) old new reaction
+      → MadeAs n (heard_now a i) old new reaction
   made_so runs fits late =
       record {
         effect = made.effect;
@@ -94,10 +94,10 @@ module _ (n : Node) (old new : CoreState) (p : ProcessId) (a : DataAnswer) (i : 
       }
 
   pub cascade_makes : (n.failed ≡ false → CascadeFits old.place n) → is_passed_over old.place n i ≡ false
-      → MadeAs n (record { input = i; data_answer = a }) old new reaction
+      → MadeAs n (heard_now a i) old new reaction
   cascade_makes fits late = by_failed n.failed refl
     where
       by_failed : (f : Bool) → n.failed ≡ f → MadeAs n
-          (record { input = i; data_answer = a }) old new reaction
+          (heard_now a i) old new reaction
       by_failed false runs = made_so runs (fits runs) late
       by_failed true failed = failed_makes old new a made.found i (stands.failed ∙ failed) made.moves

@@ -16,7 +16,7 @@ use Rattle.tree_model.specs.declared.standings.Vote.TheVariants.{Yes, No, Read}
 use Rattle.tree_model.specs.Names.{same_ticket}
 use Rattle.tree_model.specs.NameLaws.{same_ticket-refl}
 use Rattle.tree_model.specs.Records.{has, in_list, is_abort, is_collecting, is_commit, is_end, is_prepare, none_of, owing_by, promised_by}
-use Rattle.tree_model.specs.Nodes.{entries_written}
+use Rattle.tree_model.specs.Nodes.{Version, entries_written}
 use Rattle.tree_model.specs.Memory.{Asked, Memory, Over, all_voted, has_acked, is_counted, undecided_of, with_vote, yes_of}
 use Rattle.tree_model.specs.Standings.{CoordinatorView, standing_by, still_owed, view_at}
 use Rattle.tree_model.specs.CoordinatorRows.{ByVote, Reason, Seat, cascaded_prepares, collecting_abort_by, collecting_after, collecting_full, collecting_read_only, collecting_vote, decides, prepared_abort_by, prepared_commit_by, quiet}
@@ -180,14 +180,14 @@ module _ (me p : ProcessId) (c : Case) (rs : List Record) where
   module _ (m k : Memory) (f : Promised) (owes : owing_by c rs ≡ []) (accepted : k.accepted ≡ m.accepted)
       (votes : k.votes ≡ m.votes)
       (works : k.works ≡ m.works) (acks : k.acks ≡ m.acks) where
-    pub commits_reads : (q : Presumption) (none : Bool) → none_of (promised_by c rs) ≡ none
+    pub commits_reads : (ver : Version) (q : Presumption) (none : Bool) → none_of (promised_by c rs) ≡ none
         → still_owed m.acks CommittedOutcome (promised_by c rs) ≡ promised_by c rs
         → let row =
-        prepared_commit_by seat (view_at Prepared rs c m) q in reads q
+        prepared_commit_by ver seat (view_at Prepared rs c m) q in reads q
         (rs ++ entries_written row.written) k ≡ row.view
-    commits_reads PresumeAbort true u still =
+    commits_reads ver PresumeAbort true u still =
         simp (pushed, f.no_end, f.no_commit, f.no_abort, f.prepared, owes, u) refl
-    commits_reads PresumeAbort false u still =
+    commits_reads ver PresumeAbort false u still =
         simp (
           pushed,
           f.no_end,
@@ -202,19 +202,19 @@ module _ (me p : ProcessId) (c : Case) (rs : List Record) where
           acks,
           still,
         ) refl
-    commits_reads PresumeCommit none u still =
+    commits_reads ver PresumeCommit none u still =
         simp (pushed, f.no_end, f.no_commit, f.no_abort, f.prepared, owes) refl
 
-    pub aborted_reads : (q : Presumption) (none : Bool) → none_of (promised_by c rs) ≡ none
+    pub aborted_reads : (ver : Version) (q : Presumption) (none : Bool) → none_of (promised_by c rs) ≡ none
         → still_owed m.acks AbortedOutcome (promised_by c rs) ≡ promised_by c rs
         → let row =
-        prepared_abort_by seat (view_at Prepared rs c m) q in reads q
+        prepared_abort_by ver seat (view_at Prepared rs c m) q in reads q
         (rs ++ entries_written row.written) k ≡ row.view
-    aborted_reads PresumeAbort none u still =
+    aborted_reads ver PresumeAbort none u still =
         simp (pushed, f.no_end, f.no_commit, f.no_abort, f.prepared, owes) refl
-    aborted_reads PresumeCommit true u still =
+    aborted_reads ver PresumeCommit true u still =
         simp (pushed, f.no_end, f.no_commit, f.no_abort, f.prepared, owes, u) refl
-    aborted_reads PresumeCommit false u still =
+    aborted_reads ver PresumeCommit false u still =
         simp (
           pushed,
           f.no_end,

@@ -47,7 +47,7 @@ use Rattle.tree_nodes.proofs.Selves.{Self, issuer_self, joins_self, self_of, sel
 use Rattle.rec_log.specs.Sights.{LogSight}
 use Rattle.core_model.specs.States.{CoreState, wrote}
 use Rattle.core_model.specs.Makes.{retired_by, retires as retires_ticket}
-use Rattle.core_model.specs.Turns.{Finds, Issues, Refuses, Says, Takes, Turn, abort_turn, ack_turn, ask_turn, asked_in, asked_of, cascaded_turn, child_turn, commit_turn, coordinator_act, inquiry_turn, join_turn, joined_turn, live_turn, next_ticket as next_of, vote_turn, work_for_turn, work_turn}
+use Rattle.core_model.specs.Turns.{Finds, Issues, Refuses, Says, Takes, Turn, abort_turn, ack_turn, ask_turn, asked_in, asked_of, cascaded_turn, child_turn, commit_turn, coordinator_act, inquiry_turn, join_turn, joined_turn, live_turn, next_ticket as next_of, vote_turn, work_for_turn, work_turn, heard_now, this_version}
 use Rattle.core_model.proofs.Alike.{active_abort-same, active_commit-same, active_join-same, active_joined-same, active_work-same, collecting_abort-same, on_abort-same, on_ack-same, on_commit-same, on_inquiry-same, on_joined-same, on_prepare-same, on_vote-same, sends-same}
 use Rattle.core_law.specs.Ties.{Stands, StandsUp}
 use Rattle.core_law.specs.Fits.{CascadeFits}
@@ -112,7 +112,7 @@ module _ (n : Node) (s s' : CoreState) (me p : ProcessId) (tree : List TreeEntry
   new = record s' { place = place }
 
   abbrev pub heard : Input → Heard
-  heard i = record { input = i; data_answer = a }
+  heard i = heard_now a i
 
   abbrev memory : Case → Memory
   memory c = memory_of place n c
@@ -437,29 +437,31 @@ module _ (n : Node) (s s' : CoreState) (me p : ProcessId) (tree : List TreeEntry
     prepare_at k j c standing.Committing is = prepare_rests k j c standing.Committing is (λ e. cc) refl refl
     prepare_at k j c standing.Heuristic is = prepare_rests k j c standing.Heuristic is (λ e. cc) refl refl
 
-    commit_rests : (k : ℕ) (c : Case) (st : Standing) → (on_commit (seat c) (view c) st).written ≡ []
-        → (on_commit (seat c) (view c) st).view ≡ view c
-        → Leads (MessageInput k (Commit c)) (Takes c (on_commit (seat c) (s.view_of c) st))
+    commit_rests : (k : ℕ) (c : Case) (st : Standing)
+        → (on_commit this_version (seat c) (view c) st).written ≡ []
+        → (on_commit this_version (seat c) (view c) st).view ≡ view c
+        → Leads (MessageInput k (Commit c)) (Takes c (on_commit this_version (seat c) (s.view_of c) st))
     commit_rests k c st none shown =
         let i = MessageInput k (Commit c) in
-        rests i c _ (on_commit (seat c) (view c) st)
-        (on_commit-same (s.view_of c) (view c) (shows c) (seat c) st) none
+        rests i c _ (on_commit this_version (seat c) (view c) st)
+        (on_commit-same (s.view_of c) (view c) (shows c) this_version (seat c) st) none
         shown
         (same i (λ g. refl) (λ d t. refl)) (λ d. refl)
 
     commit_at : (k : ℕ) (c : Case) (st : Standing) → (view c).standing ≡ st
-        → Leads (MessageInput k (Commit c)) (Takes c (on_commit (seat c) (s.view_of c) st))
+        → Leads (MessageInput k (Commit c)) (Takes c (on_commit this_version (seat c) (s.view_of c) st))
     commit_at k c standing.Prepared is =
         let i = MessageInput k (Commit c) in
         let m = memory c in
         let f = prepared_facts _ _ _ _ _ _ _ (phase_unprepared c.txn.presumption m.phase)
         (stands_as c standing.Prepared is) in
-        takes i c _ (on_commit (seat c) (view c) standing.Prepared)
-        (on_commit-same (s.view_of c) (view c) (shows c) (seat c) standing.Prepared)
-        (on_commit_of (seat c) (view c) standing.Prepared) (same i (λ g. refl) (λ d t. refl)) m refl
-        (own_by c standing.Prepared is (λ v. on_commit (seat c) v standing.Prepared) m
+        takes i c _ (on_commit this_version (seat c) (view c) standing.Prepared)
+        (on_commit-same (s.view_of c) (view c) (shows c) this_version (seat c) standing.Prepared)
+        (on_commit_of (seat c) (view c) this_version standing.Prepared)
+        (same i (λ g. refl) (λ d t. refl)) m refl
+        (own_by c standing.Prepared is (λ v. on_commit this_version (seat c) v standing.Prepared) m
         (commits_reads me p c rs m m f (undecided_owes c rs f.no_commit f.no_abort) refl refl refl refl
-        c.txn.presumption (none_of (promised_by c rs)) refl
+        this_version c.txn.presumption (none_of (promised_by c rs)) refl
         (all_still m.acks Committed (promised_by c rs) (λ t e. fits.none_early c t Committed is e))))
         (λ d apart. refl)
     commit_at k c standing.Unknown is =
@@ -501,17 +503,18 @@ module _ (n : Node) (s s' : CoreState) (me p : ProcessId) (tree : List TreeEntry
 
     abort_rests : (k : ℕ) (c : Case) (st : Standing) → (view c).standing ≡ st → (st ≡ standing.Active → ⊥)
         → (st ≡ standing.Collecting → ⊥)
-        → (on_abort (seat c) (view c) st).written ≡ [] → (on_abort (seat c) (view c) st).view ≡ view c
-        → Leads (MessageInput k (Abort c)) (Takes c (on_abort (seat c) (s.view_of c) st))
+        → (on_abort this_version (seat c) (view c) st).written ≡ []
+        → (on_abort this_version (seat c) (view c) st).view ≡ view c
+        → Leads (MessageInput k (Abort c)) (Takes c (on_abort this_version (seat c) (s.view_of c) st))
     abort_rests k c st is shut silent none shown =
-        rests (MessageInput k (Abort c)) c _ (on_abort (seat c) (view c) st)
-        (on_abort-same (s.view_of c) (view c) (shows c) (seat c) st) none shown
+        rests (MessageInput k (Abort c)) c _ (on_abort this_version (seat c) (view c) st)
+        (on_abort-same (s.view_of c) (view c) (shows c) this_version (seat c) st) none shown
         (same_abort k c)
         (abort_leaves k c (not_open c st is shut (memory c).phase refl)
         (not_asked c st is silent (memory c).phase refl))
 
     abort_to : (k : ℕ) (c : Case) (st : Standing) → (view c).standing ≡ st
-        → Leads (MessageInput k (Abort c)) (Takes c (on_abort (seat c) (s.view_of c) st))
+        → Leads (MessageInput k (Abort c)) (Takes c (on_abort this_version (seat c) (s.view_of c) st))
     abort_to k c standing.Active active =
         let i = MessageInput k (Abort c) in
         let m = memory c in
@@ -536,11 +539,12 @@ module _ (n : Node) (s s' : CoreState) (me p : ProcessId) (tree : List TreeEntry
         let f = collecting_facts _ _ _ _ _ _ _ (stands_as c standing.Collecting is) in
         let asked : m.phase ≡ Asked = (fits.alike c).collecting_is_asked is in
         let next : Memory = record (retires m c) { phase = Over } in
-        takes i c _ (collecting_abort (seat c) ByAbort (view c))
-        (collecting_abort-same (s.view_of c) (view c) (shows c) (seat c) ByAbort)
-        (collecting_abort_of (seat c) (view c) ByAbort) (same_abort k c) next (closed_is c Asked asked)
-        (own_by c standing.Collecting is (collecting_abort (seat c) ByAbort) next
-        (aborts_reads me p c rs c.txn.presumption ByAbort (undecided_of m.accepted m.votes) m f
+        takes i c _ (collecting_abort (seat c) (ByAbort this_version) (view c))
+        (collecting_abort-same (s.view_of c) (view c) (shows c) (seat c) (ByAbort this_version))
+        (collecting_abort_of (seat c) (view c) (ByAbort this_version))
+        (same_abort k c) next (closed_is c Asked asked)
+        (own_by c standing.Collecting is (collecting_abort (seat c) (ByAbort this_version)) next
+        (aborts_reads me p c rs c.txn.presumption (ByAbort this_version) (undecided_of m.accepted m.votes) m f
         (undecided_owes c rs f.no_commit f.no_abort)
         (asked_quiet m (cascaded_quiet me p tree n c) asked)))
         (λ d apart. abort_keeps k c d apart)
@@ -551,13 +555,14 @@ module _ (n : Node) (s s' : CoreState) (me p : ProcessId) (tree : List TreeEntry
         (stands_as c standing.Prepared is) in
         let next : Memory = closes (retires m c) m.phase in
         let keeps = closes_keeps (retires m c) m.phase in
-        takes i c _ (on_abort (seat c) (view c) standing.Prepared)
-        (on_abort-same (s.view_of c) (view c) (shows c) (seat c) standing.Prepared)
-        (on_abort_of (seat c) (view c) standing.Prepared) (same_abort k c) next (closed_is c m.phase refl)
-        (own_by c standing.Prepared is (λ v. on_abort (seat c) v standing.Prepared) next
+        takes i c _ (on_abort this_version (seat c) (view c) standing.Prepared)
+        (on_abort-same (s.view_of c) (view c) (shows c) this_version (seat c) standing.Prepared)
+        (on_abort_of (seat c) (view c) this_version standing.Prepared)
+        (same_abort k c) next (closed_is c m.phase refl)
+        (own_by c standing.Prepared is (λ v. on_abort this_version (seat c) v standing.Prepared) next
         (aborted_reads me p c rs m next f (undecided_owes c rs f.no_commit f.no_abort)
         keeps.0 keeps.1 keeps.2 keeps.3
-        c.txn.presumption
+        this_version c.txn.presumption
         (none_of (promised_by c rs)) refl
         (all_still m.acks Aborted (promised_by c rs) (λ t e. fits.none_early c t Aborted is e))))
         (λ d apart. abort_keeps k c d apart)
@@ -774,14 +779,16 @@ module _ (n : Node) (s s' : CoreState) (me p : ProcessId) (tree : List TreeEntry
         → Finds old (Some (c.txn, t)) (Some c) → (st : Standing)
         → (view c).standing ≡ st
         → (st ≡ standing.Active → ⊥) → (st ≡ standing.Collecting → ⊥)
-        → (f : CoordinatorView → Row) → ((v : CoordinatorView) → on_ack (seat c) t o v st ≡ f v)
+        → (f : CoordinatorView → Row) → ((v : CoordinatorView) → on_ack this_version (seat c) t o v st ≡ f v)
         → read (rs ++ entries_written (f (view_by st rs c (memory c))).written) c (acked (memory c) t o)
         ≡ (f (view_by st rs c (memory c))).view
-        → Leads (MessageInput k (Ack (child_case c.txn t) o)) (Takes c (on_ack (seat c) t o (s.view_of c) st))
+        → Leads (MessageInput k (Ack (child_case c.txn t) o))
+        (Takes c (on_ack this_version (seat c) t o (s.view_of c) st))
     ack_noted k o t c finds st is shut silent f so reads =
         let m = memory c in
-        takes (MessageInput k (Ack (child_case c.txn t) o)) c _ (on_ack (seat c) t o (view c) st)
-        (on_ack-same (s.view_of c) (view c) (shows c) (seat c) t o st) (on_ack_of (seat c) (view c) t o st)
+        takes (MessageInput k (Ack (child_case c.txn t) o)) c _ (on_ack this_version (seat c) t o (view c) st)
+        (on_ack-same (s.view_of c) (view c) (shows c) this_version (seat c) t o st)
+        (on_ack_of (seat c) (view c) this_version t o st)
         (same_ack k o (child_case c.txn t)) (acked m t o)
         (ack_own k o t c
         ∙ noted m t o m.phase (not_open c st is shut m.phase refl) (not_asked c st is silent m.phase refl))
@@ -794,12 +801,13 @@ module _ (n : Node) (s s' : CoreState) (me p : ProcessId) (tree : List TreeEntry
     ack_rests : (k : ℕ) (o : Outcome) (t : Ticket) (c : Case)
         → Finds old (Some (c.txn, t)) (Some c) → (st : Standing)
         → takes_ack (memory c) t o (memory c).phase ≡ memory c
-        → (on_ack (seat c) t o (view c) st).written ≡ []
-        → (on_ack (seat c) t o (view c) st).view ≡ view c
-        → Leads (MessageInput k (Ack (child_case c.txn t) o)) (Takes c (on_ack (seat c) t o (s.view_of c) st))
+        → (on_ack this_version (seat c) t o (view c) st).written ≡ []
+        → (on_ack this_version (seat c) t o (view c) st).view ≡ view c
+        → Leads (MessageInput k (Ack (child_case c.txn t) o))
+        (Takes c (on_ack this_version (seat c) t o (s.view_of c) st))
     ack_rests k o t c finds st unheard none shown =
-        rests (MessageInput k (Ack (child_case c.txn t) o)) c _ (on_ack (seat c) t o (view c) st)
-        (on_ack-same (s.view_of c) (view c) (shows c) (seat c) t o st) none shown
+        rests (MessageInput k (Ack (child_case c.txn t) o)) c _ (on_ack this_version (seat c) t o (view c) st)
+        (on_ack-same (s.view_of c) (view c) (shows c) this_version (seat c) t o st) none shown
         (same_ack k o (child_case c.txn t))
         keeps
       where
@@ -823,19 +831,20 @@ module _ (n : Node) (s s' : CoreState) (me p : ProcessId) (tree : List TreeEntry
         rw (found, is, runs) refl
 
     ack_quiet : (o : Outcome) (t : Ticket) (c : Case) (v : CoordinatorView)
-        → (on_ack (seat c) t o v standing.Active ≡ quiet v)
-        × (on_ack (seat c) t o v standing.Collecting ≡ quiet v)
+        → (on_ack this_version (seat c) t o v standing.Active ≡ quiet v)
+        × (on_ack this_version (seat c) t o v standing.Collecting ≡ quiet v)
     ack_quiet Committed t c v = (refl, refl)
     ack_quiet Aborted t c v = (refl, refl)
 
     ack_to : (k : ℕ) (o : Outcome) (t : Ticket) (c : Case) → Finds old (Some (c.txn, t)) (Some c)
         → is_passed_over place n (MessageInput k (Ack (child_case c.txn t) o)) ≡ false → (st : Standing)
         → (view c).standing ≡ st
-        → Leads (MessageInput k (Ack (child_case c.txn t) o)) (Takes c (on_ack (seat c) t o (s.view_of c) st))
+        → Leads (MessageInput k (Ack (child_case c.txn t) o))
+        (Takes c (on_ack this_version (seat c) t o (s.view_of c) st))
     ack_to k Committed t c finds late standing.Committing is =
         let m = memory c in
         ack_noted k Committed t c finds standing.Committing is (λ e. cc) (λ e. cc)
-        (decided_ack (seat c) t) (λ v. refl)
+        (decided_ack this_version (seat c) Committed t) (λ v. refl)
         (acked_commit me c c.txn.presumption t rs m (in_list (still_owed m.acks Committed (owing_by c rs)) t)
         (none_of (other_tickets t (still_owed m.acks Committed (owing_by c rs))))
         (stands_as c standing.Committing is)
@@ -846,7 +855,7 @@ module _ (n : Node) (s s' : CoreState) (me p : ProcessId) (tree : List TreeEntry
     ack_to k Aborted t c finds late standing.Aborting is =
         let m = memory c in
         ack_noted k Aborted t c finds standing.Aborting is (λ e. cc) (λ e. cc)
-        (decided_ack (seat c) t) (λ v. refl)
+        (decided_ack this_version (seat c) Aborted t) (λ v. refl)
         (acked_abort me c c.txn.presumption t rs m (in_list (still_owed m.acks Aborted (owing_by c rs)) t)
         (none_of (other_tickets t (still_owed m.acks Aborted (owing_by c rs))))
         (stands_as c standing.Aborting is) refl

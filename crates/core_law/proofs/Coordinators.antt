@@ -25,7 +25,7 @@ use Rattle.tree_nodes.proofs.Selves.{Self, self_after, self_of, self_remembers}
 use Rattle.rec_log.specs.Sights.{LogSight}
 use Rattle.core_model.specs.States.{CoreState, wrote}
 use Rattle.core_model.specs.Makes.{TakesRow, retired_by, retires as retires_ticket}
-use Rattle.core_model.specs.Turns.{Refuses, Says, Takes}
+use Rattle.core_model.specs.Turns.{Refuses, Says, Takes, heard_now}
 use Rattle.core_model.proofs.Alike.{row_effect-same}
 use Rattle.core_law.specs.Ties.{Stands, StandsUp, branch_at, view_at}
 use Rattle.core_law.proofs.Managers.{Follows, done_is, same_view-trans}
@@ -52,7 +52,7 @@ module _ (n : Node) (s s' : CoreState) (place : Place) (a : DataAnswer)
   new = record s' { place = place }
 
   abbrev pub heard : Input → Heard
-  heard i = record { input = i; data_answer = a }
+  heard i = heard_now a i
 
   abbrev pub memory : Case → Memory
   memory c = memory_of place n c

@@ -11,7 +11,7 @@ use Rattle.tree_model.specs.Reactions.{Refused, reacts}
 use Rattle.rec_log.specs.Sights.{LogSight, records_of}
 use Rattle.core_model.specs.States.{CoreState, SameCore, logged, parent}
 use Rattle.core_model.specs.Makes.{IsBroken, IsRefused}
-use Rattle.core_model.specs.Turns.{reacted}
+use Rattle.core_model.specs.Turns.{reacted, heard_now}
 use Rattle.core_law.specs.Laws.{BrokenAs}
 use Rattle.core_law.specs.Ties.{ChildrenFit, Stands, StandsUp, view_at}
 use Rattle.core_law.proofs.Managers.{same_view-trans}
@@ -47,7 +47,7 @@ same_stands n old new same stands =
 
 pub refuses_so : (n : Node) (old new : CoreState) (a : DataAnswer) (i : Input) (e : StepError) → Stands n old
     → (n.failed ≡ false → ChildrenFit old.place n)
-    → IsRefused old new a i e → (reacts old.place n (record { input = i; data_answer = a }) ≡ Refused e)
+    → IsRefused old new a i e → (reacts old.place n (heard_now a i) ≡ Refused e)
     × Stands n new
 refuses_so n old new a i e stands fit refused = (
   meets_as n old a refused.found i fit refused.finds stands
@@ -135,7 +135,7 @@ module _ (n : Node) (old new : CoreState) (a : DataAnswer) (i : Input) (stands :
   parts : Split old.log.kept.forced (map (in_log q) behind) new.log.kept.forced new.log.kept.unforced
   parts = split _ _ _ _ records broken.breaks.2.log.no_less
 
-  left_so : Stands (fails_in n (record { input = i; data_answer = a }) effect appended parts.more)
+  left_so : Stands (fails_in n (heard_now a i) effect appended parts.more)
       (record new { place = old.place })
   left_so =
       record {
@@ -148,7 +148,7 @@ module _ (n : Node) (old new : CoreState) (a : DataAnswer) (i : Input) (stands :
       }
 
   pub breaks_so : (n.failed ≡ false → ChildrenFit old.place n)
-      → BrokenAs n (record { input = i; data_answer = a }) old new
+      → BrokenAs n (heard_now a i) old new
   breaks_so fit =
       record {
         effect = effect;
@@ -156,7 +156,7 @@ module _ (n : Node) (old new : CoreState) (a : DataAnswer) (i : Input) (stands :
         appended = appended;
         forced = parts.more;
         stands =
-            subst (λ p. Stands (fails_in n (record { input = i; data_answer = a }) effect appended parts.more)
+            subst (λ p. Stands (fails_in n (heard_now a i) effect appended parts.more)
             (record new { place = p }))
             (sym broken.breaks.2.place) left_so;
       }

@@ -12,7 +12,7 @@ use Rattle.tree_model.specs.Reactions.{Does, act_is_listed}
 use Rattle.tree_model.specs.Views.{leaf_place}
 use Rattle.core_model.specs.States.{CoreState}
 use Rattle.core_model.specs.Makes.{Makes, Moves}
-use Rattle.core_model.specs.Turns.{Begins, Handles, Issues, Refuses, Says, Takes, Turn, reacted, turn_of, up_turn}
+use Rattle.core_model.specs.Turns.{Begins, Handles, Issues, Refuses, Says, Takes, Turn, reacted, turn_of, up_turn, heard_now}
 use Rattle.core_law.specs.Fits.{FreshIsUnmarked}
 use Rattle.core_law.specs.Laws.{MadeAs}
 use Rattle.core_law.specs.Ties.{ChildrenFit, Stands}
@@ -28,25 +28,25 @@ module _ (n : Node) (s s' : CoreState) (me p : ProcessId) (tree : List TreeEntry
   new = record s' { place = leaf_place me p tree }
 
   up_follows : n.failed ≡ false → Stands n old → FreshIsUnmarked (leaf_place me p tree) n
-      → (i : Input) → Follows n (record { input = i; data_answer = a }) old new i (up_turn old a found i)
+      → (i : Input) → Follows n (heard_now a i) old new i (up_turn old a found i)
   up_follows runs stands fresh (ActInput x) = acted n s s' me p tree runs a stands x
   up_follows runs stands fresh (MessageInput k m) = heard_so n s s' me p tree runs a stands k m fresh
 
   follows : Stands n old → FreshIsUnmarked (leaf_place me p tree) n
-      → Follows n (record { input = i; data_answer = a }) old new i (turn_of old a found i)
+      → Follows n (heard_now a i) old new i (turn_of old a found i)
   unfolding turn_of
   follows stands fresh = by_tests (act_is_listed tree i) n.failed refl
     where
       by_tests : (b f : Bool) → n.failed ≡ f
-          → Follows n (record { input = i; data_answer = a }) old new i
+          → Follows n (heard_now a i) old new i
           (if b then (if s.log.failed then Refuses Failed else up_turn old a found i) else Refuses NoSuch)
       by_tests false f failed = λ e is made. absurd made
       by_tests true true failed =
-          subst (λ z. Follows n (record { input = i; data_answer = a }) old new i
+          subst (λ z. Follows n (heard_now a i) old new i
           (if z then Refuses Failed else up_turn old a found i))
           (sym (stands.failed ∙ failed)) (λ e is made. absurd made)
       by_tests true false failed =
-          subst (λ z. Follows n (record { input = i; data_answer = a }) old new i
+          subst (λ z. Follows n (heard_now a i) old new i
           (if z then Refuses Failed else up_turn old a found i))
           (sym (stands.failed ∙ failed)) (up_follows failed stands fresh i)
 
@@ -67,7 +67,7 @@ place_stays old new i (Says ls) made = made.rest.place
 pub managers_make : (n : Node) (old new : CoreState) (p : ProcessId) (a : DataAnswer)
     (i : Input) (reaction : Reaction)
     → old.place.role ≡ AtLeaf p → Stands n old → ChildrenFit old.place n → FreshIsUnmarked old.place n
-    → Makes old new a i reaction → MadeAs n (record { input = i; data_answer = a }) old new reaction
+    → Makes old new a i reaction → MadeAs n (heard_now a i) old new reaction
 managers_make n old new p a i reaction role stands fit fresh made =
     record {
       effect = made.effect;
@@ -82,18 +82,18 @@ managers_make n old new p a i reaction role stands fit fresh made =
         → reacted (turn_of (record old { place = q }) a made.found i) ≡ Does made.effect
         → Moves (record old { place = q }) (record new { place = r }) i
         (turn_of (record old { place = q }) a made.found i)
-        → Stands (after n (record { input = i; data_answer = a }) made.effect) (record new { place = r })
+        → Stands (after n (heard_now a i) made.effect) (record new { place = r })
     at_place q r is_q is_r =
         subst (λ r. Stands n (record old { place = q }) → FreshIsUnmarked q n
         → reacted (turn_of (record old { place = q }) a made.found i) ≡ Does made.effect
         → Moves (record old { place = q }) (record new { place = r }) i
         (turn_of (record old { place = q }) a made.found i)
-        → Stands (after n (record { input = i; data_answer = a }) made.effect)
+        → Stands (after n (heard_now a i) made.effect)
         (record new { place = r })) (sym is_r)
         (subst (λ q. Stands n (record old { place = q }) → FreshIsUnmarked q n
         → reacted (turn_of (record old { place = q }) a made.found i) ≡ Does made.effect
         → Moves (record old { place = q }) (record new { place = q }) i
         (turn_of (record old { place = q }) a made.found i)
-        → Stands (after n (record { input = i; data_answer = a }) made.effect)
+        → Stands (after n (heard_now a i) made.effect)
         (record new { place = q })) (sym is_q)
         (λ s f d m. follows n old new old.place.me p old.place.tree a i made.found s f made.effect d m))

@@ -38,7 +38,7 @@ use Rattle.std.proofs.lemmas.List.{append-nil}
 use Rattle.rec_log.specs.Sights.{LogSight}
 use Rattle.core_model.specs.States.{CoreState, wrote}
 use Rattle.core_model.specs.Makes.{HandlesRow, Moves, retired_by, retires as retires_ticket}
-use Rattle.core_model.specs.Turns.{Handles, Issues, Refuses, Says, Turn, childless_turn, decide_turn, forget_turn, leaf_ask_turn, leaf_joined_turn, manager_act, manager_turn, next_ticket as next_of, reacted, untold_turn}
+use Rattle.core_model.specs.Turns.{Handles, Issues, Refuses, Says, Turn, childless_turn, decide_turn, forget_turn, leaf_ask_turn, leaf_joined_turn, manager_act, manager_turn, next_ticket as next_of, reacted, untold_turn, heard_now}
 use Rattle.core_law.specs.Ties.{Stands, StandsUp}
 use Rattle.core_law.proofs.Records.{Holds, NoBoot, boot-after, held_after, same_boot}
 use Rattle.core_law.proofs.Tickets.{found_fresh, found_more, found_without, manager_once, one_case, unless_of}
@@ -123,7 +123,7 @@ module _ (n : Node) (s s' : CoreState) (me p : ProcessId) (tree : List TreeEntry
   new = record s' { place = place }
 
   abbrev pub heard : Input → Heard
-  heard i = record { input = i; data_answer = a }
+  heard i = heard_now a i
 
   abbrev memory : Case → Memory
   memory c = memory_of place n c

@@ -14,9 +14,10 @@ use Rattle.tree_model.specs.declared.standings.Standing.TheVariants.{Unknown, Ac
 use Rattle.tree_model.specs.declared.standings.Vote.{Vote}
 use Rattle.tree_model.specs.declared.standings.Vote.TheVariants.{Yes, No, Read}
 use Rattle.tree_model.specs.Records.{in_list, none_of}
+use Rattle.tree_model.specs.Nodes.{Version, First, Second}
 use Rattle.tree_model.specs.Memory.{all_voted, has_child, is_counted, undecided_of, yes_of}
 use Rattle.tree_model.specs.Standings.{CoordinatorView}
-use Rattle.tree_model.specs.CoordinatorRows.{Reason, Row, Seat, ByVote, ByAbort, active_abort, active_commit, active_commit_with, active_join, active_work, collecting_abort, collecting_abort_by, collecting_after, collecting_full, collecting_vote, decided_ack, decides, on_abort, on_ack, on_commit, on_inquiry, on_joined, on_prepare, on_vote, other_tickets, prepared_ask, prepared_abort_by, prepared_commit_by, read_only_end, root_commits, unknown_commit_by}
+use Rattle.tree_model.specs.CoordinatorRows.{Reason, Row, Seat, ByVote, ByAbort, aborting_abort, active_abort, active_commit, active_commit_with, active_join, active_work, collecting_abort, collecting_abort_by, collecting_after, collecting_full, collecting_vote, committing_commit, decided_ack, decides, on_abort, on_ack, on_commit, on_inquiry, on_joined, on_prepare, on_vote, other_tickets, prepared_ask, prepared_abort_by, prepared_commit_by, read_only_end, root_commits, unknown_commit_by}
 use Rattle.tree_model.proofs.TicketLaws.{pushed}
 use Rattle.tree_model.proofs.RootViewLaws.{IsOf, abort_of, collecting_of, commit_of, end_of, quiet_of}
 
@@ -84,8 +85,8 @@ module _ (s : Seat) (v : CoordinatorView) where
   after_of Yes = either_of s.own (all_voted v.accepted v.votes) _ _ full_of (quiet_of s.own _ refl)
   after_of Read = either_of s.own (all_voted v.accepted v.votes) _ _ full_of (quiet_of s.own _ refl)
 
-  decided_of : (t : Ticket) → IsOf s.own (decided_ack s t v)
-  decided_of t =
+  decided_of : (ver : Version) (o : Outcome) (t : Ticket) → IsOf s.own (decided_ack ver s o t v)
+  decided_of ver o t =
       either_of s.own (in_list v.owed t) _ _
       (either_of s.own (none_of (other_tickets t v.owed)) _ _
       (end_of s.own _ false refl) (quiet_of s.own _ refl))
@@ -107,21 +108,22 @@ module _ (s : Seat) (v : CoordinatorView) where
   on_vote_of t w Aborting = quiet_of s.own _ refl
   on_vote_of t w Heuristic = quiet_of s.own _ refl
 
-  pub on_ack_of : (t : Ticket) (o : Outcome) (st : Standing) → IsOf s.own (on_ack s t o v st)
-  on_ack_of t Committed Committing = decided_of s v t
-  on_ack_of t Aborted Aborting = decided_of s v t
-  on_ack_of t Committed Aborting = quiet_of s.own _ refl
-  on_ack_of t Committed Unknown = quiet_of s.own _ refl
-  on_ack_of t Committed Active = quiet_of s.own _ refl
-  on_ack_of t Committed Collecting = quiet_of s.own _ refl
-  on_ack_of t Committed Prepared = quiet_of s.own _ refl
-  on_ack_of t Committed Heuristic = quiet_of s.own _ refl
-  on_ack_of t Aborted Committing = quiet_of s.own _ refl
-  on_ack_of t Aborted Unknown = quiet_of s.own _ refl
-  on_ack_of t Aborted Active = quiet_of s.own _ refl
-  on_ack_of t Aborted Collecting = quiet_of s.own _ refl
-  on_ack_of t Aborted Prepared = quiet_of s.own _ refl
-  on_ack_of t Aborted Heuristic = quiet_of s.own _ refl
+  pub on_ack_of : (ver : Version) (t : Ticket) (o : Outcome) (st : Standing)
+      → IsOf s.own (on_ack ver s t o v st)
+  on_ack_of ver t Committed Committing = decided_of s v ver Committed t
+  on_ack_of ver t Aborted Aborting = decided_of s v ver Aborted t
+  on_ack_of ver t Committed Aborting = quiet_of s.own _ refl
+  on_ack_of ver t Committed Unknown = quiet_of s.own _ refl
+  on_ack_of ver t Committed Active = quiet_of s.own _ refl
+  on_ack_of ver t Committed Collecting = quiet_of s.own _ refl
+  on_ack_of ver t Committed Prepared = quiet_of s.own _ refl
+  on_ack_of ver t Committed Heuristic = quiet_of s.own _ refl
+  on_ack_of ver t Aborted Committing = quiet_of s.own _ refl
+  on_ack_of ver t Aborted Unknown = quiet_of s.own _ refl
+  on_ack_of ver t Aborted Active = quiet_of s.own _ refl
+  on_ack_of ver t Aborted Collecting = quiet_of s.own _ refl
+  on_ack_of ver t Aborted Prepared = quiet_of s.own _ refl
+  on_ack_of ver t Aborted Heuristic = quiet_of s.own _ refl
 
   pub on_inquiry_of : (t : Ticket) (st : Standing) → IsOf s.own (on_inquiry s t v st)
   on_inquiry_of t Committing = quiet_of s.own _ refl
@@ -151,32 +153,40 @@ module _ (s : Seat) (v : CoordinatorView) where
   on_prepare_of Aborting = quiet_of s.own _ refl
   on_prepare_of Heuristic = quiet_of s.own _ refl
 
-  passed_commit_of : (p : Presumption) → IsOf s.own (prepared_commit_by s v p)
-  passed_commit_of PresumeAbort = commit_of s.own v.promised _ true refl
-  passed_commit_of PresumeCommit = commit_of s.own [] _ false refl
+  passed_commit_of : (ver : Version) (p : Presumption) → IsOf s.own (prepared_commit_by ver s v p)
+  passed_commit_of ver PresumeAbort = commit_of s.own v.promised _ true refl
+  passed_commit_of ver PresumeCommit = commit_of s.own [] _ false refl
 
   no_commit_of : (p : Presumption) → IsOf s.own (unknown_commit_by s v p)
   no_commit_of PresumeAbort = quiet_of s.own _ refl
   no_commit_of PresumeCommit = quiet_of s.own _ refl
 
-  pub on_commit_of : (st : Standing) → IsOf s.own (on_commit s v st)
-  on_commit_of Prepared = passed_commit_of s.own.txn.presumption
-  on_commit_of Unknown = no_commit_of s.own.txn.presumption
-  on_commit_of Active = quiet_of s.own _ refl
-  on_commit_of Collecting = quiet_of s.own _ refl
-  on_commit_of Committing = quiet_of s.own _ refl
-  on_commit_of Aborting = quiet_of s.own _ refl
-  on_commit_of Heuristic = quiet_of s.own _ refl
+  commit_again_of : (ver : Version) → IsOf s.own (committing_commit ver s v)
+  commit_again_of First = quiet_of s.own _ refl
+  commit_again_of Second = quiet_of s.own _ refl
 
-  passed_abort_of : (p : Presumption) → IsOf s.own (prepared_abort_by s v p)
-  passed_abort_of PresumeAbort = abort_of s.own [] _ false refl
-  passed_abort_of PresumeCommit = abort_of s.own v.promised _ true refl
+  abort_again_of : (ver : Version) → IsOf s.own (aborting_abort ver s v)
+  abort_again_of First = quiet_of s.own _ refl
+  abort_again_of Second = quiet_of s.own _ refl
 
-  pub on_abort_of : (st : Standing) → IsOf s.own (on_abort s v st)
-  on_abort_of Active = active_abort_of s v
-  on_abort_of Collecting = collecting_abort_of s v ByAbort
-  on_abort_of Prepared = passed_abort_of s.own.txn.presumption
-  on_abort_of Unknown = quiet_of s.own _ refl
-  on_abort_of Committing = quiet_of s.own _ refl
-  on_abort_of Aborting = quiet_of s.own _ refl
-  on_abort_of Heuristic = quiet_of s.own _ refl
+  pub on_commit_of : (ver : Version) (st : Standing) → IsOf s.own (on_commit ver s v st)
+  on_commit_of ver Prepared = passed_commit_of ver s.own.txn.presumption
+  on_commit_of ver Unknown = no_commit_of s.own.txn.presumption
+  on_commit_of ver Active = quiet_of s.own _ refl
+  on_commit_of ver Collecting = quiet_of s.own _ refl
+  on_commit_of ver Committing = commit_again_of ver
+  on_commit_of ver Aborting = quiet_of s.own _ refl
+  on_commit_of ver Heuristic = quiet_of s.own _ refl
+
+  passed_abort_of : (ver : Version) (p : Presumption) → IsOf s.own (prepared_abort_by ver s v p)
+  passed_abort_of ver PresumeAbort = abort_of s.own [] _ false refl
+  passed_abort_of ver PresumeCommit = abort_of s.own v.promised _ true refl
+
+  pub on_abort_of : (ver : Version) (st : Standing) → IsOf s.own (on_abort ver s v st)
+  on_abort_of ver Active = active_abort_of s v
+  on_abort_of ver Collecting = collecting_abort_of s v (ByAbort ver)
+  on_abort_of ver Prepared = passed_abort_of ver s.own.txn.presumption
+  on_abort_of ver Unknown = quiet_of s.own _ refl
+  on_abort_of ver Committing = quiet_of s.own _ refl
+  on_abort_of ver Aborting = abort_again_of ver
+  on_abort_of ver Heuristic = quiet_of s.own _ refl

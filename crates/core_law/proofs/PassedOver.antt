@@ -29,7 +29,7 @@ use Rattle.tree_model.specs.SameViews.{SameView}
 use Rattle.tree_nodes.proofs.OwnCases.{child_belongs, child_txn}
 use Rattle.core_model.specs.States.{CoreState, SameCore}
 use Rattle.core_model.specs.Makes.{Moves, retired_by}
-use Rattle.core_model.specs.Turns.{Finds, Refuses, Takes, Turn, ack_turn, asked_by, asked_of, child_turn, reacted, seat_in, turn_of, up_turn}
+use Rattle.core_model.specs.Turns.{Finds, Refuses, Takes, Turn, ack_turn, asked_by, asked_of, child_turn, reacted, seat_in, turn_of, up_turn, this_version}
 use Rattle.core_law.specs.Ties.{ChildrenFit, Stands}
 use Rattle.core_law.proofs.CascadeQuiet.{cascaded_place}
 use Rattle.core_law.proofs.Children.{found_case}
@@ -105,10 +105,10 @@ module _ (n : Node) (s s' : CoreState) (me p : ProcessId) (tree : List TreeEntry
     shows c = (stands.up runs).views c
 
     is_quiet : (c : Case) (t : Ticket) (o : Outcome) (st : Standing) → st ≡ standing.Prepared
-        → on_ack (seat_in old c) t o (s.view_of c) st ≡ quiet (s.view_of c)
-    is_quiet c t o st is = ap (on_ack (seat_in old c) t o (s.view_of c)) is ∙ by_outcome o
+        → on_ack this_version (seat_in old c) t o (s.view_of c) st ≡ quiet (s.view_of c)
+    is_quiet c t o st is = ap (on_ack this_version (seat_in old c) t o (s.view_of c)) is ∙ by_outcome o
       where
-        by_outcome : (o : Outcome) → on_ack (seat_in old c) t o (s.view_of c)
+        by_outcome : (o : Outcome) → on_ack this_version (seat_in old c) t o (s.view_of c)
             standing.Prepared ≡ quiet (s.view_of c)
         by_outcome Committed = refl
         by_outcome Aborted = refl

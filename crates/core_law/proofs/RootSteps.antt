@@ -12,7 +12,7 @@ use Rattle.tree_model.specs.Reactions.{Does, act_is_listed}
 use Rattle.tree_model.specs.Views.{root_place}
 use Rattle.core_model.specs.States.{CoreState}
 use Rattle.core_model.specs.Makes.{Makes, Moves}
-use Rattle.core_model.specs.Turns.{Finds, Refuses, Turn, asked_by, reacted, turn_of, up_turn}
+use Rattle.core_model.specs.Turns.{Finds, Refuses, Turn, asked_by, reacted, turn_of, up_turn, heard_now}
 use Rattle.core_law.specs.Fits.{RootFits}
 use Rattle.core_law.specs.Laws.{MadeAs}
 use Rattle.core_law.specs.Ties.{Stands}
@@ -45,7 +45,7 @@ module _ (n : Node) (s s' : CoreState) (me : ProcessId) (tree : List TreeEntry) 
   new = record s' { place = root_place me tree }
 
   abbrev Leads : Input → Turn → Type 0
-  Leads i turn = Follows n (record { input = i; data_answer = a }) old new i turn
+  Leads i turn = Follows n (heard_now a i) old new i turn
 
   up_follows : n.failed ≡ false → Stands n old → RootFits (root_place me tree) n → (i : Input)
       → Finds old (asked_by i) found
@@ -82,7 +82,7 @@ module _ (n : Node) (old new : CoreState) (a : DataAnswer) (i : Input) (reaction
       → reacted (turn_of (record old { place = q }) a made.found i) ≡ Does made.effect
       → Moves (record old { place = q }) (record new { place = r }) i
       (turn_of (record old { place = q }) a made.found i)
-      → Stands (after n (record { input = i; data_answer = a }) made.effect) (record new { place = r })
+      → Stands (after n (heard_now a i) made.effect) (record new { place = r })
 
   placed : n.failed ≡ false → (q r : Place) → q
       ≡ root_place old.place.me old.place.tree → r ≡ q → at_place q r
@@ -92,7 +92,7 @@ module _ (n : Node) (old new : CoreState) (a : DataAnswer) (i : Input) (reaction
       (λ s f g d m. follows n old new old.place.me old.place.tree a i made.found runs s f g made.effect d m))
 
   made_so : n.failed ≡ false → RootFits old.place n
-      → MadeAs n (record { input = i; data_answer = a }) old new reaction
+      → MadeAs n (heard_now a i) old new reaction
   made_so runs fits =
       record {
         effect = made.effect;
@@ -104,10 +104,10 @@ module _ (n : Node) (old new : CoreState) (a : DataAnswer) (i : Input) (reaction
       }
 
   pub root_makes : (n.failed ≡ false → RootFits old.place n)
-      → MadeAs n (record { input = i; data_answer = a }) old new reaction
+      → MadeAs n (heard_now a i) old new reaction
   root_makes fits = by_failed n.failed refl
     where
       by_failed : (f : Bool) → n.failed ≡ f → MadeAs n
-          (record { input = i; data_answer = a }) old new reaction
+          (heard_now a i) old new reaction
       by_failed false runs = made_so runs (fits runs)
       by_failed true failed = failed_makes old new a made.found i (stands.failed ∙ failed) made.moves

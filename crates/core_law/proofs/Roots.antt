@@ -41,7 +41,7 @@ use Rattle.tree_nodes.proofs.Selves.{Self, root_self, self_after, self_is, self_
 use Rattle.rec_log.specs.Sights.{LogSight}
 use Rattle.core_model.specs.States.{CoreState, wrote}
 use Rattle.core_model.specs.Makes.{retired_by}
-use Rattle.core_model.specs.Turns.{Begins, Finds, Refuses, Says, Takes, Turn, abort_turn, ack_turn, ask_turn, asked_in, asked_of, child_says, child_turn, commit_turn, coordinator_act, inquiry_turn, join_turn, live_turn, next_begun as begun_next, vote_turn, work_for_turn, work_turn}
+use Rattle.core_model.specs.Turns.{Begins, Finds, Refuses, Says, Takes, Turn, abort_turn, ack_turn, ask_turn, asked_in, asked_of, child_says, child_turn, commit_turn, coordinator_act, inquiry_turn, join_turn, live_turn, next_begun as begun_next, vote_turn, work_for_turn, work_turn, heard_now, this_version}
 use Rattle.core_model.proofs.Alike.{active_abort-same, active_commit-same, active_join-same, active_work-same, collecting_abort-same, on_ack-same, on_inquiry-same, on_joined-same, on_vote-same, sends-same}
 use Rattle.core_law.specs.Ties.{Stands, StandsUp}
 use Rattle.core_law.specs.Fits.{RootFits}
@@ -100,7 +100,7 @@ module _ (n : Node) (s s' : CoreState) (me : ProcessId) (tree : List TreeEntry) 
   new = record s' { place = place }
 
   abbrev pub heard : Input → Heard
-  heard i = record { input = i; data_answer = a }
+  heard i = heard_now a i
 
   abbrev memory : Case → Memory
   memory c = memory_of place n c
@@ -493,12 +493,12 @@ module _ (n : Node) (s s' : CoreState) (me : ProcessId) (tree : List TreeEntry) 
         in_root finds =
             let c = root_case x in
             let i = MessageInput k (Ack (child_case x t) o) in
-            takes i c _ (on_ack (seat c) t o (view c) (view c).standing)
-            (at_standing (s.view_of c) (view c) (on_ack (seat c) t o (s.view_of c))
-            (on_ack (seat c) t o (view c))
+            takes i c _ (on_ack this_version (seat c) t o (view c) (view c).standing)
+            (at_standing (s.view_of c) (view c) (on_ack this_version (seat c) t o (s.view_of c))
+            (on_ack this_version (seat c) t o (view c))
             (shows c)
-            (on_ack-same (s.view_of c) (view c) (shows c) (seat c) t o))
-            (on_ack_of (seat c) (view c) t o (view c).standing) (same i (λ g. refl))
+            (on_ack-same (s.view_of c) (view c) (shows c) this_version (seat c) t o))
+            (on_ack_of (seat c) (view c) this_version t o (view c).standing) (same i (λ g. refl))
             ((root_views me tree n x).acknowledgement k a t o (fits.alike c)).moved
             (λ d apart. ack_keeps place n d (fits.alike d) x t o (strangers x t (Some c) finds d apart))
 

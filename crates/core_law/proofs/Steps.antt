@@ -15,7 +15,7 @@ use Rattle.tree_model.specs.World.{Refuses as StepRefuses, fault_effect, input_m
 use Rattle.rec_log.specs.Sights.{Kept}
 use Rattle.core_model.specs.States.{CoreState}
 use Rattle.core_model.specs.Makes.{IsBroken, IsRefused, Makes, Moves}
-use Rattle.core_model.specs.Turns.{Finds, asked_by, turn_of}
+use Rattle.core_model.specs.Turns.{Finds, asked_by, turn_of, heard_now, this_version}
 use Rattle.core_law.specs.Fits.{LeafFits, NodeFits}
 use Rattle.core_law.specs.Laws.{MadeAs}
 use Rattle.core_law.specs.Steps.{FaultsAs, StepsAs, input_move}
@@ -30,14 +30,14 @@ use Rattle.core_law.proofs.RootSteps.{failed_makes, root_makes}
 -- an input that is not passed over is handled
 handled_so : (place : Place) (n : Node) (i : Input) (fault : Option Fault) (a : DataAnswer) (r : Reacts)
     → is_passed_over place n i ≡ false
-    → reacts place n (record { input = i; data_answer = a }) ≡ r
+    → reacts place n (heard_now a i) ≡ r
     → node_makes place n (input_move place.me i fault a)
-    ≡ input_makes n (record { input = i; data_answer = a }) fault r
+    ≡ input_makes n (heard_now a i) fault r
 unfolding node_makes
 handled_so place n i fault a r late does =
-    ap (λ b. if b then passes_over n fault else input_makes n (record { input = i; data_answer = a }) fault
-    (reacts place n (record { input = i; data_answer = a }))) late
-    ∙ ap (input_makes n (record { input = i; data_answer = a }) fault) does
+    ap (λ b. if b then passes_over n fault else input_makes n (heard_now a i) fault
+    (reacts place n (heard_now a i))) late
+    ∙ ap (input_makes n (heard_now a i) fault) does
 
 -- one that is passed over leaves the process as it was, but for its device
 passed_by : (place : Place) (n : Node) (i : Input) (fault : Option Fault) (a : DataAnswer)
@@ -45,16 +45,16 @@ passed_by : (place : Place) (n : Node) (i : Input) (fault : Option Fault) (a : D
     → node_makes place n (input_move place.me i fault a) ≡ passes_over n fault
 unfolding node_makes
 passed_by place n i fault a over =
-    ap (λ b. if b then passes_over n fault else input_makes n (record { input = i; data_answer = a }) fault
-    (reacts place n (record { input = i; data_answer = a }))) over
+    ap (λ b. if b then passes_over n fault else input_makes n (heard_now a i) fault
+    (reacts place n (heard_now a i))) over
 
 -- a process that is up refuses no message
 message_done : (place : Place) (n : Node) (k : ℕ) (m : Message) (a : DataAnswer) → n.failed ≡ false
-    → reacts place n (record { input = MessageInput k m; data_answer = a })
-    ≡ Does (hears place.role place n a m)
+    → reacts place n (heard_now a (MessageInput k m))
+    ≡ Does (hears place.role this_version place n a m)
 unfolding reacts
 message_done place n k m a runs = ap (λ b. if b then Refused Failed else Does
-    (hears place.role place n a m)) runs
+    (hears place.role this_version place n a m)) runs
 
 module _ (n : Node) (old new : CoreState) (a : DataAnswer) (i : Input) (stands : Stands n old)
     (fits : n.failed ≡ false → NodeFits old.place.role old.place n) where
@@ -96,12 +96,12 @@ module _ (n : Node) (old new : CoreState) (a : DataAnswer) (i : Input) (stands :
 
   module _ (reaction : Reaction) (made : Makes old new a i reaction) where
     made_step : is_passed_over old.place n i ≡ false
-        → MadeAs n (record { input = i; data_answer = a }) old new reaction
+        → MadeAs n (heard_now a i) old new reaction
         → StepsAs n old new (input_move old.place.me i None a) reaction
     made_step late as' =
         record {
           effect = as'.effect;
-          left = after n (record { input = i; data_answer = a }) as'.effect;
+          left = after n (heard_now a i) as'.effect;
           makes = handled_so old.place n i None a (Does as'.effect) late as'.does;
           shown = as'.shown;
           stands = as'.stands;
@@ -154,19 +154,19 @@ module _ (n : Node) (old new : CoreState) (a : DataAnswer) (i : Input) (stands :
   second false b e = absurd (cc)
 
   not_refused : {A : Type 0} (r : Role) (j : Input) (e : StepError) → passes_at r old.place n j ≡ true
-      → reacts old.place n (record { input = j; data_answer = a }) ≡ Refused e → A
+      → reacts old.place n (heard_now a j) ≡ Refused e → A
   not_refused AtRoot j e over refused = absurd (cc)
   not_refused (AtLeaf p) j e over refused = absurd (cc)
   not_refused (Below p) (ActInput x) e over refused = absurd (cc)
   not_refused (Below p) (MessageInput k m) e over refused =
-      absurd (let clash : Does (hears old.place.role old.place n a m)
+      absurd (let clash : Does (hears old.place.role this_version old.place n a m)
       ≡ Refused e = sym (message_done old.place n k m a (second _ n.failed over)) ∙ refused in cc)
 
   pub refusals_so : (e : StepError) → IsRefused old new a i e
       → (node_makes old.place n (input_move old.place.me i None a) ≡ StepRefuses e) × Stands n new
   refusals_so e refused = by_over (is_passed_over old.place n i) refl
     where
-      so : (reacts old.place n (record { input = i; data_answer = a }) ≡ Refused e) × Stands n new
+      so : (reacts old.place n (heard_now a i) ≡ Refused e) × Stands n new
       so = refuses_so n old new a i e stands children refused
 
       by_over : (b : Bool) → is_passed_over old.place n i ≡ b
@@ -183,7 +183,7 @@ module _ (n : Node) (old new : CoreState) (a : DataAnswer) (i : Input) (stands :
       record {
         fault = record { appended = so.appended; forced = so.forced };
         effect = fault_effect so.effect so.appended;
-        left = fails_in n (record { input = i; data_answer = a }) so.effect so.appended so.forced;
+        left = fails_in n (heard_now a i) so.effect so.appended so.forced;
         makes = handled_so old.place n i (Some (record { appended = so.appended; forced = so.forced })) a
             (Does so.effect) late so.does;
         stands = so.stands;

@@ -25,7 +25,7 @@ use Rattle.tree_model.specs.ManagerRows as leaf
 use Rattle.tree_model.specs.Reactions.{Does, Refused, ack_for, act_is_listed, acts, cascaded_hears, coordinator_acts, handles, hears, hears_from_child, inquiry_for, joins_with, leaf_joins, leaf_of, manager_hears, reacts, row_effect, seat_of, sends_only, vote_for}
 use Rattle.tree_model.specs.SameViews.{SameView}
 use Rattle.core_model.specs.States.{CoreState, SameCore, parent}
-use Rattle.core_model.specs.Turns.{Finds, Handles, Refuses, Says, Takes, Turn, act_turn, ack_turn, asked_by, asked_in, asked_of, cascaded_turn, child_says, child_turn, inquiry_turn, joined_turn, leaf_joined_turn, manager_turn, message_turn, next_ticket as next_ticket_of, reacted, seat_in, turn_of, up_turn, vote_turn}
+use Rattle.core_model.specs.Turns.{Finds, Handles, Refuses, Says, Takes, Turn, act_turn, ack_turn, asked_by, asked_in, asked_of, cascaded_turn, child_says, child_turn, inquiry_turn, joined_turn, leaf_joined_turn, manager_turn, message_turn, next_ticket as next_ticket_of, reacted, seat_in, turn_of, up_turn, vote_turn, heard_now, this_version}
 use Rattle.core_model.proofs.AlikeTurns.{finds-alike, same_cores_up}
 use Rattle.core_law.specs.Ties.{ChildrenFit, Stands, StandsUp, branch_at, view_at}
 use Rattle.core_law.proofs.Acts.{ReadsCoordinator, coordinator_acts_as, manager_acts_as}
@@ -53,15 +53,16 @@ module _ (s : CoreState) (n : Node) (fit : ChildrenFit s.place n)
       ap (λ v. Does (row_effect c (on_vote (seat_in s c) t w v v.standing))) gone
 
   ack_at : (o : Outcome) (t : Ticket) (x : Txn) (k found : Option Case) → FoundAs s.place n x k found
-      → Does (ack_for s.place (parent s) n t o k) ≡ reacted (ack_turn s o t found)
+      → Does (ack_for this_version s.place (parent s) n t o k) ≡ reacted (ack_turn s o t found)
   ack_at o t x _ _ (alike None) = refl
   ack_at o t x _ _ (alike (Some c)) =
-      sym (ap (λ v. reacted (Takes c (on_ack (seat_in s c) t o v v.standing))) (views c))
+      sym (ap (λ v. reacted (Takes c (on_ack this_version (seat_in s c) t o v v.standing))) (views c))
   ack_at o t x _ _ (dead c of gone) =
-      ap (λ v. Does (row_effect c (on_ack (seat_in s c) t o v v.standing))) gone ∙ quiet_at o
+      ap (λ v. Does (row_effect c (on_ack this_version (seat_in s c) t o v v.standing))) gone ∙ quiet_at o
     where
       quiet_at : (o : Outcome)
-          → Does (row_effect c (on_ack (seat_in s c) t o unknown_view unknown_view.standing)) ≡ Does no_effect
+          → Does (row_effect c (on_ack this_version (seat_in s c) t o unknown_view unknown_view.standing))
+          ≡ Does no_effect
       quiet_at Committed = refl
       quiet_at Aborted = refl
 
@@ -86,7 +87,7 @@ module _ (s : CoreState) (n : Node) (fit : ChildrenFit s.place n)
       by_ticket (Some t) finds = h t finds
 
   pub child_hears : (found : Option Case) (m : Message) → Finds s (asked_in m) found
-      → Does (hears_from_child s.place (parent s) n m) ≡ reacted (child_says s found m)
+      → Does (hears_from_child this_version s.place (parent s) n m) ≡ reacted (child_says s found m)
   child_hears found (Joined d t) finds =
       sym (ap (λ v. reacted (Takes d (on_joined t v v.standing))) (views d))
   child_hears found (Yes d) finds =
@@ -102,7 +103,7 @@ module _ (s : CoreState) (n : Node) (fit : ChildrenFit s.place n)
       (λ t. vote_turn s VoteRead t found)
       (λ t is. vote_at VoteRead t d.txn _ _ (found_as s.place n fit s views d.txn t found is)) finds
   child_hears found (Ack d o) finds =
-      child_at d found (λ t. ack_for s.place (parent s) n t o
+      child_at d found (λ t. ack_for this_version s.place (parent s) n t o
       (case_of_child s.place n d.txn t)) (λ t. ack_turn s o t found)
       (λ t is. ack_at o t d.txn _ _ (found_as s.place n fit s views d.txn t found is)) finds
   child_hears found (Inquire d) finds =
@@ -149,13 +150,14 @@ module _ (s : CoreState) (n : Node) (boot : s.boot ≡ boot_of (kept n))
 module _ (s : CoreState) (n : Node) (fit : ChildrenFit s.place n) (reads : Reads s n) where
   from_child : (p : ProcessId) → parent s ≡ Some p → ((c : Case) → s.view_of c ≡ coordinator_view s.place n c)
       → (found : Option Case) (m : Message) → Finds s (asked_in m) found
-      → Does (hears_from_child s.place (Some p) n m) ≡ reacted (child_says s found m)
-  from_child p par views found m finds = ap (λ q. Does (hears_from_child s.place q n m)) (sym par)
+      → Does (hears_from_child this_version s.place (Some p) n m) ≡ reacted (child_says s found m)
+  from_child p par views found m finds =
+      ap (λ q. Does (hears_from_child this_version s.place q n m)) (sym par)
       ∙ child_hears s n fit views found m finds
 
   cascaded_at : (p : ProcessId) → parent s ≡ Some p → ((c : Case) → s.view_of c
       ≡ coordinator_view s.place n c) → (found : Option Case) (m : Message) → Finds s (asked_in m) found
-      → Does (cascaded_hears s.place p n m) ≡ reacted (cascaded_turn s p found m)
+      → Does (cascaded_hears this_version s.place p n m) ≡ reacted (cascaded_turn s p found m)
   cascaded_at p par views found (Join d) finds = join_hears s n reads.boot reads.given reads.tickets p d
   cascaded_at p par views found (Prepare d k) finds =
       let v = coordinator_view s.place n d in
@@ -163,12 +165,12 @@ module _ (s : CoreState) (n : Node) (fit : ChildrenFit s.place n) (reads : Reads
       ∙ sym (ap (λ v. reacted (Takes d (on_prepare (seat_in s d) v v.standing))) (views d))
   cascaded_at p par views found (Commit d) finds =
       let v = coordinator_view s.place n d in
-      ap (λ q. Does (row_effect d (on_commit (seat_of s.place q d) v v.standing))) (sym par)
-      ∙ sym (ap (λ v. reacted (Takes d (on_commit (seat_in s d) v v.standing))) (views d))
+      ap (λ q. Does (row_effect d (on_commit this_version (seat_of s.place q d) v v.standing))) (sym par)
+      ∙ sym (ap (λ v. reacted (Takes d (on_commit this_version (seat_in s d) v v.standing))) (views d))
   cascaded_at p par views found (Abort d) finds =
       let v = coordinator_view s.place n d in
-      ap (λ q. Does (row_effect d (on_abort (seat_of s.place q d) v v.standing))) (sym par)
-      ∙ sym (ap (λ v. reacted (Takes d (on_abort (seat_in s d) v v.standing))) (views d))
+      ap (λ q. Does (row_effect d (on_abort this_version (seat_of s.place q d) v v.standing))) (sym par)
+      ∙ sym (ap (λ v. reacted (Takes d (on_abort this_version (seat_in s d) v v.standing))) (views d))
   cascaded_at p par views found (Joined d t) finds = from_child p par views found (Joined d t) finds
   cascaded_at p par views found (Yes d) finds = from_child p par views found (Yes d) finds
   cascaded_at p par views found (No d) finds = from_child p par views found (No d) finds
@@ -215,18 +217,19 @@ module _ (s : CoreState) (n : Node) (fit : ChildrenFit s.place n) (reads : Reads
 
   hears_at : (role : Role) → s.place.role ≡ role → (a : DataAnswer) (found : Option Case) (m : Message)
       → Finds s (asked_in m) found
-      → Does (hears role s.place n a m) ≡ reacted (message_turn role s a found m)
-  hears_at AtRoot e a found m finds = ap (λ r. Does (hears_from_child s.place (parent_of r) n m)) (sym e)
+      → Does (hears role this_version s.place n a m) ≡ reacted (message_turn role s a found m)
+  hears_at AtRoot e a found m finds =
+      ap (λ r. Does (hears_from_child this_version s.place (parent_of r) n m)) (sym e)
       ∙ child_hears s n fit (views_at AtRoot e) found m finds
   hears_at (Below p) e a found m finds = cascaded_at p (ap parent_of e) (views_at (Below p) e) found m finds
   hears_at (AtLeaf p) e a found m finds = manager_at p a (branches_at (AtLeaf p) e) m
 
   up_at : (a : DataAnswer) (found : Option Case) (i : Input) → Finds s (asked_by i) found → n.failed ≡ false
-      → handles s.place n (record { input = i; data_answer = a }) i ≡ reacted (up_turn s a found i)
+      → handles s.place n (heard_now a i) i ≡ reacted (up_turn s a found i)
   up_at a found (ActInput x) finds runs = ap (λ b. if b then Refused Failed else acts s.place.role s.place n
       x) runs ∙ acts_at s.place.role refl x
   up_at a found (MessageInput k m) finds runs =
-      ap (λ b. if b then Refused Failed else Does (hears s.place.role s.place n a m)) runs
+      ap (λ b. if b then Refused Failed else Does (hears s.place.role this_version s.place n a m)) runs
       ∙ hears_at s.place.role refl a found m finds
 
 -- what the process keeps, read off the lists
@@ -259,7 +262,7 @@ module _ (n : Node) (s : CoreState) (a : DataAnswer) (found : Option Case) (i : 
     (fit : n.failed ≡ false → ChildrenFit s.place n)
     (finds : Finds s (asked_by i) found) where
   up_as : StandsUp n s → n.failed ≡ false → s.log.failed ≡ false → act_is_listed s.place.tree i ≡ true
-      → handles s.place n (record { input = i; data_answer = a }) i
+      → handles s.place n (heard_now a i) i
       ≡ reacted (up_turn (read_off s n) a found i)
   up_as up runs works listed =
       up_at (read_off s n) n (fit runs) (record {
@@ -289,20 +292,20 @@ module _ (n : Node) (s : CoreState) (a : DataAnswer) (found : Option Case) (i : 
         };
       }
 
-  pub meets_as : Stands n s → reacts s.place n (record { input = i; data_answer = a })
+  pub meets_as : Stands n s → reacts s.place n (heard_now a i)
       ≡ reacted (turn_of s a found i)
   unfolding reacts turn_of
   meets_as stands = by_tests (act_is_listed s.place.tree i) refl n.failed refl
     where
       by_tests : (b : Bool) → act_is_listed s.place.tree i ≡ b → (f : Bool) → n.failed ≡ f
-          → (if b then handles s.place n (record { input = i; data_answer = a }) i else Refused NoSuch)
+          → (if b then handles s.place n (heard_now a i) i else Refused NoSuch)
           ≡ reacted
           (if b then (if s.log.failed then Refuses Failed else up_turn s a found i) else Refuses NoSuch)
       by_tests false listed f failed = refl
       by_tests true listed true failed = rw (stands.failed ∙ failed) (failed_input i)
         where
           failed_input : (j : Input) → handles s.place n
-              (record { input = i; data_answer = a }) j ≡ Refused Failed
+              (heard_now a i) j ≡ Refused Failed
           failed_input (ActInput x) = rw failed refl
           failed_input (MessageInput k m) = rw failed refl
       by_tests true listed false failed =

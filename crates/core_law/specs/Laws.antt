@@ -10,7 +10,7 @@ use Rattle.tree_model.specs.Reactions.{Does, Refused, is_passed_over, reacts}
 use Rattle.core_model.specs.Laws.{opened_core}
 use Rattle.core_model.specs.States.{CoreState, SameCore}
 use Rattle.core_model.specs.Makes.{IsBroken, IsRefused, Makes}
-use Rattle.core_model.specs.Turns.{Finds, asked_by, reacted, turn_of}
+use Rattle.core_model.specs.Turns.{Finds, asked_by, reacted, turn_of, heard_now}
 use Rattle.core_law.specs.Fits.{CascadeFits, FreshIsUnmarked, RootFits}
 use Rattle.core_law.specs.Ties.{ChildrenFit, Stands}
 
@@ -18,7 +18,7 @@ use Rattle.core_law.specs.Ties.{ChildrenFit, Stands}
 abbrev pub MeetsAsTheModel : Type 0
 MeetsAsTheModel = (n : Node) (s : CoreState) (a : DataAnswer) (found : Option Case) (i : Input)
     → Stands n s → (n.failed ≡ false → ChildrenFit s.place n) → Finds s (asked_by i) found
-    → reacts s.place n (record { input = i; data_answer = a }) ≡ reacted (turn_of s a found i)
+    → reacts s.place n (heard_now a i) ≡ reacted (turn_of s a found i)
 
 -- The model's process makes the input too and shows the same, and the process stands for what that leaves.
 pub record MadeAs (n : Node) (h : Heard) (old new : CoreState) (reaction : Reaction) : Type 0 where
@@ -32,13 +32,13 @@ abbrev pub ManagersMakeAsTheModel : Type 0
 ManagersMakeAsTheModel =
     (n : Node) (old new : CoreState) (p : ProcessId) (a : DataAnswer) (i : Input) (reaction : Reaction)
     → old.place.role ≡ AtLeaf p → Stands n old → ChildrenFit old.place n → FreshIsUnmarked old.place n
-    → Makes old new a i reaction → MadeAs n (record { input = i; data_answer = a }) old new reaction
+    → Makes old new a i reaction → MadeAs n (heard_now a i) old new reaction
 
 -- what a root makes of an input is what the model's root makes of it
 abbrev pub RootsMakeAsTheModel : Type 0
 RootsMakeAsTheModel = (n : Node) (old new : CoreState) (a : DataAnswer) (i : Input) (reaction : Reaction)
     → old.place.role ≡ AtRoot → Stands n old → (n.failed ≡ false → RootFits old.place n)
-    → Makes old new a i reaction → MadeAs n (record { input = i; data_answer = a }) old new reaction
+    → Makes old new a i reaction → MadeAs n (heard_now a i) old new reaction
 
 -- what a coordinator below the root makes of an input that is not passed over is what the model's makes of it
 abbrev pub CascadesMakeAsTheModel : Type 0
@@ -46,7 +46,7 @@ CascadesMakeAsTheModel =
     (n : Node) (old new : CoreState) (p : ProcessId) (a : DataAnswer) (i : Input) (reaction : Reaction)
     → old.place.role ≡ Below p → Stands n old → (n.failed ≡ false → CascadeFits old.place n)
     → is_passed_over old.place n i ≡ false
-    → Makes old new a i reaction → MadeAs n (record { input = i; data_answer = a }) old new reaction
+    → Makes old new a i reaction → MadeAs n (heard_now a i) old new reaction
 
 -- between processes between which nothing is otherwise, both stand for the model's process or neither does
 abbrev pub SameStandsForTheSame : Type 0
@@ -56,7 +56,7 @@ SameStandsForTheSame = (n : Node) (old new : CoreState) → SameCore old new →
 abbrev pub RefusesAsTheModel : Type 0
 RefusesAsTheModel = (n : Node) (old new : CoreState) (a : DataAnswer) (i : Input) (e : StepError)
     → Stands n old → (n.failed ≡ false → ChildrenFit old.place n) → IsRefused old new a i e
-    → (reacts old.place n (record { input = i; data_answer = a }) ≡ Refused e) × Stands n new
+    → (reacts old.place n (heard_now a i) ≡ Refused e) × Stands n new
 
 -- The model's process makes the input too, its device fails in it with some front of the records appended and
 -- some of those behind the forced front forced, and the process stands for what that leaves.
@@ -71,7 +71,7 @@ pub record BrokenAs (n : Node) (h : Heard) (old new : CoreState) : Type 0 where
 abbrev pub BreaksAsTheModel : Type 0
 BreaksAsTheModel = (n : Node) (old new : CoreState) (a : DataAnswer) (i : Input)
     → Stands n old → (n.failed ≡ false → ChildrenFit old.place n) → IsBroken old new a i
-    → BrokenAs n (record { input = i; data_answer = a }) old new
+    → BrokenAs n (heard_now a i) old new
 
 -- a process that opens an empty log stands for the model's process as it opens
 abbrev pub OpenedStands : Type 0

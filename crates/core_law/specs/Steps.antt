@@ -18,14 +18,18 @@ use Rattle.rec_log.specs.Sights.{records_of, whole_within}
 use Rattle.core_model.specs.States.{CoreState}
 use Rattle.core_model.specs.Makes.{IsBroken, IsRefused, Makes, kind_of_role}
 use Rattle.core_model.specs.Restarting.{NotRestarted, NotTrimmed, Restarts, Trims}
-use Rattle.core_model.specs.Turns.{no_answer}
+use Rattle.core_model.specs.Turns.{no_answer, this_version}
 use Rattle.core_law.specs.Fits.{HasOpened, KeepsOwn, NodeFits, OpenFits}
 use Rattle.core_law.specs.Ties.{Stands}
 
 -- the move of this process by an input, in which its device fails or not, with what a manager's data answer
 abbrev pub input_move : ProcessId → Input → Option Fault → DataAnswer → Move
 input_move q i fault a =
-    record { step = record { process = q; happening = Handles i; fault = fault }; data_answer = a }
+    record {
+      step = record { process = q; happening = Handles i; fault = fault };
+      data_answer = a;
+      version = this_version;
+    }
 
 -- The model's process makes the move too and shows the same, and the process stands for what that leaves.
 pub record StepsAs (n : Node) (old new : CoreState) (m : Move) (reaction : Reaction) : Type 0 where
@@ -70,7 +74,11 @@ FaultsAreMoves = (n : Node) (old new : CoreState) (a : DataAnswer) (i : Input)
 -- a move of this process in which its data are asked nothing, and in which its device fails or not
 abbrev pub quiet_move : ProcessId → Happening → Option Fault → Move
 quiet_move q happening fault =
-    record { step = record { process = q; happening = happening; fault = fault }; data_answer = no_answer }
+    record {
+      step = record { process = q; happening = happening; fault = fault };
+      data_answer = no_answer;
+      version = this_version;
+    }
 
 -- how many of its unforced records a process keeps in a restart that keeps so many bytes behind the forced
 -- front: those that stand whole within them

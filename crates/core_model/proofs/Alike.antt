@@ -19,9 +19,10 @@ use Rattle.tree_model.specs.declared.standings.Vote.{Vote}
 use Rattle.tree_model.specs.declared.standings.Vote.TheVariants.{Yes, No, Read}
 use Rattle.tree_model.specs.Names.{child_case, same_ticket}
 use Rattle.tree_model.specs.Records.{in_list, none_of}
+use Rattle.tree_model.specs.Nodes.{Version, First, Second}
 use Rattle.tree_model.specs.Memory.{all_voted, has_child, has_voted, is_counted, same_vote, undecided_of, voted_so, works_of, yes_of}
 use Rattle.tree_model.specs.Standings.{CoordinatorView, unknown_view}
-use Rattle.tree_model.specs.CoordinatorRows.{Reason, Row, Seat, ByVote, ByAbort, active_abort, active_commit, active_commit_alone, active_commit_with, active_join, active_joined, active_work, awaits, collecting_abort, collecting_abort_by, collecting_after, collecting_full, collecting_read_only, collecting_vote, decided_ack, decided_ack_by, decides, on_abort, on_ack, on_commit, on_inquiry, on_joined, on_prepare, on_vote, other_tickets, post, prepared_abort_by, prepared_commit_by, prepares, quiet, root_commits, sends, unknown_commit_by}
+use Rattle.tree_model.specs.CoordinatorRows.{Reason, Row, Seat, ByVote, ByAbort, aborting_abort, active_abort, active_commit, active_commit_alone, active_commit_with, active_join, active_joined, active_work, awaits, collecting_abort, collecting_abort_by, collecting_after, collecting_full, collecting_read_only, collecting_vote, committing_commit, decided_ack, decided_ack_by, decides, on_abort, on_ack, on_commit, on_inquiry, on_joined, on_prepare, on_vote, other_tickets, post, prepared_abort_by, prepared_commit_by, prepares, quiet, root_commits, sends, unknown_commit_by}
 use Rattle.tree_model.specs.Reactions.{row_effect}
 use Rattle.tree_model.specs.SameViews.{SameRow, SameView}
 use Rattle.tree_model.proofs.NameTests.{ticket_tells}
@@ -318,14 +319,17 @@ module _ (v w : CoordinatorView) (same : SameView v w) where
   left-same t u = in_list-others t u v.owed ∙ ap (λ b. b && not (same_ticket t u)) (same.owed u)
       ∙ sym (in_list-others t u w.owed)
 
-  ended-same : (s : Seat) (us vs : List Ticket) → ((u : Ticket) → in_list us u ≡ in_list vs u)
-      → SameRow (decided_ack_by s us v) (decided_ack_by s vs w)
-  ended-same s us vs alike = rw (none_of-lists us vs alike)
+  ended-same : (ver : Version) (s : Seat) (o : Outcome) (us vs : List Ticket)
+      → ((u : Ticket) → in_list us u ≡ in_list vs u)
+      → SameRow (decided_ack_by ver s o us v) (decided_ack_by ver s o vs w)
+  ended-same ver s o us vs alike = rw (none_of-lists us vs alike)
       (same_by (none_of vs) _ _ _ _ (same_row _) (quiet-same _ _ (owing-same us vs alike)))
 
-  ack-same : (s : Seat) (t : Ticket) → SameRow (decided_ack s t v) (decided_ack s t w)
-  ack-same s t = rw (same.owed t) (same_by (in_list w.owed t) _ _ _ _
-      (ended-same s (other_tickets t v.owed) (other_tickets t w.owed) (left-same t)) (quiet-same v w same))
+  ack-same : (ver : Version) (s : Seat) (o : Outcome) (t : Ticket)
+      → SameRow (decided_ack ver s o t v) (decided_ack ver s o t w)
+  ack-same ver s o t = rw (same.owed t) (same_by (in_list w.owed t) _ _ _ _
+      (ended-same ver s o (other_tickets t v.owed) (other_tickets t w.owed) (left-same t))
+      (quiet-same v w same))
 
   pub on_vote-same : (s : Seat) (t : Ticket) (o : Vote) (st : Standing)
       → SameRow (on_vote s t o v st) (on_vote s t o w st)
@@ -337,22 +341,22 @@ module _ (v w : CoordinatorView) (same : SameView v w) where
   on_vote-same s t o Aborting = quiet-same v w same
   on_vote-same s t o Heuristic = quiet-same v w same
 
-  pub on_ack-same : (s : Seat) (t : Ticket) (o : Outcome) (st : Standing)
-      → SameRow (on_ack s t o v st) (on_ack s t o w st)
-  on_ack-same s t Committed Committing = ack-same s t
-  on_ack-same s t Committed Aborting = quiet-same v w same
-  on_ack-same s t Committed Unknown = quiet-same v w same
-  on_ack-same s t Committed Active = quiet-same v w same
-  on_ack-same s t Committed Collecting = quiet-same v w same
-  on_ack-same s t Committed Prepared = quiet-same v w same
-  on_ack-same s t Committed Heuristic = quiet-same v w same
-  on_ack-same s t Aborted Aborting = ack-same s t
-  on_ack-same s t Aborted Committing = quiet-same v w same
-  on_ack-same s t Aborted Unknown = quiet-same v w same
-  on_ack-same s t Aborted Active = quiet-same v w same
-  on_ack-same s t Aborted Collecting = quiet-same v w same
-  on_ack-same s t Aborted Prepared = quiet-same v w same
-  on_ack-same s t Aborted Heuristic = quiet-same v w same
+  pub on_ack-same : (ver : Version) (s : Seat) (t : Ticket) (o : Outcome) (st : Standing)
+      → SameRow (on_ack ver s t o v st) (on_ack ver s t o w st)
+  on_ack-same ver s t Committed Committing = ack-same ver s Committed t
+  on_ack-same ver s t Committed Aborting = quiet-same v w same
+  on_ack-same ver s t Committed Unknown = quiet-same v w same
+  on_ack-same ver s t Committed Active = quiet-same v w same
+  on_ack-same ver s t Committed Collecting = quiet-same v w same
+  on_ack-same ver s t Committed Prepared = quiet-same v w same
+  on_ack-same ver s t Committed Heuristic = quiet-same v w same
+  on_ack-same ver s t Aborted Aborting = ack-same ver s Aborted t
+  on_ack-same ver s t Aborted Committing = quiet-same v w same
+  on_ack-same ver s t Aborted Unknown = quiet-same v w same
+  on_ack-same ver s t Aborted Active = quiet-same v w same
+  on_ack-same ver s t Aborted Collecting = quiet-same v w same
+  on_ack-same ver s t Aborted Prepared = quiet-same v w same
+  on_ack-same ver s t Aborted Heuristic = quiet-same v w same
 
   pub on_inquiry-same : (s : Seat) (t : Ticket) (st : Standing)
       → SameRow (on_inquiry s t v st) (on_inquiry s t w st)
@@ -508,50 +512,50 @@ module _ (v w : CoordinatorView) (same : SameView v w) where
         };
       }
 
-  commit_by-same : (s : Seat) (p : Presumption)
-      → SameRow (prepared_commit_by s v p) (prepared_commit_by s w p)
-  commit_by-same s PresumeAbort =
+  commit_by-same : (ver : Version) (s : Seat) (p : Presumption)
+      → SameRow (prepared_commit_by ver s v p) (prepared_commit_by ver s w p)
+  commit_by-same ver s PresumeAbort =
       record {
         written =
-            (λ i. (prepared_commit_by s (record v { promised = same.promised i }) PresumeAbort).written);
+            (λ i. (prepared_commit_by ver s (record v { promised = same.promised i }) PresumeAbort).written);
         told = refl;
         messages =
-            (λ i. (prepared_commit_by s (record v { promised = same.promised i }) PresumeAbort).messages);
+            (λ i. (prepared_commit_by ver s (record v { promised = same.promised i }) PresumeAbort).messages);
         accepts = refl;
         counts = refl;
         view = subst (λ ts. SameView (awaits Committing v.promised v) (awaits Committing ts w)) same.promised
             (awaits-same v w same Committing v.promised);
       }
-  commit_by-same s PresumeCommit =
+  commit_by-same ver s PresumeCommit =
       record {
         written = refl;
         told = refl;
         messages =
-            (λ i. (prepared_commit_by s (record v { promised = same.promised i }) PresumeCommit).messages);
+            (λ i. (prepared_commit_by ver s (record v { promised = same.promised i }) PresumeCommit).messages);
         accepts = refl;
         counts = refl;
         view = same_view unknown_view;
       }
 
-  abort_by-promised : (s : Seat) (p : Presumption)
-      → SameRow (prepared_abort_by s v p) (prepared_abort_by s w p)
-  abort_by-promised s PresumeAbort =
+  abort_by-promised : (ver : Version) (s : Seat) (p : Presumption)
+      → SameRow (prepared_abort_by ver s v p) (prepared_abort_by ver s w p)
+  abort_by-promised ver s PresumeAbort =
       record {
         written = refl;
         told = refl;
         messages =
-            (λ i. (prepared_abort_by s (record v { promised = same.promised i }) PresumeAbort).messages);
+            (λ i. (prepared_abort_by ver s (record v { promised = same.promised i }) PresumeAbort).messages);
         accepts = refl;
         counts = refl;
         view = same_view unknown_view;
       }
-  abort_by-promised s PresumeCommit =
+  abort_by-promised ver s PresumeCommit =
       record {
         written =
-            (λ i. (prepared_abort_by s (record v { promised = same.promised i }) PresumeCommit).written);
+            (λ i. (prepared_abort_by ver s (record v { promised = same.promised i }) PresumeCommit).written);
         told = refl;
         messages =
-            (λ i. (prepared_abort_by s (record v { promised = same.promised i }) PresumeCommit).messages);
+            (λ i. (prepared_abort_by ver s (record v { promised = same.promised i }) PresumeCommit).messages);
         accepts = refl;
         counts = refl;
         view = subst (λ ts. SameView (awaits Aborting v.promised v) (awaits Aborting ts w)) same.promised
@@ -572,23 +576,35 @@ module _ (v w : CoordinatorView) (same : SameView v w) where
   unknown_commit-same s PresumeAbort = sends-same _ v w same
   unknown_commit-same s PresumeCommit = quiet-same v w same
 
-  pub on_commit-same : (s : Seat) (st : Standing) → SameRow (on_commit s v st) (on_commit s w st)
-  on_commit-same s Prepared = commit_by-same s s.own.txn.presumption
-  on_commit-same s Committing = sends-same _ v w same
-  on_commit-same s Unknown = unknown_commit-same s s.own.txn.presumption
-  on_commit-same s Active = quiet-same v w same
-  on_commit-same s Collecting = quiet-same v w same
-  on_commit-same s Aborting = quiet-same v w same
-  on_commit-same s Heuristic = quiet-same v w same
+  commit_again-same : (ver : Version) (s : Seat)
+      → SameRow (committing_commit ver s v) (committing_commit ver s w)
+  commit_again-same First s = sends-same _ v w same
+  commit_again-same Second s = quiet-same v w same
 
-  pub on_abort-same : (s : Seat) (st : Standing) → SameRow (on_abort s v st) (on_abort s w st)
-  on_abort-same s Active = active_abort-same s
-  on_abort-same s Collecting = collecting_abort-same v w same s ByAbort
-  on_abort-same s Prepared = abort_by-promised s s.own.txn.presumption
-  on_abort-same s Aborting = sends-same _ v w same
-  on_abort-same s Unknown = sends-same _ v w same
-  on_abort-same s Committing = quiet-same v w same
-  on_abort-same s Heuristic = quiet-same v w same
+  abort_again-same : (ver : Version) (s : Seat)
+      → SameRow (aborting_abort ver s v) (aborting_abort ver s w)
+  abort_again-same First s = sends-same _ v w same
+  abort_again-same Second s = quiet-same v w same
+
+  pub on_commit-same : (ver : Version) (s : Seat) (st : Standing)
+      → SameRow (on_commit ver s v st) (on_commit ver s w st)
+  on_commit-same ver s Prepared = commit_by-same ver s s.own.txn.presumption
+  on_commit-same ver s Committing = commit_again-same ver s
+  on_commit-same ver s Unknown = unknown_commit-same s s.own.txn.presumption
+  on_commit-same ver s Active = quiet-same v w same
+  on_commit-same ver s Collecting = quiet-same v w same
+  on_commit-same ver s Aborting = quiet-same v w same
+  on_commit-same ver s Heuristic = quiet-same v w same
+
+  pub on_abort-same : (ver : Version) (s : Seat) (st : Standing)
+      → SameRow (on_abort ver s v st) (on_abort ver s w st)
+  on_abort-same ver s Active = active_abort-same s
+  on_abort-same ver s Collecting = collecting_abort-same v w same s (ByAbort ver)
+  on_abort-same ver s Prepared = abort_by-promised ver s s.own.txn.presumption
+  on_abort-same ver s Aborting = abort_again-same ver s
+  on_abort-same ver s Unknown = sends-same _ v w same
+  on_abort-same ver s Committing = quiet-same v w same
+  on_abort-same ver s Heuristic = quiet-same v w same
 
 -- what views are not asked for does not count
 pub row_effect-same : (c : Case) (r q : Row) → SameRow r q → row_effect c r ≡ row_effect c q

@@ -28,7 +28,7 @@ use Rattle.tree_model.specs.CoordinatorRows.{ByAct, Row, Seat, active_join, acti
 use Rattle.tree_model.specs.Reactions.{Does, act_is_listed}
 use Rattle.tree_model.specs.SameViews.{SameRow, SameView}
 use Rattle.core_model.specs.States.{CoreState, SameCore}
-use Rattle.core_model.specs.Turns.{Finds, Refuses, Says, Takes, Turn, abort_turn, act_turn, ack_turn, ask_turn, cascaded_turn, child_says, commit_turn, coordinator_act, inquiry_turn, is_case_of, join_turn, live_turn, message_turn, reacted, seat_in, turn_of, up_turn, vote_turn, work_for_turn, work_turn}
+use Rattle.core_model.specs.Turns.{Finds, Refuses, Says, Takes, Turn, abort_turn, act_turn, ack_turn, ask_turn, cascaded_turn, child_says, commit_turn, coordinator_act, inquiry_turn, is_case_of, join_turn, live_turn, message_turn, reacted, seat_in, this_version, turn_of, up_turn, vote_turn, work_for_turn, work_turn}
 use Rattle.core_model.proofs.Alike.{active_abort-same, active_commit-same, active_join-same, active_work-same, collecting_abort-same, on_abort-same, on_ack-same, on_commit-same, on_inquiry-same, on_joined-same, on_prepare-same, on_vote-same, row_effect-same, sends-same}
 
 -- a row that is the same of both
@@ -144,8 +144,8 @@ module _ (s : CoreState) (f g : Case → CoordinatorView) (same : (c : Case) →
       → reacted (ack_turn (showing s f) o t found) ≡ reacted (ack_turn (showing s g) o t found)
   ack-alike o None t = refl
   ack-alike o (Some c) t =
-      ap (λ st. reacted (Takes c (on_ack (seat_in s c) t o (f c) st))) (same c).standing
-      ∙ alike c _ _ (on_ack-same (f c) (g c) (same c) (seat_in s c) t o (g c).standing)
+      ap (λ st. reacted (Takes c (on_ack this_version (seat_in s c) t o (f c) st))) (same c).standing
+      ∙ alike c _ _ (on_ack-same (f c) (g c) (same c) this_version (seat_in s c) t o (g c).standing)
 
   inquiry-alike : (x : Txn) (found : Option Case) (t : Ticket)
       → reacted (inquiry_turn (showing s f) x t found) ≡ reacted (inquiry_turn (showing s g) x t found)
@@ -176,11 +176,11 @@ module _ (s : CoreState) (f g : Case → CoordinatorView) (same : (c : Case) →
       ap (λ st. reacted (Takes d (on_prepare (seat_in s d) (f d) st))) (same d).standing
       ∙ alike d _ _ (on_prepare-same (f d) (g d) (same d) (seat_in s d) (g d).standing)
   cascaded-alike p found (Commit d) =
-      ap (λ st. reacted (Takes d (on_commit (seat_in s d) (f d) st))) (same d).standing
-      ∙ alike d _ _ (on_commit-same (f d) (g d) (same d) (seat_in s d) (g d).standing)
+      ap (λ st. reacted (Takes d (on_commit this_version (seat_in s d) (f d) st))) (same d).standing
+      ∙ alike d _ _ (on_commit-same (f d) (g d) (same d) this_version (seat_in s d) (g d).standing)
   cascaded-alike p found (Abort d) =
-      ap (λ st. reacted (Takes d (on_abort (seat_in s d) (f d) st))) (same d).standing
-      ∙ alike d _ _ (on_abort-same (f d) (g d) (same d) (seat_in s d) (g d).standing)
+      ap (λ st. reacted (Takes d (on_abort this_version (seat_in s d) (f d) st))) (same d).standing
+      ∙ alike d _ _ (on_abort-same (f d) (g d) (same d) this_version (seat_in s d) (g d).standing)
   cascaded-alike p found (Joined d t) = child-says found (Joined d t)
   cascaded-alike p found (Yes d) = child-says found (Yes d)
   cascaded-alike p found (No d) = child-says found (No d)

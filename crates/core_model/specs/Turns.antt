@@ -24,7 +24,7 @@ use Rattle.tree_model.specs.declared.events.StepError.TheVariants.{UnknownTxn, N
 use Rattle.tree_model.specs.declared.trees.TreeEntry.{TreeEntry}
 use Rattle.tree_model.specs.Names.{same_txn, child_case, root_case, presumed}
 use Rattle.tree_model.specs.Records.{in_list}
-use Rattle.tree_model.specs.Nodes.{Role, AtRoot, Below, AtLeaf, DataAnswer, is_child, is_leaf, role_of, ReadsOnly}
+use Rattle.tree_model.specs.Nodes.{Role, AtRoot, Below, AtLeaf, DataAnswer, Heard, Version, First, is_child, is_leaf, role_of, ReadsOnly}
 use Rattle.tree_model.specs.Memory.{of_ticket, ticket_of_child}
 use Rattle.tree_model.specs.Standings.{CoordinatorView, ManagerView}
 use Rattle.tree_model.specs.CoordinatorRows.{Seat, Row, ByAct, active_join, active_work, active_commit, active_abort, collecting_abort, prepared_ask, on_vote, on_ack, on_inquiry, on_joined, on_prepare, on_commit, on_abort, post, tells_outcome}
@@ -34,6 +34,14 @@ use Rattle.tree_model.specs.Reactions.{Reacts, Refused, Does, row_effect, leaf_e
 use Rattle.tree_model.specs.Restarts.{is_known}
 use Rattle.tree_model.specs.Views.{begin_effect}
 use Rattle.core_model.specs.States.{CoreState, parent}
+
+-- the version of the reaction table by which a process handles its inputs
+abbrev pub this_version : Version
+this_version = First
+
+-- an input as a process hears it, with what a manager's data answer to it
+abbrev pub heard_now : DataAnswer → Input → Heard
+heard_now a i = record { input = i; data_answer = a; version = this_version }
 
 -- what a process does with an input that it meets
 pub data Turn : Type 0 where
@@ -180,7 +188,8 @@ vote_turn s w t (Some c) = let v = s.view_of c in Takes c (on_vote (seat_in s c)
 -- an acknowledgement, in the case that was found for the child
 abbrev pub ack_turn : CoreState → Outcome → Ticket → Option Case → Turn
 ack_turn s o t None = Says []
-ack_turn s o t (Some c) = let v = s.view_of c in Takes c (on_ack (seat_in s c) t o v v.standing)
+ack_turn s o t (Some c) =
+    let v = s.view_of c in Takes c (on_ack this_version (seat_in s c) t o v v.standing)
 
 -- an inquiry, in the case that was found for the child; where there is none, the child gets what is presumed
 abbrev pub inquiry_turn : CoreState → Txn → Ticket → Option Case → Turn
@@ -217,8 +226,10 @@ joined_turn s p d None = Issues d (next_ticket s) (post s.place.me p (Joined d (
 abbrev pub cascaded_turn : CoreState → ProcessId → Option Case → Message → Turn
 cascaded_turn s p found (Join d) = joined_turn s p d (s.ticket_for d)
 cascaded_turn s p found (Prepare d k) = let v = s.view_of d in Takes d (on_prepare (seat_in s d) v v.standing)
-cascaded_turn s p found (Commit d) = let v = s.view_of d in Takes d (on_commit (seat_in s d) v v.standing)
-cascaded_turn s p found (Abort d) = let v = s.view_of d in Takes d (on_abort (seat_in s d) v v.standing)
+cascaded_turn s p found (Commit d) =
+    let v = s.view_of d in Takes d (on_commit this_version (seat_in s d) v v.standing)
+cascaded_turn s p found (Abort d) =
+    let v = s.view_of d in Takes d (on_abort this_version (seat_in s d) v v.standing)
 cascaded_turn s p found message = child_says s found message
 
 -- A manager.

@@ -36,7 +36,7 @@ use Rattle.tree_model.proofs.RunLaws.{makes_at}
 use Rattle.core_model.specs.States.{CoreState}
 use Rattle.core_law.specs.Fits.{NodeFits}
 use Rattle.core_law.specs.Steps.{restart_of}
-use Rattle.core_model.specs.Turns.{no_answer}
+use Rattle.core_model.specs.Turns.{no_answer, heard_now, this_version}
 use Rattle.core_law.specs.Ties.{ChildrenFit, Stands}
 use Rattle.core_law.proofs.CascadeQuiet.{cascaded_place}
 use Rattle.core_law.proofs.CascadeSteps.{is_cascaded_place}
@@ -61,7 +61,7 @@ module _ (place : Place) (n : Node) (q : ProcessId) (f : Fault) (a : DataAnswer)
     (e : Effect) (left : Node) where
   input_unsent : (i : Input) (b : Bool) (r : Reacts)
       → (if b then passes_over n (Some f) else input_makes n
-      (record { input = i; data_answer = a }) (Some f) r) ≡ Leaves e left
+      (heard_now a i) (Some f) r) ≡ Leaves e left
       → e.messages ≡ []
   input_unsent i true r h = unsent no_effect e _ left h refl
   input_unsent i false (Refused x) h = absurd (cc)
@@ -76,7 +76,7 @@ module _ (place : Place) (n : Node) (q : ProcessId) (f : Fault) (a : DataAnswer)
       ≡ Leaves e left → e.messages ≡ []
   unfolding node_makes
   nothing_sent (Handles i) made =
-      input_unsent i (is_passed_over place n i) (reacts place n (record { input = i; data_answer = a })) made
+      input_unsent i (is_passed_over place n i) (reacts place n (heard_now a i)) made
   nothing_sent (Restarting k) made = unsent (fault_effect (restart_effect place n k)
       f.appended) e _ left made refl
   nothing_sent Trimming made = trim_unsent n.failed made
@@ -111,28 +111,32 @@ module _ (me p : ProcessId) (tree : List TreeEntry) (n : Node) (a : DataAnswer) 
     pub unwritten : e.written ≡ []
 
   ack_quiet : (t : Ticket) (o : Outcome) (c : Option Case) → is_prepared_case place n c ≡ true
-      → Quiet (ack_for place (Some p) n t o c)
+      → Quiet (ack_for this_version place (Some p) n t o c)
   ack_quiet t o None h = absurd (cc)
   ack_quiet t o (Some c) h = record {
     own = c;
     prepared = prepared_is (view c).standing h;
-    unwritten = ap (λ st. (row_effect c (on_ack (seat_of place (Some p) c) t o (view c) st)).written)
+    unwritten =
+        ap (λ st. (row_effect c (on_ack this_version (seat_of place (Some p) c) t o (view c) st)).written)
         (prepared_is (view c).standing h)
         ∙ by_outcome o;
   }
     where
       by_outcome : (o : Outcome)
-          → (row_effect c (on_ack (seat_of place (Some p) c) t o (view c) standing.Prepared)).written ≡ []
+          → (row_effect c (on_ack this_version (seat_of place (Some p) c) t o (view c) standing.Prepared)).written
+          ≡ []
       by_outcome Committed = refl
       by_outcome Aborted = refl
 
   ticket_quiet : (x : Txn) (t : Option Ticket) (o : Outcome)
       → of_ticket t false (λ t. is_prepared_case place n (case_of_child place n x t)) ≡ true
-      → Quiet (of_ticket t no_effect (λ t. ack_for place (Some p) n t o (case_of_child place n x t)))
+      → Quiet (of_ticket t no_effect
+      (λ t. ack_for this_version place (Some p) n t o (case_of_child place n x t)))
   ticket_quiet x None o h = absurd (cc)
   ticket_quiet x (Some t) o h = ack_quiet t o (case_of_child place n x t) h
 
-  message_quiet : (m : Message) → is_early_ack place n m ≡ true → Quiet (hears (Below p) place n a m)
+  message_quiet : (m : Message) → is_early_ack place n m ≡ true
+      → Quiet (hears (Below p) this_version place n a m)
   message_quiet (Ack d o) h = ticket_quiet d.txn d.ticket o h
   message_quiet (Join d) h = absurd (cc)
   message_quiet (Joined d t) h = absurd (cc)
@@ -147,14 +151,15 @@ module _ (me p : ProcessId) (tree : List TreeEntry) (n : Node) (a : DataAnswer) 
 
   -- what is done of an input that is passed over, at a process that is up
   pub input_quiet : (i : Input) → is_passed_over place n i ≡ true → (e : Effect)
-      → reacts place n (record { input = i; data_answer = a }) ≡ Does e → (n.failed ≡ false) × Quiet e
+      → reacts place n (heard_now a i) ≡ Does e → (n.failed ≡ false) × Quiet e
   unfolding reacts
   input_quiet (ActInput x) over e does = absurd (cc)
   input_quiet (MessageInput k m) over e does =
       let so = both (is_early_ack place n m) n.failed over in
-      let is : hears (Below p) place n a m ≡ e =
+      let is : hears (Below p) this_version place n a m ≡ e =
       does_one _ e
-      (ap (λ b. if b then Refused Failed else Does (hears (Below p) place n a m)) (sym so.1) ∙ does) in
+      (ap (λ b. if b then Refused Failed else Does (hears (Below p) this_version place n a m)) (sym so.1)
+      ∙ does) in
       (so.1, subst Quiet is (message_quiet m so.0))
     where
       does_one : (x y : Effect) → Does x ≡ Does y → x ≡ y
@@ -162,7 +167,7 @@ module _ (me p : ProcessId) (tree : List TreeEntry) (n : Node) (a : DataAnswer) 
 
   -- a case in doubt asks
   asks : (c : Case) → n.failed ≡ false → (view c).standing ≡ standing.Prepared
-      → reacts place n (record { input = ActInput (Ask c); data_answer = a })
+      → reacts place n (heard_now a (ActInput (Ask c)))
       ≡ Does (row_effect c (prepared_ask (seat_of place (Some p) c) (view c)))
   unfolding reacts
   asks c up prepared =
@@ -173,7 +178,7 @@ module _ (me p : ProcessId) (tree : List TreeEntry) (n : Node) (a : DataAnswer) 
   asked c = row_effect c (prepared_ask (seat_of place (Some p) c) (view c))
 
   abbrev asking : Case → Heard
-  asking c = record { input = ActInput (Ask c); data_answer = a }
+  asking c = heard_now a (ActInput (Ask c))
 
   -- and where its device fails in that, some of the records are forced
   pub ask_fails : (c : Case) → n.failed ≡ false → (view c).standing ≡ standing.Prepared → (forced : ℕ)
@@ -272,7 +277,7 @@ module _ (journal : List Made → List Entry) (hides : HidesFaults journal) (es 
             let so = breaks_so n h.before h.behind h.answer i stands h.broken (children p is) in
             let quiet = input_quiet me p tree n h.answer i
             (subst (λ x. is_passed_over x n i ≡ true) here over) so.effect
-            (subst (λ x. reacts x n (record { input = i; data_answer = h.answer })
+            (subst (λ x. reacts x n (heard_now h.answer i)
             ≡ Does so.effect) here so.does) in
             let c = quiet.1.own in
             let e = asked me p tree n h.answer c in
@@ -287,7 +292,7 @@ module _ (journal : List Made → List Entry) (hides : HidesFaults journal) (es 
             fault (fault_effect e 0) left
             (made_at s.tree w (move_with q (Handles (ActInput (Ask c))) (Some fault) h.answer)
             (fault_effect e 0) left listed made)
-            (stands_asking me p tree n h.answer c (record { input = i; data_answer = h.answer })
+            (stands_asking me p tree n h.answer c (heard_now h.answer i)
             so.effect so.appended so.forced
             h.behind quiet.1.unwritten so.stands)
 

@@ -10,13 +10,12 @@ use Rattle.tree_model.specs.declared.events.StepError.{StepError}
 use Rattle.tree_model.specs.declared.events.StepError.TheVariants.{Failed}
 use Rattle.tree_model.specs.declared.trees.TreeEntry.{TreeEntry}
 use Rattle.tree_model.specs.Nodes.{DataAnswer, Effect, Node, Place, is_listed, place_of}
-use Rattle.tree_model.specs.Plays.{move_of}
 use Rattle.tree_model.specs.Trees.{IsTree}
 use Rattle.tree_model.specs.Reactions.{Does, Reacts, Refused, hears, is_passed_over, reacts}
 use Rattle.tree_model.specs.World.{IsRun, Made, World, input_makes, node_makes, passes_over}
 use Rattle.tree_model.specs.World.{Makes as Leaves, Refuses as RefusesMove}
 use Rattle.core_model.specs.States.{CoreState, SameCore}
-use Rattle.core_model.specs.Turns.{turn_of}
+use Rattle.core_model.specs.Turns.{turn_of, heard_now, this_version}
 use Rattle.core_model.proofs.Alike.{same_view}
 use Rattle.core_law.specs.Fits.{NodeFits}
 use Rattle.core_law.proofs.ManagerSteps.{place_stays}
@@ -26,6 +25,7 @@ use Rattle.core_law.specs.worlds.Worlds.{RefusesAt, WorldState}
 use Rattle.core_law.specs.worlds.Ties.{Follows}
 use Rattle.core_law.specs.worlds.Refusals.{RefusesSo, refusal_in}
 use Rattle.core_law.proofs.worlds.Steps.{InputsAsTheModel}
+use Rattle.core_law.specs.Steps.{input_move}
 
 fits_at : (tree : List TreeEntry) (es : List Made) (w : World) (q : ProcessId) (place : Place)
     → IsRun tree es w → place ≡ place_of tree q
@@ -39,7 +39,7 @@ as_the_model tree is_tree es w q old new a i reaction run listed stands place ke
     record {
       effect = step.effect;
       node = step.left;
-      makes = subst (λ p. node_makes p (w.at q) (move_of p.me (Handles i) a)
+      makes = subst (λ p. node_makes p (w.at q) (input_move p.me i None a)
           ≡ Leaves step.effect step.left) place step.makes;
       shown = step.shown;
       place = place_stays old new i (turn_of old a made.found i) made.moves ∙ place;
@@ -50,29 +50,29 @@ as_the_model tree is_tree es w q old new a i reaction run listed stands place ke
 
 -- a process refuses an input whatever its manager's data answer
 refuses_any : (place : Place) (n : Node) (q : ProcessId) (i : Input) (a d : DataAnswer) (e : StepError)
-    → node_makes place n (move_of q (Handles i) a) ≡ RefusesMove e
-    → node_makes place n (move_of q (Handles i) d) ≡ RefusesMove e
+    → node_makes place n (input_move q i None a) ≡ RefusesMove e
+    → node_makes place n (input_move q i None d) ≡ RefusesMove e
 unfolding node_makes reacts
 refuses_any place n q (ActInput x) a d e h = by_test (is_passed_over place n (ActInput x))
-    (reacts place n (record { input = ActInput x; data_answer = a })) h
+    (reacts place n (heard_now a (ActInput x))) h
   where
     by_test : (b : Bool) (r : Reacts)
         → (if b then passes_over n None else input_makes n
-        (record { input = ActInput x; data_answer = a }) None r) ≡ RefusesMove e
+        (heard_now a (ActInput x)) None r) ≡ RefusesMove e
         → (if b then passes_over n None else input_makes n
-        (record { input = ActInput x; data_answer = d }) None r) ≡ RefusesMove e
+        (heard_now d (ActInput x)) None r) ≡ RefusesMove e
     by_test true r h = h
     by_test false (Refused f) h = h
     by_test false (Does f) h = absurd (cc)
 refuses_any place n q (MessageInput k m) a d e h = by_test (is_passed_over place n (MessageInput k m))
-    n.failed (hears place.role place n a m) (hears place.role place n d m) h
+    n.failed (hears place.role this_version place n a m) (hears place.role this_version place n d m) h
   where
     by_test : (b f : Bool) (x y : Effect)
         → (if b then passes_over n None
-        else input_makes n (record { input = MessageInput k m; data_answer = a }) None
+        else input_makes n (heard_now a (MessageInput k m)) None
         (if f then Refused Failed else Does x)) ≡ RefusesMove e
         → (if b then passes_over n None
-        else input_makes n (record { input = MessageInput k m; data_answer = d }) None
+        else input_makes n (heard_now d (MessageInput k m)) None
         (if f then Refused Failed else Does y)) ≡ RefusesMove e
     by_test true f x y h = h
     by_test false true x y h = h
@@ -104,8 +104,8 @@ refused_by es w s q (Some c) i e f there why d =
     let is = refusals_so (w.at q) c c why.0 i here.stands
     (fits_at s.tree es w q c.place f.is_run here.place) e
     (record { same = same_core c; found = why.1; finds = why.2; refuses = why.3 }) in
-    let made : node_makes (place_of s.tree q) (w.at q) (move_of q (Handles i) why.0) ≡ RefusesMove e =
-    subst (λ p. node_makes p (w.at q) (move_of p.me (Handles i) why.0) ≡ RefusesMove e) here.place is.0 in
+    let made : node_makes (place_of s.tree q) (w.at q) (input_move q i None why.0) ≡ RefusesMove e =
+    subst (λ p. node_makes p (w.at q) (input_move p.me i None why.0) ≡ RefusesMove e) here.place is.0 in
     rw listed (ap refusal_in (refuses_any (place_of s.tree q) (w.at q) q i why.0 d e made))
 
 -- what a process of a tree that runs refuses, the model refuses so

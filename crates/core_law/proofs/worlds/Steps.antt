@@ -13,7 +13,7 @@ use Rattle.tree_model.specs.declared.trees.TreeEntry.{TreeEntry}
 use Rattle.tree_model.specs.Names.{same_process}
 use Rattle.tree_model.specs.NameLaws.{same_process_tells}
 use Rattle.tree_model.specs.Nodes.{DataAnswer, Effect, Node, is_listed, place_of, reaction_of}
-use Rattle.tree_model.specs.Plays.{move_of, sent_as}
+use Rattle.tree_model.specs.Plays.{sent_as}
 use Rattle.tree_model.specs.Trees.{IsTree}
 use Rattle.tree_model.specs.World.{Continues, InputStands, IsRun, IsSent, Made, Move, World, goes_on, journal_of, makes, node_makes, put_at, stays, world_makes, world_stepped}
 use Rattle.tree_model.specs.World.{Stands as Happens}
@@ -23,13 +23,15 @@ use Rattle.core_model.specs.Makes.{Makes}
 use Rattle.core_law.specs.Ties.{Stands}
 use Rattle.core_law.specs.worlds.Worlds.{Enters, MovesNode, Steps, WorldState, step_entry}
 use Rattle.core_law.specs.worlds.Ties.{Follows, FollowsBy, GoesOnBy, StandsAt}
+use Rattle.core_model.specs.Turns.{this_version}
+use Rattle.core_law.specs.Steps.{input_move}
 
 -- the model's process makes the input too and shows the same, and what is kept stands for what that leaves
 pub record MadeSo (tree : List TreeEntry) (w : World) (q : ProcessId) (a : DataAnswer) (i : Input)
     (new : CoreState) (reaction : Reaction) : Type 0 where
   pub effect : Effect
   pub node : Node
-  pub makes : node_makes (place_of tree q) (w.at q) (move_of q (Handles i) a) ≡ Leaves effect node
+  pub makes : node_makes (place_of tree q) (w.at q) (input_move q i None a) ≡ Leaves effect node
   pub shown : reaction ≡ reaction_of effect
   pub place : new.place ≡ place_of tree q
   pub stands : Stands node new
@@ -47,7 +49,11 @@ InputsAsTheModel tree = (es : List Made) (w : World) (q : ProcessId) (old new : 
 -- a move in which a device fails so, or none does
 abbrev pub move_with : ProcessId → Happening → Option Fault → DataAnswer → Move
 move_with q h fault a =
-    record { step = record { process = q; happening = h; fault = fault }; data_answer = a }
+    record {
+      step = record { process = q; happening = h; fault = fault };
+      data_answer = a;
+      version = this_version;
+    }
 
 abbrev pub made_with : ProcessId → Happening → Option Fault → DataAnswer → Effect → Made
 made_with q h fault a e = record { move = move_with q h fault a; effect = e }
@@ -209,7 +215,7 @@ step_goes_on journal shows law es w s s' q i marked is_tree f stands h =
     here.place here.stands h.handles.makes in
     entered_goes_on journal es w s s' f q (Handles i) h.handles.answer h.before h.behind stands h.moves
     shows h.reaction marked h.enters made.effect made.node
-    (made_at s.tree w (move_of q (Handles i) h.handles.answer) made.effect made.node listed made.makes)
+    (made_at s.tree w (input_move q i None h.handles.answer) made.effect made.node listed made.makes)
     made.shown made.place made.stands
 
 -- a message with a number stands in the net
@@ -218,4 +224,4 @@ pub sent_stands : (net : List Envelope) (k : ℕ) (envelope : Envelope) → sent
 sent_stands net zero envelope h = absurd (cc)
 sent_stands net (suc j) envelope h =
     let e : suc j - 1 ≡ j = omega arith in
-    record { sender = envelope.from; counted = omega arith; stands = ap (λ i. slice_get net i) e ∙ h }
+    record { sender = envelope.from; place = suc j - 1; stands = ap (λ i. slice_get net i) e ∙ h }

@@ -11,11 +11,11 @@ use Rattle.tree_model.specs.declared.events.StepError.{StepError}
 use Rattle.tree_model.specs.declared.events.StepError.TheVariants.{Memory, Device, NoSuch}
 use Rattle.tree_model.specs.declared.trees.TreeEntry.{TreeEntry}
 use Rattle.tree_model.specs.Nodes.{DataAnswer, is_listed, place_of}
-use Rattle.tree_model.specs.Plays.{move_of, process_of_act, sent_as}
+use Rattle.tree_model.specs.Plays.{process_of_act, sent_as}
 use Rattle.tree_model.specs.Trees.{root_of}
 use Rattle.tree_model.specs.Outcomes.{Headline}
 use Rattle.tree_model.specs.World.{Made, Makes, Move, Refuses, Stepped, World, node_makes}
-use Rattle.core_law.specs.Steps.{quiet_move}
+use Rattle.core_law.specs.Steps.{quiet_move, input_move}
 use Rattle.core_law.specs.worlds.Worlds.{WorldState, least_open}
 use Rattle.core_law.specs.worlds.Runs.{Leads, LeadsUntil}
 use Rattle.core_law.specs.worlds.Ties.{Follows}
@@ -33,7 +33,7 @@ model_refusal tree w m =
 
 -- the model refuses the input at this process so, whatever the data of the process answer
 abbrev pub RefusesSo : List TreeEntry → World → ProcessId → Input → StepError → Type 0
-RefusesSo tree w q i e = (d : DataAnswer) → model_refusal tree w (move_of q (Handles i) d) ≡ Some e
+RefusesSo tree w q i e = (d : DataAnswer) → model_refusal tree w (input_move q i None d) ≡ Some e
 
 -- the model refuses to deliver this message with this number: there is none, or its process refuses it
 abbrev pub RefusesDelivery : List TreeEntry → World → ℕ → Option Envelope → StepError → Type 0

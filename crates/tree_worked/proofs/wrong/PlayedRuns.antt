@@ -33,7 +33,7 @@ sent_stands : (net : List Envelope) (k : ℕ) (e : Envelope) → sent_as net k �
 sent_stands net zero e f = absurd (cc)
 sent_stands net (suc j) e f =
     let less : suc j - 1 ≡ j = omega arith in
-    record { sender = e.from; counted = omega arith; stands = ap (slice_get net) less ∙ f }
+    record { sender = e.from; place = suc j - 1; stands = ap (slice_get net) less ∙ f }
 
 makes_by : (tree : List TreeEntry) (start : World) (p : Player) (m : Move) (delivered : List ℕ) (b : Bool)
     (s : Stepped)

@@ -23,7 +23,7 @@ forgets_stands : Stands
     (reached wrong.forgets_after_first_ack).net wrong.forgets_after_first_ack.process
     wrong.forgets_after_first_ack.happening
 unfolding computing
-forgets_stands = record { sender = process 2; counted = omega arith; stands = refl }
+forgets_stands = record { sender = process 2; place = 12; stands = refl }
 
 forgets_free : IsFree (left_by wrong.forgets_after_first_ack).net (top PresumeAbort) third
 unfolding computing
@@ -57,7 +57,7 @@ reads_goes = refl
 reads_stands : Stands
     (reached wrong.reads_over_a_yes).net wrong.reads_over_a_yes.process wrong.reads_over_a_yes.happening
 unfolding computing
-reads_stands = record { sender = process 3; counted = omega arith; stands = refl }
+reads_stands = record { sender = process 3; place = 11; stands = refl }
 
 reads_free : IsFree (left_by wrong.reads_over_a_yes).net (case_at PresumeAbort second) third
 unfolding computing
@@ -89,7 +89,7 @@ told_stands : Stands
     (reached wrong.told_drops_decision).net wrong.told_drops_decision.process
     wrong.told_drops_decision.happening
 unfolding computing
-told_stands = record { sender = process 1; counted = omega arith; stands = refl }
+told_stands = record { sender = process 1; place = 5; stands = refl }
 
 told_free : IsFree (left_by wrong.told_drops_decision).net (top PresumeAbort) second
 unfolding computing
@@ -121,7 +121,7 @@ commits_stands : Stands
     (reached wrong.commits_on_votes_so_far).net wrong.commits_on_votes_so_far.process
     wrong.commits_on_votes_so_far.happening
 unfolding computing
-commits_stands = record { sender = process 2; counted = omega arith; stands = refl }
+commits_stands = record { sender = process 2; place = 8; stands = refl }
 
 commits_free : IsFree (left_by wrong.commits_on_votes_so_far).net (top PresumeAbort) third
 unfolding computing

@@ -56,7 +56,7 @@ obeys_stands : Stands
     (reached wrong.obeys_contradicting_commit).net wrong.obeys_contradicting_commit.process
     wrong.obeys_contradicting_commit.happening
 unfolding computing
-obeys_stands = record { sender = process 1; counted = omega arith; stands = refl }
+obeys_stands = record { sender = process 1; place = 13; stands = refl }
 
 obeys_free : IsFree (left_by wrong.obeys_contradicting_commit).net (case_at PresumeCommit second) third
 unfolding computing

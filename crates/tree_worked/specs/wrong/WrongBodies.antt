@@ -20,7 +20,7 @@ use Rattle.tree_model.specs.declared.records.Record.{Record}
 use Rattle.tree_model.specs.declared.records.Record.TheVariants.{Opened, Collecting, Commit as CommitRecord, End, Told as ToldRecord}
 use Rattle.tree_model.specs.declared.standings.Vote.TheVariants.{Yes as VoteYes}
 use Rattle.tree_model.specs.Names.{root_case, child_case}
-use Rattle.tree_model.specs.Nodes.{Heard, ReadsOnly, Written, no_effect, after}
+use Rattle.tree_model.specs.Nodes.{First, Heard, ReadsOnly, Written, no_effect, after}
 use Rattle.tree_model.specs.Plays.{Play, Acts, Delivers, Restarts, Trims}
 use Rattle.tree_model.specs.Rows.{process, txn, ticket, tree_a, tree_b, tree_c}
 use Rattle.tree_worked.specs.wrong.WrongSteps.{WrongStep}
@@ -45,7 +45,12 @@ third = ticket 3 1 1
 
 -- an input as a process hears it
 abbrev pub heard : Input → Heard
-heard i = record { input = i; data_answer = record { starts = true; does = true; holding = ReadsOnly } }
+heard i =
+    record {
+      input = i;
+      data_answer = record { starts = true; does = true; holding = ReadsOnly };
+      version = First;
+    }
 
 -- a record written without a force
 abbrev pub plain : Record → Written
