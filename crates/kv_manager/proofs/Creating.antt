@@ -1,10 +1,11 @@
 -- A manager over an empty store.
-use Rattle.std.proofs.Common.{◌≡◌, ◌∙◌, ◌∷◌, [], ◌++◌, ℕ, List, Some, Result, Ok, Err, IfOk, refl, sym, subst, ap}
+use Rattle.std.proofs.Common.{◌≡◌, ◌∙◌, ◌∷◌, [], ◌++◌, ℕ, false, List, Some, Result, Ok, Err, IfOk, refl, sym, subst, ap}
+use Rattle.xa_xid.specs.declared.xid.Xid.{Xid}
 use Rattle.tree_model.specs.declared.names.Kind.TheVariants.{Manager}
 use Rattle.tree_model.specs.declared.records.LogRecord.{LogRecord}
 use Rattle.tree_model.specs.Records.{same_bytes}
 use Rattle.log_rules.specs.order.Logs.{Whole, read_log}
-use Rattle.log_rules.specs.order.Orders.{SeenLog, nothing_seen}
+use Rattle.log_rules.specs.order.Orders.{SeenLog, names_key, nothing_seen, promised}
 use Rattle.rec_log.specs.Sights.{records_of}
 use Rattle.kv_core.specs.Replays.{seen_after, seen_of}
 use Rattle.core_model.specs.Opening.{first_opened}
@@ -30,6 +31,10 @@ one b e = cc
 first_boot : (s : SeenLog) (b : ℕ) → nothing_seen ≡ s → next_boot s.boot ≡ Some b → b ≡ 1
 first_boot s b is e = one b (ap (λ (t : SeenLog). next_boot t.boot) is ∙ e)
 
+none_promised : (s : SeenLog) (x : Xid) (k : List ℕ) → nothing_seen ≡ s → names_key (promised s x) k ≡ false
+unfolding names_key
+none_promised s x k is = ap (λ t. names_key (promised t x) k) (sym is)
+
 pub created : (forced failures : ℕ) (s : KvSight) → RestoredFrom [] forced failures s → IsNew (sight_of s)
 created forced failures s r =
     let none : records_of r.log.sight.kept ≡ [] = sym
@@ -42,6 +47,9 @@ created forced failures s r =
     record {
       closed = left.tables.init;
       boot = boot;
+      writes = λ x. left.promises x ∙ ap (λ t. promised t x) (sym (nothing_said left.seen left.read));
+      holders = λ k. left.locks_held.free k (λ x. none_promised left.seen x k
+          (nothing_said left.seen left.read));
       log = λ i. record {
         kept = record { forced = kept i; unforced = r.starts.unforced i };
         behind = r.starts.behind i;

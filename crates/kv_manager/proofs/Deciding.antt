@@ -1,6 +1,6 @@
 -- An operator's decision: a turn, for which room was made first.
 use Rattle.std.proofs.Common.{◌≡◌, ◌≤◌, ◌∙◌, true, false, Option, Some, None, List, [], ◌∷◌, Result, Ok, Err, refl, sym, ap, subst, arith}
-use Rattle.std.specs.Prelude.{Contains, IfErr, MatchBool, is_some, unwrap_or}
+use Rattle.std.specs.Prelude.{Contains, IfErr, MatchBool, OnOk, is_some, unwrap_or}
 use Rattle.std.specs.Map.{lookup}
 use Rattle.xa_codes.specs.declared.code.Code.{Code}
 use Rattle.xa_codes.specs.declared.code.Code.TheVariants as code
@@ -23,7 +23,8 @@ use Rattle.manager_model.specs.Ends.{logged_under, state_of as state_of_log}
 use Rattle.manager_model.specs.Deciding.{DecideFails, Decides, NotDecided, decision_writes}
 use Rattle.manager_model.specs.declared.errors.DecideError.{DecideError}
 use Rattle.manager_model.specs.declared.errors.DecideError.TheVariants.{Device, Failed, Memory, NotInDoubt}
-use Rattle.kv_locks.specs.Locks.{Releases}
+use Rattle.key_tables.specs.Holders.{without}
+use Rattle.kv_locks.specs.Locks.{Releases, holders_of}
 use Rattle.kv_store.specs.Versions.{Applies, SameData}
 use Rattle.kv_store.specs.writes.Writes.{Leaves, writes_of}
 use Rattle.kv_turns.specs.declared.entries.Entry.{Entry}
@@ -91,6 +92,7 @@ module _ (old mid new : KvSight) (x : Xid) (o : Outcome) (works : old.log.sight.
         (logged_under x (decision_writes x o))) log;
     own = (let_go made).0;
     others = λ y apart. (let_go made).1 y apart ∙ ap (λ w. writes_of w y) room.writes;
+    held = λ k. made.keeps.1.each k ∙ ap (λ t. without (holders_of t k) x) room.locks;
     decided = ap decision_or made.decisions.own ∙ known_so o (decision_in mid.store.decisions x);
     others_decided = λ y apart. ap decision_or (made.decisions.others y apart) ∙ known_same y;
     boot = made.boot ∙ boot;
@@ -276,6 +278,11 @@ module _ (old mid new : KvSight) (x : Xid) (o : Outcome) (room : Reserves old.st
   was_not_taken answer (kv.Spent is commits few alike) Memory h = stays alike
   was_not_taken answer (kv.Spent is commits few alike) Failed h = absurd h
   was_not_taken answer (kv.Spent is commits few alike) NotInDoubt h = absurd h
+
+-- that it went well, said in other words
+pub map_on : {A E : Type 0} (P Q : Type 0) (r : Result A E) → (P → Q) → OnOk r P → OnOk r Q
+map_on P Q (Ok a) f p = f p
+map_on P Q (Err e) f p = p
 
 -- an error, said of in other words
 pub map_err : {A E : Type 0} (P Q : E → Type 0) (r : Result A E)

@@ -36,7 +36,9 @@ use Rattle.rec_log.specs.Sights.{Breaks}
 use Rattle.core_model.specs.States.{wrote}
 use Rattle.xa_assoc.specs.declared.errors.WorkError.{WorkError}
 use Rattle.xa_assoc.specs.declared.errors.WorkError.TheVariants.{Locked, Memory, NotAssociated, RmFail, RollbackOnly, TooLong, TooManyWrites}
-use Rattle.manager_model.specs.Sights.{Calls, SameManager}
+use Rattle.manager_model.specs.Sights.{Calls, SameManager, obstacle}
+use Rattle.manager_model.specs.Data as model_data
+use Rattle.manager_model.specs.Data.{Locks, held_with}
 use Rattle.manager_model.specs.Works.{WorkRefused, Works, work_refusal}
 use Rattle.manager_model.specs.Works as model
 use Rattle.manager_model.specs.Ends.{Broke, Fails, Failed, Finishes, Limited, Made, Makes, Refused, Unlisted, decided_behind, left_with, logged_under, outcome_row, row_for, row_of, state_of as state_of_log, tells, written_by, written_for}
@@ -44,7 +46,7 @@ use Rattle.key_tables.specs.declared.holders.Mode.{Mode}
 use Rattle.key_tables.specs.declared.holders.Mode.TheVariants.{Exclusive, Shared}
 use Rattle.key_tables.specs.Holders.{blocked_by}
 use Rattle.kv_locks.specs.Locks.{holders_of}
-use Rattle.kv_store.specs.writes.Writes.{SameWrites, is_within_limit, writes_of}
+use Rattle.kv_store.specs.writes.Writes.{SameWrites, writes_of}
 use Rattle.kv_turns.specs.declared.entries.Entry.{Entry}
 use Rattle.kv_turns.specs.declared.turns.Turn.{Turn}
 use Rattle.kv_turns.specs.Turns.{entry_of, tell_turn, turn_of}
@@ -55,29 +57,9 @@ use Rattle.kv_core.specs.Works.{IsRefused, Reads, Writes, at_work, branch_refusa
 use Rattle.kv_manager.specs.Sights.{KvSight, SameManager as SameKv}
 use Rattle.kv_manager.specs.Turns as kv
 use Rattle.kv_manager.specs.Turns.{Calls as KvCalls, Finishes as KvFinishes, Makes as KvMakes, Fails as KvFails, Takes as KvTakes, Logs, Refuses, with_record}
-use Rattle.kv_manager.specs.Resources.{data_refusal, obstacle_of, sight_of}
+use Rattle.kv_manager.specs.Resources.{sight_of}
 
 -- Nothing changes.
-
-limit_same : (old new : KeySight) → SameWrites old.writes new.writes → (x : Xid) (k : List ℕ) (m : Mode)
-    → limit_refusal new x k m ≡ limit_refusal old x k m
-limit_same old new same x k Exclusive = ap (λ ws. if is_within_limit ws k then None
-    else Some TooManyWrites) (same x)
-limit_same old new same x k Shared = refl
-
-refusal_same : (old new : KeySight) → new.locks ≡ old.locks
-    → SameWrites old.writes new.writes → (x : Xid) (k : List ℕ)
-    (v : Option (List ℕ)) (m : Mode) → data_refusal new k v m x ≡ data_refusal old k v m x
-refusal_same old new locks same x k v m =
-    λ i. if is_too_long k v then Some TooLong
-    else unless_locked (blocked_by (holders_of (locks i) k) x m) (limit_same old new same x k m i)
-
-pub obstacle_same : (old new : KeySight) → new.locks ≡ old.locks
-    → SameWrites old.writes new.writes → (x : Xid) (op : Op)
-    → obstacle_of new x op ≡ obstacle_of old x op
-obstacle_same old new locks same x (Put k v) = refusal_same old new locks same x k (Some v) Exclusive
-obstacle_same old new locks same x (Get k) = refusal_same old new locks same x k None Shared
-obstacle_same old new locks same x (Delete k) = refusal_same old new locks same x k None Exclusive
 
 pub same_sight : (old new : KvSight) → SameKv old new → SameManager (sight_of old) (sight_of new)
 same_sight old new same =
@@ -88,7 +70,7 @@ same_sight old new same =
       spent = ap (λ n. not (nat_lt n (2 ^ 63 - 1))) same.versions.count;
       rest = record {
         writes = same.writes;
-        obstacles = obstacle_same old.store new.store same.locks same.writes;
+        holders = λ k. ap (λ t. holders_of t k) same.locks;
         decided = λ x. ap decision_or (same.decisions x);
       };
     }
@@ -130,12 +112,36 @@ called old new refuses Moves made = by_failed old.log.sight.failed refl
           spent = rest.0;
           rest = record {
             writes = rest.1;
-            obstacles = obstacle_same old.store new.store (made.works works).locks rest.1;
+            holders = λ k. ap (λ t. holders_of t k) (made.works works).locks;
             decided = rest.2;
           };
         }
 
 -- Work.
+
+-- why the data are in the way of a branch that works at a key: the first reason that applies
+abbrev data_refusal : KeySight → List ℕ → Option (List ℕ) → Mode → Xid → Option WorkError
+data_refusal s k v m x =
+    if is_too_long k v then Some TooLong
+    else unless_locked (blocked_by (holders_of s.locks k) x m) (limit_refusal s x k m)
+
+-- the same of an operation
+abbrev obstacle_of : KeySight → Xid → Op → Option WorkError
+obstacle_of s x (Put k v) = data_refusal s k (Some v) Exclusive x
+obstacle_of s x (Get k) = data_refusal s k None Shared x
+obstacle_of s x (Delete k) = data_refusal s k None Exclusive x
+
+one_lock : (o : Option Xid) (other : Option WorkError) → model_data.unless_locked o other ≡ unless_locked o other
+one_lock (Some y) other = refl
+one_lock None other = refl
+
+obstacle_is : (s : KvSight) (x : Xid) (op : Op) → obstacle (sight_of s) x op ≡ obstacle_of s.store x op
+obstacle_is s x (Put k v) = ap (λ o. if is_too_long k (Some v) then Some TooLong else o)
+    (one_lock (blocked_by (holders_of s.store.locks k) x Exclusive) (limit_refusal s.store x k Exclusive))
+obstacle_is s x (Get k) = ap (λ o. if is_too_long k None then Some TooLong else o)
+    (one_lock (blocked_by (holders_of s.store.locks k) x Shared) (limit_refusal s.store x k Shared))
+obstacle_is s x (Delete k) = ap (λ o. if is_too_long k None then Some TooLong else o)
+    (one_lock (blocked_by (holders_of s.store.locks k) x Exclusive) (limit_refusal s.store x k Exclusive))
 
 refused_as : (s : KeySight) (k : List ℕ) (v : Option (List ℕ)) (m : Mode) (x : Xid)
     (st : BranchState) → state_of s x ≡ st
@@ -163,13 +169,16 @@ by_thread s t (Get k) None is = ap (λ a. refusal_by s.store k None Shared (work
 by_thread s t (Delete k) None is = ap (λ a. refusal_by s.store k None Exclusive
     (worker_of s.store a)) (sym is)
 by_thread s t (Put k v) (Some x) is =
-    refused_as s.store k (Some v) Exclusive x (state_of s.store x) refl
+    ap (model.state_refusal (state_of s.store x)) (obstacle_is s x (Put k v))
+    ∙ refused_as s.store k (Some v) Exclusive x (state_of s.store x) refl
     ∙ ap (λ a. refusal_by s.store k (Some v) Exclusive (worker_of s.store a)) (sym is)
 by_thread s t (Get k) (Some x) is =
-    refused_as s.store k None Shared x (state_of s.store x) refl
+    ap (model.state_refusal (state_of s.store x)) (obstacle_is s x (Get k))
+    ∙ refused_as s.store k None Shared x (state_of s.store x) refl
     ∙ ap (λ a. refusal_by s.store k None Shared (worker_of s.store a)) (sym is)
 by_thread s t (Delete k) (Some x) is =
-    refused_as s.store k None Exclusive x (state_of s.store x) refl
+    ap (model.state_refusal (state_of s.store x)) (obstacle_is s x (Delete k))
+    ∙ refused_as s.store k None Exclusive x (state_of s.store x) refl
     ∙ ap (λ a. refusal_by s.store k None Exclusive (worker_of s.store a)) (sym is)
 
 refusal_as : (s : KvSight) (t : ℕ) (op : Op) → s.log.sight.failed ≡ false
@@ -196,7 +205,7 @@ stayed old new same log boot =
       spent = ap (λ v. not (nat_lt v.count (2 ^ 63 - 1))) same.versions;
       rest = record {
         writes = same.writes;
-        obstacles = obstacle_same old.store new.store same.locks same.writes;
+        holders = λ k. ap (λ t. holders_of t k) same.locks;
         decided = λ x. ap decision_or (same.decisions x);
       };
     }
@@ -252,16 +261,18 @@ worked : (old new : KvSight) (t : ℕ) (op : Op) (x : Xid) → old.log.sight.fai
     → op_refusal old.store t op ≡ None → writes_of new.store.writes x
     ≡ op_writes (writes_of old.store.writes x) op
     → ((y : Xid) → same x y ≡ false → writes_of new.store.writes y ≡ writes_of old.store.writes y)
+    → Locks (sight_of old).holders (sight_of new).holders x op
     → new.store.tables ≡ old.store.tables → new.store.decisions ≡ old.store.decisions
     → new.log.sight ≡ old.log.sight → new.boot ≡ old.boot
     → Works (sight_of old) (sight_of new) t op
-worked old new t op x works at allowed own others tables decisions log boot =
+worked old new t op x works at allowed own others locks tables decisions log boot =
     record {
       allowed = refusal_as old t op works ∙ allowed;
       branch = x;
       active = active_is old.store (active_of old.store.tables.associations t) x at;
       own = own;
       others = others;
+      locks = locks;
       tables = same_tables old.store.tables new.store.tables tables;
       log = log;
       boot = boot;
@@ -280,6 +291,7 @@ did_read old new t k found made = by_failed old.log.sight.failed refl
         worked old new t (Get k) reads.branch is reads.works
         (ap (refusal_by old.store k None Shared) reads.works ∙ reads.allowed)
         (ap (λ w. writes_of w reads.branch) reads.writes) (λ y apart. ap (λ w. writes_of w y) reads.writes)
+        (record { own = reads.locks.own; others = reads.locks.others })
         reads.tables reads.decisions made.log made.boot
 
 pub did_put : (old new : KvSight) (t : ℕ) (k v : List ℕ)
@@ -293,7 +305,8 @@ did_put old new t k v made = by_failed old.log.sight.failed refl
         let wrote = made.works is in
         worked old new t (Put k v) wrote.branch is wrote.works
         (ap (refusal_by old.store k (Some v) Exclusive) wrote.works ∙ wrote.allowed)
-        wrote.writes.own wrote.writes.others wrote.tables wrote.decisions made.log made.boot
+        wrote.writes.own wrote.writes.others
+        (record { own = wrote.locks.own; others = wrote.locks.others }) wrote.tables wrote.decisions made.log made.boot
 
 pub did_delete : (old new : KvSight) (t : ℕ) (k : List ℕ)
     → KvCalls old new ⊥ (λ before behind. Writes before behind t k None)
@@ -306,7 +319,8 @@ did_delete old new t k made = by_failed old.log.sight.failed refl
         let wrote = made.works is in
         worked old new t (Delete k) wrote.branch is wrote.works
         (ap (refusal_by old.store k None Exclusive) wrote.works ∙ wrote.allowed)
-        wrote.writes.own wrote.writes.others wrote.tables wrote.decisions made.log made.boot
+        wrote.writes.own wrote.writes.others
+        (record { own = wrote.locks.own; others = wrote.locks.others }) wrote.tables wrote.decisions made.log made.boot
 
 -- The calls that finish a branch: a turn is its row, and its record the row's.
 
@@ -445,6 +459,15 @@ left_others old new x S3 goes y apart = ap (λ w. writes_of w y) goes.0
 left_others old new x S4 goes y apart = ap (λ w. writes_of w y) goes.0
 left_others old new x S5 goes y apart = goes.0.others y apart
 
+left_held : (old new : KeySight) (x : Xid) (to : BranchState) → LetsGo old new x to
+    → (k : List ℕ) → holders_of new.locks k ≡ held_with to x (holders_of old.locks k)
+left_held old new x S0 goes k = goes.1.each k
+left_held old new x S1 goes k = ap (λ t. holders_of t k) goes.1
+left_held old new x S2 goes k = ap (λ t. holders_of t k) goes.1
+left_held old new x S3 goes k = ap (λ t. holders_of t k) goes.1
+left_held old new x S4 goes k = ap (λ t. holders_of t k) goes.1
+left_held old new x S5 goes k = goes.1.each k
+
 module _ (old new : KvSight) (x : Xid) (c : Call) (w : is_work c ≡ false)
     (h : has_rows (branch_rows (state_of old.store x) c) ≡ true)
     (due : IsListed old.store x c (turn_for old.store x c)) where
@@ -480,6 +503,8 @@ module _ (old new : KvSight) (x : Xid) (c : Call) (w : is_work c ≡ false)
         own = left_own old.store new.store x turn.to made.keeps
             ∙ ap (λ (r : Code × BranchState). left_with r.1 ws) is_row;
         others = left_others old.store new.store x turn.to made.keeps;
+        held = λ k. left_held old.store new.store x turn.to made.keeps k
+            ∙ ap (λ (r : Code × BranchState). held_with r.1 x (holders_of old.store.locks k)) is_row;
         decided = λ to. ap decision_or made.decisions.own
             ∙ known_as (state_of old.store x) c (wrote_some ws) b (decision_in old.store.decisions x) w h
             (ap (λ (r : Code × BranchState). r.1) is_row ∙ to);

@@ -5,6 +5,7 @@ use Rattle.xa_assoc.specs.declared.states.States.{States}
 use Rattle.xa_assoc.specs.Answers.{Same}
 use Rattle.xa_assoc.proofs.Reactions.{stays}
 use Rattle.tree_model.specs.declared.records.LogRecord.{LogRecord}
+use Rattle.log_rules.specs.order.Orders.{names_key}
 use Rattle.rec_log.specs.Sights.{LogState, RestartBreaks, Restarts as LogRestarts, left_by}
 use Rattle.core_model.specs.States.{forced_sight}
 use Rattle.manager_model.specs.Ends.{state_of}
@@ -44,6 +45,12 @@ restarted old new keep given made =
       associations = left.tables.associations;
       seats = left.tables.seats;
       writes = λ x. left.promises x ∙ writes_as ls left.seen x left.read;
+      held = record {
+        held = λ x k named. left.locks_held.held x k
+            (ap (λ ws. names_key ws k) (writes_as ls left.seen x left.read) ∙ named);
+        free = λ k none. left.locks_held.free k
+            (λ x. ap (λ ws. names_key ws k) (writes_as ls left.seen x left.read) ∙ none x);
+      };
       decided = λ x here. left.decided.each x;
       boot = boot;
       log = log_of old.log new.log keep (opened new.boot ∷ []) made.log

@@ -1,23 +1,14 @@
 -- A key store with a log, as a process sees the resource manager that it drives.
-use Rattle.std.specs.Prelude.{◌≡◌, not, if◌then◌else◌, List, ℕ, Option, Some, None}
+use Rattle.std.specs.Prelude.{◌≡◌, not}
 use Rattle.xa_codes.specs.declared.code.Code.{Code}
 use Rattle.xa_codes.specs.declared.code.Code.TheVariants as code
 use Rattle.manager_model.specs.declared.errors.DecideError.{DecideError}
 use Rattle.manager_model.specs.declared.errors.DecideError.TheVariants as decides
-use Rattle.xa_xid.specs.declared.xid.Xid.{Xid}
-use Rattle.xa_assoc.specs.declared.errors.WorkError.{WorkError}
-use Rattle.xa_assoc.specs.declared.errors.WorkError.TheVariants.{TooLong}
-use Rattle.tree_model.specs.declared.messages.Op.{Op}
-use Rattle.tree_model.specs.declared.messages.Op.TheVariants.{Put, Get, Delete}
 use Rattle.manager_model.specs.Sights.{ManagerSight}
-use Rattle.key_tables.specs.declared.holders.Mode.{Mode}
-use Rattle.key_tables.specs.declared.holders.Mode.TheVariants.{Exclusive, Shared}
-use Rattle.key_tables.specs.Holders.{blocked_by}
 use Rattle.kv_locks.specs.Locks.{holders_of}
 use Rattle.kv_store.specs.writes.Writes.{writes_of}
-use Rattle.kv_core.specs.Stores.{KeySight, has_numbers}
+use Rattle.kv_core.specs.Stores.{has_numbers}
 use Rattle.kv_core.specs.Ends.{known_of}
-use Rattle.kv_core.specs.Works.{is_too_long, limit_refusal, unless_locked}
 use Rattle.manager_model.specs.declared.errors.RestartError.{RestartError as SeenError}
 use Rattle.manager_model.specs.declared.errors.RestartError.TheVariants as seen
 use Rattle.manager_model.specs.declared.errors.TrimError.{TrimError}
@@ -28,18 +19,6 @@ use Rattle.kv_manager.specs.declared.restart.RestartError.{RestartError}
 use Rattle.kv_manager.specs.declared.restart.RestartError.TheVariants.{Device, Exhausted, Memory, Unfit}
 use Rattle.kv_manager.specs.Sights.{KvSight}
 
--- why the data are in the way of a branch that works at a key: the first reason that applies
-abbrev pub data_refusal : KeySight → List ℕ → Option (List ℕ) → Mode → Xid → Option WorkError
-data_refusal s k v m x =
-    if is_too_long k v then Some TooLong
-    else unless_locked (blocked_by (holders_of s.locks k) x m) (limit_refusal s x k m)
-
--- the same of an operation
-abbrev pub obstacle_of : KeySight → Xid → Op → Option WorkError
-obstacle_of s x (Put k v) = data_refusal s k (Some v) Exclusive x
-obstacle_of s x (Get k) = data_refusal s k None Shared x
-obstacle_of s x (Delete k) = data_refusal s k None Exclusive x
-
 -- a limit of its own is met where no commit more can be counted
 abbrev pub sight_of : KvSight → ManagerSight
 sight_of s = record {
@@ -48,7 +27,7 @@ sight_of s = record {
   boot = s.boot;
   spent = not (has_numbers s.store);
   writes = λ x. writes_of s.store.writes x;
-  obstacle = λ x op. obstacle_of s.store x op;
+  holders = λ k. holders_of s.store.locks k;
   decided = λ x. known_of s.store x;
 }
 

@@ -1,8 +1,9 @@
 -- An operator's decision of a branch that is prepared, without its parent.
-use Rattle.std.specs.Prelude.{◌≡◌, ◌≢◌, true, false, List, [], None}
+use Rattle.std.specs.Prelude.{◌≡◌, ◌≢◌, ℕ, true, false, List, [], None}
 use Rattle.xa_tables.specs.declared.states.BranchState.TheVariants.{S3, S5}
 use Rattle.xa_xid.specs.declared.xid.Xid.{Xid}
 use Rattle.xa_branch.specs.Names.{same}
+use Rattle.key_tables.specs.Holders.{without}
 use Rattle.xa_assoc.specs.Answers.{Same, Takes, state_at}
 use Rattle.tree_model.specs.declared.names.Outcome.{Outcome}
 use Rattle.tree_model.specs.declared.names.Outcome.TheVariants.{Committed, Aborted}
@@ -37,6 +38,7 @@ pub record Decides (old new : ManagerSight) (x : Xid) (o : Outcome) : Type 0 whe
   pub log : new.log ≡ wrote old.log (decision_writes x o) (logged_under x (decision_writes x o))
   pub own : new.writes x ≡ []
   pub others : (y : Xid) → same x y ≡ false → new.writes y ≡ old.writes y
+  pub held : (k : List ℕ) → new.holders k ≡ without (old.holders k) x
   pub decided : new.decided x ≡ record { outcome = o; told = None }
   pub others_decided : OthersStayDecided old new x
   pub boot : new.boot ≡ old.boot

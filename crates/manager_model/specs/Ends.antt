@@ -30,6 +30,7 @@ use Rattle.tree_model.specs.CoordinatorRows.{forced}
 use Rattle.log_text.specs.Parts.{name_in}
 use Rattle.rec_log.specs.Sights.{Breaks, LogSight, LogState}
 use Rattle.core_model.specs.States.{wrote}
+use Rattle.manager_model.specs.Data.{held_with}
 use Rattle.manager_model.specs.Sights.{ManagerSight, SameManager}
 
 -- an end by its flags takes no memory: of work that is done, or that failed
@@ -124,6 +125,7 @@ pub record Makes (old new : ManagerSight) (x : Xid) (c : Call) (row : Code × Br
   pub log : new.log ≡ wrote old.log (written_for old x c) (logged_under x (written_for old x c))
   pub own : new.writes x ≡ left_with row.1 (old.writes x)
   pub others : (y : Xid) → same x y ≡ false → new.writes y ≡ old.writes y
+  pub held : (k : List ℕ) → new.holders k ≡ held_with row.1 x (old.holders k)
   pub decided : row.1 ≡ S5 → new.decided x ≡ decided_behind c (old.decided x)
   pub others_decided : OthersStayDecided old new x
   pub boot : new.boot ≡ old.boot

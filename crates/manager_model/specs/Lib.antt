@@ -1,4 +1,6 @@
+pub mod Data
 pub mod Sights
+pub mod Turns
 pub mod Works
 pub mod Ends
 pub mod Opening

@@ -16,6 +16,7 @@ use Rattle.tree_model.specs.Standings.{Mark, Unmarked, Promised, Decided, ToldOf
 use Rattle.tree_model.specs.Store.{writes_of, data_of}
 use Rattle.rec_log.specs.Sights.{RestartBreaks, left_by}
 use Rattle.core_model.specs.States.{forced_sight}
+use Rattle.manager_model.specs.Data.{HoldWrites}
 use Rattle.manager_model.specs.Sights.{ManagerSight, SameManager}
 use Rattle.manager_model.specs.Ends.{state_of}
 use Rattle.manager_model.specs.declared.errors.RestartError.{RestartError}
@@ -55,7 +56,7 @@ with_boot ls = ls ++ boot_record (next_boot ls) ∷ []
 -- Restart.
 
 -- a manager restarted, after a crash that kept so many unforced bytes: it is not open, each branch is as the
--- records that are left say, with what an operator decided of it, without associations and scans, and its log
+-- records that are left say, with what an operator decided of it, those in doubt hold what they promised, without associations and scans, and its log
 -- is these records and the next boot, all forced
 pub record Restarts (old new : ManagerSight) (keep : ℕ) : Type 0 where
   pub closed : new.tables.init ≡ R0
@@ -64,6 +65,7 @@ pub record Restarts (old new : ManagerSight) (keep : ℕ) : Type 0 where
   pub associations : IsBare new.tables.associations
   pub seats : new.tables.associations.seats ≡ []
   pub writes : (x : Xid) → new.writes x ≡ writes_left (left_by old.log keep) x
+  pub held : HoldWrites (writes_left (left_by old.log keep)) new.holders
   pub decided : (x : Xid) → state_at new.tables x ≡ S5
       → new.decided x ≡ decided_in (left_by old.log keep) x
   pub boot : new.boot ≡ next_boot (left_by old.log keep)

@@ -8,24 +8,34 @@ use Rattle.xa_heur.specs.declared.decision.Decision.{Decision}
 use Rattle.tree_model.specs.declared.messages.Op.{Op}
 use Rattle.tree_model.specs.declared.records.Write.{Write}
 use Rattle.rec_log.specs.Sights.{LogSight}
+use Rattle.manager_model.specs.Data.{Holdings, ManagerData, obstacle_in}
 
 -- The tables of its calls; its log; how often it opened; whether a limit of its own is met, so that it may
 -- refuse to finish a branch; what each branch has written that is at work or prepared, in order of each key's
--- first write; why its data are in the way of an operation of a branch; and what an operator decided of each
--- branch in S5, with what it was told since (of any other branch this says nothing).
+-- first write; who holds each key; and what an operator decided of each branch in S5, with what it was told since
+-- (of any other branch this says nothing).
 pub record ManagerSight : Type 0 where
   pub tables : States
   pub log : LogSight
   pub boot : ℕ
   pub spent : Bool
   pub writes : Xid → List Write
-  pub obstacle : Xid → Op → Option WorkError
+  pub holders : Holdings
   pub decided : Xid → Decision
+
+-- its data
+abbrev pub manager_data : ManagerSight → ManagerData
+manager_data m = record { writes = m.writes; holders = m.holders }
+
+-- why its data are in the way of an operation of a branch: what the branch has written and the holders of the key
+-- alone say it
+abbrev pub obstacle : ManagerSight → Xid → Op → Option WorkError
+obstacle m x op = obstacle_in (manager_data m) x op
 
 -- the data stay as they are, and what each branch has written, and what operators decided
 pub record SameData (old new : ManagerSight) : Type 0 where
   pub writes : (x : Xid) → new.writes x ≡ old.writes x
-  pub obstacles : (x : Xid) (op : Op) → new.obstacle x op ≡ old.obstacle x op
+  pub holders : (k : List ℕ) → new.holders k ≡ old.holders k
   pub decided : (x : Xid) → new.decided x ≡ old.decided x
 
 -- nothing changes but room

@@ -10,7 +10,8 @@ use Rattle.xa_assoc.specs.declared.errors.WorkError.{WorkError}
 use Rattle.xa_assoc.specs.declared.errors.WorkError.TheVariants.{Memory, NotAssociated, RmFail, RollbackOnly}
 use Rattle.tree_model.specs.declared.messages.Op.{Op}
 use Rattle.tree_model.specs.Plays.{op_writes}
-use Rattle.manager_model.specs.Sights.{ManagerSight, SameManager}
+use Rattle.manager_model.specs.Data.{Locks}
+use Rattle.manager_model.specs.Sights.{ManagerSight, SameManager, obstacle}
 
 -- why a branch in a state may not work; what is in the way of it comes last
 abbrev pub state_refusal : BranchState → Option WorkError → Option WorkError
@@ -21,20 +22,22 @@ state_refusal _ obstacle = Some NotAssociated
 -- the same of a thread, which may be active in no branch
 abbrev pub refusal_by : ManagerSight → Op → Option Xid → Option WorkError
 refusal_by m op None = Some NotAssociated
-refusal_by m op (Some x) = state_refusal (state_at m.tables x) (m.obstacle x op)
+refusal_by m op (Some x) = state_refusal (state_at m.tables x) (obstacle m x op)
 
 -- why a thread may not do an operation: the first reason that applies
 abbrev pub work_refusal : ManagerSight → ℕ → Op → Option WorkError
 work_refusal m t op =
     if m.log.failed then Some RmFail else refusal_by m op (active_of m.tables.associations t)
 
--- a thread did an operation: the branch that it is active in has written that, and no other branch anything
+-- a thread did an operation: the branch that it is active in has written that, and no other branch anything; it
+-- holds the key, and every other key is held as it was
 pub record Works (old new : ManagerSight) (t : ℕ) (op : Op) : Type 0 where
   pub allowed : work_refusal old t op ≡ None
   pub branch : Xid
   pub active : active_of old.tables.associations t ≡ Some branch
   pub own : new.writes branch ≡ op_writes (old.writes branch) op
   pub others : (y : Xid) → same branch y ≡ false → new.writes y ≡ old.writes y
+  pub locks : Locks old.holders new.holders branch op
   pub tables : Same old.tables new.tables
   pub log : new.log ≡ old.log
   pub boot : new.boot ≡ old.boot

@@ -4,7 +4,6 @@ use Rattle.xa_tables.specs.declared.call.Call.TheVariants as call
 use Rattle.xa_tables.specs.declared.states.BranchState.{BranchState}
 use Rattle.xa_tables.specs.declared.states.BranchState.TheVariants.{S5}
 use Rattle.xa_xid.specs.declared.xid.Xid.{Xid}
-use Rattle.xa_branch.specs.Names.{same}
 use Rattle.xa_heur.specs.declared.decision.Decision.{Decision}
 use Rattle.xa_heur.specs.Decisions.{first_told}
 use Rattle.tree_model.specs.declared.names.Case.{Case}
@@ -26,21 +25,23 @@ use Rattle.tree_model.specs.ManagerRows.{Leaf, LeafRow, acknowledgement, heurist
 use Rattle.log_text.specs.Parts.{Name}
 use Rattle.core_model.specs.Turns.{Handles, Turn, decide_turn, forget_turn, leaf_in}
 use Rattle.core_model.specs.Makes.{retired_by}
-use Rattle.manager_model.specs.Sights.{ManagerSight}
+use Rattle.manager_model.specs.Sights.{ManagerSight, manager_data}
 use Rattle.manager_model.specs.Deciding.{decision_writes}
 use Rattle.manager_model.specs.Ends.{decided_behind, row_for, row_of, tells, written_by}
-use Rattle.sub_deeds.specs.Deeds.{Comes, Decides, Finishes, NotDecided, NotFinished, Wrote, outcome_call}
+use Rattle.sub_deeds.specs.Deeds.{Comes, Decides, Finishes, NotDecided, NotFinished, outcome_call}
+use Rattle.manager_model.specs.Data as model_data
+use Rattle.manager_model.specs.Turns.{DataTurn, MovesData, abort_data, commit_data, decide_data, forget_data, message_data, told_data}
 use Rattle.sub_branch.specs.declared.branch.Branch.{Branch}
 use Rattle.sub_branch.specs.declared.branch.Stage.TheVariants.{Heuristic}
 use Rattle.sub_table.specs.Tables.{BranchTable, IsKept, Notes, Retires, kept_view, nothing, ticket_in, view_in}
-use Rattle.sub_core.specs.Subordinates.{Hears, IsAt, IsNamed, IsTied, NotHeard, NotTurned, OthersWriteNothing, SubState, Turns, Writes, core_of, decided, decision_kind, logged_alone, outcome_reply, prepared, turn_for}
+use Rattle.sub_core.specs.Subordinates.{Hears, IsAt, IsNamed, IsTied, NotHeard, NotTurned, SubState, Turns, answer_for, core_of, decided, decision_kind, logged_alone, outcome_reply, prepared, turn_for, xid_of}
 use Rattle.sub_deeds.specs.Replies.{shown}
 use Rattle.sub_core.specs.Steps.{Acts, NotActed, turn_at}
 use Rattle.sub_core.proofs.Ties.{behind, moved_tied}
 use Rattle.sub_core.proofs.Rows.{handled}
 use Rattle.sub_core.proofs.Ends.{AreOf, log_by, log_is, not_done, not_turned, retires_at}
-use Rattle.sub_core.proofs.Outcomes.{never_retired, retired_abort, untouched}
-use Rattle.sub_core.proofs.Staying.{Stays}
+use Rattle.sub_core.proofs.Outcomes.{decided_data, ended_data, never_retired, retired_abort, untouched}
+use Rattle.sub_core.proofs.Staying.{Stays, data_rest}
 use Rattle.sub_core.proofs.Doing.{notes_at}
 
 -- an act ends the time of no ticket
@@ -91,7 +92,9 @@ module _ (s : SubState) (key : ℕ) (c : Case) (x : Xid) (o : Outcome) (tied : I
             (λ d. ap (λ ts. ticket_in (record { tickets = ts; branches = t.branches }) d) r.tickets
             ∙ no_retire (Decide c o) d (ticket_in s.table d))
             made.comes.boot));
-        writes = subst (λ (y : Xid). Wrote s.manager m y []) named.is made.wrote;
+        writes = subst (λ (q : DataTurn). MovesData (manager_data s.manager) (manager_data m) (λ c. xid_of s c) q)
+            (sym (ap (λ (k : Option Branch). decide_data c (kept_view k).standing) at.live))
+            (subst (λ (y : Xid). model_data.Releases (manager_data s.manager) (manager_data m) y) named.is made.releases);
       }
 
   pub decides_tied : (t : BranchTable) (m : ManagerSight) → Notes s.table t key (Heuristic None)
@@ -127,16 +130,16 @@ module _ (s : SubState) (key : ℕ) (c : Case) (x : Xid) (told : Option Outcome)
       ∙ ap (λ (k : Option Branch). Handles c (heuristic_outcome l Aborted (view_in s.table c)
       (kept_view k).told)) at.live
 
+  outcome_data : (o : Outcome) → message_data (core_of s) (answer_for s (tells_outcome o c)) (tells_outcome o c)
+      ≡ told_data c told
+  outcome_data Committed = ap (λ (k : Option Branch). commit_data c (kept_view k) (kept_view k).standing) at.live
+  outcome_data Aborted = ap (λ (k : Option Branch). abort_data c (kept_view k) (kept_view k).standing) at.live
+
   outcome_tickets : (o : Outcome) (k : ℕ) (d : Case)
       → ticket_in s.table d ≡ retired_by (MessageInput k (tells_outcome o c)) d (ticket_in s.table d)
   outcome_tickets Committed k d = never_retired k c d (ticket_in s.table d)
   outcome_tickets Aborted k d = sym (untouched s.table c (decided x told) kept at.live refl d)
       ∙ retired_abort k c d (ticket_in s.table d)
-
-outcome_writes : (s new : SubState) (c : Case) (o : Outcome) → OthersWriteNothing s new c
-    → Writes s new (tells_outcome o c)
-outcome_writes s new c Committed others = others
-outcome_writes s new c Aborted others = others
 
 -- the same outcome again is acknowledged again
 pub told_same : (s : SubState) (key : ℕ) (c : Case) (x : Xid) (told o : Outcome) → IsKept s.table
@@ -162,7 +165,7 @@ told_same s key c x told o kept at is =
       view = refl;
       written = refl;
       tickets = outcome_tickets s key c x (Some told) kept at o;
-      writes = outcome_writes s s c o (λ y apart. refl);
+      writes = data_rest s (tells_outcome o c) (outcome_data s key c x (Some told) kept at o);
     }
 
 -- the other outcome does nothing
@@ -182,7 +185,7 @@ told_other s key c x told o kept at is =
       view = refl;
       written = refl;
       tickets = outcome_tickets s key c x (Some told) kept at o;
-      writes = outcome_writes s s c o (λ y apart. refl);
+      writes = data_rest s (tells_outcome o c) (outcome_data s key c x (Some told) kept at o);
     }
 
 -- the branch stays where it is
@@ -238,8 +241,10 @@ module _ (s : SubState) (key : ℕ) (c : Case) (x : Xid) (o : Outcome) (tied : I
             (λ d. ap (λ ts. ticket_in (record { tickets = ts; branches = t.branches }) d) r.tickets
             ∙ outcome_tickets s key c x None kept at o k d)
             f.comes.boot);
-        writes = outcome_writes s (behind s t m) c o
-            (λ y apart. f.others y (ap (λ (z : Xid). same z y) named.is ∙ apart));
+        writes = subst (λ (q : DataTurn). MovesData (manager_data s.manager) (manager_data m) (λ c. xid_of s c) q)
+            (sym (outcome_data s key c x None kept at o))
+            (subst (λ (y : Xid). model_data.Releases (manager_data s.manager) (manager_data m) y) named.is
+            (decided_data s.manager m x (outcome_call o) f there));
       }
 
   pub told_tied : (t : BranchTable) (m : ManagerSight) → Notes s.table t key (Heuristic (Some o))
@@ -292,7 +297,10 @@ module _ (s : SubState) (key : ℕ) (c : Case) (x : Xid) (told : Option Outcome)
             (λ d. r.tickets d ∙ untouched s.table c (decided x told) kept at.live refl d
             ∙ no_retire (Forget c) d (ticket_in s.table d))
             f.comes.boot);
-        writes = λ y apart. f.others y (ap (λ (z : Xid). same z y) named.is ∙ apart);
+        writes = subst (λ (q : DataTurn). MovesData (manager_data s.manager) (manager_data m) (λ c. xid_of s c) q)
+            (sym (ap (λ (k : Option Branch). forget_data c (kept_view k).standing) at.live))
+            (subst (λ (y : Xid). model_data.Releases (manager_data s.manager) (manager_data m) y) named.is
+            (ended_data s.manager m x call.Forget f refl));
       }
 
   pub not_forgotten : (m : ManagerSight) (e : StepError) → NotFinished s.manager m x call.Forget e

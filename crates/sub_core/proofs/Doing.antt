@@ -14,14 +14,15 @@ use Rattle.tree_model.specs.Standings.{ManagerView}
 use Rattle.core_model.specs.Turns.{Handles, Turn}
 use Rattle.core_model.specs.Makes.{retired_by}
 use Rattle.live_table.specs.Tables.{Moves}
-use Rattle.manager_model.specs.Sights.{ManagerSight}
-use Rattle.sub_deeds.specs.Deeds.{Idles, Works, Wrote}
-use Rattle.tree_model.specs.Plays.{op_writes}
+use Rattle.manager_model.specs.Sights.{ManagerSight, manager_data, obstacle}
+use Rattle.sub_deeds.specs.Deeds.{Idles, Works}
+use Rattle.manager_model.specs.Data as model_data
+use Rattle.manager_model.specs.Turns.{DataTurn, MovesData, Operates, Rests, message_data, work_data}
 use Rattle.sub_branch.specs.declared.branch.Branch.{Branch}
 use Rattle.sub_branch.specs.declared.branch.Stage.{Stage}
 use Rattle.sub_branch.specs.declared.branch.Stage.TheVariants.{Active}
 use Rattle.sub_table.specs.Tables.{BranchTable, Notes, kept_view, stage_view, ticket_in}
-use Rattle.sub_core.specs.Subordinates.{Hears, IsAt, IsTied, SubState, Turns, active, takes_work, turn_for, written_behind, xid_of}
+use Rattle.sub_core.specs.Subordinates.{Hears, IsAt, IsTied, SubState, Turns, active, answer_for, core_of, turn_for, xid_of}
 use Rattle.sub_deeds.specs.Replies.{shown}
 use Rattle.sub_core.proofs.Ties.{behind, moved_tied}
 use Rattle.sub_core.proofs.Rows.{handled}
@@ -57,12 +58,12 @@ view_after i n does =
 
 module _ (s : SubState) (key : ℕ) (c g : Case) (n i : ℕ) (x : Xid) (op : Op) (tied : IsTied s)
     (at : IsAt s.table key c (active x g n false)) (next : i ≡ n + 1) where
-  turn_is : (does : Bool) → is_none (s.manager.obstacle x op) ≡ does
+  turn_is : (does : Bool) → is_none (obstacle s.manager x op) ≡ does
       → turn_for s (Work c i op) ≡ Handles c (unmoved (view_after i n does))
   turn_is does is =
-      ap (λ (o : Option Branch). Handles c (on_work i (is_none (s.manager.obstacle (xid_of s c) op))
+      ap (λ (o : Option Branch). Handles c (on_work i (is_none (obstacle s.manager (xid_of s c) op))
       (kept_view o) (kept_view o).standing)) at.live
-      ∙ ap (λ (y : Xid). Handles c (on_work i (is_none (s.manager.obstacle y op))
+      ∙ ap (λ (y : Xid). Handles c (on_work i (is_none (obstacle s.manager y op))
       (stage_view (Active g n false)) ActiveStanding))
       (sym (tied.named c (active x g n false) at.live).is)
       ∙ ap (λ b. Handles c (on_work i b (stage_view (Active g n false)) ActiveStanding)) is
@@ -70,19 +71,25 @@ module _ (s : SubState) (key : ℕ) (c g : Case) (n i : ℕ) (x : Xid) (op : Op)
       (stage_view (Active g n false))))
       (ap (λ (m : ℕ). i == m) (sym next) ∙ same_number i)
 
-  -- the case takes the work, and so the data alone say what is written
-  written_is : (does : Bool) → is_none (s.manager.obstacle x op) ≡ does
-      → written_behind s c i op ≡ (if does then op_writes (s.manager.writes x) op else s.manager.writes x)
-  written_is does is =
-      ap (λ (o : Option Branch). if takes_work o i && is_none (s.manager.obstacle (xid_of s c) op)
-      then op_writes (s.manager.writes (xid_of s c)) op else s.manager.writes (xid_of s c)) at.live
-      ∙ ap (λ (y : Xid). if ((i == n + 1) && true) && is_none (s.manager.obstacle y op) then op_writes
-      (s.manager.writes y) op else s.manager.writes y)
+  -- the case takes the work, and so the data alone say what is done
+  data_is : (does : Bool) → is_none (obstacle s.manager x op) ≡ does
+      → message_data (core_of s) (answer_for s (Work c i op)) (Work c i op)
+      ≡ (if does then Operates c op else Rests)
+  data_is does is =
+      ap (λ (o : Option Branch). work_data c i op (is_none (obstacle s.manager (xid_of s c) op))
+      (kept_view o) (kept_view o).standing) at.live
+      ∙ ap (λ (y : Xid). work_data c i op (is_none (obstacle s.manager y op))
+      (stage_view (Active g n false)) ActiveStanding)
       (sym (tied.named c (active x g n false) at.live).is)
-      ∙ ap (λ b. if (b && true) && is_none (s.manager.obstacle x op) then op_writes
-      (s.manager.writes x) op else s.manager.writes x)
+      ∙ ap (λ b. work_data c i op b (stage_view (Active g n false)) ActiveStanding) is
+      ∙ ap (λ b. if b && true then (if does then Operates c op else Rests) else Rests)
       (ap (λ (m : ℕ). i == m) (sym next) ∙ same_number i)
-      ∙ ap (λ b. if b then op_writes (s.manager.writes x) op else s.manager.writes x) is
+
+  moves_as : (does : Bool) (m : ManagerSight) → Works s.manager m x op does
+      → MovesData (manager_data s.manager) (manager_data m) (λ c. xid_of s c) (if does then Operates c op else Rests)
+  moves_as true m w = subst (λ (y : Xid). model_data.Operates (manager_data s.manager) (manager_data m) y op)
+      (tied.named c (active x g n false) at.live).is w.operates
+  moves_as false m w = w.operates
 
   done_by : (does : Bool) (done : ℕ) (spoiled : Bool) (t : BranchTable) (m : ManagerSight)
       → stage_view (Active g done spoiled) ≡ view_after i n does
@@ -99,9 +106,8 @@ module _ (s : SubState) (key : ℕ) (c g : Case) (n i : ℕ) (x : Xid) (op : Op)
             (ap kept_view r.branches.own ∙ view) (λ d apart. ap kept_view (r.branches.others d apart))
             (λ d. ap (λ ts. ticket_in (record { tickets = ts; branches = t.branches }) d) r.tickets
             ∙ never k i op c d (ticket_in s.table d)) w.comes.boot);
-        writes = subst (λ (y : Xid). Wrote s.manager m y (written_behind s c i op))
-            (tied.named c (active x g n false) at.live).is
-            (subst (λ ws. Wrote s.manager m x ws) (sym (written_is does w.allowed)) w.wrote);
+        writes = subst (λ (t : DataTurn). MovesData (manager_data s.manager) (manager_data m) (λ c. xid_of s c) t)
+            (sym (data_is does w.allowed)) (moves_as does m w);
       }
 
   pub did : (t : BranchTable) (m : ManagerSight) → Notes s.table t key (Active g i false)

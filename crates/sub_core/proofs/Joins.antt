@@ -64,7 +64,7 @@ stays s = record {
   manager = record {
     branches = refl;
     spent = refl;
-    rest = record { writes = λ x. refl; obstacles = λ x op. refl; decided = λ x. refl };
+    rest = record { writes = λ x. refl; holders = λ k. refl; decided = λ x. refl };
   };
 }
 
@@ -81,7 +81,7 @@ repeated s d t e = record {
       (shown [] (post s.me s.parent (Joined d t) ∷ [])))
       (ap (turn_by s d (starts s.manager (xid_of s (next_case s d)))) e)
       (said s s (MessageInput k (Join d)) (post s.me s.parent (Joined d t) ∷ []) (stays_core s));
-  writes = λ y. refl;
+  writes = record { writes = λ y. refl; holders = λ k. refl };
 }
 
 -- a fresh ticket was given
@@ -210,7 +210,7 @@ module _ (s : SubState) (d : Case) (t : BranchTable) (m : ManagerSight) (x : Xid
       place = refl;
       boot = h.1.comes.boot;
     },
-    h.1.rest.writes,
+    record { writes = h.1.rest.writes; holders = h.1.rest.holders },
   )
 
 -- The start was refused, or wanted memory.
@@ -259,7 +259,7 @@ not_begun s d t m x named same h = (
   ap (starts s.manager) (sym named.is)
       ∙ h.0,
   undone_core s t m same h.1,
-  h.1.rest.writes,
+  record { writes = h.1.rest.writes; holders = h.1.rest.holders },
 )
 
 -- The XID.

@@ -4,7 +4,6 @@ use Rattle.std.specs.Prelude.{◌==◌, ◌&&◌}
 use Rattle.xa_tables.specs.declared.call.Call.{Call}
 use Rattle.xa_tables.specs.declared.call.Call.TheVariants as call
 use Rattle.xa_xid.specs.declared.xid.Xid.{Xid}
-use Rattle.xa_branch.specs.Names.{same}
 use Rattle.tree_model.specs.declared.names.Case.{Case}
 use Rattle.tree_model.specs.declared.names.Ticket.{Ticket}
 use Rattle.tree_model.specs.declared.names.Outcome.TheVariants.{Committed as CommittedOutcome, Aborted as AbortedOutcome}
@@ -20,15 +19,20 @@ use Rattle.tree_model.specs.Plays.{held_writes}
 use Rattle.tree_model.specs.Standings.{unknown_branch}
 use Rattle.core_model.specs.Turns.{Handles, Turn, leaf_in}
 use Rattle.core_model.specs.Makes.{retired_by}
-use Rattle.manager_model.specs.Sights.{ManagerSight}
+use Rattle.manager_model.specs.Sights.{ManagerSight, manager_data}
 use Rattle.xa_heur.specs.declared.decision.Decision.{Decision}
-use Rattle.manager_model.specs.Ends.{written_by}
+use Rattle.xa_tables.specs.declared.states.BranchState.{BranchState}
+use Rattle.xa_tables.specs.declared.states.BranchState.TheVariants.{S0, S5}
+use Rattle.manager_model.specs.Data.{held_with}
+use Rattle.manager_model.specs.Ends.{left_with, row_for, row_of, written_by}
+use Rattle.manager_model.specs.Data as model_data
 use Rattle.sub_deeds.specs.Deeds.{Finishes, NotFinished, can_roll_back}
+use Rattle.manager_model.specs.Turns.{DataTurn, MovesData, Releases, abort_data, commit_data, message_data, prepare_data, vote_data}
 use Rattle.sub_branch.specs.declared.branch.Branch.{Branch}
 use Rattle.sub_branch.specs.declared.branch.Stage.{Stage}
 use Rattle.sub_branch.specs.declared.branch.Stage.TheVariants.{Active, Heuristic, Prepared}
 use Rattle.sub_table.specs.Tables.{BranchTable, IsGivenFor, IsKept, Retires, branch_in, has_promised, kept_view, nothing, retired_at, ticket_in}
-use Rattle.sub_core.specs.Subordinates.{Hears, IsAt, IsTied, NotHeard, NotTurned, OthersWriteNothing, SubState, Turns, Writes, active, core_of, prepared, stage_state, turn_for, xid_of}
+use Rattle.sub_core.specs.Subordinates.{Hears, IsAt, IsTied, NotHeard, NotTurned, SubState, Turns, active, answer_for, core_of, prepared, stage_state, turn_for, xid_of}
 use Rattle.sub_deeds.specs.Replies.{shown}
 use Rattle.sub_core.proofs.Ties.{behind, moved_tied, one}
 use Rattle.sub_core.proofs.Rows.{handled}
@@ -37,6 +41,27 @@ use Rattle.sub_core.proofs.Votes.{retired_prepare}
 
 some_same : {A : Type 0} (a b : A) → Some a ≡ Some b → a ≡ b
 some_same a b e = cc
+
+-- a call by which a branch is ended, or that comes behind an operator's decision, lets its writes and its keys go
+pub ended_data : (old new : ManagerSight) (x : Xid) (call : Call) → Finishes old new x call
+    → (row_for old x call).1 ≡ S0 → model_data.Releases (manager_data old) (manager_data new) x
+ended_data old new x call f is = record {
+  wrote = record {
+    own = f.own ∙ ap (λ (q : BranchState). left_with q (old.writes x)) is;
+    others = f.others;
+  };
+  held = λ k. f.held k ∙ ap (λ (q : BranchState). held_with q x (old.holders k)) is;
+}
+
+pub decided_data : (old new : ManagerSight) (x : Xid) (call : Call) → Finishes old new x call
+    → (row_for old x call).1 ≡ S5 → model_data.Releases (manager_data old) (manager_data new) x
+decided_data old new x call f is = record {
+  wrote = record {
+    own = f.own ∙ ap (λ (q : BranchState). left_with q (old.writes x)) is;
+    others = f.others;
+  };
+  held = λ k. f.held k ∙ ap (λ (q : BranchState). held_with q x (old.holders k)) is;
+}
 
 -- a row that ends a branch, by one call of its manager
 pub record EndsBy (s : SubState) (c : Case) (b : Branch) (message : Message) (call : Call)
@@ -48,7 +73,8 @@ pub record EndsBy (s : SubState) (c : Case) (b : Branch) (message : Message) (ca
   pub of : AreOf c row.written
   pub tickets : (k : ℕ) (d : Case) → retired_at c d (ticket_in s.table d)
       ≡ retired_by (MessageInput k message) d (ticket_in s.table d)
-  pub writes : (new : SubState) → OthersWriteNothing s new c → Writes s new message
+  pub drops : message_data (core_of s) (answer_for s message) message ≡ Releases c
+  pub gone : (row_of call (stage_state b.stage) (s.manager.writes b.xid) (s.manager.decided b.xid)).1 ≡ S0
 
 module _ (s : SubState) (key : ℕ) (c : Case) (b : Branch) (message : Message) (call : Call) (row : LeafRow)
     (tied : IsTied s) (at : IsAt s.table key c b)
@@ -68,8 +94,11 @@ module _ (s : SubState) (key : ℕ) (c : Case) (b : Branch) (message : Message) 
             (tied.stands c b at.live) refl ends.written ends.of f.log)
             (ap kept_view r.branches.own ∙ ends.view) (λ d apart. ap kept_view (r.branches.others d apart))
             (λ d. r.tickets d ∙ ends.tickets k d) f.comes.boot);
-        writes = ends.writes (behind s t m) (λ y apart. f.others y
-            (ap (λ (x : Xid). same x y) (tied.named c b at.live).is ∙ apart));
+        writes = subst (λ (t : DataTurn). MovesData (manager_data s.manager) (manager_data m) (λ c. xid_of s c) t) (sym ends.drops)
+            (subst (λ (y : Xid). model_data.Releases (manager_data s.manager) (manager_data m) y) (tied.named c b at.live).is
+            (ended_data s.manager m b.xid call f (ap (λ (q : BranchState).
+            (row_of call q (s.manager.writes b.xid) (s.manager.decided b.xid)).1) (tied.stands c b at.live)
+            ∙ ends.gone)));
       }
 
   pub not_ended : (m : ManagerSight) (e : StepError) → NotFinished s.manager m b.xid call e
@@ -98,6 +127,11 @@ none_written : (g c : Case) (n : ℕ) (p : Bool) (ws : List Write) (d : Decision
     → written_by call.Rollback (stage_state (Active g n p)) (CaseBranch c) ws d ≡ []
 none_written g c n true ws d = refl
 none_written g c n false ws d = refl
+
+rolled_gone : (g : Case) (n : ℕ) (p : Bool) (ws : List Write) (d : Decision)
+    → (row_of call.Rollback (stage_state (Active g n p)) ws d).1 ≡ S0
+rolled_gone g n true ws d = refl
+rolled_gone g n false ws d = refl
 
 pub retired_abort : (k : ℕ) (c d : Case) (o : Option Ticket)
     → retired_at c d o ≡ retired_by (MessageInput k (Abort c)) d o
@@ -146,7 +180,9 @@ refuse_row s key c g n works p x at unfit =
       written = none_written g c n p (s.manager.writes x) (s.manager.decided x);
       of = tt;
       tickets = λ k d. retired_prepare k works c d (ticket_in s.table d);
-      writes = λ new others. others;
+      drops = ap (λ (o : Option Branch). prepare_data c works holding (kept_view o) (kept_view o).standing) at.live
+          ∙ ap (λ b. if b then vote_data c holding else Releases c) unfit;
+      gone = rolled_gone g n p (s.manager.writes x) (s.manager.decided x);
     }
 
 pub abort_row : (s : SubState) (key : ℕ) (c g : Case) (n : ℕ) (p : Bool) (x : Xid)
@@ -160,7 +196,8 @@ abort_row s key c g n p x at =
       written = none_written g c n p (s.manager.writes x) (s.manager.decided x);
       of = tt;
       tickets = λ k d. retired_abort k c d (ticket_in s.table d);
-      writes = λ new others. others;
+      drops = ap (λ (o : Option Branch). abort_data c (kept_view o) (kept_view o).standing) at.live;
+      gone = rolled_gone g n p (s.manager.writes x) (s.manager.decided x);
     }
 
 pub rolled_row : (s : SubState) (key : ℕ) (c : Case) (x : Xid) → IsKept s.table
@@ -175,7 +212,8 @@ rolled_row s key c x kept at =
       written = refl;
       of = (refl, tt);
       tickets = λ k d. retired_abort k c d (ticket_in s.table d);
-      writes = λ new others. others;
+      drops = ap (λ (o : Option Branch). abort_data c (kept_view o) (kept_view o).standing) at.live;
+      gone = refl;
     }
 
 pub commit_row : (s : SubState) (key : ℕ) (c : Case) (x : Xid) → IsKept s.table
@@ -191,5 +229,6 @@ commit_row s key c x kept at =
       of = (refl, tt);
       tickets = λ k d. untouched s.table c (prepared x) kept at.live refl d
           ∙ never_retired k c d (ticket_in s.table d);
-      writes = λ new others. others;
+      drops = ap (λ (o : Option Branch). commit_data c (kept_view o) (kept_view o).standing) at.live;
+      gone = refl;
     }

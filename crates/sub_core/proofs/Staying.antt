@@ -14,7 +14,7 @@ use Rattle.tree_model.specs.declared.events.Input.TheVariants.{Message as Messag
 use Rattle.tree_model.specs.declared.records.LogRecord.{LogRecord}
 use Rattle.tree_model.specs.Names.{child_case, same_case}
 use Rattle.tree_model.specs.ManagerRows.{Leaf, LeafRow, on_abort, on_commit, on_prepare, on_work, promised_prepare, unknown_outcome, unknown_prepare, unmoved}
-use Rattle.tree_model.specs.Plays.{held_writes, op_writes}
+use Rattle.tree_model.specs.Plays.{held_writes}
 use Rattle.rec_log.specs.Sights.{LogSight}
 use Rattle.core_model.specs.States.{log_behind, wrote}
 use Rattle.core_model.specs.Turns.{Handles, Turn, leaf_in}
@@ -24,7 +24,10 @@ use Rattle.sub_branch.specs.declared.branch.Stage.{Stage}
 use Rattle.sub_branch.specs.declared.branch.Stage.TheVariants.{Active, Heuristic, Prepared}
 use Rattle.sub_branch.specs.Stages.{takes}
 use Rattle.sub_table.specs.Tables.{BranchTable, IsKept, branch_in, kept_view, retired_at, ticket_in, view_in}
-use Rattle.sub_core.specs.Subordinates.{Hears, IsAt, SubState, Turns, Writes, active, core_of, decided, prepared, takes_work, turn_for, xid_of}
+use Rattle.sub_core.specs.Subordinates.{Hears, IsAt, SubState, Turns, Writes, active, answer_for, core_of, decided, prepared, turn_for, xid_of}
+use Rattle.manager_model.specs.Turns.{DataTurn, MovesData, Operates, Rests, abort_data, commit_data, message_data, prepare_data, work_data}
+use Rattle.manager_model.specs.Data as model_data
+use Rattle.manager_model.specs.Sights.{ManagerSight, manager_data, obstacle}
 use Rattle.sub_deeds.specs.Replies.{shown}
 use Rattle.sub_core.proofs.Ties.{one}
 use Rattle.sub_core.proofs.Rows.{handled}
@@ -58,16 +61,14 @@ heard s c message row stays = record {
   writes = stays.writes;
 }
 
--- a work that its case does not take writes nothing
-passed : (s : SubState) (c : Case) (i : ℕ) (op : Op)
-    → takes_work (branch_in s.table c) i ≡ false → Writes s s (Work c i op)
-passed s c i op not_taken =
-    let x = xid_of s c in
-    record {
-      own = ap (λ b. if b && is_none (s.manager.obstacle x op) then op_writes (s.manager.writes x) op
-          else s.manager.writes x) (sym not_taken);
-      others = λ y apart. refl;
-    }
+-- nothing is written, and each key is held as it was
+pub rests : (m : ManagerSight) → model_data.Rests (manager_data m) (manager_data m)
+rests m = record { writes = λ y. refl; holders = λ k. refl }
+
+-- a message of which the data rest leaves them
+pub data_rest : (s : SubState) (m : Message) → message_data (core_of s) (answer_for s m) m ≡ Rests → Writes s s m
+data_rest s m is = subst (λ (t : DataTurn). MovesData (manager_data s.manager) (manager_data s.manager) (λ c. xid_of s c) t) (sym is)
+    (rests s.manager)
 
 -- the ticket of a case that is not live is active no longer
 unknown_untouched : (t : BranchTable) (c : Case) → IsKept t → branch_in t c ≡ None → (d : Case)
@@ -102,7 +103,8 @@ module _ (s : SubState) (c : Case) (kept : IsKept s.table) where
         written = refl;
         tickets = λ k d. unknown_untouched s.table c kept none d
             ∙ retired_prepare k n c d (ticket_in s.table d);
-        writes = λ y apart. refl;
+        writes = data_rest s (Prepare c n) (ap (λ (o : Option Branch). prepare_data c n holding
+            (kept_view o) (kept_view o).standing) none);
       }
 
   pub prepare_again : (n key : ℕ) (x : Xid) → IsAt s.table key c (prepared x)
@@ -117,7 +119,8 @@ module _ (s : SubState) (c : Case) (kept : IsKept s.table) where
         written = refl;
         tickets = λ k d. sym (untouched s.table c (prepared x) kept at.live refl d)
             ∙ retired_prepare k n c d (ticket_in s.table d);
-        writes = λ y apart. refl;
+        writes = data_rest s (Prepare c n) (ap (λ (o : Option Branch). prepare_data c n holding
+            (kept_view o) (kept_view o).standing) at.live);
       }
 
   pub prepare_decided : (n key : ℕ) (x : Xid) (told : Option Outcome) → IsAt s.table key c (decided x told)
@@ -132,7 +135,8 @@ module _ (s : SubState) (c : Case) (kept : IsKept s.table) where
         written = refl;
         tickets = λ k d. sym (untouched s.table c (decided x told) kept at.live refl d)
             ∙ retired_prepare k n c d (ticket_in s.table d);
-        writes = λ y apart. refl;
+        writes = data_rest s (Prepare c n) (ap (λ (o : Option Branch). prepare_data c n holding
+            (kept_view o) (kept_view o).standing) at.live);
       }
 
   pub commit_unknown : branch_in s.table c ≡ None
@@ -146,7 +150,8 @@ module _ (s : SubState) (c : Case) (kept : IsKept s.table) where
         view = refl;
         written = refl;
         tickets = λ k d. never_retired k c d (ticket_in s.table d);
-        writes = λ y apart. refl;
+        writes = data_rest s (Commit c) (ap (λ (o : Option Branch). commit_data c
+            (kept_view o) (kept_view o).standing) none);
       }
 
   pub commit_active : (key : ℕ) (x : Xid) (g : Case) (n : ℕ) (p : Bool) → IsAt s.table key c (active x g n p)
@@ -159,7 +164,8 @@ module _ (s : SubState) (c : Case) (kept : IsKept s.table) where
         view = refl;
         written = refl;
         tickets = λ k d. never_retired k c d (ticket_in s.table d);
-        writes = λ y apart. refl;
+        writes = data_rest s (Commit c) (ap (λ (o : Option Branch). commit_data c
+            (kept_view o) (kept_view o).standing) at.live);
       }
 
   pub abort_unknown : branch_in s.table c ≡ None
@@ -173,48 +179,52 @@ module _ (s : SubState) (c : Case) (kept : IsKept s.table) where
         view = refl;
         written = refl;
         tickets = λ k d. unknown_untouched s.table c kept none d ∙ retired_abort k c d (ticket_in s.table d);
-        writes = λ y apart. refl;
+        writes = data_rest s (Abort c) (ap (λ (o : Option Branch). abort_data c
+            (kept_view o) (kept_view o).standing) none);
       }
 
   pub work_unknown : (i : ℕ) (op : Op) → branch_in s.table c ≡ None
       → Stays s c (Work c i op) (unmoved (view_in s.table c))
   work_unknown i op none = record {
-    turn = ap (λ (o : Option Branch). Handles c (on_work i (is_none (s.manager.obstacle (xid_of s c) op))
+    turn = ap (λ (o : Option Branch). Handles c (on_work i (is_none (obstacle s.manager (xid_of s c) op))
         (view_in s.table c) (kept_view o).standing)) none;
     view = refl;
     written = refl;
     tickets = λ k d. never_worked k i op c d (ticket_in s.table d);
-    writes = passed s c i op (ap (λ (o : Option Branch). takes_work o i) none);
+    writes = data_rest s (Work c i op) (ap (λ (o : Option Branch). work_data c i op
+        (is_none (obstacle s.manager (xid_of s c) op)) (kept_view o) (kept_view o).standing) none);
   }
 
   pub work_prepared : (i : ℕ) (op : Op) (key : ℕ) (x : Xid) → IsAt s.table key c (prepared x)
       → Stays s c (Work c i op) (unmoved (view_in s.table c))
   work_prepared i op key x at = record {
-    turn = ap (λ (o : Option Branch). Handles c (on_work i (is_none (s.manager.obstacle (xid_of s c) op))
+    turn = ap (λ (o : Option Branch). Handles c (on_work i (is_none (obstacle s.manager (xid_of s c) op))
         (view_in s.table c) (kept_view o).standing)) at.live;
     view = refl;
     written = refl;
     tickets = λ k d. never_worked k i op c d (ticket_in s.table d);
-    writes = passed s c i op (ap (λ (o : Option Branch). takes_work o i) at.live);
+    writes = data_rest s (Work c i op) (ap (λ (o : Option Branch). work_data c i op
+        (is_none (obstacle s.manager (xid_of s c) op)) (kept_view o) (kept_view o).standing) at.live);
   }
 
   pub work_decided : (i : ℕ) (op : Op) (key : ℕ) (x : Xid) (told : Option Outcome)
       → IsAt s.table key c (decided x told)
       → Stays s c (Work c i op) (unmoved (view_in s.table c))
   work_decided i op key x told at = record {
-    turn = ap (λ (o : Option Branch). Handles c (on_work i (is_none (s.manager.obstacle (xid_of s c) op))
+    turn = ap (λ (o : Option Branch). Handles c (on_work i (is_none (obstacle s.manager (xid_of s c) op))
         (view_in s.table c) (kept_view o).standing)) at.live;
     view = refl;
     written = refl;
     tickets = λ k d. never_worked k i op c d (ticket_in s.table d);
-    writes = passed s c i op (ap (λ (o : Option Branch). takes_work o i) at.live);
+    writes = data_rest s (Work c i op) (ap (λ (o : Option Branch). work_data c i op
+        (is_none (obstacle s.manager (xid_of s c) op)) (kept_view o) (kept_view o).standing) at.live);
   }
 
   pub work_passed : (i : ℕ) (op : Op) (key : ℕ) (x : Xid) (g : Case) (n : ℕ) (p : Bool)
       → IsAt s.table key c (active x g n p)
       → ((i == n + 1) && not p) ≡ false → Stays s c (Work c i op) (unmoved (view_in s.table c))
   work_passed i op key x g n p at unfit =
-      let does = is_none (s.manager.obstacle (xid_of s c) op) in
+      let does = is_none (obstacle s.manager (xid_of s c) op) in
       let v = view_in s.table c in
       record {
         turn = ap (λ (o : Option Branch). Handles c (on_work i does v (kept_view o).standing)) at.live
@@ -225,7 +235,9 @@ module _ (s : SubState) (c : Case) (kept : IsKept s.table) where
         view = refl;
         written = refl;
         tickets = λ k d. never_worked k i op c d (ticket_in s.table d);
-        writes = passed s c i op (ap (λ (o : Option Branch). takes_work o i) at.live ∙ unfit);
+        writes = data_rest s (Work c i op) (ap (λ (o : Option Branch). work_data c i op does
+            (kept_view o) (kept_view o).standing) at.live
+            ∙ ap (λ b. if b then (if does then Operates c op else Rests) else Rests) unfit);
       }
 
   -- whatever its stage, a branch that does not take the work stays as it is

@@ -32,7 +32,7 @@ use Rattle.sub_deeds.specs.Deeds.{KeepsManager}
 use Rattle.sub_core.specs.Steps.{Acts, Leaves, NotActed, data_answer, turn_at}
 use Rattle.sub_core.proofs.Joins.{stays, stays_core}
 use Rattle.sub_core.proofs.Rows.{handled}
-use Rattle.sub_core.proofs.Staying.{no_record}
+use Rattle.sub_core.proofs.Staying.{no_record, rests}
 use Rattle.sub_core.proofs.Decisions.{no_retire}
 
 -- Acts.
@@ -79,7 +79,7 @@ asked s c b at is =
           (handled s s.table s.manager (ActInput (Ask c)) c (untold_ask l (stage_view b.stage))
           (no_record s.manager.log) (ap kept_view (sym at))
           (λ d apart. refl) (λ d. no_retire (Ask c) d (ticket_in s.table d)) refl);
-      writes = λ y. refl;
+      writes = rests s.manager;
     }
 
 -- and any other is not
@@ -262,10 +262,10 @@ unheard_of s (Prepare c n) no_join no_work no_prepare no_commit no_abort = absur
 unheard_of s (Commit c) no_join no_work no_prepare no_commit no_abort = absurd (no_commit c refl)
 unheard_of s (Abort c) no_join no_work no_prepare no_commit no_abort = absurd (no_abort c refl)
 unheard_of s (Joined d t) no_join no_work no_prepare no_commit no_abort =
-    unheard s (Joined d t) refl (λ y. refl)
-unheard_of s (Yes c) no_join no_work no_prepare no_commit no_abort = unheard s (Yes c) refl (λ y. refl)
-unheard_of s (No c) no_join no_work no_prepare no_commit no_abort = unheard s (No c) refl (λ y. refl)
-unheard_of s (Read c) no_join no_work no_prepare no_commit no_abort = unheard s (Read c) refl (λ y. refl)
-unheard_of s (Ack c o) no_join no_work no_prepare no_commit no_abort = unheard s (Ack c o) refl (λ y. refl)
+    unheard s (Joined d t) refl (rests s.manager)
+unheard_of s (Yes c) no_join no_work no_prepare no_commit no_abort = unheard s (Yes c) refl (rests s.manager)
+unheard_of s (No c) no_join no_work no_prepare no_commit no_abort = unheard s (No c) refl (rests s.manager)
+unheard_of s (Read c) no_join no_work no_prepare no_commit no_abort = unheard s (Read c) refl (rests s.manager)
+unheard_of s (Ack c o) no_join no_work no_prepare no_commit no_abort = unheard s (Ack c o) refl (rests s.manager)
 unheard_of s (Inquire c) no_join no_work no_prepare no_commit no_abort =
-    unheard s (Inquire c) refl (λ y. refl)
+    unheard s (Inquire c) refl (rests s.manager)

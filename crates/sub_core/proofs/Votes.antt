@@ -1,11 +1,13 @@
 -- What comes of a PREPARE.
-use Rattle.std.proofs.Common.{◌≡◌, ◌≢◌, ◌∙◌, ℕ, true, false, Option, Some, None, List, [], ◌∷◌, refl, sym, ap, subst, arith, if◌then◌else◌}
+use Rattle.std.proofs.Common.{◌≡◌, ◌≢◌, ◌∙◌, ℕ, true, false, Option, Some, None, List, [], ◌∷◌, Bool, refl, sym, ap, subst, arith, if◌then◌else◌}
 use Rattle.std.specs.Prelude.{◌==◌, ◌&&◌}
 use Rattle.std.proofs.lemmas.Bool.Decides.{nat_tests}
 use Rattle.xa_tables.specs.declared.call.Call.TheVariants as call
+use Rattle.xa_tables.specs.declared.states.BranchState.{BranchState}
 use Rattle.xa_tables.specs.declared.states.BranchState.TheVariants.{S2, S3}
 use Rattle.xa_xid.specs.declared.xid.Xid.{Xid}
 use Rattle.xa_branch.specs.Names.{same}
+use Rattle.xa_branch.proofs.Names.{same_is}
 use Rattle.tree_model.specs.declared.names.Case.{Case}
 use Rattle.tree_model.specs.declared.names.Ticket.{Ticket}
 use Rattle.tree_model.specs.declared.messages.Message.TheVariants.{Prepare, No, Yes as YesMessage, Read as ReadMessage}
@@ -25,13 +27,16 @@ use Rattle.tree_model.specs.Plays.{held_writes}
 use Rattle.tree_model.specs.Standings.{unknown_branch}
 use Rattle.core_model.specs.Turns.{Handles, Turn, leaf_in}
 use Rattle.core_model.specs.Makes.{retired_by}
-use Rattle.manager_model.specs.Sights.{ManagerSight}
+use Rattle.manager_model.specs.Sights.{ManagerSight, manager_data}
 use Rattle.xa_heur.specs.declared.decision.Decision.{Decision}
-use Rattle.manager_model.specs.Ends.{prepare_row, written_by}
+use Rattle.manager_model.specs.Ends.{left_with, prepare_row, row_for, written_by}
+use Rattle.manager_model.specs.Data.{held_with}
+use Rattle.manager_model.specs.Data as model_data
+use Rattle.manager_model.specs.Turns.{DataTurn, MovesData, Releases, message_data, prepare_data, vote_data}
 use Rattle.sub_deeds.specs.Deeds.{Finishes, NotFinished, vote_of}
 use Rattle.sub_branch.specs.declared.branch.Branch.{Branch}
 use Rattle.sub_table.specs.Tables.{BranchTable, Retires, kept_view, nothing, promised, retired_at, ticket_in}
-use Rattle.sub_core.specs.Subordinates.{Hears, IsAt, IsTied, NotHeard, NotTurned, SubState, Turns, active, core_of, turn_for, xid_of}
+use Rattle.sub_core.specs.Subordinates.{Hears, IsAt, IsTied, NotHeard, NotTurned, SubState, Turns, active, answer_for, core_of, turn_for, xid_of}
 use Rattle.sub_deeds.specs.Replies.{shown}
 use Rattle.sub_core.proofs.Ties.{behind, moved_tied}
 use Rattle.sub_core.proofs.Rows.{handled}
@@ -87,6 +92,39 @@ module _ (s : SubState) (key : ℕ) (c g : Case) (n : ℕ) (x : Xid) (tied : IsT
   writes_is : s.manager.writes x ≡ s.manager.writes (xid_of s c)
   writes_is = ap s.manager.writes (tied.named c (active x g n false) at.live).is
 
+  data_is : message_data (core_of s) (answer_for s (Prepare c n)) (Prepare c n)
+      ≡ vote_data c (held_writes (s.manager.writes (xid_of s c)))
+  data_is =
+      let holding = held_writes (s.manager.writes (xid_of s c)) in
+      ap (λ (o : Option Branch). prepare_data c n holding (kept_view o) (kept_view o).standing) at.live
+      ∙ ap (λ b. if b && true then vote_data c holding else Releases c) (same_number n)
+
+  stayed : (m : ManagerSight) → Finishes s.manager m x call.Prepare
+      → (row_for s.manager x call.Prepare).1 ≡ S3 → model_data.Rests (manager_data s.manager) (manager_data m)
+  stayed m f is = record {
+    writes = λ y. by_name y (same x y) refl;
+    holders = λ k. f.held k ∙ ap (λ (q : BranchState). held_with q x (s.manager.holders k)) is;
+  }
+    where
+      by_name : (y : Xid) (b : Bool) → same x y ≡ b → m.writes y ≡ s.manager.writes y
+      by_name y true e = subst (λ (z : Xid). m.writes z ≡ s.manager.writes z) (same_is x y e)
+          (f.own ∙ ap (λ (q : BranchState). left_with q (s.manager.writes x)) is)
+      by_name y false e = f.others y e
+
+  voted_data : (m : ManagerSight) (ws : List Write) → s.manager.writes x ≡ ws
+      → Finishes s.manager m x call.Prepare
+      → MovesData (manager_data s.manager) (manager_data m) (λ c. xid_of s c) (vote_data c (held_writes ws))
+  voted_data m [] is f = subst (λ (y : Xid). model_data.Releases (manager_data s.manager) (manager_data m) y)
+      (tied.named c (active x g n false) at.live).is
+      (record {
+        wrote = record {
+          own = f.own ∙ ap (λ (vs : List Write). left_with (prepare_row vs).1 (s.manager.writes x)) is;
+          others = f.others;
+        };
+        held = λ k. f.held k ∙ ap (λ (vs : List Write). held_with (prepare_row vs).1 x (s.manager.holders k)) is;
+      })
+  voted_data m (w ∷ ws) is f = stayed m f (ap (λ (vs : List Write). (prepare_row vs).1) is)
+
   pub not_voted : (m : ManagerSight) (e : StepError) → NotFinished s.manager m x call.Prepare e
       → NotHeard s (behind s s.table m) (Prepare c n) e
   not_voted m e h =
@@ -114,7 +152,8 @@ module _ (s : SubState) (key : ℕ) (c g : Case) (n : ℕ) (x : Xid) (tied : IsT
             (held_record c l ws (s.manager.decided x) refl) (held_of c l ws refl) f.log)
             (ap kept_view r.branches.own ∙ view) (λ d apart. ap kept_view (r.branches.others d apart))
             (λ d. r.tickets d ∙ retired_prepare k n c d (ticket_in s.table d)) f.comes.boot);
-        writes = λ y apart. f.others y (ap (λ (z : Xid). same z y) (tied.named c _ at.live).is ∙ apart);
+        writes = subst (λ (t : DataTurn). MovesData (manager_data s.manager) (manager_data m) (λ c. xid_of s c) t) (sym data_is)
+            (voted_data m ws writes_is f);
       }
 
   -- a branch that wrote nothing has only read

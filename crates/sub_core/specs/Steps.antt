@@ -1,11 +1,10 @@
 -- A step of a subordinate: one input, as `core_model` says of any process.
-use Rattle.std.specs.Prelude.{◌≡◌, ℕ, false, []}
+use Rattle.std.specs.Prelude.{◌≡◌, ℕ, false}
 use Rattle.xa_codes.specs.declared.code.Code.{Code}
 use Rattle.xa_codes.specs.declared.code.Code.TheVariants.{RmFail}
 use Rattle.xa_assoc.specs.Answers.{Opens}
 use Rattle.xa_xid.specs.declared.xid.Xid.{Xid}
 use Rattle.tree_model.specs.declared.events.Act.{Act}
-use Rattle.tree_model.specs.declared.events.Act.TheVariants.{Decide, Forget}
 use Rattle.tree_model.specs.declared.events.Input.{Input}
 use Rattle.tree_model.specs.declared.events.Input.TheVariants.{Act as ActInput, Message as MessageInput}
 use Rattle.tree_model.specs.declared.events.Reaction.{Reaction}
@@ -15,9 +14,10 @@ use Rattle.core_model.specs.States.{CoreState}
 use Rattle.core_model.specs.Turns.{Turn, manager_act, no_answer}
 use Rattle.rec_log.specs.Sights.{left_by}
 use Rattle.manager_model.specs.Restarting.{Restarts, writes_left}
-use Rattle.manager_model.specs.Sights.{Calls, ManagerSight}
-use Rattle.sub_deeds.specs.Deeds.{Wrote}
-use Rattle.sub_core.specs.Subordinates.{NotTurned, OthersWriteNothing, SubState, SubValue, Turns, Writes, WritesNothing, answer_for, core_of, seen, xid_of}
+use Rattle.manager_model.specs.Sights.{Calls, ManagerSight, manager_data}
+use Rattle.manager_model.specs.Data.{HoldWrites}
+use Rattle.manager_model.specs.Turns.{MovesData, act_data}
+use Rattle.sub_core.specs.Subordinates.{NotTurned, SubState, SubValue, Turns, Writes, answer_for, core_of, seen, xid_of}
 
 -- the process that a subordinate is
 abbrev pub state : {M : Type 0} → (M → ManagerSight) → SubValue M → CoreState
@@ -28,14 +28,12 @@ abbrev pub data_answer : SubState → Input → DataAnswer
 data_answer s (ActInput a) = no_answer
 data_answer s (MessageInput k m) = answer_for s m
 
--- what an act leaves of the manager's writes: a branch that an operator decides has written nothing any more,
--- and no other branch moves
+-- what an act leaves of the writes and of the keys that are held: a branch that an operator decides has none of
+-- them any more
 abbrev pub ActLeaves : Act → SubState → SubState → Type 0
-ActLeaves (Decide c o) old new = Wrote old.manager new.manager (xid_of old c) []
-ActLeaves (Forget c) old new = OthersWriteNothing old new c
-ActLeaves _ old new = WritesNothing old new
+ActLeaves a old new = MovesData (manager_data old.manager) (manager_data new.manager) (λ c. xid_of old c) (act_data (core_of old) a)
 
--- what an input leaves of the manager's writes
+-- what an input leaves of them
 abbrev pub Leaves : Input → SubState → SubState → Type 0
 Leaves (ActInput a) old new = ActLeaves a old new
 Leaves (MessageInput k m) old new = Writes old new m
@@ -61,6 +59,7 @@ pub record Reopens (old new : ManagerSight) (keep : ℕ) : Type 0 where
   pub calls : Calls mid new (answer ≡ RmFail) (λ old new. Opens old new 0 false answer)
 
 -- behind a restart each branch that is in doubt by the records that were left has the writes that it
--- promised, and no other branch has any
-abbrev pub LeavesPromises : SubState → ℕ → SubState → Type 0
-LeavesPromises old keep new = (x : Xid) → new.manager.writes x ≡ writes_left (left_by old.manager.log keep) x
+-- promised, and no other branch has any; and it holds their keys, and nothing else is held
+pub record LeavesPromises (old : SubState) (keep : ℕ) (new : SubState) : Type 0 where
+  pub writes : (x : Xid) → new.manager.writes x ≡ writes_left (left_by old.manager.log keep) x
+  pub held : HoldWrites (writes_left (left_by old.manager.log keep)) new.manager.holders

@@ -1,10 +1,9 @@
 -- A subordinate: a process below a parent, with a resource manager.
-use Rattle.std.specs.Prelude.{◌≡◌, ◌≢◌, ◌≤◌, ◌&&◌, ℕ, Bool, true, false, is_none, if◌then◌else◌, Option, Some, None, List, [], ◌∷◌}
+use Rattle.std.specs.Prelude.{◌≡◌, ◌≢◌, ◌≤◌, ℕ, Bool, true, false, is_none, if◌then◌else◌, Option, Some, None, List, [], ◌∷◌}
 use Rattle.xa_tables.specs.declared.states.BranchState.{BranchState}
 use Rattle.xa_tables.specs.declared.states.BranchState.TheVariants.{S2, S3, S4, S5}
 use Rattle.xa_xid.specs.declared.xid.Xid.{Xid}
 use Rattle.xa_xid.specs.Xids.{XidParts, null_xid}
-use Rattle.xa_branch.specs.Names.{same}
 use Rattle.xa_assoc.specs.Answers.{state_at}
 use Rattle.xa_heur.specs.declared.decision.Decision.{Decision}
 use Rattle.tree_model.specs.declared.names.Case.{Case}
@@ -14,7 +13,6 @@ use Rattle.tree_model.specs.declared.messages.Envelope.{Envelope}
 use Rattle.tree_model.specs.declared.messages.Message.{Message}
 use Rattle.tree_model.specs.declared.messages.Message.TheVariants.{Join, Work, Prepare, Commit, Abort, Ack}
 use Rattle.tree_model.specs.declared.messages.Op.{Op}
-use Rattle.tree_model.specs.declared.records.Write.{Write}
 use Rattle.tree_model.specs.declared.records.Branch.TheVariants.{Case as CaseBranch}
 use Rattle.tree_model.specs.declared.trees.TreeEntry.{TreeEntry}
 use Rattle.tree_model.specs.declared.events.Input.{Input}
@@ -33,20 +31,21 @@ use Rattle.tree_model.specs.CoordinatorRows.{post}
 use Rattle.tree_model.specs.Names.{child_case}
 use Rattle.tree_model.specs.Nodes.{AtLeaf, DataAnswer, Effect, Place, ReadsOnly, reaction_of}
 use Rattle.tree_model.specs.LogNames.{name_xid}
-use Rattle.tree_model.specs.Plays.{held_writes, op_writes}
+use Rattle.tree_model.specs.Plays.{held_writes}
 use Rattle.tree_model.specs.Reactions.{Does}
 use Rattle.tree_model.specs.Standings.{unknown_view}
 use Rattle.log_text.specs.Parts.{name_in}
 use Rattle.core_model.specs.States.{CoreState, SameCore}
 use Rattle.core_model.specs.Turns.{Refuses, Turn, manager_turn, next_ticket, reacted}
 use Rattle.core_model.specs.Makes.{BreaksIn, IssuesTicket, Moves}
-use Rattle.manager_model.specs.Sights.{ManagerSight}
-use Rattle.sub_deeds.specs.Deeds.{IsIdle, KeepsManager, Wrote, starts}
+use Rattle.manager_model.specs.Sights.{ManagerSight, manager_data, obstacle}
+use Rattle.sub_deeds.specs.Deeds.{IsIdle, KeepsManager, starts}
+use Rattle.manager_model.specs.Data.{Rests}
+use Rattle.manager_model.specs.Turns.{MovesData, message_data}
 use Rattle.sub_branch.specs.declared.branch.Branch.{Branch}
 use Rattle.sub_branch.specs.declared.branch.Stage.{Stage}
 use Rattle.sub_branch.specs.declared.branch.Stage.TheVariants.{Active, Heuristic, Prepared}
 use Rattle.live_table.specs.Tables.{entry_at}
-use Rattle.sub_branch.specs.Stages.{takes}
 use Rattle.sub_table.specs.Tables.{BranchTable, branch_in, ticket_in, view_in}
 
 -- what a subordinate is: where it sits, how many tickets it gave in this boot, its live branches, and its
@@ -111,7 +110,7 @@ abbrev pub answer_for : SubState → Message → DataAnswer
 answer_for s (Join d) =
     record { starts = starts s.manager (xid_of s (next_case s d)); does = true; holding = ReadsOnly }
 answer_for s (Work c i op) =
-    record { starts = true; does = is_none (s.manager.obstacle (xid_of s c) op); holding = ReadsOnly }
+    record { starts = true; does = is_none (obstacle s.manager (xid_of s c) op); holding = ReadsOnly }
 answer_for s (Prepare c n) =
     record { starts = true; does = true; holding = held_writes (s.manager.writes (xid_of s c)) }
 answer_for s _ = record { starts = true; does = true; holding = ReadsOnly }
@@ -177,38 +176,12 @@ NotTurned old new turn e = Keeps old new × (turn ≡ Refuses e)
 abbrev pub turn_for : SubState → Message → Turn
 turn_for s m = manager_turn (core_of s) s.parent (answer_for s m) m
 
--- What the manager's branches have written.
+-- What is left of the manager's data.
 
--- a case of which this is kept takes the work with this number
-abbrev pub takes_work : Option Branch → ℕ → Bool
-takes_work None i = false
-takes_work (Some b) i = takes b.stage i
-
--- what the branch of a case has written behind a work: what the operation writes, where the case takes the
--- work and the data are not in its way
-abbrev pub written_behind : SubState → Case → ℕ → Op → List Write
-written_behind s c i op =
-    let x = xid_of s c in
-    if takes_work (branch_in s.table c) i
-    && is_none (s.manager.obstacle x op) then op_writes (s.manager.writes x) op
-    else s.manager.writes x
-
--- no branch has written anything but that of the case
-abbrev pub OthersWriteNothing : SubState → SubState → Case → Type 0
-OthersWriteNothing old new c = (y : Xid) → same (xid_of old c) y ≡ false
-    → new.manager.writes y ≡ old.manager.writes y
-
--- no branch has written anything
-abbrev pub WritesNothing : SubState → SubState → Type 0
-WritesNothing old new = (y : Xid) → new.manager.writes y ≡ old.manager.writes y
-
--- what a message leaves of the writes: of a work what its operation writes, and of no other branch anything
+-- what a message leaves of the writes and of the keys that are held
 abbrev pub Writes : SubState → SubState → Message → Type 0
-Writes old new (Work c i op) = Wrote old.manager new.manager (xid_of old c) (written_behind old c i op)
-Writes old new (Prepare c n) = OthersWriteNothing old new c
-Writes old new (Commit c) = OthersWriteNothing old new c
-Writes old new (Abort c) = OthersWriteNothing old new c
-Writes old new _ = WritesNothing old new
+Writes old new m =
+    MovesData (manager_data old.manager) (manager_data new.manager) (λ c. xid_of old c) (message_data (core_of old) (answer_for old m) m)
 
 -- a message was heard, with what it leaves of the writes, and this is the reaction to show
 pub record Hears (old new : SubState) (m : Message) (reaction : Reaction) : Type 0 where
@@ -219,10 +192,10 @@ pub record Hears (old new : SubState) (m : Message) (reaction : Reaction) : Type
 abbrev pub Joins : SubState → SubState → Case → Bool → Type 0
 Joins old new d true =
     (starts old.manager (xid_of old (next_case old d)) ≡ true)
-    × IssuesTicket (core_of old) (core_of new) d (next_ticket (core_of old)) × WritesNothing old new
+    × IssuesTicket (core_of old) (core_of new) d (next_ticket (core_of old)) × Rests (manager_data old.manager) (manager_data new.manager)
 Joins old new d false =
     (starts old.manager (xid_of old (next_case old d)) ≡ false) × SameCore (core_of old) (core_of new)
-    × WritesNothing old new
+    × Rests (manager_data old.manager) (manager_data new.manager)
 
 -- why a message was not heard, and what that leaves
 abbrev pub NotHeard : SubState → SubState → Message → StepError → Type 0

@@ -5,7 +5,9 @@ ghost use Rattle.tree_model.specs.Nodes.{AtLeaf};
 ghost use Rattle.core_model.specs.Opening.{IsOpened};
 ghost use Rattle.core_model.specs.States.{HasNumbers};
 ghost use Rattle.live_table.specs.Tables.{live_count};
+ghost use Rattle.manager_model.specs.Data.{Rests, no_data};
 ghost use Rattle.manager_model.specs.Opening.{IsNew};
+ghost use Rattle.manager_model.specs.Sights.{manager_data};
 ghost use Rattle.sub_table.specs.Tables.{IsKept};
 ghost use Rattle.sub_core.specs.Subordinates.{FindsBranch};
 ghost use Rattle.sub_core.specs.Steps.{state};
@@ -68,8 +70,9 @@ impl<M: ResourceManager> Subordinate<M> {
         mut manager: M,
     ) -> Subordinate<M>
         requires { IsNew (M.sight manager) }
-        ensures { IsOpened (state M.sight result) (record { me = me; role = AtLeaf parent; tree = tree })
+        ensures opened { IsOpened (state M.sight result) (record { me = me; role = AtLeaf parent; tree = tree })
             (M.sight manager).log.failures }
+        ensures empty { Rests no_data (manager_data (M.sight result.manager)) }
     {
         let _ = manager.open(Flags::TMNOFLAGS, false);
         Subordinate {

@@ -25,7 +25,7 @@ decides old new x o idle d = record {
     boot = d.boot;
   };
   log = d.log;
-  wrote = record { own = d.own; others = d.others };
+  releases = record { wrote = record { own = d.own; others = d.others }; held = d.held };
   decided = d.decided;
 }
 

@@ -77,7 +77,9 @@ made_deed old new x c idle makes = record {
     boot = makes.boot;
   };
   log = makes.log;
+  own = makes.own;
   others = makes.others;
+  held = makes.held;
   decided = makes.decided;
 }
 

@@ -20,7 +20,10 @@ use Rattle.xa_branch.specs.Names.{same}
 use Rattle.xa_assoc.specs.declared.states.States.{States}
 use Rattle.xa_assoc.specs.Answers.{Answers, ByState, Checked, Ends, Reacts, Refuses, Same, Walks, Wanted, left_state, start_reaction, state_at}
 use Rattle.xa_assoc.specs.Reacting.{by_state, end_call, left_by}
-use Rattle.manager_model.specs.Sights.{Calls, ManagerSight, SameData, SameManager}
+use Rattle.manager_model.specs.Sights.{Calls, ManagerSight, SameData, SameManager, obstacle}
+use Rattle.manager_model.specs.Data.{Locks, key_of, mode_of, refusal_of as refusal_by_data}
+use Rattle.key_tables.specs.Holders.{given}
+use Rattle.key_tables.specs.declared.holders.Holder.{Holder}
 use Rattle.xa_assoc.specs.declared.errors.WorkError.{WorkError}
 use Rattle.xa_assoc.specs.declared.errors.WorkError.TheVariants.{Memory, RmFail}
 use Rattle.tree_model.specs.declared.messages.Op.{Op}
@@ -256,7 +259,7 @@ known_again base mid new x answer up work named at calls =
 rest_through : (base mid new : ManagerSight) → SameData base mid → SameData mid new → SameData base new
 rest_through base mid new f g = record {
   writes = λ x. g.writes x ∙ f.writes x;
-  obstacles = λ x op. g.obstacles x op ∙ f.obstacles x op;
+  holders = λ k. g.holders k ∙ f.holders k;
   decided = λ x. g.decided x ∙ f.decided x;
 }
 
@@ -290,15 +293,20 @@ same_work base mid new x stays work = record {
       stays.branches.branches ∙ work.others y apart;
 }
 
+-- where the data stay, the same is in the way of a branch
+same_obstacle : (old mid : ManagerSight) (x : Xid) (op : Op) → SameData old mid
+    → obstacle mid x op ≡ obstacle old x op
+same_obstacle old mid x op rest = λ i. refusal_by_data (rest.writes x i) (rest.holders (key_of op) i) x op
+
 -- what is in the way of a branch that thread 0 works in
 refusal_is : (old mid : ManagerSight) (x : Xid) (op : Op) → old.log.failed ≡ false
     → IsAtWork old.tables mid.tables x
-    → mid.log ≡ old.log → SameData old mid → work_refusal mid 0 op ≡ old.obstacle x op
+    → mid.log ≡ old.log → SameData old mid → work_refusal mid 0 op ≡ obstacle old x op
 refusal_is old mid x op up work log rest =
     ap (λ b. if b then Some RmFail else refusal_by mid op (active_of mid.tables.associations 0))
     (ap (λ (l : LogSight). l.failed) log ∙ up)
     ∙ ap (refusal_by mid op) work.begins.turns.active
-    ∙ ap (λ (s : BranchState). state_refusal s (mid.obstacle x op)) work.state ∙ rest.obstacles x op
+    ∙ ap (λ (s : BranchState). state_refusal s (obstacle mid x op)) work.state ∙ same_obstacle old mid x op rest
 
 same_name : (x y : Xid) → Some x ≡ Some y → x ≡ y
 same_name x y e = cc
@@ -317,7 +325,7 @@ module _ (old mid back new : ManagerSight) (x : Xid) (op : Op) (start : Code)
   at_work : IsAtWork old.tables mid.tables x
   at_work = joined old mid x start up idle named at starting
 
-  in_way : work_refusal mid 0 op ≡ old.obstacle x op
+  in_way : work_refusal mid 0 op ≡ obstacle old x op
   in_way = refusal_is old mid x op up at_work starting.log starting.rest
 
   still_up : (m : ManagerSight) → m.log ≡ mid.log → m.log.failed ≡ false
@@ -327,6 +335,10 @@ module _ (old mid back new : ManagerSight) (x : Xid) (op : Op) (start : Code)
   wrote_at does = let own = does.own in let b =
       same_name does.branch x (sym does.active ∙ at_work.begins.turns.active) in
       ap (λ (z : Xid). back.writes z) (sym b) ∙ own ∙ ap (λ (z : Xid). op_writes (mid.writes z) op) b
+
+  locks_at : Does mid back 0 op → Locks mid.holders back.holders x op
+  locks_at does = subst (λ (z : Xid). Locks mid.holders back.holders z op)
+      (same_name does.branch x (sym does.active ∙ at_work.begins.turns.active)) does.locks
 
   pub worked : (end : Code) → Does mid back 0 op
       → Calls back new (end ≡ code.RmFail) (λ m n. Answers any m n verb.End 0 x 0x0400_0000 end)
@@ -340,11 +352,19 @@ module _ (old mid back new : ManagerSight) (x : Xid) (op : Op) (start : Code)
             named (does.boot ∙ starting.boot)
             (λ y. does.decided y ∙ starting.rest.decided y) refl ending;
         log = ending.log ∙ does.log ∙ starting.log;
-        wrote = record {
-          own = ending.rest.writes x ∙ wrote_at does
-              ∙ ap (λ (ws : List Write). op_writes ws op) (starting.rest.writes x);
-          others = λ y apart. ending.rest.writes y
-              ∙ does.others y (ap (λ (z : Xid). same z y) b ∙ apart) ∙ starting.rest.writes y;
+        operates = record {
+          wrote = record {
+            own = ending.rest.writes x ∙ wrote_at does
+                ∙ ap (λ (ws : List Write). op_writes ws op) (starting.rest.writes x);
+            others = λ y apart. ending.rest.writes y
+                ∙ does.others y (ap (λ (z : Xid). same z y) b ∙ apart) ∙ starting.rest.writes y;
+          };
+          locks = record {
+            own = ending.rest.holders (key_of op) ∙ (locks_at does).own
+                ∙ ap (λ (hs : List Holder). given hs x (mode_of op)) (starting.rest.holders (key_of op));
+            others = λ k apart. ending.rest.holders k ∙ (locks_at does).others k apart
+                ∙ starting.rest.holders k;
+          };
         };
       }
 
@@ -360,9 +380,9 @@ module _ (old mid back new : ManagerSight) (x : Xid) (op : Op) (start : Code)
             (why.1.boot ∙ starting.boot)
             (λ y. why.1.rest.decided y ∙ starting.rest.decided y) refl ending;
         log = ending.log ∙ why.1.log ∙ starting.log;
-        wrote = record {
-          own = ending.rest.writes x ∙ why.1.rest.writes x ∙ starting.rest.writes x;
-          others = λ y apart. ending.rest.writes y ∙ why.1.rest.writes y ∙ starting.rest.writes y;
+        operates = record {
+          writes = λ y. ending.rest.writes y ∙ why.1.rest.writes y ∙ starting.rest.writes y;
+          holders = λ k. ending.rest.holders k ∙ why.1.rest.holders k ∙ starting.rest.holders k;
         };
       }
 

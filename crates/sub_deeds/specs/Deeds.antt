@@ -1,6 +1,6 @@
 -- What a subordinate does with its manager in one event: whole pieces of work, between which no thread is at
 -- work.
-use Rattle.std.specs.Prelude.{◌≡◌, Bool, true, false, is_none, is_ok, if◌then◌else◌, List, [], ◌∷◌}
+use Rattle.std.specs.Prelude.{◌≡◌, ℕ, Bool, true, false, is_none, is_ok, if◌then◌else◌, List, [], ◌∷◌}
 use Rattle.xa_tables.specs.declared.call.Call.{Call}
 use Rattle.xa_tables.specs.declared.states.InitState.TheVariants.{R1}
 use Rattle.xa_tables.specs.declared.states.BranchState.{BranchState}
@@ -18,12 +18,12 @@ use Rattle.tree_model.specs.declared.records.LogRecord.{LogRecord}
 use Rattle.tree_model.specs.declared.records.Write.{Write}
 use Rattle.tree_model.specs.declared.events.StepError.{StepError}
 use Rattle.tree_model.specs.declared.events.StepError.TheVariants.{Device, Memory}
-use Rattle.tree_model.specs.Plays.{op_writes}
 use Rattle.rec_log.specs.Sights.{Breaks}
 use Rattle.core_model.specs.States.{wrote}
-use Rattle.manager_model.specs.Sights.{ManagerSight, SameData, SameManager}
+use Rattle.manager_model.specs.Sights.{ManagerSight, SameData, SameManager, manager_data, obstacle}
+use Rattle.manager_model.specs.Data.{ManagerData, Operates, Releases, Rests, held_with}
 use Rattle.manager_model.specs.Deciding.{decision_writes}
-use Rattle.manager_model.specs.Ends.{OthersStayDecided, decided_behind, logged_under, row_for, state_of, written_for}
+use Rattle.manager_model.specs.Ends.{OthersStayDecided, decided_behind, left_with, logged_under, row_for, state_of, written_for}
 use Rattle.tree_model.specs.declared.standings.Vote.{Vote}
 use Rattle.tree_model.specs.declared.standings.Vote.TheVariants.{Yes, Read}
 
@@ -47,7 +47,7 @@ pub record Comes (old new : ManagerSight) (x : Xid) (s : BranchState) : Type 0 w
   pub boot : new.boot ≡ old.boot
 
 -- but for its log, a manager between two pieces of work is as it was: which branches it knows and their states,
--- what each has written, what is in the way of its work, what operators decided, and whether a limit of its
+-- what each has written, who holds which key, what operators decided, and whether a limit of its
 -- own is met
 pub record KeepsManager (old new : ManagerSight) : Type 0 where
   pub branches : new.tables.branches.branches ≡ old.tables.branches.branches
@@ -71,17 +71,17 @@ abbrev pub HasBegun : ManagerSight → ManagerSight → Xid → Bool → Type 0
 HasBegun old new x true = (starts old x ≡ true) × Begins old new x
 HasBegun old new x false = (starts old x ≡ false) × SameManager old new
 
--- a branch at work wrote this, or nothing; no other wrote anything
-pub record Wrote (old new : ManagerSight) (x : Xid) (ws : List Write) : Type 0 where
-  pub own : new.writes x ≡ ws
-  pub others : (y : Xid) → same x y ≡ false → new.writes y ≡ old.writes y
+-- what an operation leaves that was done, or that was refused
+abbrev pub OperatesIf : Bool → ManagerData → ManagerData → Xid → Op → Type 0
+OperatesIf true old new x op = Operates old new x op
+OperatesIf false old new x op = Rests old new
 
 -- a branch did an operation, or was refused it and can only be rolled back
 pub record Works (old new : ManagerSight) (x : Xid) (op : Op) (done : Bool) : Type 0 where
-  pub allowed : is_none (old.obstacle x op) ≡ done
+  pub allowed : is_none (obstacle old x op) ≡ done
   pub comes : Comes old new x (if done then S2 else S4)
   pub log : new.log ≡ old.log
-  pub wrote : Wrote old new x (if done then op_writes (old.writes x) op else old.writes x)
+  pub operates : OperatesIf done (manager_data old) (manager_data new) x op
 
 -- an operation that wanted memory: the branch is idle as before, and the manager as it was
 pub record Idles (old new : ManagerSight) (x : Xid) : Type 0 where
@@ -96,7 +96,9 @@ pub record Idles (old new : ManagerSight) (x : Xid) : Type 0 where
 pub record Finishes (old new : ManagerSight) (x : Xid) (c : Call) : Type 0 where
   pub comes : Comes old new x (row_for old x c).1
   pub log : new.log ≡ wrote old.log (written_for old x c) (logged_under x (written_for old x c))
+  pub own : new.writes x ≡ left_with (row_for old x c).1 (old.writes x)
   pub others : (y : Xid) → same x y ≡ false → new.writes y ≡ old.writes y
+  pub held : (k : List ℕ) → new.holders k ≡ held_with (row_for old x c).1 x (old.holders k)
   pub decided : (row_for old x c).1 ≡ S5 → new.decided x ≡ decided_behind c (old.decided x)
 
 -- the call by which a branch learns an outcome
@@ -138,11 +140,11 @@ NotFinished old new x c e = NotDone old new (logged_under x (written_for old x c
 
 -- Decisions.
 
--- an operator decided a prepared branch: the decision is forced, and the branch has let its writes go
+-- an operator decided a prepared branch: the decision is forced, and the branch has let its writes and its keys go
 pub record Decides (old new : ManagerSight) (x : Xid) (o : Outcome) : Type 0 where
   pub comes : Comes old new x S5
   pub log : new.log ≡ wrote old.log (decision_writes x o) (logged_under x (decision_writes x o))
-  pub wrote : Wrote old new x []
+  pub releases : Releases (manager_data old) (manager_data new) x
   pub decided : new.decided x ≡ decided_as o
 
 -- why a branch was not decided

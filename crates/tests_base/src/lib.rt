@@ -13,7 +13,6 @@ mod damage;
 #[cfg(test)]
 mod faults;
 #[cfg(test)]
-mod manager;
 #[cfg(test)]
 mod players;
 #[cfg(test)]

@@ -1,19 +1,24 @@
-//! How a subordinate votes, over a manager that votes as it was told.
+//! How a subordinate votes, over a key store.
 
-use crate::manager::FakeManager;
 use crate::players::{CHILD, ROOT, bytes, child_case, parent_case, put};
 use core_model::InputRef;
+use kv_manager::KvManager;
+use log_store::MemoryStore;
 use manager_model::ResourceManager;
 use std::alloc::{AllocError, Global};
 use std::test::Fail;
 use sub_core::Subordinate;
 use tree_model::{Message, Op, Reaction, Tree, Vote};
 
-/// The child below the root, over a manager that refuses every operation or does what is asked of it.
-fn opened(alloc: Global, refuses: bool) -> Result<Subordinate<FakeManager>, AllocError> {
-    let manager = FakeManager::create(alloc, refuses)?;
-    let tree = Tree::from_vec(Vec::new(alloc));
-    Ok(Subordinate::open(alloc, CHILD, ROOT, tree, manager))
+/// The child below the root, over an empty key store.
+fn opened(alloc: Global) -> Result<Subordinate<KvManager<MemoryStore>>, AllocError> {
+    match KvManager::create(MemoryStore::new(alloc), alloc) {
+        Ok(manager) => {
+            let tree = Tree::from_vec(Vec::new(alloc));
+            Ok(Subordinate::open(alloc, CHILD, ROOT, tree, manager))
+        }
+        Err(_) => Err(AllocError),
+    }
 }
 
 /// The vote that a process gives, if that is all it sends.
@@ -55,20 +60,19 @@ fn vote<M: ResourceManager + Drop>(
     heard(&mut player, Message::Prepare(child_case(), 1))
 }
 
-/// The same over a manager that refuses every operation or does what is asked of it.
-fn voted(alloc: Global, refuses: bool, op: Op) -> Result<Option<Vote>, Fail> {
-    vote(opened(alloc, refuses)?, op)
+fn voted(alloc: Global, op: Op) -> Result<Option<Vote>, Fail> {
+    vote(opened(alloc)?, op)
 }
 
 /// A branch that wrote votes YES, one that read votes READ, and one whose work was refused votes NO.
 #[test]
 fn votes_follow_the_work(rt: HostRuntime) -> Result<(), Fail> {
     let alloc = rt.alloc();
-    let wrote = voted(alloc, false, put(alloc)?)?;
+    let wrote = voted(alloc, put(alloc)?)?;
     assert!(rt; matches!(wrote, Some(Vote::Yes)));
-    let read = voted(alloc, false, Op::Get(bytes(alloc, b"x")?))?;
+    let read = voted(alloc, Op::Get(bytes(alloc, b"x")?))?;
     assert!(rt; matches!(read, Some(Vote::Read)));
-    let refused = voted(alloc, true, put(alloc)?)?;
+    let refused = voted(alloc, Op::Get(bytes(alloc, b"")?))?;
     assert!(rt; matches!(refused, Some(Vote::No)));
     Ok(())
 }

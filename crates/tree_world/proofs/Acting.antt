@@ -10,9 +10,8 @@ use Rattle.tree_model.specs.declared.events.StepError.{StepError}
 use Rattle.tree_model.specs.declared.events.StepError.TheVariants.{Memory, Device, UnknownTxn, NotAChild, Closed, Failed, NotInDoubt, NothingToForget, NoSuch}
 use Rattle.tree_model.specs.declared.trees.TreeEntry.{TreeEntry}
 use Rattle.tree_model.specs.Plays.{sent_as}
-use Rattle.core_model.specs.States.{CoreState}
 use Rattle.core_law.specs.worlds.Worlds.{Delivers, DeviceFails, NotActed, NotDelivered, Same, Steps, entry_at, undelivered}
-use Rattle.tree_world.specs.Nodes.{NoStepAt, SameNodes, StepsAt}
+use Rattle.tree_world.specs.Nodes.{NoStepAt, NodesSight, SameNodes, StepsAt}
 use Rattle.world_journal.specs.Journals.{Enters, JournalState, Keeps, marked_by}
 use Rattle.tree_world.proofs.Handling.{world}
 
@@ -21,7 +20,7 @@ pub kept : (j : JournalState) → Keeps j j
 kept j = record { net = refl; delivered = refl; entries = refl }
 
 -- it was entered, in a journal that kept all
-pub world_steps : (tree : List TreeEntry) (nodes after : ProcessId → Option CoreState) (j k l : JournalState)
+pub world_steps : (tree : List TreeEntry) (nodes after : NodesSight) (j k l : JournalState)
     (q : ProcessId) (i : Input) (r : Reaction) → Keeps j k → StepsAt nodes after q i r → Enters k l q i r
     → Steps (world tree nodes j) (world tree after l) q i (marked_by i j.delivered)
 world_steps tree nodes after j k l q i r keeps steps enters = record {
@@ -33,6 +32,7 @@ world_steps tree nodes after j k l q i r keeps steps enters = record {
     stood = steps.moves.stood;
     stands = steps.moves.stands;
     others = steps.moves.others;
+    others_data = steps.moves.others_data;
   };
   handles = steps.handles;
   enters = record {
@@ -42,17 +42,18 @@ world_steps tree nodes after j k l q i r keeps steps enters = record {
   };
 }
 
-same : (tree : List TreeEntry) (nodes after : ProcessId → Option CoreState) (j k : JournalState) → Keeps j k
+same : (tree : List TreeEntry) (nodes after : NodesSight) (j k : JournalState) → Keeps j k
     → SameNodes nodes after → Same (world tree nodes j) (world tree after k)
 same tree nodes after j k keeps alike = record {
   tree = refl;
-  nodes = alike;
+  nodes = alike.nodes;
+  holdings = alike.holdings;
   net = keeps.net;
   delivered = keeps.delivered;
   entries = keeps.entries;
 }
 
-breaks : (tree : List TreeEntry) (nodes after : ProcessId → Option CoreState) (j k : JournalState)
+breaks : (tree : List TreeEntry) (nodes after : NodesSight) (j k : JournalState)
     (q : ProcessId) (i : Input) → Keeps j k → NoStepAt nodes after q i Device
     → DeviceFails (world tree nodes j) (world tree after k) q i
 breaks tree nodes after j k q i keeps stops = record {
@@ -63,6 +64,7 @@ breaks tree nodes after j k q i keeps stops = record {
     stood = stops.moves.stood;
     stands = stops.moves.stands;
     others = stops.moves.others;
+    others_data = stops.moves.others_data;
   };
   answer = stops.answer;
   broken = stops.broken;
@@ -72,7 +74,7 @@ breaks tree nodes after j k q i keeps stops = record {
 }
 
 -- an act was not made
-pub not_acted : (tree : List TreeEntry) (nodes after : ProcessId → Option CoreState) (j k : JournalState)
+pub not_acted : (tree : List TreeEntry) (nodes after : NodesSight) (j k : JournalState)
     (q : ProcessId) (a : Act) (e : StepError) → Keeps j k → NoStepAt nodes after q (ActInput a) e
     → NotActed (world tree nodes j) (world tree after k) q a e
 not_acted tree nodes after j k q a Memory keeps stops = same tree nodes after j k keeps stops
@@ -86,7 +88,7 @@ not_acted tree nodes after j k q a NothingToForget keeps stops = (same tree node
 not_acted tree nodes after j k q a NoSuch keeps stops = (same tree nodes after j k keeps stops.0, stops.1)
 
 -- a message was not delivered
-pub not_delivered : (tree : List TreeEntry) (nodes after : ProcessId → Option CoreState) (j k : JournalState)
+pub not_delivered : (tree : List TreeEntry) (nodes after : NodesSight) (j k : JournalState)
     (n : ℕ) (l : Envelope) (e : StepError) → Keeps j k → sent_as j.net n ≡ Some l
     → NoStepAt nodes after l.to (MessageInput n l.message) e
     → NotDelivered (world tree nodes j) (world tree after k) n e
@@ -111,20 +113,20 @@ not_delivered tree nodes after j k n l NoSuch keeps is stops =
 -- What a call leaves, by how the process's step ended and what the journal made of it.
 
 -- the process's reaction to the input
-made_so : (nodes after : ProcessId → Option CoreState) (q : ProcessId) (i : Input)
+made_so : (nodes after : NodesSight) (q : ProcessId) (i : Input)
     (made : Result Reaction StepError) (r : Reaction) → made ≡ Ok r → IfOk made (StepsAt nodes after q i)
     → StepsAt nodes after q i r
 made_so nodes after q i made r is steps = subst (λ (m : Result Reaction StepError). IfOk m
     (StepsAt nodes after q i)) is steps
 
 -- likewise its refusal
-refused_so : (nodes after : ProcessId → Option CoreState) (q : ProcessId) (i : Input)
+refused_so : (nodes after : NodesSight) (q : ProcessId) (i : Input)
     (made : Result Reaction StepError) (e : StepError) → made ≡ Err e → IfErr made (NoStepAt nodes after q i)
     → NoStepAt nodes after q i e
 refused_so nodes after q i made e is stops = subst (λ (m : Result Reaction StepError). IfErr m
     (NoStepAt nodes after q i)) is stops
 
-pub acted : (tree : List TreeEntry) (nodes after : ProcessId → Option CoreState) (j k l : JournalState)
+pub acted : (tree : List TreeEntry) (nodes after : NodesSight) (j k l : JournalState)
     (q p : ProcessId) (a : Act) (made : Result Reaction StepError) (closed : Result (Unit {0}) StepError)
     → p ≡ q → Keeps j k → IfOk made (StepsAt nodes after p (ActInput a))
     → OnOk closed ((r : Reaction) × (made ≡ Ok r) × Enters k l p (ActInput a) r)
@@ -135,7 +137,7 @@ acted tree nodes after j k l q p a made (Ok u) at keeps steps ends =
     (world_steps tree nodes after j k l p (ActInput a) ends.0 keeps
     (made_so nodes after p (ActInput a) made ends.0 ends.1 steps) ends.2)
 
-pub act_stopped : (tree : List TreeEntry) (nodes after : ProcessId → Option CoreState)
+pub act_stopped : (tree : List TreeEntry) (nodes after : NodesSight)
     (j k l : JournalState) (q p : ProcessId) (a : Act) (made : Result Reaction StepError)
     (closed : Result (Unit {0}) StepError)
     → p ≡ q → Keeps j k → IfErr made (NoStepAt nodes after p (ActInput a))
@@ -147,7 +149,7 @@ act_stopped tree nodes after j k l q p a made (Err e) at keeps stops ends =
     (subst (λ (m : JournalState). NotActed (world tree nodes j) (world tree after m) p a e) (sym ends.1)
     (not_acted tree nodes after j k p a e keeps (refused_so nodes after p (ActInput a) made e ends.0 stops)))
 
-pub delivered : (tree : List TreeEntry) (nodes after : ProcessId → Option CoreState) (j k l : JournalState)
+pub delivered : (tree : List TreeEntry) (nodes after : NodesSight) (j k l : JournalState)
     (n : ℕ) (m : Envelope) (made : Result Reaction StepError) (closed : Result (Unit {0}) StepError)
     → Keeps j k → sent_as k.net n ≡ Some m → IfOk made (StepsAt nodes after m.to (MessageInput n m.message))
     → OnOk closed (IfSome (sent_as k.net n) (λ m2. (r : Reaction) × (made ≡ Ok r)
@@ -164,7 +166,7 @@ delivered tree nodes after j k l n m made (Ok u) keeps is steps ends =
           (made_so nodes after m.to (MessageInput n m.message) made entered.0 entered.1 steps) entered.2;
     }
 
-pub delivery_stopped : (tree : List TreeEntry) (nodes after : ProcessId → Option CoreState)
+pub delivery_stopped : (tree : List TreeEntry) (nodes after : NodesSight)
     (j k l : JournalState) (n : ℕ) (m : Envelope) (made : Result Reaction StepError)
     (closed : Result (Unit {0}) StepError)
     → Keeps j k → sent_as k.net n ≡ Some m

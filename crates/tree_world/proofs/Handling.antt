@@ -3,23 +3,24 @@ use Rattle.std.proofs.Common.{◌≡◌, sym, subst, refl, Option, List, Result,
 use Rattle.tree_model.specs.declared.names.ProcessId.{ProcessId}
 use Rattle.tree_model.specs.declared.events.StepError.{StepError}
 use Rattle.tree_model.specs.declared.trees.TreeEntry.{TreeEntry}
-use Rattle.core_model.specs.States.{CoreState}
+use Rattle.tree_world.specs.Nodes.{NodesSight}
 use Rattle.core_law.specs.worlds.Worlds.{Same, WorldState}
 use Rattle.world_journal.specs.Journals.{JournalState, Keeps}
-use Rattle.tree_world.proofs.Steps.{same_as_it_is}
+use Rattle.tree_world.proofs.Steps.{rests, same_as_it_is}
 
 -- a state of these parts
-abbrev pub world : List TreeEntry → (ProcessId → Option CoreState) → JournalState → WorldState
+abbrev pub world : List TreeEntry → NodesSight → JournalState → WorldState
 world tree nodes j = record {
   tree = tree;
-  node_at = nodes;
+  node_at = nodes.node_at;
+  data_at = nodes.data_at;
   net = j.net;
   delivered = j.delivered;
   entries = j.entries;
 }
 
 -- a state stays where its journal keeps all
-pub stays : (tree : List TreeEntry) (nodes : ProcessId → Option CoreState) (j k : JournalState) → Keeps j k
+pub stays : (tree : List TreeEntry) (nodes : NodesSight) (j k : JournalState) → Keeps j k
     → world tree nodes k ≡ world tree nodes j
 stays tree nodes j k keeps = rw (keeps.net, keeps.delivered, keeps.entries) refl
 
@@ -30,6 +31,7 @@ same_as_before old new is =
     (record {
       tree = refl;
       nodes = λ q. same_as_it_is (old.node_at q);
+      holdings = λ q. rests (old.data_at q);
       net = refl;
       delivered = refl;
       entries = refl;

@@ -1,5 +1,6 @@
 pub mod EmptyLogs
 pub mod Handling
+pub mod Holdings
 pub mod Acting
 pub mod LastRecords
 pub mod Logs

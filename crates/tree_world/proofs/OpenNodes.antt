@@ -10,6 +10,9 @@ use Rattle.tree_model.specs.Nodes.{is_listed, role_by, role_of}
 use Rattle.core_model.specs.States.{CoreState}
 use Rattle.core_law.specs.worlds.Runs.{IsOpened, NodeOpened}
 use Rattle.world_journal.specs.Journals.{JournalState}
+use Rattle.manager_model.specs.Data.{Rests, no_data}
+use Rattle.tree_world.specs.Nodes.{NodesSight}
+use Rattle.tree_world.proofs.Steps.{rests}
 use Rattle.tree_world.specs.Openings.{AreOpened, OpenedAs}
 use Rattle.tree_world.proofs.Handling.{world}
 use Rattle.tree_world.proofs.Processes.{itself}
@@ -62,12 +65,14 @@ or_false true c h = refl
 or_false false c h = h
 
 -- no process is listed, none is open
-pub none : (tree : List TreeEntry) (node_at : ProcessId → Option CoreState)
-    → ((q : ProcessId) → node_at q ≡ None) → AreOpened tree [] node_at
+pub none : (tree : List TreeEntry) (ns : NodesSight)
+    → ((q : ProcessId) → ns.node_at q ≡ None) → ((q : ProcessId) → ns.data_at q ≡ no_data)
+    → AreOpened tree [] ns
 unfolding is_listed
-none tree node_at empty = record {
-  opened = λ q s stands. absurd (no_some (node_at q) s (empty q) stands);
+none tree ns empty bare = record {
+  opened = λ q s stands. absurd (no_some (ns.node_at q) s (empty q) stands);
   listed_are = λ q. ap is_some (empty q);
+  holdings = λ q. subst (λ d. Rests no_data d) (sym (bare q)) (rests no_data);
 }
   where
     no_some : (o : Option CoreState) (s : CoreState) → o ≡ None → o ≡ Some s → ⊥
@@ -75,13 +80,16 @@ none tree node_at empty = record {
 
 -- a process more
 pub opens_more : (es : List TreeEntry) (i : ℕ) (e : TreeEntry)
-    (old new : ProcessId → Option CoreState) → i < length es
-    → e ≡ get_or es i e → is_listed (take i es) e.id ≡ false → IsSomeAnd (new e.id) (OpenedAs es e)
-    → ((q : ProcessId) → same_process e.id q ≡ false → new q ≡ old q)
+    (old new : NodesSight) → i < length es
+    → e ≡ get_or es i e → is_listed (take i es) e.id ≡ false → IsSomeAnd (new.node_at e.id) (OpenedAs es e)
+    → Rests no_data (new.data_at e.id)
+    → ((q : ProcessId) → same_process e.id q ≡ false → new.node_at q ≡ old.node_at q)
+    → ((q : ProcessId) → same_process e.id q ≡ false → new.data_at q ≡ old.data_at q)
     → AreOpened es (take i es) old → AreOpened es (take (i + 1) es) new
-opens_more es i e old new lt is fresh own others h = rw (take_more es i e lt, ← is) (record {
+opens_more es i e old new lt is fresh own bare others others_data h = rw (take_more es i e lt, ← is) (record {
   opened = λ q s stands. opened_by q s stands (same_process_tells e.id q);
   listed_are = λ q. listed_by q (same_process_tells e.id q) ∙ sym (listed_more (take i es) e q);
+  holdings = λ q. held_by q (same_process_tells e.id q);
 })
   where
     role : role_of es e.id ≡ role_by e.kind e.parent
@@ -93,33 +101,39 @@ opens_more es i e old new lt is fresh own others h = rw (take_more es i e lt, �
       opened = rw role o.opened;
     })
 
-    opened_by : (q : ProcessId) (s : CoreState) → new q ≡ Some s
+    held_by : (q : ProcessId) → ((same_process e.id q ≡ true) × (e.id ≡ q)) ⊎
+        ((same_process e.id q ≡ false) × (e.id ≢ q)) → Rests no_data (new.data_at q)
+    held_by q (inl here) = subst (λ p. Rests no_data (new.data_at p)) here.1 bare
+    held_by q (inr there) = subst (λ d. Rests no_data d) (sym (others_data q there.0)) (h.holdings q)
+
+    opened_by : (q : ProcessId) (s : CoreState) → new.node_at q ≡ Some s
         → ((same_process e.id q ≡ true) × (e.id ≡ q)) ⊎
         ((same_process e.id q ≡ false) × (e.id ≢ q)) → NodeOpened es q s
     opened_by q s stands (inl here) =
-        let at : new e.id ≡ Some s = ap new here.1 ∙ stands in
+        let at : new.node_at e.id ≡ Some s = ap new.node_at here.1 ∙ stands in
         let it : IsSomeAnd (Some s) (OpenedAs es e) = subst (λ o. IsSomeAnd o (OpenedAs es e)) at own in
         subst (λ p. NodeOpened es p s) here.1 (here_opened s it)
     opened_by q s stands (inr there) = h.opened q s (sym (others q there.0) ∙ stands)
 
     listed_by : (q : ProcessId)
         → ((same_process e.id q ≡ true) × (e.id ≡ q)) ⊎ ((same_process e.id q ≡ false) × (e.id ≢ q))
-        → is_some (new q) ≡ (is_listed (take i es) q || same_process e.id q)
+        → is_some (new.node_at q) ≡ (is_listed (take i es) q || same_process e.id q)
     listed_by q (inl here) =
-        ap (λ p. is_some (new p)) (sym here.1) ∙ some_true (new e.id) (OpenedAs es e) own
+        ap (λ p. is_some (new.node_at p)) (sym here.1) ∙ some_true (new.node_at e.id) (OpenedAs es e) own
         ∙ sym (or_true (is_listed (take i es) q) (same_process e.id q) here.0)
     listed_by q (inr there) =
         ap is_some (others q there.0) ∙ h.listed_are q
         ∙ sym (or_false (is_listed (take i es) q) (same_process e.id q) there.0)
 
 -- a tree of which every process is open, and that has done nothing
-pub opened_tree : (tree : List TreeEntry) (node_at : ProcessId → Option CoreState) (j : JournalState)
-    → AreOpened tree tree node_at
-    → j.net ≡ [] → j.delivered ≡ [] → j.entries ≡ [] → IsOpened (world tree node_at j) tree
-opened_tree tree node_at j nodes net delivered entries = record {
+pub opened_tree : (tree : List TreeEntry) (ns : NodesSight) (j : JournalState)
+    → AreOpened tree tree ns
+    → j.net ≡ [] → j.delivered ≡ [] → j.entries ≡ [] → IsOpened (world tree ns j) tree
+opened_tree tree ns j nodes net delivered entries = record {
   tree_is = refl;
   nodes = nodes.opened;
   listed = nodes.listed_are;
+  holdings = nodes.holdings;
   net = net;
   delivered = delivered;
   entries = entries;

@@ -13,11 +13,11 @@ use Rattle.core_law.specs.Steps.{trim_reaction}
 use Rattle.core_law.specs.worlds.Worlds as worlds
 use Rattle.core_law.specs.worlds.Worlds.{HasFailed, Same, WorldState, step_entry, undelivered}
 use Rattle.tree_world.specs.declared.node.Node.{Node}
-use Rattle.tree_world.specs.Nodes.{MovesAt, SameNodes, core_of, node_in, nodes_at}
+use Rattle.tree_world.specs.Nodes.{MovesAt, NodesSight, SameNodes, core_of, data_of, kept_at, node_in}
 use Rattle.tree_world.specs.Restarts.{NoRestart, NoRestartAt, NoTrim, NoTrimAt, RestartsAt, RestartsNode, TrimsAt, TrimsNode}
 use Rattle.world_journal.specs.Journals.{JournalState, Keeps}
 use Rattle.tree_world.proofs.Handling.{world}
-use Rattle.tree_world.proofs.Steps.{moves_at, same_nodes}
+use Rattle.tree_world.proofs.Steps.{data_stood, moves_at, same_nodes}
 
 -- One process among all.
 
@@ -26,20 +26,22 @@ pub restarted : {L E : Type 0} (es fs : List (ProcessId × Node L)) (q : Process
     (made : Result (ℕ × Reaction) E)
     → node_in es q ≡ Some before → node_in fs q ≡ Some behind
     → ((p : ProcessId) → same_process q p ≡ false → node_in fs p ≡ node_in es p)
-    → IfOk made (RestartsNode (core_of before) (core_of behind) bytes)
-    → IfOk made (RestartsAt (nodes_at es) (nodes_at fs) q bytes)
+    → IfOk made (RestartsNode (core_of before) (core_of behind) (data_of behind) bytes)
+    → IfOk made (RestartsAt (kept_at es) (kept_at fs) q bytes)
 restarted es fs q bytes before behind (Ok r) stood stands others h = record {
   before = core_of before;
   behind = core_of behind;
   moves = moves_at es fs q before behind stood stands others;
-  restarts = h;
+  restarts = subst (λ d. RestartsNode (core_of before) (core_of behind) d bytes r)
+      (sym (data_stood fs q behind stands)) h;
 }
 restarted es fs q bytes before behind (Err e) stood stands others h = tt
 
-no_restart : (old new : ProcessId → Option CoreState) (q : ProcessId) (bytes : Option ℕ)
+no_restart : (old new : NodesSight) (q : ProcessId) (bytes : Option ℕ)
     (e : StepError) (s t : CoreState)
-    → MovesAt old new q s t → NoRestart s t bytes e → NoRestartAt old new q bytes e
-no_restart old new q bytes Memory s t moves h = same_nodes old new q s t moves h
+    → MovesAt old new q s t → NoRestart s t (old.data_at q) (new.data_at q) bytes e
+    → NoRestartAt old new q bytes e
+no_restart old new q bytes Memory s t moves h = same_nodes old new q s t moves h.0 h.1
 no_restart old new q bytes Device s t moves h = record { before = s; behind = t; moves = moves; breaks = h }
 no_restart old new q bytes UnknownTxn s t moves h = absurd h
 no_restart old new q bytes NotAChild s t moves h = absurd h
@@ -54,36 +56,43 @@ pub not_restarted : {L A : Type 0} (es fs : List (ProcessId × Node L)) (q : Pro
     (made : Result A StepError)
     → node_in es q ≡ Some before → node_in fs q ≡ Some behind
     → ((p : ProcessId) → same_process q p ≡ false → node_in fs p ≡ node_in es p)
-    → IfErr made (NoRestart (core_of before) (core_of behind) bytes)
-    → IfErr made (NoRestartAt (nodes_at es) (nodes_at fs) q bytes)
+    → IfErr made (NoRestart (core_of before) (core_of behind) (data_of before) (data_of behind) bytes)
+    → IfErr made (NoRestartAt (kept_at es) (kept_at fs) q bytes)
 not_restarted es fs q bytes before behind (Ok r) stood stands others h = tt
 not_restarted es fs q bytes before behind (Err e) stood stands others h =
-    no_restart (nodes_at es) (nodes_at fs) q bytes e (core_of before) (core_of behind)
-    (moves_at es fs q before behind stood stands others) h
+    no_restart (kept_at es) (kept_at fs) q bytes e (core_of before) (core_of behind)
+    (moves_at es fs q before behind stood stands others)
+    (subst (λ d. NoRestart (core_of before) (core_of behind) d ((kept_at fs).data_at q) bytes e)
+    (sym (data_stood es q before stood))
+    (subst (λ d. NoRestart (core_of before) (core_of behind) (data_of before) d bytes e)
+    (sym (data_stood fs q behind stands)) h))
 
 pub trimmed : {L E : Type 0} (es fs : List (ProcessId × Node L)) (q : ProcessId)
     (before behind : Node L) (made : Result ℕ E)
     → node_in es q ≡ Some before → node_in fs q ≡ Some behind
     → ((p : ProcessId) → same_process q p ≡ false → node_in fs p ≡ node_in es p)
-    → IfOk made (TrimsNode (core_of before) (core_of behind))
-    → IfOk made (TrimsAt (nodes_at es) (nodes_at fs) q)
+    → IfOk made (TrimsNode (core_of before) (core_of behind) (data_of before) (data_of behind))
+    → IfOk made (TrimsAt (kept_at es) (kept_at fs) q)
 trimmed es fs q before behind (Ok r) stood stands others h = record {
   before = core_of before;
   behind = core_of behind;
   moves = moves_at es fs q before behind stood stands others;
-  trims = h;
+  trims = subst (λ d. TrimsNode (core_of before) (core_of behind) d ((kept_at fs).data_at q) r)
+      (sym (data_stood es q before stood))
+      (subst (λ d. TrimsNode (core_of before) (core_of behind) (data_of before) d r)
+      (sym (data_stood fs q behind stands)) h);
 }
 trimmed es fs q before behind (Err e) stood stands others h = tt
 
-no_trim : (old new : ProcessId → Option CoreState) (q : ProcessId) (e : StepError) (s t : CoreState)
-    → MovesAt old new q s t → NoTrim s t e → NoTrimAt old new q e
-no_trim old new q Memory s t moves h = same_nodes old new q s t moves h
+no_trim : (old new : NodesSight) (q : ProcessId) (e : StepError) (s t : CoreState)
+    → MovesAt old new q s t → NoTrim s t (old.data_at q) (new.data_at q) e → NoTrimAt old new q e
+no_trim old new q Memory s t moves h = same_nodes old new q s t moves h.0 h.1
 no_trim old new q Device s t moves h = record { before = s; behind = t; moves = moves; breaks = h }
 no_trim old new q UnknownTxn s t moves h = absurd h
 no_trim old new q NotAChild s t moves h = absurd h
 no_trim old new q Closed s t moves h = absurd h
 no_trim old new q Failed s t moves h =
-    (same_nodes old new q s t moves h.0, subst HasFailed (sym moves.stood) h.1)
+    (same_nodes old new q s t moves h.0 h.1, subst HasFailed (sym moves.stood) h.2)
 no_trim old new q NotInDoubt s t moves h = absurd h
 no_trim old new q NothingToForget s t moves h = absurd h
 no_trim old new q NoSuch s t moves h = absurd h
@@ -92,14 +101,22 @@ pub not_trimmed : {L A : Type 0} (es fs : List (ProcessId × Node L)) (q : Proce
     (before behind : Node L) (made : Result A StepError)
     → node_in es q ≡ Some before → node_in fs q ≡ Some behind
     → ((p : ProcessId) → same_process q p ≡ false → node_in fs p ≡ node_in es p)
-    → IfErr made (NoTrim (core_of before) (core_of behind))
-    → IfErr made (NoTrimAt (nodes_at es) (nodes_at fs) q)
+    → IfErr made (NoTrim (core_of before) (core_of behind) (data_of before) (data_of behind))
+    → IfErr made (NoTrimAt (kept_at es) (kept_at fs) q)
 not_trimmed es fs q before behind (Ok r) stood stands others h = tt
 not_trimmed es fs q before behind (Err e) stood stands others h =
-    no_trim (nodes_at es) (nodes_at fs) q e (core_of before) (core_of behind)
-    (moves_at es fs q before behind stood stands others) h
+    no_trim (kept_at es) (kept_at fs) q e (core_of before) (core_of behind)
+    (moves_at es fs q before behind stood stands others)
+    (subst (λ d. NoTrim (core_of before) (core_of behind) d ((kept_at fs).data_at q) e)
+    (sym (data_stood es q before stood))
+    (subst (λ d. NoTrim (core_of before) (core_of behind) (data_of before) d e)
+    (sym (data_stood fs q behind stands)) h))
 
 -- The tree.
+
+-- what the processes of a tree keep, and their data
+abbrev pub sight_in : WorldState → NodesSight
+sight_in w = record { node_at = w.node_at; data_at = w.data_at }
 
 -- what a step's entry leaves of a tree
 pub record Entered (old new : WorldState) (q : ProcessId) (happening : Happening)
@@ -110,7 +127,7 @@ pub record Entered (old new : WorldState) (q : ProcessId) (happening : Happening
   pub entries : new.entries ≡ old.entries ++ step_entry q happening reaction ∷ []
 
 pub restarts_tree : (old new : WorldState) (q : ProcessId) (bytes : Option ℕ) (made : ℕ × Reaction)
-    → RestartsAt old.node_at new.node_at q bytes made → Entered old new q (Restart made.0) made.1
+    → RestartsAt (sight_in old) (sight_in new) q bytes made → Entered old new q (Restart made.0) made.1
     → worlds.RestartsAt old new q bytes
 restarts_tree old new q bytes made h entered = record {
   before = h.before;
@@ -122,9 +139,11 @@ restarts_tree old new q bytes made h entered = record {
     stood = h.moves.stood;
     stands = h.moves.stands;
     others = h.moves.others;
+    others_data = h.moves.others_data;
   };
   keeps = h.restarts.keeps;
   restarts = h.restarts.restarts;
+  holdings = h.restarts.holdings;
   enters = record {
     net = entered.net;
     delivered = entered.delivered;
@@ -134,7 +153,7 @@ restarts_tree old new q bytes made h entered = record {
 }
 
 pub trims_tree : (old new : WorldState) (q : ProcessId) (remain : ℕ)
-    → TrimsAt old.node_at new.node_at q remain
+    → TrimsAt (sight_in old) (sight_in new) q remain
     → Entered old new q Trimming (trim_reaction remain) → worlds.TrimsAt old new q
 trims_tree old new q remain h entered = record {
   before = h.before;
@@ -145,10 +164,12 @@ trims_tree old new q remain h entered = record {
     stood = h.moves.stood;
     stands = h.moves.stands;
     others = h.moves.others;
+    others_data = h.moves.others_data;
   };
   works = h.trims.works;
   sound = h.trims.sound;
   trims = h.trims.trims;
+  holdings = h.trims.holdings;
   enters = record { net = entered.net; delivered = entered.delivered; entries = entered.entries };
 }
 
@@ -161,18 +182,19 @@ pub record Unentered (old new : WorldState) : Type 0 where
   pub delivered : new.delivered ≡ old.delivered
   pub entries : new.entries ≡ old.entries
 
-same_tree : (old new : WorldState) → SameNodes old.node_at new.node_at → Unentered old new → Same old new
+same_tree : (old new : WorldState) → SameNodes (sight_in old) (sight_in new) → Unentered old new → Same old new
 same_tree old new nodes stays =
     record {
       tree = stays.tree;
-      nodes = nodes;
+      nodes = nodes.nodes;
+      holdings = nodes.holdings;
       net = stays.net;
       delivered = stays.delivered;
       entries = stays.entries;
     }
 
 pub no_restart_of_tree : (old new : WorldState) (q : ProcessId) (bytes : Option ℕ) (e : StepError)
-    → NoRestartAt old.node_at new.node_at q bytes e → Unentered old new
+    → NoRestartAt (sight_in old) (sight_in new) q bytes e → Unentered old new
     → worlds.NotRestartedAt old new q bytes e
 no_restart_of_tree old new q bytes Memory h stays = same_tree old new h stays
 no_restart_of_tree old new q bytes Device h stays = record {
@@ -184,6 +206,7 @@ no_restart_of_tree old new q bytes Device h stays = record {
     stood = h.moves.stood;
     stands = h.moves.stands;
     others = h.moves.others;
+    others_data = h.moves.others_data;
   };
   keeps = h.breaks.keeps;
   broken = h.breaks.broken;
@@ -200,7 +223,7 @@ no_restart_of_tree old new q bytes NothingToForget h stays = absurd h
 no_restart_of_tree old new q bytes NoSuch h stays = (same_tree old new h.0 stays, h.1)
 
 pub no_trim_of_tree : (old new : WorldState) (q : ProcessId) (e : StepError)
-    → NoTrimAt old.node_at new.node_at q e → Unentered old new → worlds.NotTrimmedAt old new q e
+    → NoTrimAt (sight_in old) (sight_in new) q e → Unentered old new → worlds.NotTrimmedAt old new q e
 no_trim_of_tree old new q Memory h stays = same_tree old new h stays
 no_trim_of_tree old new q Device h stays = record {
   before = h.before;
@@ -210,6 +233,7 @@ no_trim_of_tree old new q Device h stays = record {
     stood = h.moves.stood;
     stands = h.moves.stands;
     others = h.moves.others;
+    others_data = h.moves.others_data;
   };
   works = h.breaks.works;
   sound = h.breaks.sound;
@@ -229,7 +253,7 @@ no_trim_of_tree old new q NoSuch h stays = (same_tree old new h.0 stays, h.1)
 -- The whole state, from the processes and the journals around a step.
 
 -- a step's entry behind a journal that kept all
-entered : (tree : List TreeEntry) (ns ms : ProcessId → Option CoreState)
+entered : (tree : List TreeEntry) (ns ms : NodesSight)
     (j k l : JournalState) (q : ProcessId)
     (happening : Happening) (reaction : Reaction) → Keeps j k → l.net ≡ k.net ++ reaction.messages
     → l.delivered ≡ k.delivered ++ undelivered reaction.messages
@@ -242,7 +266,7 @@ entered tree ns ms j k l q happening reaction keeps net delivered entries = reco
   entries = entries ∙ ap (λ x. x ++ step_entry q happening reaction ∷ []) keeps.entries;
 }
 
-unentered : (tree : List TreeEntry) (ns ms : ProcessId → Option CoreState) (j k : JournalState) → Keeps j k
+unentered : (tree : List TreeEntry) (ns ms : NodesSight) (j k : JournalState) → Keeps j k
     → Unentered (world tree ns j) (world tree ms k)
 unentered tree ns ms j k keeps = record {
   tree = refl;
@@ -251,7 +275,7 @@ unentered tree ns ms j k keeps = record {
   entries = keeps.entries;
 }
 
-pub world_restarts : (tree : List TreeEntry) (ns ms : ProcessId → Option CoreState)
+pub world_restarts : (tree : List TreeEntry) (ns ms : NodesSight)
     (j k l : JournalState) (q : ProcessId)
     (bytes : Option ℕ) (made : ℕ × Reaction) → RestartsAt ns ms q bytes made → Keeps j k
     → l.net ≡ k.net ++ made.1.messages → l.delivered ≡ k.delivered ++ undelivered made.1.messages
@@ -261,7 +285,7 @@ world_restarts tree ns ms j k l q bytes made h keeps net delivered entries =
     restarts_tree (world tree ns j) (world tree ms l) q bytes made h
     (entered tree ns ms j k l q (Restart made.0) made.1 keeps net delivered entries)
 
-pub world_trims : (tree : List TreeEntry) (ns ms : ProcessId → Option CoreState) (j k l : JournalState)
+pub world_trims : (tree : List TreeEntry) (ns ms : NodesSight) (j k l : JournalState)
     (q : ProcessId) (remain : ℕ)
     (reaction : Reaction) → TrimsAt ns ms q remain → reaction ≡ trim_reaction remain → Keeps j k
     → l.net ≡ k.net ++ reaction.messages → l.delivered ≡ k.delivered ++ undelivered reaction.messages
@@ -272,14 +296,14 @@ world_trims tree ns ms j k l q remain reaction h is keeps net delivered entries 
     (subst (Entered (world tree ns j) (world tree ms l) q Trimming) is
     (entered tree ns ms j k l q Trimming reaction keeps net delivered entries))
 
-pub world_not_restarted : (tree : List TreeEntry) (ns ms : ProcessId → Option CoreState)
+pub world_not_restarted : (tree : List TreeEntry) (ns ms : NodesSight)
     (j k : JournalState) (q : ProcessId)
     (bytes : Option ℕ) (e : StepError) → NoRestartAt ns ms q bytes e → Keeps j k
     → worlds.NotRestartedAt (world tree ns j) (world tree ms k) q bytes e
 world_not_restarted tree ns ms j k q bytes e h keeps =
     no_restart_of_tree (world tree ns j) (world tree ms k) q bytes e h (unentered tree ns ms j k keeps)
 
-pub world_not_trimmed : (tree : List TreeEntry) (ns ms : ProcessId → Option CoreState)
+pub world_not_trimmed : (tree : List TreeEntry) (ns ms : NodesSight)
     (j k : JournalState) (q : ProcessId)
     (e : StepError) → NoTrimAt ns ms q e → Keeps j k
     → worlds.NotTrimmedAt (world tree ns j) (world tree ms k) q e

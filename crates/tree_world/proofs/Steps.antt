@@ -13,7 +13,8 @@ use Rattle.core_model.specs.Makes.{IsRefused}
 use Rattle.core_model.proofs.Alike.{same_view}
 use Rattle.core_law.specs.worlds.Worlds.{HandlesInput, RefusesAt, SameNode}
 use Rattle.tree_world.specs.declared.node.Node.{Node}
-use Rattle.tree_world.specs.Nodes.{MovesAt, NoStepAt, NotHandled, SameNodes, StepsAt, core_of, node_in, nodes_at}
+use Rattle.tree_world.specs.Nodes.{MovesAt, NoStepAt, NodesSight, NotHandled, SameNodes, StepsAt, core_of, data_in, data_of, kept_at, node_in}
+use Rattle.manager_model.specs.Data.{ManagerData, Rests}
 
 pub same_core : (s : CoreState) → SameCore s s
 same_core s =
@@ -31,6 +32,10 @@ same_core s =
       };
     }
 
+-- nothing is written, and each key is held as it was
+pub rests : (d : ManagerData) → Rests d d
+rests d = record { writes = λ y. refl; holders = λ k. refl }
+
 -- each process is the same as it is
 pub same_as_it_is : (o : Option CoreState) → SameNode o o
 same_as_it_is None = tt
@@ -39,80 +44,119 @@ same_as_it_is (Some s) = same_core s
 pub moves_at : {L : Type 0} (es fs : List (ProcessId × Node L)) (q : ProcessId) (before behind : Node L)
     → node_in es q ≡ Some before → node_in fs q ≡ Some behind
     → ((p : ProcessId) → same_process q p ≡ false → node_in fs p ≡ node_in es p)
-    → MovesAt (nodes_at es) (nodes_at fs) q (core_of before) (core_of behind)
+    → MovesAt (kept_at es) (kept_at fs) q (core_of before) (core_of behind)
 moves_at es fs q before behind stood stands others =
     record {
       stood = ap (λ o. option_map core_of o) stood;
       stands = ap (λ o. option_map core_of o) stands;
       others = λ p apart. ap (λ o. option_map core_of o) (others p apart);
+      others_data = λ p apart. ap data_in (others p apart);
     }
 
+-- the data of a process that stood, and that stands
+pub data_stood : {L : Type 0} (es : List (ProcessId × Node L)) (q : ProcessId) (n : Node L)
+    → node_in es q ≡ Some n → (kept_at es).data_at q ≡ data_of n
+data_stood es q n stood = ap data_in stood
+
+-- data that were kept, among all
+pub kept_data : {L : Type 0} (es fs : List (ProcessId × Node L)) (q : ProcessId) (before behind : Node L)
+    → node_in es q ≡ Some before → node_in fs q ≡ Some behind → Rests (data_of before) (data_of behind)
+    → Rests ((kept_at es).data_at q) ((kept_at fs).data_at q)
+kept_data es fs q before behind stood stands keeps =
+    subst (λ d. Rests d ((kept_at fs).data_at q)) (sym (data_stood es q before stood))
+    (subst (λ d. Rests (data_of before) d) (sym (data_stood fs q behind stands)) keeps)
+
 -- where one process is the same, and each other as it was, nothing is otherwise
-pub same_nodes : (old new : ProcessId → Option CoreState) (q : ProcessId) (s t : CoreState)
-    → MovesAt old new q s t → SameCore s t
+pub same_nodes : (old new : NodesSight) (q : ProcessId) (s t : CoreState)
+    → MovesAt old new q s t → SameCore s t → Rests (old.data_at q) (new.data_at q)
     → SameNodes old new
-same_nodes old new q s t moves same p = at (same_process_tells q p)
+same_nodes old new q s t moves same keeps = record {
+  nodes = λ p. at p (same_process_tells q p);
+  holdings = λ p. data_at p (same_process_tells q p);
+}
   where
-    at : ((same_process q p ≡ true) × (q ≡ p)) ⊎
-        ((same_process q p ≡ false) × (q ≢ p)) → SameNode (old p) (new p)
-    at (inl here) =
-        subst (λ r. SameNode (old r) (new r)) here.1
-        (subst (λ o. SameNode o (new q)) (sym moves.stood)
+    at : (p : ProcessId) → ((same_process q p ≡ true) × (q ≡ p)) ⊎
+        ((same_process q p ≡ false) × (q ≢ p)) → SameNode (old.node_at p) (new.node_at p)
+    at p (inl here) =
+        subst (λ r. SameNode (old.node_at r) (new.node_at r)) here.1
+        (subst (λ o. SameNode o (new.node_at q)) (sym moves.stood)
         (subst (λ o. SameNode (Some s) o) (sym moves.stands) same))
-    at (inr there) = subst (λ o. SameNode (old p) o) (sym (moves.others p there.0)) (same_as_it_is (old p))
+    at p (inr there) =
+        subst (λ o. SameNode (old.node_at p) o) (sym (moves.others p there.0)) (same_as_it_is (old.node_at p))
+
+    data_at : (p : ProcessId) → ((same_process q p ≡ true) × (q ≡ p)) ⊎
+        ((same_process q p ≡ false) × (q ≢ p)) → Rests (old.data_at p) (new.data_at p)
+    data_at p (inl here) = subst (λ r. Rests (old.data_at r) (new.data_at r)) here.1 keeps
+    data_at p (inr there) =
+        subst (λ d. Rests (old.data_at p) d) (sym (moves.others_data p there.0)) (rests (old.data_at p))
 
 -- a process handled an input
 pub stepped : {L E : Type 0} (es fs : List (ProcessId × Node L)) (q : ProcessId) (i : Input)
     (before behind : Node L) (made : Result Reaction E)
     → node_in es q ≡ Some before → node_in fs q ≡ Some behind
     → ((p : ProcessId) → same_process q p ≡ false → node_in fs p ≡ node_in es p)
-    → IfOk made (HandlesInput (core_of before) (core_of behind) i)
-    → IfOk made (StepsAt (nodes_at es) (nodes_at fs) q i)
+    → IfOk made (HandlesInput (core_of before) (core_of behind) (data_of before) (data_of behind) i)
+    → IfOk made (StepsAt (kept_at es) (kept_at fs) q i)
 stepped es fs q i before behind (Ok r) stood stands others handles =
     record {
       before = core_of before;
       behind = core_of behind;
       moves = moves_at es fs q before behind stood stands others;
-      handles = handles;
+      handles = subst (λ d. HandlesInput (core_of before) (core_of behind) d ((kept_at fs).data_at q) i r)
+          (sym (data_stood es q before stood))
+          (subst (λ d. HandlesInput (core_of before) (core_of behind) (data_of before) d i r)
+          (sym (data_stood fs q behind stands)) handles);
     }
 stepped es fs q i before behind (Err e) stood stands others handles = tt
 
 -- the process refused it
-refused_at : (old new : ProcessId → Option CoreState) (q : ProcessId) (i : Input) (e : StepError)
+refused_at : (old new : NodesSight) (q : ProcessId) (i : Input) (e : StepError)
     (s t : CoreState) (a : DataAnswer)
-    → MovesAt old new q s t → IsRefused s t a i e → SameNodes old new × RefusesAt (old q) i e
-refused_at old new q i e s t a moves refused = (
-  same_nodes old new q s t moves refused.same,
+    → MovesAt old new q s t → Rests (old.data_at q) (new.data_at q) → IsRefused s t a i e
+    → SameNodes old new × RefusesAt (old.node_at q) i e
+refused_at old new q i e s t a moves keeps refused = (
+  same_nodes old new q s t moves refused.same keeps,
   subst (λ o. RefusesAt o i e) (sym moves.stood) (a, refused.found, refused.finds, refused.refuses),
 )
 
 -- why it handled none
-stopped_by : (old new : ProcessId → Option CoreState) (q : ProcessId) (i : Input)
+stopped_by : (old new : NodesSight) (q : ProcessId) (i : Input)
     (e : StepError) (s t : CoreState)
-    → MovesAt old new q s t → NotHandled s t i e → NoStepAt old new q i e
-stopped_by old new q i Memory s t moves h = same_nodes old new q s t moves h.1
+    → MovesAt old new q s t → NotHandled s t (old.data_at q) (new.data_at q) i e → NoStepAt old new q i e
+stopped_by old new q i Memory s t moves h = same_nodes old new q s t moves h.not_made (h.keeps (λ is. absurd cc))
 stopped_by old new q i Device s t moves h = record {
   before = s;
   behind = t;
   moves = moves;
-  answer = h.0;
-  broken = h.1;
+  answer = h.answer;
+  broken = h.not_made;
 }
-stopped_by old new q i UnknownTxn s t moves h = refused_at old new q i UnknownTxn s t h.0 moves h.1
-stopped_by old new q i NotAChild s t moves h = refused_at old new q i NotAChild s t h.0 moves h.1
-stopped_by old new q i Closed s t moves h = refused_at old new q i Closed s t h.0 moves h.1
-stopped_by old new q i Failed s t moves h = refused_at old new q i Failed s t h.0 moves h.1
-stopped_by old new q i NotInDoubt s t moves h = refused_at old new q i NotInDoubt s t h.0 moves h.1
-stopped_by old new q i NothingToForget s t moves h = refused_at old new q i NothingToForget s t h.0 moves h.1
-stopped_by old new q i NoSuch s t moves h = refused_at old new q i NoSuch s t h.0 moves h.1
+stopped_by old new q i UnknownTxn s t moves h =
+    refused_at old new q i UnknownTxn s t h.answer moves (h.keeps (λ is. absurd cc)) h.not_made
+stopped_by old new q i NotAChild s t moves h =
+    refused_at old new q i NotAChild s t h.answer moves (h.keeps (λ is. absurd cc)) h.not_made
+stopped_by old new q i Closed s t moves h =
+    refused_at old new q i Closed s t h.answer moves (h.keeps (λ is. absurd cc)) h.not_made
+stopped_by old new q i Failed s t moves h =
+    refused_at old new q i Failed s t h.answer moves (h.keeps (λ is. absurd cc)) h.not_made
+stopped_by old new q i NotInDoubt s t moves h =
+    refused_at old new q i NotInDoubt s t h.answer moves (h.keeps (λ is. absurd cc)) h.not_made
+stopped_by old new q i NothingToForget s t moves h =
+    refused_at old new q i NothingToForget s t h.answer moves (h.keeps (λ is. absurd cc)) h.not_made
+stopped_by old new q i NoSuch s t moves h =
+    refused_at old new q i NoSuch s t h.answer moves (h.keeps (λ is. absurd cc)) h.not_made
 
 pub stopped : {L A : Type 0} (es fs : List (ProcessId × Node L)) (q : ProcessId) (i : Input)
     (before behind : Node L) (made : Result A StepError)
     → node_in es q ≡ Some before → node_in fs q ≡ Some behind
     → ((p : ProcessId) → same_process q p ≡ false → node_in fs p ≡ node_in es p)
-    → IfErr made (NotHandled (core_of before) (core_of behind) i)
-    → IfErr made (NoStepAt (nodes_at es) (nodes_at fs) q i)
+    → IfErr made (NotHandled (core_of before) (core_of behind) (data_of before) (data_of behind) i)
+    → IfErr made (NoStepAt (kept_at es) (kept_at fs) q i)
 stopped es fs q i before behind (Ok r) stood stands others h = tt
 stopped es fs q i before behind (Err e) stood stands others h =
-    stopped_by (nodes_at es) (nodes_at fs) q i e (core_of before) (core_of behind)
-    (moves_at es fs q before behind stood stands others) h
+    stopped_by (kept_at es) (kept_at fs) q i e (core_of before) (core_of behind)
+    (moves_at es fs q before behind stood stands others)
+    (subst (λ d. NotHandled (core_of before) (core_of behind) d ((kept_at fs).data_at q) i e)
+    (sym (data_stood es q before stood))
+    (subst (λ d. NotHandled (core_of before) (core_of behind) (data_of before) d i e)
+    (sym (data_stood fs q behind stands)) h))

@@ -1,5 +1,5 @@
 -- The processes of a tree, of every kind, as the definitions see them.
-use Rattle.std.specs.Prelude.{◌≡◌, ℕ, false, Option, Some, None, List, [], option_map}
+use Rattle.std.specs.Prelude.{◌≡◌, ◌≢◌, ℕ, false, Option, Some, None, List, [], option_map}
 use Rattle.std.specs.Map.{lookup}
 use Rattle.live_table.specs.Tables.{live_count}
 use Rattle.tree_model.specs.declared.names.ProcessId.{ProcessId}
@@ -18,6 +18,8 @@ use Rattle.core_model.specs.States.{CoreState}
 use Rattle.core_model.specs.Makes.{IsBroken, NotMade}
 use Rattle.coord_core.specs.States as coordinators
 use Rattle.kv_manager.specs.Resources.{sight_of}
+use Rattle.manager_model.specs.Data.{ManagerData, Rests, no_data}
+use Rattle.manager_model.specs.Sights.{manager_data}
 use Rattle.sub_core.specs.Steps as managers
 use Rattle.core_law.specs.worlds.Worlds.{HandlesInput, RefusesAt, SameNode}
 use Rattle.tree_world.specs.declared.node.Node.{Node}
@@ -37,9 +39,27 @@ live_at (Manager m) = live_count m.table.branches
 abbrev pub node_in : {L : Type 0} → List (ProcessId × Node L) → ProcessId → Option (Node L)
 node_in ns q = lookup (processes.ghosts.eq q) ns
 
+-- the data of a manager; a coordinator has none
+abbrev pub data_of : {L : Type 0} → Node L → ManagerData
+data_of (Coordinator c) = no_data
+data_of (Manager m) = manager_data (sight_of m.manager)
+
+abbrev pub data_in : {L : Type 0} → Option (Node L) → ManagerData
+data_in None = no_data
+data_in (Some n) = data_of n
+
+-- what the processes of a tree keep, and their data
+pub record NodesSight : Type 0 where
+  pub node_at : ProcessId → Option CoreState
+  pub data_at : ProcessId → ManagerData
+
 -- what each process keeps
 abbrev pub nodes_at : {L : Type 0} → List (ProcessId × Node L) → ProcessId → Option CoreState
 nodes_at ns q = option_map core_of (node_in ns q)
+
+-- the same, and their data
+abbrev pub kept_at : {L : Type 0} → List (ProcessId × Node L) → NodesSight
+kept_at ns = record { node_at = nodes_at ns; data_at = λ q. data_in (node_in ns q) }
 
 -- the records of a process's log; none, where there is no such process
 abbrev pub log_by : Option CoreState → List LogRecord
@@ -60,27 +80,35 @@ abbrev pub SpellsLogBy : Option CoreState → List ℕ → Type 0
 SpellsLogBy None text = text ≡ []
 SpellsLogBy (Some s) text = SpellsLog s text
 
+-- an error but the device's leaves data as they were
+abbrev pub KeepsData : ManagerData → ManagerData → StepError → Type 0
+KeepsData old new e = e ≢ Device → Rests old new
+
 -- why a process did not handle an input, and what that leaves
-abbrev pub NotHandled : CoreState → CoreState → Input → StepError → Type 0
-NotHandled old new i e = (answer : DataAnswer) × NotMade old new answer i e
+pub record NotHandled (old new : CoreState) (before behind : ManagerData) (i : Input)
+    (e : StepError) : Type 0 where
+  pub answer : DataAnswer
+  pub not_made : NotMade old new answer i e
+  pub keeps : KeepsData before behind e
 
 -- of the processes this one alone moves, from the first state to the second
-pub record MovesAt (old new : ProcessId → Option CoreState) (q : ProcessId)
+pub record MovesAt (old new : NodesSight) (q : ProcessId)
     (before behind : CoreState) : Type 0 where
-  pub stood : old q ≡ Some before
-  pub stands : new q ≡ Some behind
-  pub others : (p : ProcessId) → same_process q p ≡ false → new p ≡ old p
+  pub stood : old.node_at q ≡ Some before
+  pub stands : new.node_at q ≡ Some behind
+  pub others : (p : ProcessId) → same_process q p ≡ false → new.node_at p ≡ old.node_at p
+  pub others_data : (p : ProcessId) → same_process q p ≡ false → new.data_at p ≡ old.data_at p
 
 -- a process handles an input
-pub record StepsAt (old new : ProcessId → Option CoreState) (q : ProcessId) (input : Input)
+pub record StepsAt (old new : NodesSight) (q : ProcessId) (input : Input)
     (reaction : Reaction) : Type 0 where
   pub before : CoreState
   pub behind : CoreState
   pub moves : MovesAt old new q before behind
-  pub handles : HandlesInput before behind input reaction
+  pub handles : HandlesInput before behind (old.data_at q) (new.data_at q) input reaction
 
 -- the device of the process failed under an input
-pub record BreaksAt (old new : ProcessId → Option CoreState) (q : ProcessId) (input : Input) : Type 0 where
+pub record BreaksAt (old new : NodesSight) (q : ProcessId) (input : Input) : Type 0 where
   pub before : CoreState
   pub behind : CoreState
   pub moves : MovesAt old new q before behind
@@ -88,12 +116,12 @@ pub record BreaksAt (old new : ProcessId → Option CoreState) (q : ProcessId) (
   pub broken : IsBroken before behind answer input
 
 -- nothing is otherwise at any process
-abbrev pub SameNodes : (ProcessId → Option CoreState) → (ProcessId → Option CoreState) → Type 0
-SameNodes old new = (q : ProcessId) → SameNode (old q) (new q)
+pub record SameNodes (old new : NodesSight) : Type 0 where
+  pub nodes : (q : ProcessId) → SameNode (old.node_at q) (new.node_at q)
+  pub holdings : (q : ProcessId) → Rests (old.data_at q) (new.data_at q)
 
 -- why a process did not handle an input, and what that leaves of all
-abbrev pub NoStepAt : (ProcessId → Option CoreState) → (ProcessId → Option CoreState) → ProcessId → Input
-    → StepError → Type 0
+abbrev pub NoStepAt : NodesSight → NodesSight → ProcessId → Input → StepError → Type 0
 NoStepAt old new q i Memory = SameNodes old new
 NoStepAt old new q i Device = BreaksAt old new q i
-NoStepAt old new q i e = SameNodes old new × RefusesAt (old q) i e
+NoStepAt old new q i e = SameNodes old new × RefusesAt (old.node_at q) i e

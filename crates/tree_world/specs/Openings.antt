@@ -14,6 +14,8 @@ use Rattle.kv_manager.specs.declared.restart.RestartError.TheVariants as restart
 use Rattle.core_model.specs.States.{CoreState}
 use Rattle.core_model.specs.Opening.{IsOpened as OpensAt}
 use Rattle.core_law.specs.worlds.Runs.{NodeOpened}
+use Rattle.manager_model.specs.Data.{Rests, no_data}
+use Rattle.tree_world.specs.Nodes.{NodesSight}
 use Rattle.tree_world.specs.declared.opening.OpenError.{OpenError}
 use Rattle.tree_world.specs.declared.opening.OpenError.TheVariants.{Memory, Device, Store}
 
@@ -27,9 +29,10 @@ abbrev pub OpenedAs : List TreeEntry → TreeEntry → CoreState → Type 0
 OpenedAs tree e s = OpenedAt (record { me = e.id; role = role_by e.kind e.parent; tree = tree }) s
 
 -- of the tree, these processes have
-pub record AreOpened (tree listed : List TreeEntry) (node_at : ProcessId → Option CoreState) : Type 0 where
-  pub opened : (q : ProcessId) (s : CoreState) → node_at q ≡ Some s → NodeOpened tree q s
-  pub listed_are : (q : ProcessId) → is_some (node_at q) ≡ is_listed listed q
+pub record AreOpened (tree listed : List TreeEntry) (ns : NodesSight) : Type 0 where
+  pub opened : (q : ProcessId) (s : CoreState) → ns.node_at q ≡ Some s → NodeOpened tree q s
+  pub listed_are : (q : ProcessId) → is_some (ns.node_at q) ≡ is_listed listed q
+  pub holdings : (q : ProcessId) → Rests no_data (ns.data_at q)
 
 -- Refusals.
 

@@ -7,7 +7,7 @@ use Rattle.core_law.specs.worlds.Worlds.{WorldState}
 use Rattle.world_journal.specs.Journals.{JournalState}
 use Rattle.tree_world.specs.declared.node.Node.{Node}
 use Rattle.tree_world.specs.declared.running_tree.RunningTree.{RunningTree}
-use Rattle.tree_world.specs.Nodes.{log_by, nodes_at}
+use Rattle.tree_world.specs.Nodes.{kept_at, log_by}
 
 -- what a contract sees of a tree that runs: the tree, its processes by name, and the journal of their steps
 pub record WorldValue (L : Type 0) : Type 0 where
@@ -19,7 +19,8 @@ pub record WorldValue (L : Type 0) : Type 0 where
 abbrev pub state : {L : Type 0} → WorldValue L → WorldState
 state w = record {
   tree = w.tree;
-  node_at = nodes_at w.nodes;
+  node_at = (kept_at w.nodes).node_at;
+  data_at = (kept_at w.nodes).data_at;
   net = w.journal.net;
   delivered = w.journal.delivered;
   entries = w.journal.entries;

@@ -8,7 +8,9 @@ ghost use Rattle.coord_core.specs.States.{state as coordinator_state};
 ghost use Rattle.kv_manager.specs.Resources.{sight_of};
 ghost use Rattle.sub_core.specs.Steps.{state as manager_state};
 ghost use Rattle.core_law.specs.worlds.Worlds.{HandlesInput};
-ghost use Rattle.tree_world.specs.Nodes.{NotHandled, SpellsLog, core_of, live_at};
+ghost use Rattle.manager_model.specs.Data.{no_data};
+ghost use Rattle.manager_model.specs.Sights.{manager_data};
+ghost use Rattle.tree_world.specs.Nodes.{NotHandled, SpellsLog, core_of, data_of, live_at};
 
 use coord_core::Coordinator;
 use core_model::InputRef;
@@ -84,8 +86,10 @@ impl<L: LogStore> Node<L> {
     /// process answers Failed until its restart.
     pub fn step(&mut self, input: InputRef<'_>) -> Result<Reaction, StepError>
         requires numbers { HasNumbers (core_of self.old) }
-        ensures ok { IfOk result (HandlesInput (core_of self.old) (core_of self.new) (input_of input.entry)) }
-        ensures err { IfErr result (NotHandled (core_of self.old) (core_of self.new) (input_of input.entry)) }
+        ensures ok { IfOk result (HandlesInput (core_of self.old) (core_of self.new)
+            (data_of self.old) (data_of self.new) (input_of input.entry)) }
+        ensures err { IfErr result (NotHandled (core_of self.old) (core_of self.new)
+            (data_of self.old) (data_of self.new) (input_of input.entry)) }
     {
         match self {
             Node::Coordinator(coordinator) => step_coordinator(coordinator, input),
@@ -95,8 +99,10 @@ impl<L: LogStore> Node<L> {
 
     /// The same, and Memory where no numbers are left, by which nothing changed.
     pub(crate) fn handle(&mut self, input: InputRef<'_>) -> Result<Reaction, StepError>
-        ensures ok { IfOk result (HandlesInput (core_of self.old) (core_of self.new) (input_of input.entry)) }
-        ensures err { IfErr result (NotHandled (core_of self.old) (core_of self.new) (input_of input.entry)) }
+        ensures ok { IfOk result (HandlesInput (core_of self.old) (core_of self.new)
+            (data_of self.old) (data_of self.new) (input_of input.entry)) }
+        ensures err { IfErr result (NotHandled (core_of self.old) (core_of self.new)
+            (data_of self.old) (data_of self.new) (input_of input.entry)) }
     {
         if !self.has_numbers() {
             return Err(StepError::Memory);
@@ -119,9 +125,9 @@ fn step_coordinator<L: LogStore>(
 ) -> Result<Reaction, StepError>
     requires { HasNumbers (coordinator_state coordinator.old) }
     ensures ok { IfOk result (HandlesInput (coordinator_state coordinator.old)
-        (coordinator_state coordinator.new) (input_of input.entry)) }
+        (coordinator_state coordinator.new) no_data no_data (input_of input.entry)) }
     ensures err { IfErr result (NotHandled (coordinator_state coordinator.old)
-        (coordinator_state coordinator.new) (input_of input.entry)) }
+        (coordinator_state coordinator.new) no_data no_data (input_of input.entry)) }
 {
     coordinator.step(input)
 }
@@ -133,9 +139,11 @@ fn step_manager<L: LogStore>(
 ) -> Result<Reaction, StepError>
     requires numbers { HasNumbers (manager_state sight_of manager.old) }
     ensures ok { IfOk result (HandlesInput (manager_state sight_of manager.old)
-        (manager_state sight_of manager.new) (input_of input.entry)) }
+        (manager_state sight_of manager.new) (manager_data (sight_of manager.old.manager))
+        (manager_data (sight_of manager.new.manager)) (input_of input.entry)) }
     ensures err { IfErr result (NotHandled (manager_state sight_of manager.old)
-        (manager_state sight_of manager.new) (input_of input.entry)) }
+        (manager_state sight_of manager.new) (manager_data (sight_of manager.old.manager))
+        (manager_data (sight_of manager.new.manager)) (input_of input.entry)) }
 {
     manager.step(input)
 }

@@ -2,7 +2,7 @@
 
 ghost use Rattle.std.specs.Prelude.{◌≡◌, false, IfErr, IfOk, option_map};
 ghost use Rattle.core_model.specs.Inputs.{input_of};
-ghost use Rattle.tree_world.specs.Nodes.{NoStepAt, SpellsLogBy, StepsAt, live_at, log_by, node_in, nodes_at};
+ghost use Rattle.tree_world.specs.Nodes.{NoStepAt, SpellsLogBy, StepsAt, kept_at, live_at, log_by, node_in, nodes_at};
 ghost use Rattle.tree_world.specs.Restarts.{NoRestartAt, NoTrimAt, RestartsAt, TrimsAt};
 
 use crate::node::Node;
@@ -26,10 +26,10 @@ impl<L: LogStore> Nodes<L> {
         process: ProcessId,
         input: InputRef<'_>,
     ) -> Result<Reaction, StepError>
-        ensures ok { IfOk result (StepsAt (nodes_at self.old.nodes.entries)
-            (nodes_at self.new.nodes.entries) process (input_of input.entry)) }
-        ensures err { IfErr result (NoStepAt (nodes_at self.old.nodes.entries)
-            (nodes_at self.new.nodes.entries) process (input_of input.entry)) }
+        ensures ok { IfOk result (StepsAt (kept_at self.old.nodes.entries)
+            (kept_at self.new.nodes.entries) process (input_of input.entry)) }
+        ensures err { IfErr result (NoStepAt (kept_at self.old.nodes.entries)
+            (kept_at self.new.nodes.entries) process (input_of input.entry)) }
     {
         let Some(node) = self.nodes.get_mut(&process) else {
             return Err(StepError::NoSuch);
@@ -44,10 +44,10 @@ impl<L: LogStore> Nodes<L> {
         process: ProcessId,
         bytes: Option<u64>,
     ) -> Result<(u64, Reaction), StepError>
-        ensures ok { IfOk result (RestartsAt (nodes_at self.old.nodes.entries)
-            (nodes_at self.new.nodes.entries) process bytes) }
-        ensures err { IfErr result (NoRestartAt (nodes_at self.old.nodes.entries)
-            (nodes_at self.new.nodes.entries) process bytes) }
+        ensures ok { IfOk result (RestartsAt (kept_at self.old.nodes.entries)
+            (kept_at self.new.nodes.entries) process bytes) }
+        ensures err { IfErr result (NoRestartAt (kept_at self.old.nodes.entries)
+            (kept_at self.new.nodes.entries) process bytes) }
     {
         match self.nodes.get_mut(&process) {
             None => Err(StepError::NoSuch),
@@ -57,10 +57,10 @@ impl<L: LogStore> Nodes<L> {
 
     /// The log of a process is trimmed. Gives how many records remain. NoSuch: there is no such process.
     pub(crate) fn trim(&mut self, process: ProcessId) -> Result<u64, StepError>
-        ensures ok { IfOk result (TrimsAt (nodes_at self.old.nodes.entries)
-            (nodes_at self.new.nodes.entries) process) }
-        ensures err { IfErr result (NoTrimAt (nodes_at self.old.nodes.entries)
-            (nodes_at self.new.nodes.entries) process) }
+        ensures ok { IfOk result (TrimsAt (kept_at self.old.nodes.entries)
+            (kept_at self.new.nodes.entries) process) }
+        ensures err { IfErr result (NoTrimAt (kept_at self.old.nodes.entries)
+            (kept_at self.new.nodes.entries) process) }
     {
         match self.nodes.get_mut(&process) {
             None => Err(StepError::NoSuch),

@@ -22,7 +22,8 @@ ghost use Rattle.tree_world.specs.Openings.{
   error_of_manager,
   error_of_step,
 };
-ghost use Rattle.tree_world.specs.Nodes.{core_of, nodes_at};
+ghost use Rattle.manager_model.specs.Data.{Rests, no_data};
+ghost use Rattle.tree_world.specs.Nodes.{core_of, data_of, kept_at, nodes_at};
 ghost use Rattle.tree_world.specs.Worlds.{state};
 
 use crate::node::Node;
@@ -154,6 +155,7 @@ fn open_coordinator<L: LogStore + Drop>(
     requires { L.bytes store ≡ [] }
     ensures ok { IfOk result (λ node. OpenedAt
         (record { me = me; role = role_by kind.Coordinator parent; tree = tree }) (core_of node)) }
+    ensures holdings { IfOk result (λ node. Rests no_data (data_of node)) }
     ensures err { IfErr result (ProcessNotOpened L.bytes L.failures me (Some store)) }
 {
     let log = empty_log(alloc, me, store)?;
@@ -174,6 +176,7 @@ fn open_manager<L: LogStore + Drop>(
     requires { L.bytes store ≡ [] }
     ensures ok { IfOk result
         (λ node. OpenedAt (record { me = me; role = Role.AtLeaf parent; tree = tree }) (core_of node)) }
+    ensures holdings { IfOk result (λ node. Rests no_data (data_of node)) }
     ensures err { IfErr result (ProcessNotOpened L.bytes L.failures me (Some store)) }
 {
     match KvManager::create(store, alloc) {
@@ -191,6 +194,7 @@ fn open_node<L: LogStore + Drop>(
 ) -> Result<Node<L>, OpenError>
     requires { L.bytes store ≡ [] }
     ensures ok { IfOk result (λ node. OpenedAs tree entry.now (core_of node)) }
+    ensures holdings { IfOk result (λ node. Rests no_data (data_of node)) }
     ensures err { IfErr result (ProcessNotOpened L.bytes L.failures entry.now.id (Some store)) }
 {
     match (entry.kind, entry.parent) {
@@ -228,6 +232,9 @@ fn open_more<L: LogStore + Drop>(
         (OpenedAs tree.now entry.now)) }
     ensures others { OnOk result ((q : AnyProcess) → same_process entry.now.id q ≡ false
         → nodes_at nodes.new.entries q ≡ nodes_at nodes.old.entries q) }
+    ensures holdings { OnOk result (Rests no_data ((kept_at nodes.new.entries).data_at entry.now.id)) }
+    ensures others_data { OnOk result ((q : AnyProcess) → same_process entry.now.id q ≡ false
+        → (kept_at nodes.new.entries).data_at q ≡ (kept_at nodes.old.entries).data_at q) }
     ensures err { IfErr result (ProcessNotOpened L.bytes L.failures entry.now.id store) }
 {
     let Some(store) = store else {
@@ -248,7 +255,7 @@ fn opened_over<L: LogStore + Drop>(
     stores: Vec<L>,
 ) -> Result<IndexMap<ProcessId, Node<L>>, OpenError>
     requires { IsTree tree.now }
-    ensures ok { IfOk result (λ nodes. AreOpened tree.now tree.now (nodes_at nodes.entries)) }
+    ensures ok { IfOk result (λ nodes. AreOpened tree.now tree.now (kept_at nodes.entries)) }
     ensures err { IfErr result (NotOpened L.bytes L.failures tree.now stores.items) }
 {
     let mut stores = stores.into_iter();

@@ -1,16 +1,24 @@
 //! Restart and trim of one process.
 
-ghost use Rattle.std.specs.Prelude.{◌≡◌, IfErr, IfOk};
+ghost use Rattle.std.specs.Prelude.{◌≡◌, IfErr, IfOk, OnOk};
 ghost use Rattle.rec_log.specs.Sights.{left_by, records_of};
 ghost use Rattle.core_model.specs.Restarting.{NotRestarted, NotTrimmed, Restarts, Trims};
 ghost use Rattle.core_law.specs.Steps.{IsSoundLog, records_kept};
-ghost use Rattle.core_law.specs.worlds.Worlds.{KeepsBytes};
-ghost use Rattle.tree_world.specs.Nodes.{core_of};
+ghost use Rattle.core_law.specs.worlds.Worlds.{KeepsBytes, RestartsData, TrimsData};
+ghost use Rattle.coord_core.specs.States.{state as coordinator_state};
+ghost use Rattle.kv_manager.specs.Resources.{sight_of};
+ghost use Rattle.manager_model.specs.Data.{no_data};
+ghost use Rattle.manager_model.specs.Sights.{manager_data};
+ghost use Rattle.sub_core.specs.Steps.{state as manager_state};
+ghost use Rattle.tree_world.specs.Nodes.{KeepsData, core_of, data_of};
 ghost use Rattle.tree_world.specs.Restarts.{NoRestart, NoTrim, RestartsNode, TrimsNode};
 
 use crate::node::Node;
+use coord_core::Coordinator;
+use kv_manager::KvManager;
 use log_store::LogStore;
 use std::alloc::AllocError;
+use sub_core::Subordinate;
 use tree_model::{Reaction, StepError};
 
 impl<L: LogStore> Node<L> {
@@ -20,11 +28,14 @@ impl<L: LogStore> Node<L> {
     /// restarted again.
     pub fn restart(&mut self, keep: usize) -> Result<Reaction, StepError>
         ensures ok { IfOk result (Restarts (core_of self.old) keep (core_of self.new)) }
+        ensures holdings { OnOk result (RestartsData (core_of self.old).place.role
+            (left_by (core_of self.old).log keep) (data_of self.new)) }
         ensures err { IfErr result (NotRestarted (core_of self.old) keep (core_of self.new)) }
+        ensures kept { IfErr result (KeepsData (data_of self.old) (data_of self.new)) }
     {
         match self {
-            Node::Coordinator(coordinator) => coordinator.restart(keep),
-            Node::Manager(manager) => manager.restart(keep),
+            Node::Coordinator(coordinator) => restart_coordinator(coordinator, keep),
+            Node::Manager(manager) => restart_manager(manager, keep),
         }
     }
 
@@ -33,11 +44,14 @@ impl<L: LogStore> Node<L> {
     /// changed. Device: the old log stands or the new one, and the process answers Failed until its restart.
     pub fn trim(&mut self) -> Result<u64, StepError>
         ensures ok { IfOk result (Trims (core_of self.old) (core_of self.new)) }
+        ensures holdings { OnOk result (TrimsData (core_of self.old).place.role
+            (data_of self.old) (data_of self.new)) }
         ensures err { IfErr result (NotTrimmed (core_of self.old) (core_of self.new)) }
+        ensures kept { IfErr result (KeepsData (data_of self.old) (data_of self.new)) }
     {
         match self {
-            Node::Coordinator(coordinator) => coordinator.trim(),
-            Node::Manager(manager) => manager.trim(),
+            Node::Coordinator(coordinator) => trim_coordinator(coordinator),
+            Node::Manager(manager) => trim_manager(manager),
         }
     }
 
@@ -86,8 +100,10 @@ impl<L: LogStore> Node<L> {
         &mut self,
         bytes: Option<u64>,
     ) -> Result<(u64, Reaction), StepError>
-        ensures ok { IfOk result (RestartsNode (core_of self.old) (core_of self.new) bytes) }
-        ensures err { IfErr result (NoRestart (core_of self.old) (core_of self.new) bytes) }
+        ensures ok { IfOk result (RestartsNode (core_of self.old) (core_of self.new)
+            (data_of self.new) bytes) }
+        ensures err { IfErr result (NoRestart (core_of self.old) (core_of self.new)
+            (data_of self.old) (data_of self.new) bytes) }
     {
         let keep = self.kept_of(bytes);
         let kept = self.left_behind(keep)? as u64;
@@ -97,8 +113,10 @@ impl<L: LogStore> Node<L> {
 
     /// Trims the log of a process that is up.
     pub(crate) fn trim_sound(&mut self) -> Result<u64, StepError>
-        ensures ok { IfOk result (TrimsNode (core_of self.old) (core_of self.new)) }
-        ensures err { IfErr result (NoTrim (core_of self.old) (core_of self.new)) }
+        ensures ok { IfOk result (TrimsNode (core_of self.old) (core_of self.new)
+            (data_of self.old) (data_of self.new)) }
+        ensures err { IfErr result (NoTrim (core_of self.old) (core_of self.new)
+            (data_of self.old) (data_of self.new)) }
     {
         self.records_are_sound();
         if self.failed() {
@@ -106,4 +124,62 @@ impl<L: LogStore> Node<L> {
         }
         self.trim()
     }
+}
+
+/// A coordinator restarts; it has no data.
+fn restart_coordinator<L: LogStore>(
+    coordinator: &mut Coordinator<L>,
+    keep: usize,
+) -> Result<Reaction, StepError>
+    ensures ok { IfOk result (Restarts (coordinator_state coordinator.old) keep
+        (coordinator_state coordinator.new)) }
+    ensures holdings { OnOk result (RestartsData (coordinator_state coordinator.old).place.role
+        (left_by (coordinator_state coordinator.old).log keep) no_data) }
+    ensures err { IfErr result (NotRestarted (coordinator_state coordinator.old) keep
+        (coordinator_state coordinator.new)) }
+    ensures kept { IfErr result (KeepsData no_data no_data) }
+{
+    coordinator.restart(keep)
+}
+
+/// A manager restarts; its data are what its branches in doubt promised.
+fn restart_manager<L: LogStore>(
+    manager: &mut Subordinate<KvManager<L>>,
+    keep: usize,
+) -> Result<Reaction, StepError>
+    ensures ok { IfOk result (Restarts (manager_state sight_of manager.old) keep
+        (manager_state sight_of manager.new)) }
+    ensures holdings { OnOk result (RestartsData (manager_state sight_of manager.old).place.role
+        (left_by (manager_state sight_of manager.old).log keep)
+        (manager_data (sight_of manager.new.manager))) }
+    ensures err { IfErr result (NotRestarted (manager_state sight_of manager.old) keep
+        (manager_state sight_of manager.new)) }
+    ensures kept { IfErr result (KeepsData (manager_data (sight_of manager.old.manager))
+        (manager_data (sight_of manager.new.manager))) }
+{
+    manager.restart(keep)
+}
+
+/// The log of a coordinator is trimmed.
+fn trim_coordinator<L: LogStore>(coordinator: &mut Coordinator<L>) -> Result<u64, StepError>
+    ensures ok { IfOk result (Trims (coordinator_state coordinator.old) (coordinator_state coordinator.new)) }
+    ensures holdings { OnOk result (TrimsData (coordinator_state coordinator.old).place.role no_data no_data) }
+    ensures err { IfErr result (NotTrimmed (coordinator_state coordinator.old)
+        (coordinator_state coordinator.new)) }
+    ensures kept { IfErr result (KeepsData no_data no_data) }
+{
+    coordinator.trim()
+}
+
+/// The log of a manager is trimmed, and its data stay.
+fn trim_manager<L: LogStore>(manager: &mut Subordinate<KvManager<L>>) -> Result<u64, StepError>
+    ensures ok { IfOk result (Trims (manager_state sight_of manager.old) (manager_state sight_of manager.new)) }
+    ensures holdings { OnOk result (TrimsData (manager_state sight_of manager.old).place.role
+        (manager_data (sight_of manager.old.manager)) (manager_data (sight_of manager.new.manager))) }
+    ensures err { IfErr result (NotTrimmed (manager_state sight_of manager.old)
+        (manager_state sight_of manager.new)) }
+    ensures kept { IfErr result (KeepsData (manager_data (sight_of manager.old.manager))
+        (manager_data (sight_of manager.new.manager))) }
+{
+    manager.trim()
 }

@@ -58,6 +58,7 @@ same_by journal es w s t f same =
             nodes = same.nodes;
             net = same.net;
             delivered = same.delivered;
+            holdings = same.holdings;
             entries = refl;
           });
       shown = f.shown ∙ sym same.entries;

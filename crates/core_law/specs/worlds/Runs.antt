@@ -7,6 +7,7 @@ use Rattle.tree_model.specs.declared.trees.TreeEntry.{TreeEntry}
 use Rattle.tree_model.specs.Nodes.{is_listed, place_of}
 use Rattle.core_model.specs.States.{CoreState}
 use Rattle.core_model.specs.Opening.{IsOpened as OpensAt}
+use Rattle.manager_model.specs.Data.{Rests, no_data}
 use Rattle.core_law.specs.worlds.Worlds.{Applies, Stops, WorldState}
 
 -- the events were made, one after another
@@ -28,11 +29,12 @@ pub record NodeOpened (tree : List TreeEntry) (q : ProcessId) (s : CoreState) : 
   pub failures : ℕ
   pub opened : OpensAt s (place_of tree q) failures
 
--- every process has opened an empty log
+-- every process has opened an empty log, and no manager has data
 pub record IsOpened (w : WorldState) (tree : List TreeEntry) : Type 0 where
   pub tree_is : w.tree ≡ tree
   pub nodes : (q : ProcessId) (s : CoreState) → w.node_at q ≡ Some s → NodeOpened tree q s
   pub listed : (q : ProcessId) → is_some (w.node_at q) ≡ is_listed tree q
+  pub holdings : (q : ProcessId) → Rests no_data (w.data_at q)
   pub net : w.net ≡ []
   pub delivered : w.delivered ≡ []
   pub entries : w.entries ≡ []

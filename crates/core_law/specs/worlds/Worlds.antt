@@ -1,5 +1,7 @@
 -- A tree that runs: its processes, every message ever sent, and every step made. What each event makes of it.
-use Rattle.std.specs.Prelude.{◌≡◌, ◌+◌, ◌<◌, ℕ, zero, suc, Bool, true, false, Option, Some, None, List, [], ◌∷◌, ◌++◌, slice_set, map}
+use Rattle.std.specs.Prelude.{◌≡◌, ◌+◌, ◌<◌, ⊤, ℕ, zero, suc, Bool, true, false, Option, Some, None, List, [], ◌∷◌, ◌++◌, slice_set, map}
+use Rattle.xa_xid.specs.declared.xid.Xid.{Xid}
+use Rattle.tree_model.specs.declared.records.LogRecord.{LogRecord}
 use Rattle.tree_model.specs.declared.names.Case.{Case}
 use Rattle.tree_model.specs.declared.names.ProcessId.{ProcessId}
 use Rattle.tree_model.specs.declared.messages.Envelope.{Envelope}
@@ -16,7 +18,7 @@ use Rattle.tree_model.specs.declared.events.StepError.{StepError}
 use Rattle.tree_model.specs.declared.events.StepError.TheVariants.{Memory, Device, Failed, NoSuch}
 use Rattle.tree_model.specs.declared.trees.TreeEntry.{TreeEntry}
 use Rattle.tree_model.specs.Names.{same_process}
-use Rattle.tree_model.specs.Nodes.{DataAnswer}
+use Rattle.tree_model.specs.Nodes.{AtLeaf, DataAnswer, Role}
 use Rattle.tree_model.specs.Trees.{root_of}
 use Rattle.tree_model.specs.Plays.{process_of_act, sent_as}
 use Rattle.rec_log.specs.Sights.{left_by, records_of}
@@ -24,23 +26,36 @@ use Rattle.core_model.specs.States.{CoreState, SameCore}
 use Rattle.core_model.specs.Turns.{Finds, Refuses, asked_by, turn_of}
 use Rattle.core_model.specs.Makes.{IsBroken, Makes}
 use Rattle.core_model.specs.Restarting.{NotRestarted, NotTrimmed, Restarts, Trims}
+use Rattle.manager_model.specs.Data.{HoldWrites, ManagerData, Rests}
+use Rattle.manager_model.specs.Turns.{AnswersInput, MovesData, case_xid, data_turn}
+use Rattle.manager_model.specs.Restarting.{writes_left}
 use Rattle.core_law.specs.Steps.{IsSoundLog, restart_of, trim_reaction}
 
--- The tree, what each process keeps, every message ever sent (the first has number 1) with the mark whether
--- it was delivered, and every step that was made with its reaction.
+-- The tree, what each process keeps, the data of each manager (of a coordinator this says nothing), every
+-- message ever sent (the first has number 1) with the mark whether it was delivered, and every step that was
+-- made with its reaction.
 pub record WorldState : Type 0 where
   pub tree : List TreeEntry
   pub node_at : ProcessId → Option CoreState
+  pub data_at : ProcessId → ManagerData
   pub net : List Envelope
   pub delivered : List Bool
   pub entries : List Entry
 
 -- One step.
 
+-- a manager's data answer so to an input, and behind it they are what it makes of them; a coordinator has none
+abbrev pub HandlesData : Role → ManagerData → ManagerData → CoreState → DataAnswer → Input → Type 0
+HandlesData (AtLeaf p) before behind s a input =
+    AnswersInput before (case_xid p) input a × MovesData before behind (case_xid p) (data_turn s a input)
+HandlesData _ before behind s a input = ⊤
+
 -- a process makes an input, with what its manager's data answer to it
-pub record HandlesInput (old new : CoreState) (input : Input) (reaction : Reaction) : Type 0 where
+pub record HandlesInput (old new : CoreState) (before behind : ManagerData) (input : Input)
+    (reaction : Reaction) : Type 0 where
   pub answer : DataAnswer
   pub makes : Makes old new answer input reaction
+  pub holdings : HandlesData old.place.role before behind old answer input
 
 -- of the processes this one alone moves, from the first state to the second
 pub record MovesNode (old new : WorldState) (q : ProcessId) (before behind : CoreState) : Type 0 where
@@ -48,6 +63,7 @@ pub record MovesNode (old new : WorldState) (q : ProcessId) (before behind : Cor
   pub stood : old.node_at q ≡ Some before
   pub stands : new.node_at q ≡ Some behind
   pub others : (p : ProcessId) → same_process q p ≡ false → new.node_at p ≡ old.node_at p
+  pub others_data : (p : ProcessId) → same_process q p ≡ false → new.data_at p ≡ old.data_at p
 
 -- the journal's entry of what happened at a process
 abbrev pub step_entry : ProcessId → Happening → Reaction → Entry
@@ -75,13 +91,29 @@ pub record Steps (old new : WorldState) (q : ProcessId) (input : Input) (marked 
   pub behind : CoreState
   pub reaction : Reaction
   pub moves : MovesNode old new q before behind
-  pub handles : HandlesInput before behind input reaction
+  pub handles : HandlesInput before behind (old.data_at q) (new.data_at q) input reaction
   pub enters : Enters old new q (Handles input) reaction marked
 
 -- so many bytes behind the forced front are kept as a restart names; all of its records, where it names none
 abbrev pub KeepsBytes : CoreState → Option ℕ → ℕ → Type 0
 KeepsBytes s (Some bytes) keep = keep ≡ bytes
 KeepsBytes s None keep = left_by s.log keep ≡ records_of s.log.kept
+
+-- behind a restart where these records are left, each branch of a manager that is in doubt has written and holds
+-- what it promised, and nothing else is written or held
+pub record HoldsPromises (left : List LogRecord) (behind : ManagerData) : Type 0 where
+  pub writes : (x : Xid) → behind.writes x ≡ writes_left left x
+  pub held : HoldWrites (writes_left left) behind.holders
+
+-- the same of a process of this role; a coordinator has no data
+abbrev pub RestartsData : Role → List LogRecord → ManagerData → Type 0
+RestartsData (AtLeaf p) left behind = HoldsPromises left behind
+RestartsData _ left behind = ⊤
+
+-- a trim leaves the data of a manager as they are
+abbrev pub TrimsData : Role → ManagerData → ManagerData → Type 0
+TrimsData (AtLeaf p) before behind = Rests before behind
+TrimsData _ before behind = ⊤
 
 -- a process restarts, and the step is entered, with the number of its unforced records that were kept
 pub record RestartsAt (old new : WorldState) (q : ProcessId) (bytes : Option ℕ) : Type 0 where
@@ -92,6 +124,7 @@ pub record RestartsAt (old new : WorldState) (q : ProcessId) (bytes : Option ℕ
   pub moves : MovesNode old new q before behind
   pub keeps : KeepsBytes before bytes keep
   pub restarts : Restarts before keep behind reaction
+  pub holdings : RestartsData before.place.role (left_by before.log keep) (new.data_at q)
   pub enters : Enters old new q (restart_of before keep) reaction old.delivered
 
 -- the log of a process that is up, and whose records can stand in one, is trimmed, and the step is entered,
@@ -104,6 +137,7 @@ pub record TrimsAt (old new : WorldState) (q : ProcessId) : Type 0 where
   pub works : before.log.failed ≡ false
   pub sound : IsSoundLog before
   pub trims : Trims before behind remain
+  pub holdings : TrimsData before.place.role (old.data_at q) (new.data_at q)
   pub enters : Enters old new q Trimming (trim_reaction remain) old.delivered
 
 -- Events.
@@ -155,6 +189,7 @@ SameNode _ _ = ⊥
 pub record Same (old new : WorldState) : Type 0 where
   pub tree : new.tree ≡ old.tree
   pub nodes : (q : ProcessId) → SameNode (old.node_at q) (new.node_at q)
+  pub holdings : (q : ProcessId) → Rests (old.data_at q) (new.data_at q)
   pub net : new.net ≡ old.net
   pub delivered : new.delivered ≡ old.delivered
   pub entries : new.entries ≡ old.entries

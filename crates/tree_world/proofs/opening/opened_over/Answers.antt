@@ -7,7 +7,7 @@ use Rattle.tree_world.proofs.opening.opened_over.Goals as goal
 
 pub loop-entry-init : goal.loop-entry-init
 loop-entry-init g c = record {
-  opened = rw c.new-nodes.ensures.empty (none c.args.tree.now _ (λ q. refl));
+  opened = rw c.new-nodes.ensures.empty (none c.args.tree.now _ (λ q. refl) (λ q. refl));
   remain = record {
     items_are = c.into_iter-stores.ensures.rest;
     count_is = c.into_iter-stores.ensures.len ∙ c.args.stores.ok.0
@@ -33,7 +33,8 @@ loop-entry-preserved g c = record {
       c.loop-entry-test.true c.entry-item.is
       (new_at c.args.tree.now c.loop-entry.entry-index c.entry-item.result c.requires
       c.loop-entry-test.true c.entry-item.is)
-      c.in_ok-open_more.ensures.own c.in_ok-open_more.ensures.others c.loop-entry.invariant.opened;
+      c.in_ok-open_more.ensures.own c.in_ok-open_more.ensures.holdings
+      c.in_ok-open_more.ensures.others c.in_ok-open_more.ensures.others_data c.loop-entry.invariant.opened;
   remain = (takes c.args.stores.items _ _ c.loop-entry.entry-index _ _ c.next.result
       c.loop-entry.invariant.remain c.next.ensures.items c.next.ensures.len c.next.ensures.variant).0;
 }

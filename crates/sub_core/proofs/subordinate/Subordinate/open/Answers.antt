@@ -1,4 +1,4 @@
-use Rattle.std.proofs.Common.{◌≡◌}
+use Rattle.std.proofs.Common.{◌≡◌, ◌∙◌}
 use Rattle.xa_codes.specs.declared.code.Code.TheVariants as code
 use Rattle.manager_model.specs.Sights.{ManagerSight}
 use Rattle.sub_core.proofs.Opened.{opened, opened_tied}
@@ -12,8 +12,15 @@ invariant_of-result g c =
     c.args.parent c.args.tree c.new.result
     c.new.ensures.tickets c.new.ensures.branches
 
-pub returns : goal.returns
-returns g c =
+pub returns-clause-empty : goal.returns-clause-empty
+returns-clause-empty g c =
+    record {
+      writes = λ y. c.open.ensures.rest.writes y ∙ c.requires.writes y;
+      holders = λ k. c.open.ensures.rest.holders k ∙ c.requires.holders k;
+    }
+
+pub returns-clause-opened : goal.returns-clause-opened
+returns-clause-opened g c =
     let old : ManagerSight = g.M.ResourceManager.sight c.args.manager in
     let new : ManagerSight = g.M.ResourceManager.sight c.open.new.self in
     opened old new c.requires (λ answer. answer ≡ code.RmFail) c.open.result c.open.ensures c.args.me

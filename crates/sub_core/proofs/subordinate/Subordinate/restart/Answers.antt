@@ -1,16 +1,15 @@
 use Rattle.std.proofs.Common.{◌≡◌, ◌∙◌, None, sym, subst}
 use Rattle.xa_codes.specs.declared.code.Code.TheVariants as code
-use Rattle.xa_xid.specs.declared.xid.Xid.{Xid}
 use Rattle.rec_log.specs.Sights.{left_by}
 use Rattle.core_model.specs.Restarting.{NotRestarted, Restarts}
 use Rattle.tree_model.specs.declared.events.StepError.TheVariants.{Device}
 use Rattle.manager_model.specs.Sights.{ManagerSight}
-use Rattle.manager_model.specs.Restarting.{NotRestarted as NotRestartedBy, writes_left}
+use Rattle.manager_model.specs.Restarting.{NotRestarted as NotRestartedBy}
 use Rattle.sub_table.specs.declared.rebuilt.Rebuilt.{Rebuilt}
 use Rattle.sub_table.specs.Rebuilt.{Rebuilds}
 use Rattle.tree_model.specs.Views.{leaf_place}
-use Rattle.sub_core.specs.Subordinates.{SubState, core_of}
-use Rattle.sub_core.specs.Steps.{Reopens, state}
+use Rattle.sub_core.specs.Subordinates.{SubState, core_of, seen}
+use Rattle.sub_core.specs.Steps.{LeavesPromises, Reopens, state}
 use Rattle.sub_core.proofs.Restarted.{broken, broken_tied, reopened_tied, restarted}
 use Rattle.sub_core.proofs.Ties.{behind, same_tied}
 use Rattle.sub_core.proofs.subordinate.Subordinate.restart.Goals as goal
@@ -122,6 +121,27 @@ pub returns-in-Ok-clause-writes : goal.returns-in-Ok-clause-writes
 returns-in-Ok-clause-writes g c =
     let m : ManagerSight = g.M.ResourceManager.sight c.reopen.new.manager in
     let re : Reopens (g.M.ResourceManager.sight c.self.inside.manager) m c.args.keep = c.in-Ok.ensures.ok in
-    subst (λ v. (x : Xid) → m.writes x ≡ writes_left
-    (left_by (g.M.ResourceManager.sight v.manager).log c.args.keep) x) c.self.view_is
-    (λ x. re.calls.rest.writes x ∙ re.restarts.writes x)
+    let s : SubState = record {
+      me = c.self.inside.me;
+      parent = c.self.inside.parent;
+      tree = c.self.inside.tree;
+      given = c.self.inside.given;
+      table = c.self.inside.branches;
+      manager = g.M.ResourceManager.sight c.self.inside.manager;
+    } in
+    subst (λ v. LeavesPromises (seen g.M.ResourceManager.sight v) c.args.keep
+    (record {
+      me = s.me;
+      parent = s.parent;
+      tree = s.tree;
+      given = 0;
+      table = c.in_ok-rebuilt.rebuilt.branches;
+      manager = m;
+    })) c.self.view_is
+    (record {
+      writes = λ x. re.calls.rest.writes x ∙ re.restarts.writes x;
+      held = record {
+        held = λ x k named. re.calls.rest.holders k ∙ re.restarts.held.held x k named;
+        free = λ k none. re.calls.rest.holders k ∙ re.restarts.held.free k none;
+      };
+    })

@@ -2,7 +2,7 @@ use Rattle.std.proofs.Common.{◌≡◌, None, Some, arith, rules}
 use Rattle.tree_model.specs.declared.events.Event.TheVariants.{Settle}
 use Rattle.tree_model.specs.declared.events.StepError.TheVariants.{Memory}
 use Rattle.core_law.specs.worlds.Worlds.{Stops, least_open}
-use Rattle.tree_world.specs.Nodes.{nodes_at}
+use Rattle.tree_world.specs.Nodes.{kept_at}
 use Rattle.tree_world.specs.Worlds.{running_state}
 use Rattle.tree_world.proofs.Handling.{no_success, passed_on, stays, world}
 use Rattle.tree_world.proofs.Settling.{settled, settled_all, settles_one_more, short}
@@ -12,7 +12,7 @@ pub loop-preserved : goal.loop-preserved
 loop-preserved g c =
     let first : Some c.in-Some.number ≡ least_open 1 (running_state c.loop.self).delivered = search rules in
     settles_one_more c.loop.counter (running_state c.args.self.now)
-    (world c.loop.self.tree (nodes_at c.loop.self.nodes.nodes.entries)
+    (world c.loop.self.tree (kept_at c.loop.self.nodes.nodes.entries)
     c.least_open.new.self) (running_state c.loop.self)
     (running_state c.deliver_ready.new.self) c.in-Some.number
     (stays _ _ _ _ c.least_open.ensures.keeps) c.loop.invariant first
@@ -22,12 +22,12 @@ pub returns-in_default-clause-ok : goal.returns-in_default-clause-ok
 returns-in_default-clause-ok g c =
     let none : None ≡ least_open 1 (running_state c.loop.self).delivered = search rules in
     settled 10000 c.loop.counter (running_state c.args.self.now) (running_state c.loop.self)
-    (world c.loop.self.tree (nodes_at c.loop.self.nodes.nodes.entries) c.least_open.new.self)
+    (world c.loop.self.tree (kept_at c.loop.self.nodes.nodes.entries) c.least_open.new.self)
     c.loop-test.true c.loop.invariant none (stays _ _ _ _ c.least_open.ensures.keeps)
 
 pub returns-in_err-number-clause-err : goal.returns-in_err-number-clause-err
 returns-in_err-number-clause-err g c =
-    let new = world c.loop.self.tree (nodes_at c.loop.self.nodes.nodes.entries) c.least_open.new.self in
+    let new = world c.loop.self.tree (kept_at c.loop.self.nodes.nodes.entries) c.least_open.new.self in
     passed_on c.from_residual.result Memory (λ e. Stops (running_state c.args.self.now) Settle e
     new) c.from_residual.ensures.1
     (short 10000 c.loop.counter (running_state c.args.self.now) (running_state c.loop.self) new

@@ -1,5 +1,5 @@
 use Rattle.std.proofs.Common.{subst}
-use Rattle.tree_world.specs.Nodes.{nodes_at}
+use Rattle.tree_world.specs.Nodes.{kept_at}
 use Rattle.tree_world.specs.Openings.{AreOpened}
 use Rattle.tree_world.proofs.Modelled.{keeps_headline, opened_modelled}
 use Rattle.tree_world.proofs.OpenNodes.{opened_tree}
@@ -7,7 +7,7 @@ use Rattle.tree_world.proofs.world.World.with_stores.Goals as goal
 
 pub returns-clause-opened : goal.returns-clause-opened
 returns-clause-opened g c =
-    let nodes = nodes_at c.in_ok-nodes.nodes.entries in
+    let nodes = kept_at c.in_ok-nodes.nodes.entries in
     opened_tree c.args.tree nodes c.new.result
     (subst (λ tree. AreOpened tree tree nodes) c.entries.ensures c.in_ok-nodes.ensures.ok)
     c.new.ensures.net c.new.ensures.delivered c.new.ensures.entries
