@@ -1,6 +1,6 @@
 //! A key store behind XA, without its log.
 
-ghost use Rattle.std.specs.Prelude.{◌≡◌, ◌≤◌, ◌<◌, ◌+◌, ◌^◌, ℕ, List, Option, not, MatchResult, IfOk, IfErr, OnOk, OnErr, Some, None, option_map, true, false};
+ghost use Rattle.std.specs.Prelude.{◌≡◌, ◌≤◌, ◌<◌, ◌+◌, ◌^◌, ℕ, List, Option, length, not, MatchResult, IfOk, IfErr, OnOk, OnErr, Some, None, option_map, true, false};
 ghost use Rattle.key_tables.specs.declared.holders.Mode.{Mode as WorkMode};
 ghost use Rattle.key_tables.specs.declared.holders.Mode.TheVariants as mode;
 ghost use Rattle.key_tables.specs.Holders.{blocked_by};
@@ -162,6 +162,18 @@ impl KeyStore {
             })),
             Err(refusal) => Ok(Err(refusal)),
         }
+    }
+
+    /// Each branch holds the keys exclusively that it has written, and has written what a branch can; one that
+    /// is let go holds nothing. At most 1,024 branches are known.
+    pub fn is_tidy(&self, xid: &Xid)
+        ensures tidy { IsTidy self.now }
+        ensures limits { AreWrites (writes_of self.now.writes xid.now) }
+        ensures few { length self.now.tables.branches.branches ≤ 1024 }
+    {
+        let _ = &self.alloc;
+        let _ = self.writes.of(xid);
+        self.states.branches_are_few();
     }
 
     /// Whether one commit more can be counted: fewer than 2^63 - 1 were made.

@@ -8,7 +8,7 @@ use Rattle.xa_tables.specs.declared.call.Call.{Call}
 use Rattle.xa_tables.specs.declared.call.Verb.TheVariants as verb
 use Rattle.xa_assoc.specs.Associations.{IsBare}
 use Rattle.xa_branch.specs.Branches.{BranchList, state_in}
-use Rattle.xa_assoc.specs.Answers.{Closed, Closes, Opened, Opens}
+use Rattle.xa_assoc.specs.Answers.{Closed, Closes, Opened, Opens, state_at}
 use Rattle.xa_tables.specs.declared.states.BranchState.{BranchState}
 use Rattle.xa_tables.specs.declared.states.BranchState.TheVariants.{S0, S1, S2, S3, S4, S5}
 use Rattle.xa_xid.specs.declared.xid.Xid.{Xid}
@@ -29,7 +29,8 @@ use Rattle.kv_core.proofs.Moves.{Keeps, same_keeps}
 use Rattle.kv_core.proofs.Working.{works_apart}
 use Rattle.xa_heur.specs.declared.decision.Decision.{Decision}
 use Rattle.rec_log.specs.Sights.{records_of}
-use Rattle.kv_manager.specs.Sights.{IsKept, KvSight, SaysDecided, logged}
+use Rattle.kv_manager.specs.Sights.{IsKept, KvSight, SaysDecided, doubt_of, logged}
+use Rattle.kv_manager.proofs.Staying.{SameDoubts, same_doubts}
 
 -- a branch is prepared
 abbrev pub is_prepared : BranchState → Bool
@@ -52,7 +53,10 @@ decided_is S2 e = absurd (cc)
 decided_is S3 e = absurd (cc)
 decided_is S4 e = absurd (cc)
 
--- the data stay, a branch that is prepared was, with the same writes, and one that an operator decided was
+one_doubts : (old new : States) → new ≡ old → SameDoubts old new
+one_doubts old new one x = ap (λ (m : States). doubt_of (state_at m x)) one
+
+-- the data stay, the same branches are in doubt, a branch that is prepared was, with the same writes, and one that an operator decided was
 -- decided so
 pub record KeepsPromises (old new : KeySight) : Type 0 where
   pub versions : SameData old.versions new.versions
@@ -60,6 +64,7 @@ pub record KeepsPromises (old new : KeySight) : Type 0 where
   pub writes : (x : Xid) → state_of new x ≡ S3 → writes_of new.writes x ≡ writes_of old.writes x
   pub decided : (x : Xid) → state_of new x ≡ S5 → state_of old x ≡ S5
   pub known : (x : Xid) → state_of new x ≡ S5 → known_of new x ≡ known_of old x
+  pub doubts : SameDoubts old.tables new.tables
 
 pub data_stay : (v v' : VersionTable) (d : Data) → SameData v v' → AreData v d → AreData v' d
 data_stay v v' d stays are = record {
@@ -77,6 +82,7 @@ pub kept_by : (s : KvSight) (store : KeySight) → IsKept s → KeepsPromises s.
     → IsKept (record s { store = store })
 kept_by s store kept keeps = record {
   kind = kept.kind;
+  ordered = kept.ordered;
   stands = λ works. record {
     are_data = data_stay s.store.versions store.versions (logged s) keeps.versions
         (kept.stands works).are_data;
@@ -85,6 +91,8 @@ kept_by s store kept keeps = record {
     marked = λ x is. (kept.stands works).marked x (keeps.prepared x is);
     decided = λ x is. subst (SaysDecided (records_of s.log.sight.kept) x) (sym (keeps.known x is))
         ((kept.stands works).decided x (keeps.decided x is));
+    doubts = λ x. keeps.doubts x ∙ (kept.stands works).doubts x;
+    begun = (kept.stands works).begun;
   };
 }
 
@@ -114,13 +122,15 @@ same_promises old new stays = record {
   decided = decided_by old.tables new.tables (same_keeps is_decided old.tables new.tables
       stays.tables) old new refl refl;
   known = λ x is. ap decision_or (stays.decisions x);
+  doubts = same_doubts old.tables new.tables stays.tables;
 }
 
-pub moved_promises : (old new : KeySight) → Keeps is_prepared old.tables new.tables
+pub moved_promises : (old new : KeySight) → SameDoubts old.tables new.tables → Keeps is_prepared old.tables new.tables
     → Keeps is_decided old.tables new.tables
     → new.writes ≡ old.writes → new.versions ≡ old.versions
     → new.decisions ≡ old.decisions → KeepsPromises old new
-moved_promises old new keeps still writes versions decisions = record {
+moved_promises old new doubts keeps still writes versions decisions = record {
+  doubts = doubts;
   versions = one_data old.versions new.versions versions;
   prepared = prepared_by old.tables new.tables keeps old new refl refl;
   writes = λ x is. ap (λ w. writes_of w x) writes;
@@ -141,6 +151,7 @@ refused_same old new refusal RollbackOnly h = h.1
 pub wrote_promises : (old new : KeySight) (t : ℕ) (k : List ℕ) (v : Option (List ℕ))
     → Writes old new t k v → KeepsPromises old new
 wrote_promises old new t k v wrote = record {
+  doubts = one_doubts old.tables new.tables wrote.tables;
   versions = one_data old.versions new.versions wrote.versions;
   prepared = λ x is. ap (λ s. state_of (record old { tables = s }) x) (sym wrote.tables) ∙ is;
   writes = λ x is. writes x (ap (λ s. state_of (record old { tables = s }) x) (sym wrote.tables)
@@ -178,6 +189,7 @@ made_error Q e (Err f) is q = subst Q (sym is) q
 -- what was staged is taken back
 pub data_only : (old new : KeySight) → SameButData old new → KeepsPromises old new
 data_only old new stays = record {
+  doubts = one_doubts old.tables new.tables stays.tables;
   versions = stays.versions;
   prepared = λ x is. ap (λ s. state_of (record old { tables = s }) x) (sym stays.tables) ∙ is;
   writes = λ x is. ap (λ w. writes_of w x) stays.writes;
@@ -188,6 +200,7 @@ data_only old new stays = record {
 -- room was made for a decision
 pub room_alone : (old new : KeySight) → Reserves old new → KeepsPromises old new
 room_alone old new stays = record {
+  doubts = one_doubts old.tables new.tables stays.tables;
   versions = one_data old.versions new.versions stays.versions;
   prepared = λ x is. ap (λ s. state_of (record old { tables = s }) x) (sym stays.tables) ∙ is;
   writes = λ x is. ap (λ w. writes_of w x) stays.writes;
@@ -240,7 +253,8 @@ pub called_promises : (old new : KeySight) → new.tables.branches
     ≡ old.tables.branches → new.writes ≡ old.writes
     → new.versions ≡ old.versions → new.decisions ≡ old.decisions → KeepsPromises old new
 called_promises old new one writes versions decisions =
-    moved_promises old new (keeps is_prepared) (keeps is_decided) writes versions decisions
+    moved_promises old new (λ x. ap (λ (b : BranchList). doubt_of (state_in b.branches x)) one)
+    (keeps is_prepared) (keeps is_decided) writes versions decisions
   where
     keeps : (q : BranchState → Bool) → Keeps q old.tables new.tables
     keeps q x h = ap (λ (b : BranchList). q (state_in b.branches x)) (sym one) ∙ h

@@ -7,3 +7,14 @@ pub mod Deciding
 pub mod Marks
 pub mod Restarted
 pub mod Trimmed
+pub mod Fronts
+pub mod Steps
+pub mod Bounds
+pub mod Told
+pub mod Free
+pub mod From
+pub mod Follows
+pub mod Staying
+pub mod Ordered
+pub mod Boots
+pub mod TrimOrder

@@ -32,7 +32,7 @@ use Rattle.tree_model.specs.declared.names.Kind.TheVariants.{Manager}
 use Rattle.log_text.specs.Made.{frame_record}
 use Rattle.core_log.specs.Writes.{Writes}
 use Rattle.core_model.specs.States.{wrote}
-use Rattle.rec_log.specs.Sights.{Breaks, LogSight, LogState, Restarts, left_by as left_by_crash, records_of}
+use Rattle.rec_log.specs.Sights.{Breaks, Kept, LogSight, LogState, Restarts, left_by as left_by_crash, records_of}
 use Rattle.kv_manager.specs.declared.restart.Ready.{Ready}
 use Rattle.kv_manager.specs.declared.restart.RestartError.{RestartError}
 use Rattle.kv_manager.specs.declared.restart.RestartError.TheVariants.{Device, Exhausted as ExhaustedRestart, Memory as MemoryRestart, Unfit}
@@ -42,7 +42,9 @@ use Rattle.xa_heur.specs.Decisions.{decided_in}
 use Rattle.kv_core.specs.Stores.{IsTidy, KeySight, Rebuilt, is_decided, is_let_go}
 use Rattle.kv_core.specs.Ends.{known_of}
 use Rattle.kv_manager.specs.Restarts.{FailsToRestart, IsReady, LeavesNone, LeavesStore, NotBegun, NotRebuilt, NotStored, StartsOver, error_of, next_boot, opened}
-use Rattle.kv_manager.specs.Sights.{IsKept, IsLogged, KvSight, SaysDecided, logged}
+use Rattle.kv_manager.specs.Sights.{IsKept, IsLogged, KvSight, SaysDecided, are_ordered, doubt_of, has_records, logged}
+use Rattle.kv_manager.proofs.Boots.{opened_ordered}
+use Rattle.kv_manager.proofs.Fronts.{has_more, ordered_front}
 use Rattle.kv_manager.proofs.Marks.{agrees_of, prepared_mark, state_by}
 use Rattle.kv_manager.proofs.Turns.{data_behind, decided_behind, mark_behind}
 use Rattle.manager_model.specs.Restarting.{marked_state}
@@ -197,11 +199,30 @@ marked_behind_boot s ls boot forced unforced x =
     ∙ ap (λ rs. mark_at rs x) (append-nil s.log.sight.kept.forced ∙ forced)
     ∙ mark_behind ls (opened boot) x
 
+doubt_by : (o : Option Promise) → doubt_of (state_by o) ≡ state_by o
+doubt_by None = refl
+doubt_by (Some p) = by_mark (opens p.mark)
+  where
+    by_mark : (b : Bool) → doubt_of (state_left (not b)) ≡ state_left (not b)
+    by_mark true = refl
+    by_mark false = refl
+
+records_booted : (s : KvSight) (ls : List LogRecord) (boot : ℕ)
+    → s.log.sight.kept.forced ≡ ls ++ opened boot ∷ []
+    → s.log.sight.kept.unforced ≡ [] → records_of s.log.sight.kept ≡ ls ++ opened boot ∷ []
+records_booted s ls boot forced unforced =
+    ap (λ us. s.log.sight.kept.forced ++ us) unforced ∙ append-nil s.log.sight.kept.forced ∙ forced
+
 -- a manager that is what the records leave stands with them
 logged_left : (s : KvSight) (ls : List LogRecord) → LeavesStore ls s.store s.boot → logged s ≡ data_of ls
     → ((x : Xid) → mark_at (records_of s.log.sight.kept) x ≡ mark_at ls x)
-    → ((x : Xid) → decided_in (records_of s.log.sight.kept) x ≡ decided_in ls x) → IsLogged s
-logged_left s ls left is marks decisions = record {
+    → ((x : Xid) → decided_in (records_of s.log.sight.kept) x ≡ decided_in ls x)
+    → has_records (records_of s.log.sight.kept) ≡ true → IsLogged s
+logged_left s ls left is marks decisions begun = record {
+  begun = begun;
+  doubts = λ x. ap doubt_of (restored_state left.seen s.store.tables x left.tables)
+      ∙ doubt_by (found left.seen x) ∙ (agrees_of ls left.seen left.read).states x
+      ∙ sym (ap marked_state (marks x));
   are_data = subst (AreData s.store.versions) (sym is) left.stored;
   rise = ap (λ (d : Data). keys_rise d.pairs) is ∙ (lawful_of ls left.seen left.read).tied.rise;
   promises = λ x here. left.promises x
@@ -225,9 +246,12 @@ kept_left : (s : KvSight) (ls : List LogRecord) → s.log.kind ≡ Manager → L
 kept_left s ls kind left forced unforced =
     record {
       kind = kind;
+      ordered = ap are_ordered (records_booted s ls s.boot forced unforced)
+          ∙ opened_ordered ls left.seen s.boot left.read left.next;
       stands = λ _. logged_left s ls left (logged_behind_boot s ls s.boot forced unforced)
           (marked_behind_boot s ls s.boot forced unforced)
-          (decided_behind_boot s ls s.boot forced unforced);
+          (decided_behind_boot s ls s.boot forced unforced)
+          (ap has_records (records_booted s ls s.boot forced unforced) ∙ has_more ls (opened s.boot));
     }
 
 pub kept_restarted : (old log : LogState) (keep : ℕ) (r : Ready) → old.kind ≡ Manager
@@ -305,13 +329,16 @@ none_left log Device never = absurd never
 none_left log Unfit why = (why, refl)
 none_left log ExhaustedRestart why = (why, refl)
 
--- a log that did not restart leaves a manager that stands, or that has failed
-pub kept_unstarted : (s : KvSight) (log : LogState) (keep : ℕ) (l : LogRecord) (e : RestartError)
-    → IsKept s → log.kind ≡ s.log.kind
-    → FailsToRestart s.log log keep l e → IsKept (record s { log = log })
-kept_unstarted s log keep l MemoryRestart kept kind stays = record {
+-- a log that stays the same but for its room leaves a manager that stands
+pub kept_alike : (s : KvSight) (log : LogState) → IsKept s → log.kind ≡ s.log.kind
+    → log.sight ≡ s.log.sight → IsKept (record s { log = log })
+kept_alike s log kept kind stays = record {
   kind = kind ∙ kept.kind;
+  ordered = ap (λ (k : LogSight). are_ordered (records_of k.kept)) stays ∙ kept.ordered;
   stands = λ works. record {
+    doubts = λ x. (stands works).doubts x
+        ∙ ap (λ (k : LogSight). marked_state (mark_at (records_of k.kept) x)) (sym stays);
+    begun = ap (λ (k : LogSight). has_records (records_of k.kept)) stays ∙ (stands works).begun;
     are_data = subst (λ (k : LogSight). AreData s.store.versions (data_of (records_of k.kept)))
         (sym stays) (stands works).are_data;
     rise = ap (λ (k : LogSight). keys_rise (data_of (records_of k.kept)).pairs) stays ∙ (stands works).rise;
@@ -326,12 +353,24 @@ kept_unstarted s log keep l MemoryRestart kept kind stays = record {
   where
     stands : log.sight.failed ≡ false → IsLogged s
     stands works = kept.stands (ap (λ (k : LogSight). k.failed) (sym stays) ∙ works)
-kept_unstarted s log keep l Device kept kind broke = record {
+
+-- a log that did not restart leaves a manager that stands, or that has failed
+pub kept_unstarted : (s : KvSight) (log : LogState) (keep : ℕ) (l : LogRecord) (e : RestartError)
+    → IsKept s → are_ordered (left_by_crash s.log.sight keep ++ l ∷ []) ≡ true → log.kind ≡ s.log.kind
+    → FailsToRestart s.log log keep l e → IsKept (record s { log = log })
+kept_unstarted s log keep l MemoryRestart kept behind kind stays = kept_alike s log kept kind stays
+kept_unstarted s log keep l Device kept behind kind broke = record {
   kind = kind ∙ kept.kind;
+  ordered = elim broke.either [
+    | inl as_left ↦ (ap are_ordered as_left.0
+        ∙ ordered_front (left_by_crash s.log.sight keep) (l ∷ []) behind)
+    | inr with_boot ↦ (ap (λ (k : Kept). are_ordered (records_of k)) with_boot
+        ∙ ap are_ordered (append-nil (left_by_crash s.log.sight keep ++ l ∷ [])) ∙ behind)
+  ];
   stands = λ works. absurd (let never : true ≡ false = sym broke.failed ∙ works in cc);
 }
-kept_unstarted s log keep l Unfit kept kind never = absurd never
-kept_unstarted s log keep l ExhaustedRestart kept kind never = absurd never
+kept_unstarted s log keep l Unfit kept behind kind never = absurd never
+kept_unstarted s log keep l ExhaustedRestart kept behind kind never = absurd never
 
 -- what replays and what is rebuilt of it
 pub left_store : (ls : List LogRecord) (last : Option ℕ) (left : List (Xid × Bool))

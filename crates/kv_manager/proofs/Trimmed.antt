@@ -1,5 +1,5 @@
 -- A manager behind a trim of its log.
-use Rattle.std.proofs.Common.{◌≡◌, ◌∙◌, ℕ, Bool, true, false, Option, List, [], ◌∷◌, ◌++◌, map, refl, sym, ap, subst}
+use Rattle.std.proofs.Common.{◌≡◌, ◌∙◌, ℕ, Bool, true, false, Option, Some, None, is_some, List, [], ◌∷◌, ◌++◌, map, refl, sym, ap, subst, inl, inr}
 use Rattle.std.proofs.lemmas.List.{append-nil}
 use Rattle.std.specs.List.{AllByRecursion}
 use Rattle.xa_xid.specs.declared.xid.Xid.{Xid}
@@ -12,7 +12,10 @@ use Rattle.tree_model.specs.declared.records.Record.TheVariants.{Opened, Collect
 use Rattle.tree_model.specs.Restarts.{is_open}
 use Rattle.tree_model.specs.Store.{base_records, pair_record, writes_of as promised_of, data_of}
 use Rattle.log_rules.specs.sound.Sound.{IsSound, IsSoundEntry}
-use Rattle.rec_log.specs.Sights.{LogState, records_of}
+use Rattle.rec_log.specs.Sights.{Kept, LogState, NotRewritten, records_of}
+use Rattle.rec_log.specs.declared.log.LogError.{LogError}
+use Rattle.rec_log.specs.declared.log.LogError.TheVariants.{Device, Memory}
+use Rattle.kv_manager.proofs.Restoring.{kept_alike}
 use Rattle.rec_log.specs.Trimming.{Trimmed}
 use Rattle.rec_log.specs.Trimming as rec_log
 use Rattle.kv_store.specs.Pairs.{keys_rise}
@@ -24,13 +27,21 @@ use Rattle.tree_model.specs.Standings.{Decided, Finished, Mark, Promised, ToldOf
 use Rattle.kv_core.specs.Ends.{known_of}
 use Rattle.kv_core.specs.Decisions.{says_decided}
 use Rattle.kv_core.specs.Folds.{AreData}
-use Rattle.kv_core.specs.Replays.{Leaves}
 use Rattle.kv_core.proofs.Lawful.{lawful_of}
 use Rattle.kv_core.specs.Keeping.{KeepsData, is_managers}
-use Rattle.log_rules.specs.trim.Trims.{trim_of}
+use Rattle.log_rules.specs.trim.Trims.{front_of_trim, trim_of}
 use Rattle.tree_model.specs.LogNames.{unnamed}
 use Rattle.kv_core.proofs.Trims.{trims_keep_data}
-use Rattle.kv_manager.specs.Sights.{IsKept, IsLogged, KvSight, SaysDecided, logged}
+use Rattle.kv_manager.specs.Sights.{IsKept, IsLogged, KvSight, SaysDecided, are_ordered, has_records, logged}
+use Rattle.log_rules.specs.declared.order.seen.Promise.{Promise}
+use Rattle.log_rules.specs.order.Orders.{SeenLog, found}
+use Rattle.kv_core.specs.Replays.{Leaves, seen_of}
+use Rattle.manager_model.specs.Restarting.{marked_state}
+use Rattle.xa_tables.specs.declared.states.BranchState.TheVariants.{S0}
+use Rattle.kv_manager.proofs.Follows.{off_by}
+use Rattle.kv_manager.proofs.Fronts.{seen_where}
+use Rattle.kv_manager.proofs.Marks.{agrees_of, state_by}
+use Rattle.kv_manager.proofs.TrimOrder.{TrimFollows, trim_follows}
 use Rattle.kv_manager.proofs.Turns.{same_data}
 
 -- The records of a manager's log are of no coordinator's case.
@@ -103,6 +114,25 @@ decided_open Decided h = refl
 decided_open (ToldOf o) h = refl
 decided_open Finished h = absurd (cc)
 
+shut_state : (m : Mark) → is_open m ≡ false → marked_state m ≡ S0
+shut_state Unmarked h = refl
+shut_state Promised h = absurd (cc)
+shut_state Decided h = absurd (cc)
+shut_state (ToldOf o) h = absurd (cc)
+shut_state Finished h = refl
+
+none_state : (o : Option Promise) → is_some o ≡ false → state_by o ≡ S0
+none_state None h = refl
+none_state (Some p) h = absurd (cc)
+
+-- a trim leaves records
+some_trimmed : (ls : List LogRecord) → has_records (trim_of ls) ≡ true
+some_trimmed ls = some_behind (front_of_trim ls)
+  where
+    some_behind : (ks : List LogRecord) → has_records (ks ++ map unnamed (base_records (data_of ls))) ≡ true
+    some_behind [] = refl
+    some_behind (k ∷ ks) = refl
+
 -- the data of the log stand behind a trim, and so do the branches that are prepared or that operators decided
 pub kept_trimmed : (s : KvSight) (log : LogState) (rs : List LogRecord) (n : ℕ) → IsKept s
     → s.log.sight.failed ≡ false
@@ -110,7 +140,11 @@ pub kept_trimmed : (s : KvSight) (log : LogState) (rs : List LogRecord) (n : ℕ
     → IsKept (record s { log = log })
 kept_trimmed s log rs n kept works sound of made = record {
   kind = made.log.kind ∙ kept.kind;
+  ordered = ap are_ordered is ∙ ap is_some follows.read;
   stands = λ _. record {
+    doubts = λ x. stands.doubts x ∙ by_mark x (is_open (mark_at ls x)) refl
+        ∙ sym (ap (λ ks. marked_state (mark_at ks x)) is);
+    begun = ap has_records is ∙ some_trimmed ls;
     are_data = subst (λ ks. AreData s.store.versions (data_of ks)) (sym is)
         (same_data s.store.versions (data_of ls) (data_of (trim_of ls)) keeps.count
         keeps.pairs stands.are_data);
@@ -138,5 +172,46 @@ kept_trimmed s log rs n kept works sound of made = record {
     stands : IsLogged s
     stands = kept.stands works
 
+    seen : (u : SeenLog) × (seen_of ls ≡ Some u)
+    seen = seen_where ls kept.ordered
+
+    follows : TrimFollows ls seen.0
+    follows = trim_follows ls seen.0 (all_of_manager ls sound) stands.begun seen.1
+
     keeps : KeepsData ls (trim_of ls)
     keeps = trims_keep_data ls (all_of_manager ls sound) stands.rise
+
+    by_mark : (x : Xid) (b : Bool) → is_open (mark_at ls x) ≡ b
+        → marked_state (mark_at ls x) ≡ marked_state (mark_at (trim_of ls) x)
+    by_mark x true stays = sym (ap marked_state (keeps.marks x stays))
+    by_mark x false gone =
+        let before : marked_state (mark_at ls x) ≡ S0 = shut_state (mark_at ls x) gone in
+        let off = off_by (found seen.0 x) ((agrees_of ls seen.0 seen.1).states x ∙ before) in
+        before ∙ sym (none_state (found follows.seen x) (follows.known x off))
+        ∙ (agrees_of (trim_of ls) follows.seen follows.read).states x
+
+-- what a trim leaves may follow one another
+trimmed_ordered : (s : KvSight) → IsKept s → s.log.sight.failed ≡ false
+    → AllByRecursion (IsSound Manager) (records_of s.log.sight.kept)
+    → are_ordered (trim_of (records_of s.log.sight.kept)) ≡ true
+trimmed_ordered s kept works sound =
+    let ls = records_of s.log.sight.kept in
+    let seen = seen_where ls kept.ordered in
+    ap is_some (trim_follows ls seen.0 (all_of_manager ls sound) (kept.stands works).begun seen.1).read
+
+-- a log that was not trimmed leaves a manager that stands, or that has failed
+pub kept_untrimmed : (s : KvSight) (log : LogState) (rs : List LogRecord) (e : LogError) → IsKept s
+    → s.log.sight.failed ≡ false → AllByRecursion (IsSound Manager) (records_of s.log.sight.kept)
+    → AreOfData s rs → log.kind ≡ s.log.kind → NotRewritten s.log log (rec_log.trim_of s.log rs) e
+    → IsKept (record s { log = log })
+kept_untrimmed s log rs Memory kept works sound of kind stays = kept_alike s log kept kind stays
+kept_untrimmed s log rs Device kept works sound of kind broke = record {
+  kind = kind ∙ kept.kind;
+  ordered = elim broke.either [
+    | inl same ↦ (ap (λ (k : Kept). are_ordered (records_of k)) same ∙ kept.ordered)
+    | inr trimmed ↦ (ap (λ (k : Kept). are_ordered (records_of k)) trimmed
+        ∙ ap are_ordered (append-nil (rec_log.trim_of s.log rs))
+        ∙ ap (λ ks. are_ordered (rec_log.trim_of s.log ks)) of ∙ trimmed_ordered s kept works sound)
+  ];
+  stands = λ no_more. absurd (let never : true ≡ false = sym broke.failed ∙ no_more in cc);
+}

@@ -50,7 +50,10 @@ use Rattle.kv_core.specs.Decisions.{says_decided}
 use Rattle.kv_core.specs.Stores.{KeySight, is_decided, is_let_go, state_of}
 use Rattle.kv_core.specs.Ends.{IsDue, IsListed, IsTurn, LetsGo, OfCall, OfOperator, PublishesWrites, StagesWrites, TakesTurn, known_behind, known_of, wrote_some}
 use Rattle.kv_locks.specs.Locks.{Releases}
-use Rattle.kv_manager.specs.Sights.{IsKept, IsLogged, KvSight, SameManager, SaysDecided, logged}
+use Rattle.kv_manager.specs.Sights.{IsKept, IsLogged, KvSight, SameManager, SaysDecided, are_ordered, doubt_of, has_records, logged}
+use Rattle.manager_model.specs.Restarting.{marked_state}
+use Rattle.kv_manager.proofs.Fronts.{has_more, ordered_taken}
+use Rattle.kv_manager.proofs.Staying.{moves_doubts}
 use Rattle.kv_manager.proofs.Keeping.{KeepsPromises, one_data}
 use Rattle.kv_manager.proofs.Marks.{branch_same}
 use Rattle.xa_assoc.proofs.Finishing.{passed}
@@ -343,6 +346,19 @@ marks_own : (m : Mark) (x : Xid) (ws : List Write)
 unfolding same_branch
 marks_own m x ws = ap (λ b. cond b Promised m) (same_xid_refl x)
 
+-- a record of a branch leaves it in doubt as the record leads it
+marks_lead : (m : Mark) (e : Entry) (x : Xid) (ws : List Write)
+    → marked_state (mark_after (Foreign x) m (entry_of e (Foreign x) ws)) ≡ doubt_of (leads e)
+unfolding same_branch
+marks_lead m Prepared x ws = ap (λ b. marked_state (cond b Promised m)) (same_xid_refl x)
+marks_lead m Committed x ws = ap (λ b. marked_state (cond b Finished m)) (same_xid_refl x)
+marks_lead m RolledBack x ws = ap (λ b. marked_state (cond b Finished m)) (same_xid_refl x)
+marks_lead m Direct x ws = ap (λ b. marked_state (cond b Finished m)) (same_xid_refl x)
+marks_lead m HeurCommit x ws = ap (λ b. marked_state (cond b Decided m)) (same_xid_refl x)
+marks_lead m HeurRollback x ws = ap (λ b. marked_state (cond b Decided m)) (same_xid_refl x)
+marks_lead m (Told o) x ws = ap (λ b. marked_state (cond b (ToldOf o) m)) (same_xid_refl x)
+marks_lead m Forgot x ws = ap (λ b. marked_state (cond b Finished m)) (same_xid_refl x)
+
 -- What a record says of an operator's decision.
 
 pub decided_behind : (ls : List LogRecord) (l : LogRecord) (x : Xid)
@@ -541,7 +557,7 @@ due_prepared s x c turn e due is h = by_turn due.due
         (subst (IsListed s.store x c) one due.listed)
     by_turn (OfOperator o here room one) = here
 
-due_untold : (s : KvSight) (x : Xid) (c : Call) (turn : Turn) (e : Entry)
+pub due_untold : (s : KvSight) (x : Xid) (c : Call) (turn : Turn) (e : Entry)
     → IsDueTurn s x c turn → turn.entry ≡ Some e
     → IsUntold (state_of s.store x) (known_of s.store x) e
 due_untold s x c turn e due is = by_turn due.due
@@ -638,6 +654,33 @@ marked_behind s s' x e to ws stands is_to row y is = by_test (same x y) refl
         (own (ap (state_of s'.store) one ∙ is))
     by_test false t = marks_other (said y) e x y ws t ∙ stands.marked y (sym (row.branch.others y t) ∙ is)
 
+-- the branches in doubt are those of the log behind a turn
+doubts_behind : (s s' : KvSight) (x : Xid) (e : Entry) (to : BranchState) (ws : List Write) → IsLogged s
+    → to ≡ leads e → TakesRow s.store.tables s'.store.tables x to → (y : Xid)
+    → doubt_of (state_of s'.store y) ≡ marked_state
+    (mark_after (Foreign y) (mark_at (records_of s.log.sight.kept) y) (entry_of e (Foreign x) ws))
+doubts_behind s s' x e to ws stands is_to row y = by_test (same x y) refl
+  where
+    said : Xid → Mark
+    said z = mark_at (records_of s.log.sight.kept) z
+
+    by_test : (b : Bool) → same x y ≡ b → doubt_of (state_of s'.store y)
+        ≡ marked_state (mark_after (Foreign y) (said y) (entry_of e (Foreign x) ws))
+    by_test true t =
+        subst (λ z. doubt_of (state_of s'.store z)
+        ≡ marked_state (mark_after (Foreign z) (said z) (entry_of e (Foreign x) ws))) (same_is x y t)
+        (ap doubt_of (row.branch.own ∙ is_to) ∙ sym (marks_lead (said x) e x ws))
+    by_test false t = ap doubt_of (row.branch.others y t) ∙ stands.doubts y
+        ∙ ap marked_state (sym (marks_other (said y) e x y ws t))
+
+-- the records behind a turn
+records_behind : (s s' : KvSight) (e : Entry) (x : Xid) (ws : List Write) (is_forced : Bool)
+    → Writes s.log s'.log (entry_record e x ws) is_forced
+    → records_of s'.log.sight.kept ≡ records_of s.log.sight.kept ++ entry_record e x ws ∷ []
+records_behind s s' e x ws is_forced made =
+    ap (λ (k : LogSight). records_of k.kept) made.sight
+    ∙ wrote_records s.log.sight (entry_record e x ws) is_forced
+
 -- of each branch that an operator decided the log says so behind a turn
 still_decided : (s s' : KvSight) (x : Xid) (c : Call) (turn : Turn) (e : Entry) → IsLogged s
     → IsDueTurn s x c turn → turn.entry ≡ Some e
@@ -707,12 +750,18 @@ still_decided s s' x c turn e stands due is row notes made y here = by_test (sam
               ∙ decides_other (decided_in (records_of s.log.sight.kept) y) e x y ws t);
         }
 
+-- the record of a branch may follow those of the log
+abbrev pub IsFollowed : KvSight → Entry → Xid → Type 0
+IsFollowed s e x =
+    are_ordered (records_of s.log.sight.kept ++ entry_record e x (writes_of s.store.writes x) ∷ []) ≡ true
+
 pub kept_noted : (s s' : KvSight) (x : Xid) (c : Call) (turn : Turn) (e : Entry)
-    → IsKept s → IsDueTurn s x c turn
+    → IsKept s → IsFollowed s e x → IsDueTurn s x c turn
     → turn.entry ≡ Some e → applies e ≡ false → TakesTurn s.store s'.store x turn
     → Writes s.log s'.log (entry_record e x (writes_of s.store.writes x)) turn.is_forced → IsKept s'
-kept_noted s s' x c turn e kept due is notes takes made = record {
+kept_noted s s' x c turn e kept follows due is notes takes made = record {
   kind = made.kind ∙ kept.kind;
+  ordered = ap are_ordered (records_behind s s' e x ws turn.is_forced made) ∙ follows;
   stands = λ works. record {
     are_data = subst (AreData s'.store.versions) (sym behind)
         (same_data s'.store.versions (logged s) _ (noted_count (logged s) e x ws notes)
@@ -726,6 +775,10 @@ kept_noted s s' x c turn e kept due is notes takes made = record {
     marked = λ y here. marked_logged s s' e x ws turn.is_forced made y
         ∙ marked_behind s s' x e turn.to ws stands (due_leads s x c turn e due is) takes.tables y here;
     decided = still_decided s s' x c turn e stands due is takes.tables takes.decisions made;
+    doubts = λ y. doubts_behind s s' x e turn.to ws stands (due_leads s x c turn e due is) takes.tables y
+        ∙ ap marked_state (sym (marked_logged s s' e x ws turn.is_forced made y));
+    begun = ap has_records (records_behind s s' e x ws turn.is_forced made)
+        ∙ has_more (records_of s.log.sight.kept) (entry_record e x ws);
   };
 }
   where
@@ -762,11 +815,12 @@ commits_by a b c d x turn staged published takes = record {
 }
 
 pub kept_committed : (s s' : KvSight) (x : Xid) (c : Call) (turn : Turn) (e : Entry)
-    → IsKept s → IsDueTurn s x c turn
+    → IsKept s → IsFollowed s e x → IsDueTurn s x c turn
     → turn.entry ≡ Some e → applies e ≡ true → Commits s.store s'.store x turn
     → Writes s.log s'.log (entry_record e x (writes_of s.store.writes x)) turn.is_forced → IsKept s'
-kept_committed s s' x c turn e kept due is makes takes made = record {
+kept_committed s s' x c turn e kept follows due is makes takes made = record {
   kind = made.kind ∙ kept.kind;
+  ordered = ap are_ordered (records_behind s s' e x ws turn.is_forced made) ∙ follows;
   stands = λ works. record {
     are_data = subst (AreData s'.store.versions) (sym committed) (applies_data s.store.versions
         s'.store.versions (logged s) ws stands.rise stands.are_data takes.versions);
@@ -778,6 +832,10 @@ kept_committed s s' x c turn e kept due is makes takes made = record {
     marked = λ y here. marked_logged s s' e x ws turn.is_forced made y
         ∙ marked_behind s s' x e turn.to ws stands (due_leads s x c turn e due is) takes.tables y here;
     decided = still_decided s s' x c turn e stands due is takes.tables takes.decisions made;
+    doubts = λ y. doubts_behind s s' x e turn.to ws stands (due_leads s x c turn e due is) takes.tables y
+        ∙ ap marked_state (sym (marked_logged s s' e x ws turn.is_forced made y));
+    begun = ap has_records (records_behind s s' e x ws turn.is_forced made)
+        ∙ has_more (records_of s.log.sight.kept) (entry_record e x ws);
   };
 }
   where
@@ -798,9 +856,11 @@ kept_committed s s' x c turn e kept due is makes takes made = record {
 
 -- A device that fails leaves nothing to hold.
 
-pub kept_broken : (s s' : KvSight) (ls : List LogRecord) → IsKept s → Breaks s.log s'.log ls → IsKept s'
-kept_broken s s' ls kept broke = record {
+pub kept_broken : (s s' : KvSight) (ls : List LogRecord) → IsKept s
+    → are_ordered (records_of s.log.sight.kept ++ ls) ≡ true → Breaks s.log s'.log ls → IsKept s'
+kept_broken s s' ls kept follows broke = record {
   kind = broke.kind ∙ kept.kind;
+  ordered = ap are_ordered broke.stand ∙ ordered_taken (records_of s.log.sight.kept) ls broke.appended follows;
   stands = λ works. absurd (let never : true ≡ false = sym broke.failed ∙ works in cc);
 }
 
@@ -886,9 +946,10 @@ abbrev pub StaysDecided : KeySight → Xid → Turn → Type 0
 StaysDecided old x turn = (turn.to ≡ S0) ⊎ ((turn.to ≡ S5) × (state_of old x ≡ S5))
 
 pub silent_promises : (old new : KeySight) (x : Xid) (turn : Turn) → TakesTurn old new x turn
-    → turn.entry ≡ None → StaysDecided old x turn
+    → turn.entry ≡ None → StaysDecided old x turn → doubt_of turn.to ≡ doubt_of (state_of old x)
     → KeepsPromises old new
-silent_promises old new x turn takes none so = record {
+silent_promises old new x turn takes none so one = record {
+  doubts = moves_doubts old.tables new.tables x turn.to one takes.tables.branch;
   versions = one_data old.versions new.versions takes.versions;
   prepared = λ y is. prepared y is (same x y) refl;
   writes = λ y is. writes y is (same x y) refl;

@@ -1,6 +1,7 @@
 -- A key store with its log, as an XA manager.
-use Rattle.std.specs.Prelude.{◌≡◌, ℕ, true, false, List}
-use Rattle.xa_tables.specs.declared.states.BranchState.TheVariants.{S3, S5}
+use Rattle.std.specs.Prelude.{◌≡◌, ℕ, Bool, true, false, List, [], ◌∷◌, is_some}
+use Rattle.xa_tables.specs.declared.states.BranchState.{BranchState}
+use Rattle.xa_tables.specs.declared.states.BranchState.TheVariants.{S0, S3, S5}
 use Rattle.xa_xid.specs.declared.xid.Xid.{Xid}
 use Rattle.tree_model.specs.declared.names.Kind.TheVariants.{Manager}
 use Rattle.tree_model.specs.declared.records.Branch.TheVariants.{Foreign}
@@ -19,6 +20,8 @@ use Rattle.xa_heur.specs.Cases.{SameDecisions}
 use Rattle.tree_model.specs.declared.records.LogRecord.{LogRecord}
 use Rattle.kv_core.specs.Stores.{KeySight, state_of}
 use Rattle.kv_core.specs.Ends.{known_of}
+use Rattle.kv_core.specs.Replays.{seen_of}
+use Rattle.manager_model.specs.Restarting.{marked_state}
 
 -- what a contract sees: the key store, its log, and how often it opened
 pub record KvSight : Type 0 where
@@ -36,9 +39,24 @@ pub record SaysDecided (ls : List LogRecord) (x : Xid) (d : Decision) : Type 0 w
   pub says : says_decided (mark_at ls x) ≡ true
   pub how : d ≡ decided_in ls x
 
+-- these records may follow one another
+abbrev pub are_ordered : List LogRecord → Bool
+are_ordered ls = is_some (seen_of ls)
+
+-- there are records
+abbrev pub has_records : List LogRecord → Bool
+has_records [] = false
+has_records (l ∷ ls) = true
+
+-- the state of a branch in doubt; any other is as one that is not known
+abbrev pub doubt_of : BranchState → BranchState
+doubt_of S3 = S3
+doubt_of S5 = S5
+doubt_of _ = S0
+
 -- the data are those that the log's records make, their keys rising; each prepared branch has the writes that
--- its record promised, and that is its last record; and of each branch in S5 the decision is the one that its
--- records say
+-- its record promised, and that is its last record; of each branch in S5 the decision is the one that its
+-- records say; no other branch is in doubt by the records; and there are some
 pub record IsLogged (s : KvSight) : Type 0 where
   pub are_data : AreData s.store.versions (logged s)
   pub rise : keys_rise (logged s).pairs ≡ true
@@ -47,10 +65,14 @@ pub record IsLogged (s : KvSight) : Type 0 where
   pub marked : (x : Xid) → state_of s.store x ≡ S3 → mark_at (records_of s.log.sight.kept) x ≡ Promised
   pub decided : (x : Xid) → state_of s.store x ≡ S5
       → SaysDecided (records_of s.log.sight.kept) x (known_of s.store x)
+  pub doubts : (x : Xid) → doubt_of (state_of s.store x) ≡ marked_state (mark_at (records_of s.log.sight.kept) x)
+  pub begun : has_records (records_of s.log.sight.kept) ≡ true
 
--- what a manager keeps: the log is a manager's, and while it has not failed the data are those of its records
+-- what a manager keeps: the log is a manager's, its records may follow one another, and while it has not failed
+-- the data are those of its records
 pub record IsKept (s : KvSight) : Type 0 where
   pub kind : s.log.kind ≡ Manager
+  pub ordered : are_ordered (records_of s.log.sight.kept) ≡ true
   pub stands : s.log.sight.failed ≡ false → IsLogged s
 
 -- nothing changes but room; what each key was behind each commit stays

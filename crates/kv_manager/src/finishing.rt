@@ -85,6 +85,7 @@ impl<L: LogStore> KvManager<L> {
         ensures err { OnErr result (SameManager self.old self.new) }
     {
         let frame = self.frame(xid, entry)?;
+        self.store.is_tidy(xid);
         match write(&mut self.log, &frame, turn.is_forced) {
             Ok(()) => {
                 self.store.finish(xid, place, turn);
@@ -112,6 +113,7 @@ impl<L: LogStore> KvManager<L> {
         ensures err { OnErr result (SameManager self.old self.new) }
     {
         let frame = self.frame(xid, entry)?;
+        self.store.is_tidy(xid);
         self.store.stage(xid)?;
         match write(&mut self.log, &frame, turn.is_forced) {
             Ok(()) => {

@@ -10,7 +10,7 @@ ghost use Rattle.xa_assoc.specs.Answers.{Answers, Closes, Opens, Recovers, Wante
 ghost use Rattle.xa_assoc.specs.Ready.{is_work_verb, leaves};
 ghost use Rattle.xa_tables.specs.Calls.{legal};
 ghost use Rattle.kv_manager.specs.Resources.{sight_of};
-ghost use Rattle.kv_manager.specs.Sights.{SameManager};
+ghost use Rattle.kv_manager.specs.Sights.{SameManager, are_ordered};
 ghost use Rattle.manager_model.specs.Opening.{IsNew};
 ghost use Rattle.std.specs.List.{AllByRecursion};
 ghost use Rattle.log_rules.specs.sound.Sound.{IsSound};
@@ -102,6 +102,13 @@ impl<L: LogStore> KvManager<L> {
         ensures { AllByRecursion (IsSound kind.Manager) (records_of self.now.log.sight.kept) }
     {
         self.log.records_are_sound();
+    }
+
+    /// The records of its log may follow one another, also where its device has failed.
+    pub fn records_are_ordered(&self)
+        ensures { are_ordered (records_of self.now.log.sight.kept) ≡ true }
+    {
+        let _ = &self.alloc;
     }
 
     /// The records of its log, as a list made anew.

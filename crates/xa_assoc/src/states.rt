@@ -89,6 +89,13 @@ impl States {
         self.associations.active(thread)
     }
 
+    /// At most 1,024 branches are known.
+    pub fn branches_are_few(&self)
+        ensures { length self.now.branches.branches ≤ 1024 }
+    {
+        self.branches.are_few();
+    }
+
     /// The branches in doubt (in S3 and S5), in order of beginning.
     pub fn in_doubt(&self) -> Result<Vec<Xid>, AllocError>
         ensures { IfOk result (λ v. v.items ≡ in_doubt self.now.branches.branches) }

@@ -39,12 +39,15 @@ pub struct Branches {
 }
 
 impl Model for Branches {
+    ghost use Rattle.std.specs.Prelude.{◌≤◌, length};
     ghost use Rattle.indexmap.specs.IndexMap.{spare};
     ghost use Rattle.xa_branch.specs.Branches.{BranchList};
 
     ghost Value = { BranchList };
 
     ghost view = { λ b. record { branches = b.states.entries; room = spare b.states; scans = b.scans } };
+
+    ghost invariant = { λ b. length b.states.entries ≤ 1024 };
 }
 
 impl Branches {
@@ -58,6 +61,13 @@ impl Branches {
             states: IndexMap::new(alloc),
             scans: Scans::new(alloc),
         }
+    }
+
+    /// At most 1,024 branches are known.
+    pub fn are_few(&self)
+        ensures { length self.now.branches ≤ 1024 }
+    {
+        let _ = &self.alloc;
     }
 
     /// Makes room for so many more branches.

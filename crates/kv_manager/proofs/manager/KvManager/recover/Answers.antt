@@ -3,6 +3,7 @@ use Rattle.kv_core.specs.Stores.{MovesTables, SameStore, is_decided}
 use Rattle.kv_core.proofs.Moves.{recovers_keep}
 use Rattle.kv_manager.specs.Sights.{KvSight}
 use Rattle.kv_manager.proofs.Keeping.{KeepsPromises, either_way, is_prepared, kept_by, moved_promises, same_promises}
+use Rattle.kv_manager.proofs.Staying.{recovers_doubts}
 use Rattle.kv_manager.proofs.manager.KvManager.recover.Goals as goal
 
 pub invariant_of-self : goal.invariant_of-self
@@ -19,6 +20,7 @@ invariant_of-self g c =
     (KeepsPromises c.self.inside.store c.recover.new.self) c.recover.result
     c.recover.ensures.answer c.recover.ensures.err
     (λ answer made. moved_promises c.self.inside.store c.recover.new.self
+    (recovers_doubts _ _ c.args.thread c.args.count c.args.flags.0 (map_ok answer) made.tables)
     (recovers_keep is_prepared _ _ c.args.thread c.args.count c.args.flags.0 (map_ok answer) made.tables)
     (recovers_keep is_decided _ _ c.args.thread c.args.count c.args.flags.0 (map_ok answer) made.tables)
     made.writes made.versions made.decisions)

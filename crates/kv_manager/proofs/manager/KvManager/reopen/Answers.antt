@@ -4,6 +4,7 @@ use Rattle.rec_log.specs.Sights.{Restarts, left_by}
 use Rattle.kv_core.specs.Stores.{KeySight}
 use Rattle.kv_manager.specs.Restarts.{FailsToRestart, IsReady}
 use Rattle.kv_manager.specs.Sights.{IsKept, KvSight}
+use Rattle.kv_manager.proofs.Boots.{ready_ordered}
 use Rattle.kv_manager.proofs.Restoring.{kept_restarted, kept_unstarted}
 use Rattle.kv_manager.proofs.manager.KvManager.reopen.Goals as goal
 
@@ -14,10 +15,14 @@ invariant_of-self g c =
       log = c.self.inside.log;
       boot = c.self.inside.boot;
     } in
+    let ready : IsReady (left_by s.log.sight c.args.keep) c.args.ready.now =
+    subst (λ (v : KvSight). IsReady (left_by v.log.sight c.args.keep) c.args.ready.now)
+    (sym c.self.view_is) c.requires in
     let why : FailsToRestart s.log c.restart_log.new.log c.args.keep (frame_record c.args.ready.now.opened)
     c.in_err-restart_log.field-0.0 = search rules in
     kept_unstarted s c.restart_log.new.log c.args.keep (frame_record c.args.ready.now.opened) _
-    c.self.invariant c.restart_log.ensures.kind why
+    c.self.invariant (ready_ordered (left_by s.log.sight c.args.keep) c.args.ready.now ready)
+    c.restart_log.ensures.kind why
 
 pub invariant_of-self-2 : goal.invariant_of-self-2
 invariant_of-self-2 g c =

@@ -7,7 +7,8 @@ use Rattle.kv_core.specs.Ends.{PublishesWrites, SameButData, StagesWrites, Takes
 use Rattle.kv_manager.specs.Sights.{KvSight}
 use Rattle.kv_manager.specs.Turns.{Broke, Made, OnlyRoom}
 use Rattle.kv_manager.proofs.Keeping.{data_only, kept_by}
-use Rattle.kv_manager.proofs.Turns.{commits_by, due_has, due_same, fails_by, kept_committed, made_committed, turn_same}
+use Rattle.kv_manager.proofs.Ordered.{record_follows}
+use Rattle.kv_manager.proofs.Turns.{commits_by, due_has, due_same, fails_by, kept_broken, kept_committed, made_committed, turn_same}
 use Rattle.kv_manager.proofs.manager.KvManager.take_committed.Goals as goal
 
 pub frame-requires : goal.frame-requires
@@ -56,6 +57,10 @@ invariant_of-self-in-Ok g c =
     let made : Writes s.log c.write.new.log (entry_record c.args.entry c.args.xid.now
     (writes_of s.store.writes c.args.xid.now)) c.args.turn.is_forced = search rules in
     kept_committed s _ c.args.xid.now c.requires.due.0 c.args.turn c.args.entry c.self.invariant
+    (record_follows s c.args.xid.now c.requires.due.0 c.args.turn c.args.entry c.self.invariant
+    c.is_tidy.ensures.tidy c.is_tidy.ensures.limits c.is_tidy.ensures.few
+    (due_same c.args.self.now s c.args.xid.now c.requires.due.0 c.args.turn room c.requires.due.1)
+    c.requires.entry)
     (due_same c.args.self.now s c.args.xid.now c.requires.due.0 c.args.turn room c.requires.due.1)
     c.requires.entry c.requires.data
     (commits_by s.store c.stage.new.self c.publish.new.self c.finish.new.self c.args.xid.now c.args.turn
@@ -94,3 +99,27 @@ returns-clause-answer g c =
     (writes_of s.store.writes c.args.xid.now) ∷ []) = search rules in
     Broke refl (fails_by c.args.self.now s _ c.args.xid.now c.args.turn c.args.entry room c.requires.entry
     broke staged.tables staged.writes staged.locks staged.decisions refl)
+
+pub invariant_of-self-in-Err : goal.invariant_of-self-in-Err
+invariant_of-self-in-Err g c =
+    let s : KvSight = record {
+      store = c.self.inside.store;
+      log = c.self.inside.log;
+      boot = c.self.inside.boot;
+    } in
+    let broken : KvSight = record {
+      store = c.stage.new.self;
+      log = c.write.new.log;
+      boot = c.self.inside.boot;
+    } in
+    let room : OnlyRoom c.args.self.now s = subst (OnlyRoom c.args.self.now)
+    (sym c.self.view_is) c.frame.ensures.stays in
+    let broke : Breaks s.log c.write.new.log (entry_record c.args.entry c.args.xid.now
+    (writes_of s.store.writes c.args.xid.now) ∷ []) = search rules in
+    kept_broken s broken (entry_record c.args.entry c.args.xid.now
+    (writes_of s.store.writes c.args.xid.now) ∷ []) c.self.invariant
+    (record_follows s c.args.xid.now c.requires.due.0 c.args.turn c.args.entry c.self.invariant
+    c.is_tidy.ensures.tidy c.is_tidy.ensures.limits c.is_tidy.ensures.few
+    (due_same c.args.self.now s c.args.xid.now c.requires.due.0 c.args.turn room c.requires.due.1)
+    c.requires.entry)
+    broke

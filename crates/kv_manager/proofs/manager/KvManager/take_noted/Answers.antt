@@ -6,7 +6,8 @@ use Rattle.core_log.specs.Writes.{Writes}
 use Rattle.kv_core.specs.Ends.{TakesTurn}
 use Rattle.kv_manager.specs.Sights.{KvSight}
 use Rattle.kv_manager.specs.Turns.{Broke, OnlyRoom}
-use Rattle.kv_manager.proofs.Turns.{due_has, due_same, fails_by, kept_noted}
+use Rattle.kv_manager.proofs.Ordered.{record_follows}
+use Rattle.kv_manager.proofs.Turns.{due_has, due_same, fails_by, kept_broken, kept_noted}
 use Rattle.kv_manager.proofs.manager.KvManager.take_noted.Goals as goal
 
 pub frame-requires : goal.frame-requires
@@ -39,6 +40,10 @@ invariant_of-self g c =
     let made : Writes s.log c.write.new.log (entry_record c.args.entry c.args.xid.now
     (writes_of s.store.writes c.args.xid.now)) c.args.turn.is_forced = search rules in
     kept_noted s _ c.args.xid.now c.requires.due.0 c.args.turn c.args.entry c.self.invariant
+    (record_follows s c.args.xid.now c.requires.due.0 c.args.turn c.args.entry c.self.invariant
+    c.is_tidy.ensures.tidy c.is_tidy.ensures.limits c.is_tidy.ensures.few
+    (due_same c.args.self.now s c.args.xid.now c.requires.due.0 c.args.turn room c.requires.due.1)
+    c.requires.entry)
     (due_same c.args.self.now s c.args.xid.now c.requires.due.0 c.args.turn room c.requires.due.1)
     c.requires.entry c.requires.data takes made
 
@@ -55,3 +60,27 @@ returns-clause-answer g c =
     (writes_of s.store.writes c.args.xid.now) ∷ []) = search rules in
     Broke refl (fails_by c.args.self.now s _ c.args.xid.now c.args.turn c.args.entry room c.requires.entry
     broke refl refl refl refl refl)
+
+pub invariant_of-self-in-Err : goal.invariant_of-self-in-Err
+invariant_of-self-in-Err g c =
+    let s : KvSight = record {
+      store = c.self.inside.store;
+      log = c.self.inside.log;
+      boot = c.self.inside.boot;
+    } in
+    let broken : KvSight = record {
+      store = c.self.inside.store;
+      log = c.write.new.log;
+      boot = c.self.inside.boot;
+    } in
+    let room : OnlyRoom c.args.self.now s = subst (OnlyRoom c.args.self.now)
+    (sym c.self.view_is) c.frame.ensures.stays in
+    let broke : Breaks s.log c.write.new.log (entry_record c.args.entry c.args.xid.now
+    (writes_of s.store.writes c.args.xid.now) ∷ []) = search rules in
+    kept_broken s broken (entry_record c.args.entry c.args.xid.now
+    (writes_of s.store.writes c.args.xid.now) ∷ []) c.self.invariant
+    (record_follows s c.args.xid.now c.requires.due.0 c.args.turn c.args.entry c.self.invariant
+    c.is_tidy.ensures.tidy c.is_tidy.ensures.limits c.is_tidy.ensures.few
+    (due_same c.args.self.now s c.args.xid.now c.requires.due.0 c.args.turn room c.requires.due.1)
+    c.requires.entry)
+    broke

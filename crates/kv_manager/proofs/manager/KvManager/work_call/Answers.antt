@@ -9,6 +9,7 @@ use Rattle.kv_core.proofs.Moves.{works_keep}
 use Rattle.kv_manager.specs.Sights.{KvSight}
 use Rattle.kv_manager.specs.Turns.{Calls}
 use Rattle.kv_manager.proofs.Keeping.{KeepsPromises, either_way, is_prepared, kept_by, map_ok, moved_promises, same_promises}
+use Rattle.kv_manager.proofs.Staying.{works_doubts}
 use Rattle.kv_manager.proofs.manager.KvManager.work_call.Goals as goal
 
 pub invariant_of-self : goal.invariant_of-self
@@ -26,6 +27,8 @@ invariant_of-self g c =
     (KeepsPromises c.self.inside.store c.work_call.new.self) c.work_call.result
     c.work_call.ensures.answer c.work_call.ensures.err
     (λ answer made. moved_promises c.self.inside.store c.work_call.new.self
+    (works_doubts (λ k. (code.Proto, S0)) _ _ c.args.verb c.args.thread c.args.xid.now c.args.flags.0 answer
+    c.requires (made (λ k. (code.Proto, S0))).tables)
     (works_keep is_prepared (λ k. (code.Proto, S0)) _ _ c.args.verb c.args.thread
     c.args.xid.now c.args.flags.0 answer (record { one = refl; two = refl; four = refl }) c.requires
     (made (λ k. (code.Proto, S0))).tables)

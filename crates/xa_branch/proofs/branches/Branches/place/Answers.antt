@@ -1,4 +1,5 @@
-use Rattle.std.proofs.Common.{◌≡◌, ◌≢◌, rules, subst, sym}
+use Rattle.std.proofs.Common.{◌≡◌, ◌≢◌, ◌≤◌, rules, subst, sym}
+use Rattle.indexmap.specs.Layout.{length-set_value_at}
 use Rattle.xa_tables.specs.declared.states.BranchState.TheVariants.{S0}
 use Rattle.xa_branch.specs.Branches.{Moves}
 use Rattle.xa_branch.specs.contracts.branches.Branches.{the_view}
@@ -23,3 +24,8 @@ pub returns-in-Some-clause-moved : goal.returns-in-Some-clause-moved
 returns-in-Some-clause-moved c = λ x at.
     let stays : c.args.to ≢ S0 = search rules in
     moves_at _ _ x c.args.index c.args.to stays at (search rules) (search rules)
+
+pub invariant_of-self-in-Some : goal.invariant_of-self-in-Some
+invariant_of-self-in-Some c =
+    subst (λ n. n ≤ 1024) (sym (length-set_value_at c.self.inside.states.entries c.args.index c.args.to))
+    c.self.invariant
