@@ -488,7 +488,7 @@ module _ (turn : Turn) where
   settled_by closed _ _ e by_commit =
       let g = committing_facts place n d e in
       let i = subst (λ (y : Presumption). InvariantOf y (r0 turn))
-          (sym of ∙ commits_by d.txn.presumption refl e) inv in
+      (sym of ∙ commits_by d.txn.presumption refl e) inv in
       record {
         issued = commit_given g.0;
         closed = rw closed (and-false v.issued);
@@ -497,7 +497,7 @@ module _ (turn : Turn) where
   settled_by closed _ _ e by_abort =
       let g = aborting_facts place n d e in
       let i = subst (λ (y : Presumption). InvariantOf y (r0 turn))
-          (sym of ∙ aborts_by d.txn.presumption refl e) inv in
+      (sym of ∙ aborts_by d.txn.presumption refl e) inv in
       record {
         issued = abort_given g.0;
         closed = rw closed (and-false v.issued);
