@@ -30,7 +30,8 @@ use Rattle.core_law.specs.worlds.Refusals.{LeadsTo, Refusal}
 use Rattle.core_law.specs.worlds.Runs.{IsOpened}
 use Rattle.core_law.specs.worlds.Ties.{Follows}
 use Rattle.core_law.specs.worlds.Worlds.{WorldState}
-use Rattle.tree_world.specs.Nodes.{SpellsLogBy, log_kind}
+use Rattle.tree_node.specs.Nodes.{log_kind}
+use Rattle.tree_world.specs.Nodes.{SpellsLogBy}
 use Rattle.tree_engine.specs.declared.tree.Output.TheVariants.{Logs}
 use Rattle.tree_world.specs.LogsLeft.{AreLogs}
 use Rattle.tree_engine.specs.Logs.{LeavesLogs}

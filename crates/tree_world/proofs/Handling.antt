@@ -6,7 +6,8 @@ use Rattle.tree_model.specs.declared.trees.TreeEntry.{TreeEntry}
 use Rattle.tree_world.specs.Nodes.{NodesSight}
 use Rattle.core_law.specs.worlds.Worlds.{Same, WorldState}
 use Rattle.world_journal.specs.Journals.{JournalState, Keeps}
-use Rattle.tree_world.proofs.Steps.{rests, same_as_it_is}
+use Rattle.tree_node.proofs.Same.{rests}
+use Rattle.tree_world.proofs.Steps.{same_as_it_is}
 
 -- a state of these parts
 abbrev pub world : List TreeEntry → NodesSight → JournalState → WorldState

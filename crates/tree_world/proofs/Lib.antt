@@ -1,15 +1,11 @@
-pub mod EmptyLogs
 pub mod Handling
-pub mod Holdings
 pub mod Acting
-pub mod LastRecords
 pub mod Logs
 pub mod LogsLeft
 pub mod MemoryAlone
 pub mod Modelled
 pub mod OpenNodes
 pub mod Processes
-pub mod Refusals
 pub mod Restarted
 pub mod Running
 pub mod Settling

@@ -1,10 +1,6 @@
 -- The logs of the processes.
-use Rattle.std.proofs.Common.{◌≡◌, ◌∙◌, ◌+◌, ◌<◌, ℕ, List, [], ◌∷◌, ◌++◌, length, map, take, get_or, ap, sym, refl, Option, Some, None}
+use Rattle.std.proofs.Common.{◌≡◌, ◌∙◌, ◌+◌, ◌<◌, ℕ, List, [], ◌∷◌, ◌++◌, length, map, take, get_or, ap, sym}
 use Rattle.std.proofs.lemmas.List.{map_more, map_push}
-use Rattle.tree_model.specs.declared.names.ProcessId.{ProcessId}
-use Rattle.tree_model.specs.declared.names.Kind.TheVariants.{Coordinator}
-use Rattle.coord_core.specs.States.{role_below}
-use Rattle.tree_world.specs.Nodes.{log_kind}
 
 pub one_more : {A B C : Type 0} (f : A → B) (g : C → B) (xs all : List A) (x : A)
     (ys : List C) (i : ℕ) (y : C)
@@ -13,8 +9,3 @@ pub one_more : {A B C : Type 0} (f : A → B) (g : C → B) (xs all : List A) (x
 one_more f g xs all x ys i y pushed before within at is =
     ap (λ q. map f q) pushed ∙ map_push f xs x ∙ ap (λ q. q ++ f x ∷ []) before
     ∙ ap (λ q. map g (take i ys) ++ q ∷ []) (is ∙ ap g at) ∙ sym (map_more g ys i y within)
-
--- the log of a coordinator is a coordinator's, whether it is the root or below another
-pub role_kind : (parent : Option ProcessId) → log_kind (role_below parent) ≡ Coordinator
-role_kind None = refl
-role_kind (Some p) = refl

@@ -6,9 +6,10 @@ use Rattle.tree_model.specs.declared.names.ProcessId.{ProcessId}
 use Rattle.tree_model.specs.declared.trees.TreeEntry.{TreeEntry}
 use Rattle.tree_model.specs.Names.{same_process}
 use Rattle.tree_model.specs.Nodes.{is_listed}
-use Rattle.tree_world.specs.declared.opening.OpenError.{OpenError}
-use Rattle.tree_world.specs.declared.opening.OpenError.TheVariants.{Memory, Device, Store}
-use Rattle.tree_world.specs.Openings.{DeviceFailed, IsNoEmptyStore, NotOpened, store_of}
+use Rattle.tree_node.specs.declared.opening.OpenError.{OpenError}
+use Rattle.tree_node.specs.declared.opening.OpenError.TheVariants.{Memory, Device, Store}
+use Rattle.tree_node.specs.Openings.{DeviceFailed, IsNoEmptyStore}
+use Rattle.tree_world.specs.Openings.{NotOpened, store_of}
 
 never_failed : {L : Type 0} (bytes : L → List ℕ) (failures : L → ℕ) (o : Option L)
     → ((s : L) → failures s ≡ 0)

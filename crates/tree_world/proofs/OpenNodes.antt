@@ -12,8 +12,9 @@ use Rattle.core_law.specs.worlds.Runs.{IsOpened, NodeOpened}
 use Rattle.world_journal.specs.Journals.{JournalState}
 use Rattle.manager_model.specs.Data.{Rests, no_data}
 use Rattle.tree_world.specs.Nodes.{NodesSight}
-use Rattle.tree_world.proofs.Steps.{rests}
-use Rattle.tree_world.specs.Openings.{AreOpened, OpenedAs}
+use Rattle.tree_node.proofs.Same.{rests}
+use Rattle.tree_node.specs.Openings.{OpenedAs}
+use Rattle.tree_world.specs.Openings.{AreOpened}
 use Rattle.tree_world.proofs.Handling.{world}
 use Rattle.tree_world.proofs.Processes.{itself}
 

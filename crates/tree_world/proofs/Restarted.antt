@@ -12,9 +12,11 @@ use Rattle.core_model.specs.States.{CoreState}
 use Rattle.core_law.specs.Steps.{trim_reaction}
 use Rattle.core_law.specs.worlds.Worlds as worlds
 use Rattle.core_law.specs.worlds.Worlds.{HasFailed, Same, WorldState, step_entry, undelivered}
-use Rattle.tree_world.specs.declared.node.Node.{Node}
-use Rattle.tree_world.specs.Nodes.{MovesAt, NodesSight, SameNodes, core_of, data_of, kept_at, node_in}
-use Rattle.tree_world.specs.Restarts.{NoRestart, NoRestartAt, NoTrim, NoTrimAt, RestartsAt, RestartsNode, TrimsAt, TrimsNode}
+use Rattle.tree_node.specs.declared.node.Node.{Node}
+use Rattle.tree_node.specs.Nodes.{core_of, data_of}
+use Rattle.tree_node.specs.Restarts.{NoRestart, NoTrim, RestartsNode, TrimsNode}
+use Rattle.tree_world.specs.Nodes.{MovesAt, NodesSight, SameNodes, kept_at, node_in}
+use Rattle.tree_world.specs.Restarts.{NoRestartAt, NoTrimAt, RestartsAt, TrimsAt}
 use Rattle.world_journal.specs.Journals.{JournalState, Keeps}
 use Rattle.tree_world.proofs.Handling.{world}
 use Rattle.tree_world.proofs.Steps.{data_stood, moves_at, same_nodes}

@@ -10,31 +10,12 @@ use Rattle.tree_model.specs.NameLaws.{same_process_tells}
 use Rattle.tree_model.specs.Nodes.{DataAnswer}
 use Rattle.core_model.specs.States.{CoreState, SameCore}
 use Rattle.core_model.specs.Makes.{IsRefused}
-use Rattle.core_model.proofs.Alike.{same_view}
 use Rattle.core_law.specs.worlds.Worlds.{HandlesInput, RefusesAt, SameNode}
-use Rattle.tree_world.specs.declared.node.Node.{Node}
-use Rattle.tree_world.specs.Nodes.{MovesAt, NoStepAt, NodesSight, NotHandled, SameNodes, StepsAt, core_of, data_in, data_of, kept_at, node_in}
+use Rattle.tree_node.specs.declared.node.Node.{Node}
+use Rattle.tree_node.specs.Nodes.{NotHandled, core_of, data_of}
+use Rattle.tree_node.proofs.Same.{rests, same_core}
+use Rattle.tree_world.specs.Nodes.{MovesAt, NoStepAt, NodesSight, SameNodes, StepsAt, data_in, kept_at, node_in}
 use Rattle.manager_model.specs.Data.{ManagerData, Rests}
-
-pub same_core : (s : CoreState) → SameCore s s
-same_core s =
-    record {
-      log = refl;
-      rest = record {
-        place = refl;
-        boot = refl;
-        begun = refl;
-        given = refl;
-        tickets = λ d. refl;
-        views = λ c.
-            same_view (s.view_of c);
-        branches = λ c. refl;
-      };
-    }
-
--- nothing is written, and each key is held as it was
-pub rests : (d : ManagerData) → Rests d d
-rests d = record { writes = λ y. refl; holders = λ k. refl }
 
 -- each process is the same as it is
 pub same_as_it_is : (o : Option CoreState) → SameNode o o

@@ -11,8 +11,9 @@ use Rattle.tree_model.specs.declared.trees.TreeEntry.{TreeEntry}
 use Rattle.tree_model.specs.Names.{same_process}
 use Rattle.tree_model.specs.Nodes.{is_listed}
 use Rattle.tree_model.specs.Trees.{IsTree, lists_twice, times_listed}
-use Rattle.tree_world.specs.declared.opening.OpenError.{OpenError}
-use Rattle.tree_world.specs.Openings.{NotOpened, ProcessNotOpened, store_of}
+use Rattle.tree_node.specs.declared.opening.OpenError.{OpenError}
+use Rattle.tree_node.specs.Openings.{ProcessNotOpened}
+use Rattle.tree_world.specs.Openings.{NotOpened, store_of}
 use Rattle.tree_world.proofs.Processes.{itself}
 
 -- Each process once.

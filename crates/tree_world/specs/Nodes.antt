@@ -1,48 +1,26 @@
--- The processes of a tree, of every kind, as the definitions see them.
-use Rattle.std.specs.Prelude.{◌≡◌, ◌≢◌, ℕ, false, Option, Some, None, List, [], option_map}
+-- The processes of a tree, as the definitions see them.
+use Rattle.std.specs.Prelude.{◌≡◌, ℕ, false, Option, Some, None, List, [], option_map}
 use Rattle.std.specs.Map.{lookup}
-use Rattle.live_table.specs.Tables.{live_count}
 use Rattle.tree_model.specs.declared.names.ProcessId.{ProcessId}
 use Rattle.tree_model.specs.contracts.names.ProcessIdPartialEq.TheImpl as processes
-use Rattle.tree_model.specs.declared.names.Kind.{Kind}
-use Rattle.tree_model.specs.declared.names.Kind.TheVariants.{Coordinator as CoordinatorKind, Manager as ManagerKind}
 use Rattle.tree_model.specs.declared.records.LogRecord.{LogRecord}
 use Rattle.tree_model.specs.declared.events.Input.{Input}
 use Rattle.tree_model.specs.declared.events.Reaction.{Reaction}
 use Rattle.tree_model.specs.declared.events.StepError.{StepError}
 use Rattle.tree_model.specs.declared.events.StepError.TheVariants.{Memory, Device}
 use Rattle.tree_model.specs.Names.{same_process}
-use Rattle.tree_model.specs.Nodes.{DataAnswer, Role, AtLeaf}
-use Rattle.rec_log.specs.Sights.{ReadsAs, records_of}
+use Rattle.tree_model.specs.Nodes.{DataAnswer}
+use Rattle.rec_log.specs.Sights.{records_of}
 use Rattle.core_model.specs.States.{CoreState}
-use Rattle.core_model.specs.Makes.{IsBroken, NotMade}
-use Rattle.coord_core.specs.States as coordinators
-use Rattle.kv_manager.specs.Resources.{sight_of}
+use Rattle.core_model.specs.Makes.{IsBroken}
 use Rattle.manager_model.specs.Data.{ManagerData, Rests, no_data}
-use Rattle.manager_model.specs.Sights.{manager_data}
-use Rattle.sub_core.specs.Steps as managers
 use Rattle.core_law.specs.worlds.Worlds.{HandlesInput, RefusesAt, SameNode}
-use Rattle.tree_world.specs.declared.node.Node.{Node}
-use Rattle.tree_world.specs.declared.node.Node.TheVariants.{Coordinator, Manager}
-
--- what a process keeps
-abbrev pub core_of : {L : Type 0} → Node L → CoreState
-core_of (Coordinator c) = coordinators.state c
-core_of (Manager m) = managers.state sight_of m
-
--- how many cases are live at a process
-abbrev pub live_at : {L : Type 0} → Node L → ℕ
-live_at (Coordinator c) = live_count c.slots
-live_at (Manager m) = live_count m.table.branches
+use Rattle.tree_node.specs.declared.node.Node.{Node}
+use Rattle.tree_node.specs.Nodes.{SpellsLog, core_of, data_of}
 
 -- the process with this name
 abbrev pub node_in : {L : Type 0} → List (ProcessId × Node L) → ProcessId → Option (Node L)
 node_in ns q = lookup (processes.ghosts.eq q) ns
-
--- the data of a manager; a coordinator has none
-abbrev pub data_of : {L : Type 0} → Node L → ManagerData
-data_of (Coordinator c) = no_data
-data_of (Manager m) = manager_data (sight_of m.manager)
 
 abbrev pub data_in : {L : Type 0} → Option (Node L) → ManagerData
 data_in None = no_data
@@ -66,30 +44,10 @@ abbrev pub log_by : Option CoreState → List LogRecord
 log_by None = []
 log_by (Some s) = records_of s.log.kept
 
--- the kind of the log that a process with this role keeps
-abbrev pub log_kind : Role → Kind
-log_kind (AtLeaf p) = ManagerKind
-log_kind _ = CoordinatorKind
-
--- the bytes read as the log of this process
-abbrev pub SpellsLog : CoreState → List ℕ → Type 0
-SpellsLog s text = ReadsAs (log_kind s.place.role) text (records_of s.log.kept) s.log.failed
-
 -- likewise; where there is no such process, there are no bytes
 abbrev pub SpellsLogBy : Option CoreState → List ℕ → Type 0
 SpellsLogBy None text = text ≡ []
 SpellsLogBy (Some s) text = SpellsLog s text
-
--- an error but the device's leaves data as they were
-abbrev pub KeepsData : ManagerData → ManagerData → StepError → Type 0
-KeepsData old new e = e ≢ Device → Rests old new
-
--- why a process did not handle an input, and what that leaves
-pub record NotHandled (old new : CoreState) (before behind : ManagerData) (i : Input)
-    (e : StepError) : Type 0 where
-  pub answer : DataAnswer
-  pub not_made : NotMade old new answer i e
-  pub keeps : KeepsData before behind e
 
 -- of the processes this one alone moves, from the first state to the second
 pub record MovesAt (old new : NodesSight) (q : ProcessId)

@@ -1,32 +1,15 @@
 -- Processes that have opened empty logs, and why one did not.
-use Rattle.std.specs.Prelude.{◌≡◌, ◌≢◌, ◌<◌, ⊤, ℕ, true, if◌then◌else◌, Option, Some, None, IsSomeAnd, is_some, List, [], ◌∷◌}
+use Rattle.std.specs.Prelude.{◌≡◌, ℕ, true, if◌then◌else◌, Option, Some, None, is_some, List, [], ◌∷◌}
 use Rattle.tree_model.specs.declared.names.ProcessId.{ProcessId}
-use Rattle.tree_model.specs.declared.events.StepError.{StepError}
-use Rattle.tree_model.specs.declared.events.StepError.TheVariants as steps
 use Rattle.tree_model.specs.declared.trees.TreeEntry.{TreeEntry}
 use Rattle.tree_model.specs.Names.{same_process}
-use Rattle.tree_model.specs.Nodes.{Place, is_listed, role_by}
-use Rattle.rec_log.specs.declared.opening.OpenError.{OpenError as LogError}
-use Rattle.rec_log.specs.declared.opening.OpenError.TheVariants as logs
-use Rattle.kv_manager.specs.declared.manager.RestoreError.{RestoreError}
-use Rattle.kv_manager.specs.declared.manager.RestoreError.TheVariants as restores
-use Rattle.kv_manager.specs.declared.restart.RestartError.TheVariants as restarts
+use Rattle.tree_model.specs.Nodes.{is_listed}
 use Rattle.core_model.specs.States.{CoreState}
-use Rattle.core_model.specs.Opening.{IsOpened as OpensAt}
 use Rattle.core_law.specs.worlds.Runs.{NodeOpened}
 use Rattle.manager_model.specs.Data.{Rests, no_data}
+use Rattle.tree_node.specs.declared.opening.OpenError.{OpenError}
+use Rattle.tree_node.specs.Openings.{ProcessNotOpened}
 use Rattle.tree_world.specs.Nodes.{NodesSight}
-use Rattle.tree_world.specs.declared.opening.OpenError.{OpenError}
-use Rattle.tree_world.specs.declared.opening.OpenError.TheVariants.{Memory, Device, Store}
-
--- the process that sits there has opened an empty log
-pub record OpenedAt (place : Place) (s : CoreState) : Type 0 where
-  pub failures : ℕ
-  pub opened : OpensAt s place failures
-
--- the process of this entry of the tree has
-abbrev pub OpenedAs : List TreeEntry → TreeEntry → CoreState → Type 0
-OpenedAs tree e s = OpenedAt (record { me = e.id; role = role_by e.kind e.parent; tree = tree }) s
 
 -- of the tree, these processes have
 pub record AreOpened (tree listed : List TreeEntry) (ns : NodesSight) : Type 0 where
@@ -35,24 +18,6 @@ pub record AreOpened (tree listed : List TreeEntry) (ns : NodesSight) : Type 0 w
   pub holdings : (q : ProcessId) → Rests no_data (ns.data_at q)
 
 -- Refusals.
-
--- the device of an empty store failed: there is a store that has more failures, as a failure leaves one
-pub record DeviceFailed {L : Type 0} (bytes : L → List ℕ) (failures : L → ℕ) (store : L) : Type 0 where
-  pub empty : bytes store ≡ []
-  pub left : L
-  pub more : failures store < failures left
-
--- there is no store, or bytes stand in it
-abbrev pub IsNoEmptyStore : {L : Type 0} → (L → List ℕ) → Option L → Type 0
-IsNoEmptyStore bytes None = ⊤
-IsNoEmptyStore bytes (Some store) = bytes store ≢ []
-
--- why a process did not open over its store, if it has one; want of memory may come at any time
-abbrev pub ProcessNotOpened : {L : Type 0} → (L → List ℕ) → (L → ℕ) → ProcessId → Option L → OpenError
-    → Type 0
-ProcessNotOpened bytes failures p store Memory = ⊤
-ProcessNotOpened bytes failures p store (Device q) = (q ≡ p) × IsSomeAnd store (DeviceFailed bytes failures)
-ProcessNotOpened bytes failures p store (Store q) = (q ≡ p) × IsNoEmptyStore bytes store
 
 -- the store of a process: the one at the place of the process among these entries, if there are so many
 abbrev pub store_of : {L : Type 0} → List TreeEntry → List L → ProcessId → Option L
@@ -66,21 +31,3 @@ pub record NotOpened {L : Type 0} (bytes : L → List ℕ) (failures : L → ℕ
   pub process : ProcessId
   pub listed : is_listed tree process ≡ true
   pub why : ProcessNotOpened bytes failures process (store_of tree stores process) e
-
--- why this process did not open, where its log did not
-abbrev pub error_of_log : ProcessId → LogError → OpenError
-error_of_log p logs.Memory = Memory
-error_of_log p logs.Device = Device p
-error_of_log p (logs.Damaged place) = Store p
-
--- likewise, where its first record was not written
-abbrev pub error_of_step : ProcessId → StepError → OpenError
-error_of_step p steps.Memory = Memory
-error_of_step p e = Device p
-
--- likewise, where its key store was not made
-abbrev pub error_of_manager : ProcessId → RestoreError → OpenError
-error_of_manager p (restores.Log e) = error_of_log p e
-error_of_manager p (restores.Records restarts.Memory) = Memory
-error_of_manager p (restores.Records restarts.Device) = Device p
-error_of_manager p (restores.Records e) = Store p

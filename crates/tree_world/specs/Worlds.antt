@@ -5,7 +5,7 @@ use Rattle.tree_model.specs.declared.records.LogRecord.{LogRecord}
 use Rattle.tree_model.specs.declared.trees.TreeEntry.{TreeEntry}
 use Rattle.core_law.specs.worlds.Worlds.{WorldState}
 use Rattle.world_journal.specs.Journals.{JournalState}
-use Rattle.tree_world.specs.declared.node.Node.{Node}
+use Rattle.tree_node.specs.declared.node.Node.{Node}
 use Rattle.tree_world.specs.declared.running_tree.RunningTree.{RunningTree}
 use Rattle.tree_world.specs.Nodes.{kept_at, log_by}
 

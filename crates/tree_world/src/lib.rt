@@ -2,15 +2,12 @@
 #![tactic(auto)]
 
 mod byte_logs;
-mod node;
 mod nodes;
 mod opening;
-mod restarting;
 mod running_tree;
 mod unforced;
 mod world;
 
 pub use byte_logs::logs_left;
-pub use node::Node;
-pub use opening::{OpenError, copied_tree};
+pub use tree_node::{Node, OpenError, copied_tree};
 pub use world::World;

@@ -2,15 +2,16 @@
 
 ghost use Rattle.std.specs.Prelude.{◌≡◌, false, IfErr, IfOk, option_map};
 ghost use Rattle.core_model.specs.Inputs.{input_of};
-ghost use Rattle.tree_world.specs.Nodes.{NoStepAt, SpellsLogBy, StepsAt, kept_at, live_at, log_by, node_in, nodes_at};
+ghost use Rattle.tree_node.specs.Nodes.{live_at};
+ghost use Rattle.tree_world.specs.Nodes.{NoStepAt, SpellsLogBy, StepsAt, kept_at, log_by, node_in, nodes_at};
 ghost use Rattle.tree_world.specs.Restarts.{NoRestartAt, NoTrimAt, RestartsAt, TrimsAt};
 
-use crate::node::Node;
 use core_model::InputRef;
 use indexmap::IndexMap;
 use log_store::LogStore;
 use std::alloc::{AllocError, Global};
 use tree_model::{LogRecord, ProcessId, Reaction, StepError};
+use tree_node::Node;
 
 /// The processes of a tree, each by its name.
 #[derive(Drop)]

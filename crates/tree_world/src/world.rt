@@ -7,7 +7,8 @@ ghost use Rattle.core_law.specs.worlds.Runs.{Leads, LeadsUntil};
 ghost use Rattle.core_law.specs.worlds.Ties.{FollowsBehindFaults, GoesOnBehindFaults};
 ghost use Rattle.core_law.specs.worlds.Modelled.{KeepsHeadline};
 ghost use Rattle.short_steps.specs.Shown.{entry_part, shown_part};
-ghost use Rattle.tree_world.specs.Nodes.{SpellsLogBy, live_at, node_in};
+ghost use Rattle.tree_node.specs.Nodes.{live_at};
+ghost use Rattle.tree_world.specs.Nodes.{SpellsLogBy, node_in};
 ghost use Rattle.tree_world.specs.Worlds.{logs_at, state};
 
 use crate::running_tree::RunningTree;

@@ -1,0 +1,2 @@
+pub mod FirstOpen
+pub mod Finding

@@ -1,0 +1,32 @@
+use Rattle.std.proofs.Common.{◌≡◌, ◌∙◌, ◌++◌, ◌∷◌, [], ap, arith, length, length-append, replicate, rules, sym}
+use Rattle.std.proofs.lemmas.List.{length-replicate}
+use Rattle.cluster_journal.specs.declared.marks.Mark.TheVariants as kinds
+use Rattle.cluster_journal.specs.Spots.{spots_at, spots_of}
+use Rattle.cluster_journal.proofs.Finding.{length_spots, same_first, spots_entered}
+use Rattle.cluster_journal.proofs.journal.ClusterJournal.place_one.Goals as goal
+
+pub invariant_of-self-in-Some-pop_front : goal.invariant_of-self-in-Some-pop_front
+invariant_of-self-in-Some-pop_front c =
+    let j = c.self.inside in
+    let placed = j.placed.items in
+    let spots = j.spots.items in
+    let x = c.in-Some-pop_front.entry in
+    let n = c.len-place.result in
+    let m = c.len-more.result in
+    let first : c.in-Some.field-0.now ≡ x =
+    same_first j.late c.pop_front.new.self c.in-Some.field-0.now x c.in-Some-pop_front.ensures.items
+    c.in-Some.ensures.lookup in
+    let count : m ≡ length c.in-Some.field-0.now.1.reaction.messages = search rules in
+    let many = count ∙ ap (λ y. length y.1.reaction.messages) first in
+    let place : n ≡ length placed = search rules in
+    let added = c.add_spots.ensures ∙ ap (λ l. l ++ spots_at n m) c.reserve-2.ensures.items in
+    let pushed = c.push_reserved.ensures.items ∙ ap (λ l. l ++ x ∷ []) c.reserve.ensures.items in
+    let long = ap length c.in_ok-extend.ensures.ok ∙ length-append j.marks (replicate m kinds.Open) in
+    let news = length-replicate m kinds.Open in
+    let behind = ap length added ∙ length-append spots (spots_at n m) in
+    let those = length_spots n m in
+    let same = c.self.invariant.1 in (
+      added ∙ spots_entered spots placed x n m c.self.invariant.0 place many
+          ∙ ap (λ l. spots_of 0 l) (sym pushed),
+      omega (arith, long, news, behind, those, same),
+    )

@@ -1,0 +1,20 @@
+//! The journal of a cluster: every entry with its caller's number, and what became of each message.
+//!
+//! ```text
+//! placed entries          with an index of their messages: Vec, Vec
+//! late entries            each in the room that its process brought: a linked list
+//! marks of messages       open --claim--> claimed --enter--> delivered
+//!                              <--give_back--
+//! ```
+//!
+//! An entry is entered without a growth, in room that was made before; `place` moves it to the placed ones.
+#![tactic(auto)]
+
+mod journal;
+mod marks;
+mod room;
+mod spots;
+
+pub use journal::ClusterJournal;
+pub use marks::Mark;
+pub use room::{Room, nothing};

@@ -1,0 +1,155 @@
+-- The data of a process: in what it handles, in a restart and in a trim.
+use Rattle.std.proofs.Common.{◌≡◌, ◌≢◌, ℕ, true, false, Option, Some, None, List, Result, Ok, Err, IfOk, IfErr, OnOk, refl}
+use Rattle.tree_model.specs.declared.names.ProcessId.{ProcessId}
+use Rattle.tree_model.specs.declared.messages.Message.{Message}
+use Rattle.tree_model.specs.declared.messages.Message.TheVariants.{Join, Work, Prepare}
+use Rattle.tree_model.specs.declared.events.Input.{Input}
+use Rattle.tree_model.specs.declared.events.Input.TheVariants.{Act as ActInput, Message as MessageInput}
+use Rattle.tree_model.specs.declared.events.Reaction.{Reaction}
+use Rattle.tree_model.specs.declared.events.StepError.{StepError}
+use Rattle.tree_model.specs.declared.events.StepError.TheVariants.{Device, Failed, Memory}
+use Rattle.tree_model.specs.declared.records.LogRecord.{LogRecord}
+use Rattle.tree_model.specs.Nodes.{DataAnswer}
+use Rattle.core_model.specs.States.{CoreState}
+use Rattle.core_model.specs.Turns.{no_answer}
+use Rattle.core_model.specs.Makes.{Makes, NotMade}
+use Rattle.core_law.specs.worlds.Worlds.{HandlesData, HandlesInput, HoldsPromises, KeepsBytes, RestartsData, TrimsData}
+use Rattle.core_law.specs.Steps.{IsSoundLog}
+use Rattle.core_model.specs.Restarting.{NotRestarted, NotTrimmed}
+use Rattle.rec_log.specs.Sights.{left_by}
+use Rattle.tree_node.specs.Restarts.{NoRestart, NoTrim}
+use Rattle.coord_core.specs.States.{CoordinatorValue, role_below, state}
+use Rattle.manager_model.specs.Data.{ManagerData, Rests, no_data}
+use Rattle.manager_model.specs.Sights.{manager_data}
+use Rattle.manager_model.specs.Turns.{AnswersInput, MovesData, case_xid, data_turn}
+use Rattle.sub_deeds.specs.Deeds.{KeepsManager, starts}
+use Rattle.sub_core.specs.Subordinates.{SubState, core_of, next_case, xid_of}
+use Rattle.sub_core.specs.Steps.{Leaves, LeavesPromises, data_answer}
+use Rattle.tree_node.specs.Nodes.{KeepsData, NotHandled}
+use Rattle.tree_node.proofs.Same.{rests}
+
+-- A coordinator has no data.
+
+none_handle : (parent : Option ProcessId) (d e : ManagerData) (s : CoreState) (a : DataAnswer) (i : Input)
+    → HandlesData (role_below parent) d e s a i
+none_handle None d e s a i = tt
+none_handle (Some p) d e s a i = tt
+
+pub none_restart : (parent : Option ProcessId) (ls : List LogRecord) (d : ManagerData)
+    → RestartsData (role_below parent) ls d
+none_restart None ls d = tt
+none_restart (Some p) ls d = tt
+
+pub none_trimmed : (parent : Option ProcessId) (d e : ManagerData) → TrimsData (role_below parent) d e
+none_trimmed None d e = tt
+none_trimmed (Some p) d e = tt
+
+pub coordinator_handles : (v w : CoordinatorValue) (i : Input) (r : Result Reaction StepError)
+    → IfOk r (Makes (state v) (state w) no_answer i)
+    → IfOk r (HandlesInput (state v) (state w) no_data no_data i)
+coordinator_handles v w i (Ok r) h = record {
+  answer = no_answer;
+  makes = h;
+  holdings = none_handle v.parent no_data no_data (state v) no_answer i;
+}
+coordinator_handles v w i (Err e) h = tt
+
+pub coordinator_stops : (v w : CoordinatorValue) (i : Input) (r : Result Reaction StepError)
+    → IfErr r (NotMade (state v) (state w) no_answer i)
+    → IfErr r (NotHandled (state v) (state w) no_data no_data i)
+coordinator_stops v w i (Ok r) h = tt
+coordinator_stops v w i (Err e) h = record { answer = no_answer; not_made = h; keeps = λ _. rests no_data }
+
+-- A manager's data answer, and are left so.
+
+answers_message : (s : SubState) (k : ℕ) (m : Message)
+    → AnswersInput (manager_data s.manager) (case_xid s.parent) (MessageInput k m) (data_answer s (MessageInput k m))
+answers_message s k (Join d) = (starts s.manager (xid_of s (next_case s d)), refl)
+answers_message s k (Work c i op) = (true, refl)
+answers_message s k (Prepare c n) = (true, refl)
+answers_message s k _ = (true, refl)
+
+moves_so : (s t : SubState) (i : Input) → Leaves i s t
+    → MovesData (manager_data s.manager) (manager_data t.manager) (case_xid s.parent)
+    (data_turn (core_of s) (data_answer s i) i)
+moves_so s t (ActInput a) leaves = leaves
+moves_so s t (MessageInput k m) leaves = leaves
+
+answers_so : (s : SubState) (i : Input)
+    → AnswersInput (manager_data s.manager) (case_xid s.parent) i (data_answer s i)
+answers_so s (ActInput a) = refl
+answers_so s (MessageInput k m) = answers_message s k m
+
+pub manager_handles : (s t : SubState) (i : Input) (r : Result Reaction StepError)
+    → IfOk r (Makes (core_of s) (core_of t) (data_answer s i) i) → OnOk r (Leaves i s t)
+    → IfOk r (HandlesInput (core_of s) (core_of t) (manager_data s.manager) (manager_data t.manager) i)
+manager_handles s t i (Ok r) makes leaves = record {
+  answer = data_answer s i;
+  makes = makes;
+  holdings = (answers_so s i, moves_so s t i leaves);
+}
+manager_handles s t i (Err e) makes leaves = tt
+
+pub kept_by : (s t : SubState) (e : StepError) → (e ≢ Device → KeepsManager s.manager t.manager)
+    → KeepsData (manager_data s.manager) (manager_data t.manager) e
+kept_by s t e keeps = λ other. record {
+  writes = (keeps other).rest.writes;
+  holders = (keeps other).rest.holders;
+}
+
+pub manager_stops : (s t : SubState) (i : Input) (r : Result Reaction StepError)
+    → IfErr r (NotMade (core_of s) (core_of t) (data_answer s i) i)
+    → IfErr r (λ e. e ≢ Device → KeepsManager s.manager t.manager)
+    → IfErr r (NotHandled (core_of s) (core_of t) (manager_data s.manager) (manager_data t.manager) i)
+manager_stops s t i (Ok r) not_made keeps = tt
+manager_stops s t i (Err e) not_made keeps = record {
+  answer = data_answer s i;
+  not_made = not_made;
+  keeps = kept_by s t e keeps;
+}
+
+-- Restarts and trims.
+
+pub coordinator_restarts : (parent : Option ProcessId) (ls : List LogRecord) (r : Result Reaction StepError)
+    → OnOk r (RestartsData (role_below parent) ls no_data)
+coordinator_restarts parent ls (Ok r) = none_restart parent ls no_data
+coordinator_restarts parent ls (Err e) = tt
+
+pub coordinator_trims : (parent : Option ProcessId) (r : Result ℕ StepError)
+    → OnOk r (TrimsData (role_below parent) no_data no_data)
+coordinator_trims parent (Ok n) = none_trimmed parent no_data no_data
+coordinator_trims parent (Err e) = tt
+
+pub nothing_kept : {A : Type 0} (r : Result A StepError) → IfErr r (KeepsData no_data no_data)
+nothing_kept (Ok a) = tt
+nothing_kept (Err e) = λ _. rests no_data
+
+pub manager_restarts : (s t : SubState) (keep : ℕ) (r : Result Reaction StepError)
+    → OnOk r (LeavesPromises s keep t)
+    → OnOk r (HoldsPromises (left_by s.manager.log keep) (manager_data t.manager))
+manager_restarts s t keep (Ok r) leaves = record { writes = leaves.writes; held = leaves.held }
+manager_restarts s t keep (Err e) leaves = tt
+
+pub manager_trims : (s t : SubState) (r : Result ℕ StepError) → OnOk r (KeepsManager s.manager t.manager)
+    → OnOk r (Rests (manager_data s.manager) (manager_data t.manager))
+manager_trims s t (Ok n) keeps = record { writes = keeps.rest.writes; holders = keeps.rest.holders }
+manager_trims s t (Err e) keeps = tt
+
+pub manager_kept : {A : Type 0} (s t : SubState) (r : Result A StepError)
+    → IfErr r (λ e. e ≢ Device → KeepsManager s.manager t.manager)
+    → IfErr r (KeepsData (manager_data s.manager) (manager_data t.manager))
+manager_kept s t (Ok a) keeps = tt
+manager_kept s t (Err e) keeps = kept_by s t e keeps
+
+pub no_restart_so : (s t : CoreState) (d f : ManagerData) (keep : ℕ) (bytes : Option ℕ) (e : StepError)
+    → KeepsBytes s bytes keep → NotRestarted s keep t e → KeepsData d f e → NoRestart s t d f bytes e
+no_restart_so s t d f keep bytes Memory k h keeps = (h, keeps (λ is. absurd cc))
+no_restart_so s t d f keep bytes Device k h keeps = record { keep = keep; keeps = k; broken = h }
+no_restart_so s t d f keep bytes _ k h keeps = absurd h
+
+pub no_trim_so : (s t : CoreState) (d f : ManagerData) (e : StepError) → s.log.failed ≡ false → IsSoundLog s
+    → NotTrimmed s t e → KeepsData d f e → NoTrim s t d f e
+no_trim_so s t d f Memory works sound h keeps = (h, keeps (λ is. absurd cc))
+no_trim_so s t d f Device works sound h keeps = record { works = works; sound = sound; broken = h }
+no_trim_so s t d f Failed works sound h keeps = (h.0, keeps (λ is. absurd cc), h.1)
+no_trim_so s t d f _ works sound h keeps = absurd h

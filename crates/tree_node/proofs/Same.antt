@@ -1,0 +1,26 @@
+-- What is not otherwise.
+use Rattle.std.proofs.Common.{refl}
+use Rattle.core_model.specs.States.{CoreState, SameCore}
+use Rattle.core_model.proofs.Alike.{same_view}
+use Rattle.manager_model.specs.Data.{ManagerData, Rests}
+
+-- a process is the same as it is
+pub same_core : (s : CoreState) → SameCore s s
+same_core s =
+    record {
+      log = refl;
+      rest = record {
+        place = refl;
+        boot = refl;
+        begun = refl;
+        given = refl;
+        tickets = λ d. refl;
+        views = λ c.
+            same_view (s.view_of c);
+        branches = λ c. refl;
+      };
+    }
+
+-- nothing is written, and each key is held as it was
+pub rests : (d : ManagerData) → Rests d d
+rests d = record { writes = λ y. refl; holders = λ k. refl }

@@ -1,0 +1,12 @@
+use Rattle.std.proofs.Common.{false}
+use Rattle.tree_model.specs.Nodes.{ReadsOnly}
+use Rattle.tree_node.proofs.Same.{rests, same_core}
+use Rattle.tree_node.proofs.node.Node.handle.Goals as goal
+
+pub returns-then-not-has_numbers-clause-err : goal.returns-then-not-has_numbers-clause-err
+returns-then-not-has_numbers-clause-err g c =
+    record {
+      answer = record { starts = false; does = false; holding = ReadsOnly };
+      not_made = same_core _;
+      keeps = λ _. rests _;
+    }

@@ -1,0 +1,13 @@
+use Rattle.core_model.specs.Inputs.{input_of}
+use Rattle.kv_manager.specs.Resources.{sight_of}
+use Rattle.sub_core.specs.Subordinates.{seen}
+use Rattle.tree_node.proofs.Holdings.{manager_handles, manager_stops}
+use Rattle.tree_node.proofs.node.step_manager.Goals as goal
+
+pub returns-clause-ok : goal.returns-clause-ok
+returns-clause-ok g c = manager_handles (seen sight_of c.args.manager.now) (seen sight_of c.step.new.self)
+    (input_of c.args.input) c.step.result c.step.ensures.ok c.step.ensures.writes
+
+pub returns-clause-err : goal.returns-clause-err
+returns-clause-err g c = manager_stops (seen sight_of c.args.manager.now) (seen sight_of c.step.new.self)
+    (input_of c.args.input) c.step.result c.step.ensures.err c.step.ensures.kept

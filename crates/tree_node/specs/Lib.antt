@@ -1,0 +1,3 @@
+pub mod Nodes
+pub mod Openings
+pub mod Restarts

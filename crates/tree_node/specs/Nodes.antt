@@ -1,0 +1,54 @@
+-- One process of a tree, of either kind, as the definitions see it.
+use Rattle.std.specs.Prelude.{◌≢◌, ℕ, List}
+use Rattle.live_table.specs.Tables.{live_count}
+use Rattle.tree_model.specs.declared.names.Kind.{Kind}
+use Rattle.tree_model.specs.declared.names.Kind.TheVariants.{Coordinator as CoordinatorKind, Manager as ManagerKind}
+use Rattle.tree_model.specs.declared.events.Input.{Input}
+use Rattle.tree_model.specs.declared.events.StepError.{StepError}
+use Rattle.tree_model.specs.declared.events.StepError.TheVariants.{Device}
+use Rattle.tree_model.specs.Nodes.{DataAnswer, Role, AtLeaf}
+use Rattle.rec_log.specs.Sights.{ReadsAs, records_of}
+use Rattle.core_model.specs.States.{CoreState}
+use Rattle.core_model.specs.Makes.{NotMade}
+use Rattle.coord_core.specs.States as coordinators
+use Rattle.kv_manager.specs.Resources.{sight_of}
+use Rattle.manager_model.specs.Data.{ManagerData, Rests, no_data}
+use Rattle.manager_model.specs.Sights.{manager_data}
+use Rattle.sub_core.specs.Steps as managers
+use Rattle.tree_node.specs.declared.node.Node.{Node}
+use Rattle.tree_node.specs.declared.node.Node.TheVariants.{Coordinator, Manager}
+
+-- what a process keeps
+abbrev pub core_of : {L : Type 0} → Node L → CoreState
+core_of (Coordinator c) = coordinators.state c
+core_of (Manager m) = managers.state sight_of m
+
+-- how many cases are live at a process
+abbrev pub live_at : {L : Type 0} → Node L → ℕ
+live_at (Coordinator c) = live_count c.slots
+live_at (Manager m) = live_count m.table.branches
+
+-- the data of a manager; a coordinator has none
+abbrev pub data_of : {L : Type 0} → Node L → ManagerData
+data_of (Coordinator c) = no_data
+data_of (Manager m) = manager_data (sight_of m.manager)
+
+-- the kind of the log that a process with this role keeps
+abbrev pub log_kind : Role → Kind
+log_kind (AtLeaf p) = ManagerKind
+log_kind _ = CoordinatorKind
+
+-- the bytes read as the log of this process
+abbrev pub SpellsLog : CoreState → List ℕ → Type 0
+SpellsLog s text = ReadsAs (log_kind s.place.role) text (records_of s.log.kept) s.log.failed
+
+-- an error but the device's leaves data as they were
+abbrev pub KeepsData : ManagerData → ManagerData → StepError → Type 0
+KeepsData old new e = e ≢ Device → Rests old new
+
+-- why a process did not handle an input, and what that leaves
+pub record NotHandled (old new : CoreState) (before behind : ManagerData) (i : Input)
+    (e : StepError) : Type 0 where
+  pub answer : DataAnswer
+  pub not_made : NotMade old new answer i e
+  pub keeps : KeepsData before behind e

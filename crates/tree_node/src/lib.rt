@@ -1,0 +1,10 @@
+//! One process of a tree, of either kind: a coordinator, or a manager over a key store.
+#![tactic(auto)]
+
+mod node;
+mod opening;
+mod restarting;
+mod unforced;
+
+pub use node::Node;
+pub use opening::{OpenError, copied_tree, open_node};

@@ -1,0 +1,149 @@
+//! One process of a tree, of either kind.
+
+ghost use Rattle.std.specs.Prelude.{◌≡◌, false, IfErr, IfOk, IsTrue};
+ghost use Rattle.rec_log.specs.Sights.{records_of};
+ghost use Rattle.core_model.specs.Inputs.{input_of};
+ghost use Rattle.core_model.specs.States.{HasNumbers};
+ghost use Rattle.coord_core.specs.States.{state as coordinator_state};
+ghost use Rattle.kv_manager.specs.Resources.{sight_of};
+ghost use Rattle.sub_core.specs.Steps.{state as manager_state};
+ghost use Rattle.core_law.specs.worlds.Worlds.{HandlesInput};
+ghost use Rattle.manager_model.specs.Data.{no_data};
+ghost use Rattle.manager_model.specs.Sights.{manager_data};
+ghost use Rattle.tree_node.specs.Nodes.{NotHandled, SpellsLog, core_of, data_of, live_at};
+
+use coord_core::Coordinator;
+use core_model::InputRef;
+use kv_manager::KvManager;
+use log_store::LogStore;
+use std::alloc::AllocError;
+use sub_core::Subordinate;
+use tree_model::{LogRecord, Reaction, StepError};
+
+/// One process of a tree, over its log in a store.
+#[derive(Drop)]
+pub enum Node<L: LogStore> {
+    /// The root, or a coordinator below it.
+    Coordinator(Coordinator<L>),
+    /// A process below a parent, with a key store.
+    Manager(Subordinate<KvManager<L>>),
+}
+
+impl<L: LogStore> Node<L> {
+    /// Whether there are numbers left for a transaction and a ticket more, which each input wants.
+    pub fn has_numbers(&self) -> bool
+        ensures yes { IsTrue result → HasNumbers (core_of self.now) }
+        ensures no { HasNumbers (core_of self.now) → IsTrue result }
+    {
+        match self {
+            Node::Coordinator(coordinator) => coordinator.has_numbers(),
+            Node::Manager(manager) => manager.has_numbers(),
+        }
+    }
+
+    /// How many cases are live.
+    pub fn live(&self) -> usize
+        ensures { result ≡ live_at self.now }
+    {
+        match self {
+            Node::Coordinator(coordinator) => coordinator.live(),
+            Node::Manager(manager) => manager.live(),
+        }
+    }
+
+    /// Whether the device failed under it: it answers `Failed` until its restart.
+    pub fn failed(&self) -> bool
+        ensures { result ≡ (core_of self.now).log.failed }
+    {
+        match self {
+            Node::Coordinator(coordinator) => coordinator.failed(),
+            Node::Manager(manager) => manager.failed(),
+        }
+    }
+
+    /// The records of its log, as a list made anew.
+    pub fn records(&self) -> Result<Vec<LogRecord>, AllocError>
+        ensures { IfOk result (λ records. records.items ≡ records_of (core_of self.now).log.kept) }
+    {
+        match self {
+            Node::Coordinator(coordinator) => coordinator.records(),
+            Node::Manager(manager) => manager.manager().records(),
+        }
+    }
+
+    /// The bytes of its log, as a list made anew.
+    pub fn log_text(&self) -> Result<Vec<u8>, AllocError>
+        ensures { IfOk result (λ text. SpellsLog (core_of self.now) text.items) }
+    {
+        match self {
+            Node::Coordinator(coordinator) => coordinator_text(coordinator),
+            Node::Manager(manager) => manager.manager().log_text(),
+        }
+    }
+
+    /// Handles an input. The refusals of the reaction table, as `StepError` says them, change nothing, nor
+    /// does Memory. Device: the device failed under the record of the input, which stands or not, and the
+    /// process answers Failed until its restart.
+    pub fn step(&mut self, input: InputRef<'_>) -> Result<Reaction, StepError>
+        requires numbers { HasNumbers (core_of self.old) }
+        ensures ok { IfOk result (HandlesInput (core_of self.old) (core_of self.new)
+            (data_of self.old) (data_of self.new) (input_of input.entry)) }
+        ensures err { IfErr result (NotHandled (core_of self.old) (core_of self.new)
+            (data_of self.old) (data_of self.new) (input_of input.entry)) }
+    {
+        match self {
+            Node::Coordinator(coordinator) => step_coordinator(coordinator, input),
+            Node::Manager(manager) => step_manager(manager, input),
+        }
+    }
+
+    /// The same, and Memory where no numbers are left, by which nothing changed.
+    pub fn handle(&mut self, input: InputRef<'_>) -> Result<Reaction, StepError>
+        ensures ok { IfOk result (HandlesInput (core_of self.old) (core_of self.new)
+            (data_of self.old) (data_of self.new) (input_of input.entry)) }
+        ensures err { IfErr result (NotHandled (core_of self.old) (core_of self.new)
+            (data_of self.old) (data_of self.new) (input_of input.entry)) }
+    {
+        if !self.has_numbers() {
+            return Err(StepError::Memory);
+        }
+        self.step(input)
+    }
+}
+
+/// The bytes of a coordinator's log.
+fn coordinator_text<L: LogStore>(coordinator: &Coordinator<L>) -> Result<Vec<u8>, AllocError>
+    ensures { IfOk result (λ text. SpellsLog (coordinator_state coordinator.now) text.items) }
+{
+    coordinator.log_text()
+}
+
+/// A coordinator handles an input; it has no data that answer.
+fn step_coordinator<L: LogStore>(
+    coordinator: &mut Coordinator<L>,
+    input: InputRef<'_>,
+) -> Result<Reaction, StepError>
+    requires { HasNumbers (coordinator_state coordinator.old) }
+    ensures ok { IfOk result (HandlesInput (coordinator_state coordinator.old)
+        (coordinator_state coordinator.new) no_data no_data (input_of input.entry)) }
+    ensures err { IfErr result (NotHandled (coordinator_state coordinator.old)
+        (coordinator_state coordinator.new) no_data no_data (input_of input.entry)) }
+{
+    coordinator.step(input)
+}
+
+/// A manager handles an input; its data answer.
+fn step_manager<L: LogStore>(
+    manager: &mut Subordinate<KvManager<L>>,
+    input: InputRef<'_>,
+) -> Result<Reaction, StepError>
+    requires numbers { HasNumbers (manager_state sight_of manager.old) }
+    ensures ok { IfOk result (HandlesInput (manager_state sight_of manager.old)
+        (manager_state sight_of manager.new) (manager_data (sight_of manager.old.manager))
+        (manager_data (sight_of manager.new.manager)) (input_of input.entry)) }
+    ensures err { IfErr result (NotHandled (manager_state sight_of manager.old)
+        (manager_state sight_of manager.new) (manager_data (sight_of manager.old.manager))
+        (manager_data (sight_of manager.new.manager)) (input_of input.entry)) }
+{
+    manager.step(input)
+}

@@ -1,0 +1,182 @@
+//! Restart and trim of one process.
+
+ghost use Rattle.std.specs.Prelude.{◌≡◌, IfErr, IfOk, OnOk};
+ghost use Rattle.rec_log.specs.Sights.{left_by, records_of};
+ghost use Rattle.core_model.specs.Restarting.{NotRestarted, NotTrimmed, Restarts, Trims};
+ghost use Rattle.core_law.specs.Steps.{IsSoundLog, records_kept};
+ghost use Rattle.core_law.specs.worlds.Worlds.{KeepsBytes, RestartsData, TrimsData};
+ghost use Rattle.coord_core.specs.States.{state as coordinator_state};
+ghost use Rattle.kv_manager.specs.Resources.{sight_of};
+ghost use Rattle.manager_model.specs.Data.{no_data};
+ghost use Rattle.manager_model.specs.Sights.{manager_data};
+ghost use Rattle.sub_core.specs.Steps.{state as manager_state};
+ghost use Rattle.tree_node.specs.Nodes.{KeepsData, core_of, data_of};
+ghost use Rattle.tree_node.specs.Restarts.{NoRestart, NoTrim, RestartsNode, TrimsNode};
+
+use crate::node::Node;
+use coord_core::Coordinator;
+use kv_manager::KvManager;
+use log_store::LogStore;
+use std::alloc::AllocError;
+use sub_core::Subordinate;
+use tree_model::{Reaction, StepError};
+
+impl<L: LogStore> Node<L> {
+    /// Restarts the process behind a crash that keeps so many of the bytes behind the forced front: it
+    /// stands as the records that are left say. All memory is taken before the crash. Memory: nothing
+    /// changed. Device: the device failed under the restart, and the process answers Failed until it is
+    /// restarted again.
+    pub fn restart(&mut self, keep: usize) -> Result<Reaction, StepError>
+        ensures ok { IfOk result (Restarts (core_of self.old) keep (core_of self.new)) }
+        ensures holdings { OnOk result (RestartsData (core_of self.old).place.role
+            (left_by (core_of self.old).log keep) (data_of self.new)) }
+        ensures err { IfErr result (NotRestarted (core_of self.old) keep (core_of self.new)) }
+        ensures kept { IfErr result (KeepsData (data_of self.old) (data_of self.new)) }
+    {
+        match self {
+            Node::Coordinator(coordinator) => restart_coordinator(coordinator, keep),
+            Node::Manager(manager) => restart_manager(manager, keep),
+        }
+    }
+
+    /// Trims the log of the process: the last Opened and the records of the cases that are not forgotten
+    /// stay, and behind them a manager's data. Gives how many records remain. Failed, Memory: nothing
+    /// changed. Device: the old log stands or the new one, and the process answers Failed until its restart.
+    pub fn trim(&mut self) -> Result<u64, StepError>
+        ensures ok { IfOk result (Trims (core_of self.old) (core_of self.new)) }
+        ensures holdings { OnOk result (TrimsData (core_of self.old).place.role
+            (data_of self.old) (data_of self.new)) }
+        ensures err { IfErr result (NotTrimmed (core_of self.old) (core_of self.new)) }
+        ensures kept { IfErr result (KeepsData (data_of self.old) (data_of self.new)) }
+    {
+        match self {
+            Node::Coordinator(coordinator) => trim_coordinator(coordinator),
+            Node::Manager(manager) => trim_manager(manager),
+        }
+    }
+
+    /// How many bytes its log has. A crash that keeps so many behind the forced front keeps every record.
+    pub fn log_size(&self) -> usize
+        ensures { left_by (core_of self.now).log result ≡ records_of (core_of self.now).log.kept }
+    {
+        match self {
+            Node::Coordinator(coordinator) => coordinator.log_size(),
+            Node::Manager(manager) => manager.manager().log_size(),
+        }
+    }
+
+    /// How many of its unforced records a crash would leave that keeps so many bytes behind the forced front.
+    pub fn left_behind(&self, keep: usize) -> Result<usize, AllocError>
+        ensures { IfOk result (λ count. count ≡ records_kept (core_of self.now) keep) }
+    {
+        match self {
+            Node::Coordinator(coordinator) => coordinator.left_behind(keep),
+            Node::Manager(manager) => manager.manager().left_behind(keep),
+        }
+    }
+
+    /// Each record of its log can stand in a log of its sort.
+    pub fn records_are_sound(&self)
+        ensures { IsSoundLog (core_of self.now) }
+    {
+        match self {
+            Node::Coordinator(coordinator) => coordinator.records_are_sound(),
+            Node::Manager(manager) => manager.manager().records_are_sound(),
+        }
+    }
+
+    /// So many bytes behind the forced front are kept; all, where no number is given.
+    fn kept_of(&self, bytes: Option<u64>) -> usize
+        ensures { KeepsBytes (core_of self.now) bytes result }
+    {
+        match bytes {
+            None => self.log_size(),
+            Some(bytes) => bytes as usize,
+        }
+    }
+
+    /// Restarts the process, and gives how many of its unforced records were kept.
+    pub fn restart_keeping(&mut self, bytes: Option<u64>) -> Result<(u64, Reaction), StepError>
+        ensures ok { IfOk result (RestartsNode (core_of self.old) (core_of self.new)
+            (data_of self.new) bytes) }
+        ensures err { IfErr result (NoRestart (core_of self.old) (core_of self.new)
+            (data_of self.old) (data_of self.new) bytes) }
+    {
+        let keep = self.kept_of(bytes);
+        let kept = self.left_behind(keep)? as u64;
+        let reaction = self.restart(keep)?;
+        Ok((kept, reaction))
+    }
+
+    /// Trims the log of a process that is up.
+    pub fn trim_sound(&mut self) -> Result<u64, StepError>
+        ensures ok { IfOk result (TrimsNode (core_of self.old) (core_of self.new)
+            (data_of self.old) (data_of self.new)) }
+        ensures err { IfErr result (NoTrim (core_of self.old) (core_of self.new)
+            (data_of self.old) (data_of self.new)) }
+    {
+        self.records_are_sound();
+        if self.failed() {
+            return Err(StepError::Failed);
+        }
+        self.trim()
+    }
+}
+
+/// A coordinator restarts; it has no data.
+fn restart_coordinator<L: LogStore>(
+    coordinator: &mut Coordinator<L>,
+    keep: usize,
+) -> Result<Reaction, StepError>
+    ensures ok { IfOk result (Restarts (coordinator_state coordinator.old) keep
+        (coordinator_state coordinator.new)) }
+    ensures holdings { OnOk result (RestartsData (coordinator_state coordinator.old).place.role
+        (left_by (coordinator_state coordinator.old).log keep) no_data) }
+    ensures err { IfErr result (NotRestarted (coordinator_state coordinator.old) keep
+        (coordinator_state coordinator.new)) }
+    ensures kept { IfErr result (KeepsData no_data no_data) }
+{
+    coordinator.restart(keep)
+}
+
+/// A manager restarts; its data are what its branches in doubt promised.
+fn restart_manager<L: LogStore>(
+    manager: &mut Subordinate<KvManager<L>>,
+    keep: usize,
+) -> Result<Reaction, StepError>
+    ensures ok { IfOk result (Restarts (manager_state sight_of manager.old) keep
+        (manager_state sight_of manager.new)) }
+    ensures holdings { OnOk result (RestartsData (manager_state sight_of manager.old).place.role
+        (left_by (manager_state sight_of manager.old).log keep)
+        (manager_data (sight_of manager.new.manager))) }
+    ensures err { IfErr result (NotRestarted (manager_state sight_of manager.old) keep
+        (manager_state sight_of manager.new)) }
+    ensures kept { IfErr result (KeepsData (manager_data (sight_of manager.old.manager))
+        (manager_data (sight_of manager.new.manager))) }
+{
+    manager.restart(keep)
+}
+
+/// The log of a coordinator is trimmed.
+fn trim_coordinator<L: LogStore>(coordinator: &mut Coordinator<L>) -> Result<u64, StepError>
+    ensures ok { IfOk result (Trims (coordinator_state coordinator.old) (coordinator_state coordinator.new)) }
+    ensures holdings { OnOk result (TrimsData (coordinator_state coordinator.old).place.role no_data no_data) }
+    ensures err { IfErr result (NotTrimmed (coordinator_state coordinator.old)
+        (coordinator_state coordinator.new)) }
+    ensures kept { IfErr result (KeepsData no_data no_data) }
+{
+    coordinator.trim()
+}
+
+/// The log of a manager is trimmed, and its data stay.
+fn trim_manager<L: LogStore>(manager: &mut Subordinate<KvManager<L>>) -> Result<u64, StepError>
+    ensures ok { IfOk result (Trims (manager_state sight_of manager.old) (manager_state sight_of manager.new)) }
+    ensures holdings { OnOk result (TrimsData (manager_state sight_of manager.old).place.role
+        (manager_data (sight_of manager.old.manager)) (manager_data (sight_of manager.new.manager))) }
+    ensures err { IfErr result (NotTrimmed (manager_state sight_of manager.old)
+        (manager_state sight_of manager.new)) }
+    ensures kept { IfErr result (KeepsData (manager_data (sight_of manager.old.manager))
+        (manager_data (sight_of manager.new.manager))) }
+{
+    manager.trim()
+}

@@ -1,0 +1,128 @@
+//! What each step tells its caller, and how seats are cut and put together.
+use crate::views::View;
+use atomic_table::{Join, Play, Split};
+use tree_model::Entry;
+
+/// A process comes to want a step.
+pub struct Wants;
+
+impl Play<Entry, View> for Wants {
+    ghost use Rattle.tree_ties.specs.Plays.{Wants as Telling};
+
+    ghost then = { Telling };
+}
+
+/// It made the step.
+pub struct Makes;
+
+impl Play<Entry, View> for Makes {
+    ghost use Rattle.tree_ties.specs.Plays.{Makes as Telling};
+
+    ghost then = { Telling };
+}
+
+/// It wants nothing any more.
+pub struct Drops;
+
+impl Play<Entry, View> for Drops {
+    ghost use Rattle.tree_ties.specs.Plays.{Drops as Telling};
+
+    ghost then = { Telling };
+}
+
+/// It offers what it made.
+pub struct Offers;
+
+impl Play<Entry, View> for Offers {
+    ghost use Rattle.tree_ties.specs.Plays.{Offers as Telling};
+
+    ghost then = { Telling };
+}
+
+/// The journal enters what is offered.
+pub struct Puts;
+
+impl Play<Entry, View> for Puts {
+    ghost use Rattle.tree_ties.specs.Plays.{Puts as Telling};
+
+    ghost then = { Telling };
+}
+
+/// A pass notes the last entry.
+pub struct Notes;
+
+impl Play<Entry, View> for Notes {
+    ghost use Rattle.tree_ties.specs.Plays.{Notes as Telling};
+
+    ghost then = { Telling };
+}
+
+/// A pass is met by the journal.
+pub struct Meets;
+
+impl Play<Entry, View> for Meets {
+    ghost use Rattle.tree_ties.specs.Plays.{Meets as Telling};
+
+    ghost then = { Telling };
+}
+
+/// An idle process is compared with the journal.
+pub struct Sees;
+
+impl Play<Entry, View> for Sees {
+    ghost use Rattle.tree_ties.specs.Plays.{Sees as Telling};
+
+    ghost then = { Telling };
+}
+
+/// The seat of a new process.
+pub struct Opens;
+
+impl Split<View> for Opens {
+    ghost use Rattle.tree_ties.specs.Views.{newcomer, opened_more};
+
+    ghost left = { opened_more };
+
+    ghost right = { newcomer };
+}
+
+/// A new pass.
+pub struct Gives;
+
+impl Split<View> for Gives {
+    ghost use Rattle.tree_ties.specs.Views.{given_more, new_pass};
+
+    ghost left = { given_more };
+
+    ghost right = { new_pass };
+}
+
+/// The journal's seat with another beside it.
+pub struct Both;
+
+impl Join<View> for Both {
+    ghost use Rattle.tree_ties.specs.Views.{beside, spent};
+
+    ghost both = { beside };
+
+    ghost spent = { spent };
+}
+
+impl Split<View> for Both {
+    ghost use Rattle.tree_ties.specs.Views.{journal_part, other_part};
+
+    ghost left = { journal_part };
+
+    ghost right = { other_part };
+}
+
+/// A seat that knows nothing, to stand in for one that is lent.
+pub struct Spare;
+
+impl Split<View> for Spare {
+    ghost use Rattle.tree_ties.specs.Views.{spent};
+
+    ghost left = { λ v. v };
+
+    ghost right = { λ v. spent };
+}

@@ -1,0 +1,122 @@
+//! The table, and who has a seat at it.
+
+ghost use Rattle.std.specs.Prelude.{◌≡◌, ◌<◌, ◌+◌, [], IfOk, length, replicate, slice_get};
+ghost use Rattle.tree_ties.specs.Views.{holder, idle_at, keeper, worker};
+ghost use Rattle.tree_ties.specs.Rule.{AreApart};
+ghost use Rattle.tree_ties.specs.Seats.{KeepsJournal, SitsAt};
+
+use crate::plays::{Gives, Opens};
+use crate::views::View;
+use atomic_table::{Seat, Table, TableRule};
+use std::alloc::{AllocError, Global};
+use std::marker::Brand;
+use tree_model::{Entry, ProcessId};
+
+/// Names one table, and the tree whose processes have seats there. What works with seats is generic over it,
+/// and is called with `Brand`.
+pub trait Seats {
+    ghost use Rattle.std.specs.Prelude.{List};
+    ghost use Rattle.atomic_table.specs.Seated.{TableId};
+    ghost use Rattle.tree_model.specs.declared.trees.TreeEntry.{TreeEntry};
+
+    ghost table: { TableId };
+
+    ghost tree: { List TreeEntry };
+}
+
+impl Seats for Brand {
+    ghost use Rattle.std.specs.Prelude.{[]};
+    ghost use Rattle.tree_ties.specs.Views.{no_table};
+
+    ghost table = { no_table };
+
+    ghost tree = { [] };
+}
+
+/// The rule of the table: each process's entries are the journal's of it, and then what it has not entered.
+pub struct Tie;
+
+impl TableRule<Entry, View, Vec<ProcessId>> for Tie {
+    ghost use Rattle.std.specs.Prelude.{[]};
+    ghost use Rattle.tree_ties.specs.Views.{keeper};
+    ghost use Rattle.tree_ties.specs.Rule.{IsTied};
+
+    ghost holds = { λ about s. IsTied about.items s.words s.views };
+
+    ghost first = { λ about. keeper about.items 0 0 [] };
+}
+
+/// The table: a word for each process.
+pub type Ties = Table<Entry, View, Vec<ProcessId>, Tie, Global>;
+
+/// A seat at it.
+pub type Place = Seat<Entry, View>;
+
+/// A table at which no process has a seat yet, and the journal's seat.
+#[derive(Drop)]
+pub struct Opened {
+    /// The table. Its key are the names of the processes.
+    pub ties: Ties,
+    /// The journal's seat.
+    pub journal: Place,
+    ghost sits: { journal.table_id ≡ ties.shared.table_id },
+    ghost words: { ties.shared.table_id.words ≡ length ties.shared.key.items },
+    ghost keeps: { journal.me ≡ (keeper ties.shared.key.items 0 0 [], []) },
+}
+
+/// A word for each of these names.
+fn zeros(alloc: Global, names: &[ProcessId]) -> Result<Vec<u64>, AllocError>
+    ensures { IfOk result (λ words. words.items ≡ replicate (length names.now) 0) }
+{
+    let mut words = Vec::new(alloc);
+    words.resize(names.len(), 0)?;
+    Ok(words)
+}
+
+/// A table for processes with these names, which are all different, and the journal's seat. The journal is
+/// empty.
+pub fn open(alloc: Global, names: &Vec<ProcessId>) -> Result<Opened, AllocError>
+    requires { AreApart names.now.items }
+    ensures { IfOk result (λ o. o.ties.shared.key ≡ names.now) }
+{
+    let words = zeros(alloc, names)?;
+    let (ties, journal) = Table::of_words(alloc, words.as_slice(), names)?;
+    Ok(Opened { ties, journal })
+}
+
+/// The next process, in the order of their names, gets a seat. It is idle, and has made nothing.
+pub fn seat(ties: &Ties, journal: &mut Place) -> Place
+    requires here { SitsAt ties.now.shared.table_id journal.old.table_id }
+    requires journal { KeepsJournal journal.old.me }
+    requires word { journal.old.me.0.journal.opened < length ties.now.shared.key.items }
+    ensures journal { (journal.new.table_id ≡ journal.old.table_id)
+        × (journal.new.me ≡ (
+          keeper journal.old.me.0.journal.names (journal.old.me.0.journal.opened + 1)
+              journal.old.me.0.journal.given journal.old.me.0.journal.all,
+          [],
+        )) }
+    ensures seat { (result.table_id ≡ journal.old.table_id)
+        × (result.me ≡ (
+          worker (idle_at journal.old.me.0.journal.opened
+              (slice_get journal.old.me.0.journal.names journal.old.me.0.journal.opened) []),
+          [],
+        )) }
+{
+    ties.shared.split_seat::<Opens>(journal)
+}
+
+/// A new pass, which notes nothing yet. Its caller's number is how many passes were given before.
+pub fn give(ties: &Ties, journal: &mut Place) -> Place
+    requires here { SitsAt ties.now.shared.table_id journal.old.table_id }
+    requires journal { KeepsJournal journal.old.me }
+    ensures journal { (journal.new.table_id ≡ journal.old.table_id)
+        × (journal.new.me ≡ (
+          keeper journal.old.me.0.journal.names journal.old.me.0.journal.opened
+              (journal.old.me.0.journal.given + 1) journal.old.me.0.journal.all,
+          [],
+        )) }
+    ensures pass { (result.table_id ≡ journal.old.table_id)
+        × (result.me ≡ (holder journal.old.me.0.journal.given [], [])) }
+{
+    ties.shared.split_seat::<Gives>(journal)
+}

@@ -1,0 +1,52 @@
+//! What seats know. No value of these is made.
+use std::collections::LinkedList;
+use tree_model::{Entry, ProcessId};
+
+/// What the journal's seat knows: the names of all processes, how many of them have a seat, how many passes
+/// were given, and all entries, each with its caller's number.
+pub struct JournalView {
+    /// Whether the seat is the journal's.
+    pub keeps: bool,
+    /// The names of the processes, in the order of their words.
+    pub names: LinkedList<ProcessId>,
+    /// How many of them have a seat.
+    pub opened: u64,
+    /// How many passes were given.
+    pub given: u64,
+    /// The entries, the oldest first, each with its caller's number.
+    pub all: LinkedList<(u64, Entry)>,
+}
+
+/// What a process's seat knows: its word, its name, its entries, its phase, and the entry that it wants.
+pub struct ProcessView {
+    /// Whether the seat is a process's.
+    pub works: bool,
+    /// The place of its word.
+    pub word: u64,
+    /// Its name.
+    pub name: Option<ProcessId>,
+    /// The entries that it made, the oldest first.
+    pub own: LinkedList<Entry>,
+    /// 0 idle, 1 wanting, 2 made, 3 offered.
+    pub phase: u64,
+    /// The step that it wants, as an entry that shows nothing yet.
+    pub wanted: Option<Entry>,
+}
+
+/// What a pass knows: its caller's number, and the places of entries, from 0, with the entries.
+pub struct PassView {
+    /// The caller's number.
+    pub caller: u64,
+    /// The places and the entries, in the order in which they were noted.
+    pub pairs: LinkedList<(u64, Entry)>,
+}
+
+/// What a seat knows: one of the three parts, or, while one seat is lent to the journal's, two.
+pub struct View {
+    /// The journal's part.
+    pub journal: JournalView,
+    /// A process's part.
+    pub process: ProcessView,
+    /// A pass's part.
+    pub pass: PassView,
+}

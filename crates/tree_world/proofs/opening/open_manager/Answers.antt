@@ -1,7 +1,0 @@
-use Rattle.tree_world.proofs.Refusals.{manager_refused}
-use Rattle.tree_world.proofs.opening.open_manager.Goals as goal
-
-pub returns-in-Err-clause-err : goal.returns-in-Err-clause-err
-returns-in-Err-clause-err g c = rw (c.refused.ensures, c.of_manager.ensures)
-    (manager_refused _ _ _ c.args.me c.args.store c.in-Err.store c.in-Err.error c.requires
-    c.in-Err.ensures.err)
