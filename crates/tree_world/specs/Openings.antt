@@ -1,11 +1,12 @@
 -- Processes that have opened empty logs, and why one did not.
-use Rattle.std.specs.Prelude.{◌≡◌, ◌≢◌, ◌<◌, ⊤, ℕ, true, if◌then◌else◌, Option, Some, None, IsSomeAnd, is_some, List, [], ◌∷◌}
+use Rattle.std.specs.Prelude.{◌≡◌, ◌≢◌, ⊤, ℕ, true, if◌then◌else◌, Option, Some, None, IsSomeAnd, is_some, List, [], ◌∷◌}
 use Rattle.tree_model.specs.declared.names.ProcessId.{ProcessId}
 use Rattle.tree_model.specs.declared.events.StepError.{StepError}
 use Rattle.tree_model.specs.declared.events.StepError.TheVariants as steps
 use Rattle.tree_model.specs.declared.trees.TreeEntry.{TreeEntry}
 use Rattle.tree_model.specs.Names.{same_process}
 use Rattle.tree_model.specs.Nodes.{Place, is_listed, role_by}
+use Rattle.log_store.specs.Stores.{MoreFailures}
 use Rattle.rec_log.specs.declared.opening.OpenError.{OpenError as LogError}
 use Rattle.rec_log.specs.declared.opening.OpenError.TheVariants as logs
 use Rattle.kv_manager.specs.declared.manager.RestoreError.{RestoreError}
@@ -36,11 +37,12 @@ pub record AreOpened (tree listed : List TreeEntry) (ns : NodesSight) : Type 0 w
 
 -- Refusals.
 
--- the device of an empty store failed: there is a store that has more failures, as a failure leaves one
+-- the device of an empty store failed: there is a store that has more failures, as a failure leaves one, or
+-- whose count is at its top
 pub record DeviceFailed {L : Type 0} (bytes : L → List ℕ) (failures : L → ℕ) (store : L) : Type 0 where
   pub empty : bytes store ≡ []
   pub left : L
-  pub more : failures store < failures left
+  pub more : MoreFailures (failures store) (failures left)
 
 -- there is no store, or bytes stand in it
 abbrev pub IsNoEmptyStore : {L : Type 0} → (L → List ℕ) → Option L → Type 0
