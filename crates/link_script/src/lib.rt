@@ -11,5 +11,7 @@ mod script;
 
 pub use front::{Front, read_front};
 pub use lines::Lines;
-pub use names::process_of;
+pub use document::read_tree;
+pub use event::event_of;
+pub use names::{case_of, process_of, ticket_of, txn_of};
 pub use script::{MOST_EVENTS, ScriptError, ScriptFault, open, read};

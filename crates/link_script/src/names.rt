@@ -60,7 +60,7 @@ pub fn txn_of(root: ProcessId, word: &str) -> Option<Txn>
 
 /// The ticket that a word names.
 #[tactic(auto, unfolding(crate::specs::Names::ticket_at))]
-fn ticket_of(word: &str) -> Option<Ticket>
+pub fn ticket_of(word: &str) -> Option<Ticket>
     ensures { result ≡ ticket_at word.now }
 {
     let (child, rest) = cut(word, '.')?;
