@@ -4,8 +4,7 @@ ghost use Rattle.std.specs.Prelude.{◌≡◌, ℕ, IfErr, IfOk};
 ghost use Rattle.tree_model.specs.declared.names.Kind.TheVariants as kind;
 ghost use Rattle.rec_log.specs.Sights.{left_by, records_of};
 ghost use Rattle.core_model.specs.States.{CoreState};
-ghost use Rattle.coord_core.specs.Reopened.{LeftSo};
-ghost use Rattle.core_model.specs.Restarting.{NotRestarted, NotTrimmed, Restarts, Trims};
+ghost use Rattle.core_model.specs.Restarting.{LeftSo, NotRestarted, NotTrimmed, Restarts, Trims};
 ghost use Rattle.coord_core.specs.States.{error_of, role_below, state};
 
 use crate::coordinator::Coordinator;
@@ -78,7 +77,7 @@ impl<L: LogStore + Drop> Coordinator<L> {
     ) -> Result<(Coordinator<L>, Reaction), (StepError, RecLog<L>)>
         requires { log.kind ≡ kind.Coordinator }
         ensures ok { IfOk result (λ made. (old : CoreState) → LeftSo old
-            (record { me = me; role = role_below parent; tree = tree }) log.sight
+            (record { me = me; role = role_below parent; tree = tree }) log.sight.failures
             → (keep : ℕ) → left_by old.log keep ≡ records_of log.sight.kept
             → Restarts old keep (state made.0) made.1) }
     {

@@ -9,7 +9,7 @@ use Rattle.tree_model.specs.declared.events.StepError.{StepError}
 use Rattle.tree_model.specs.declared.events.StepError.TheVariants.{Memory, Device, Failed}
 use Rattle.tree_model.specs.LogNames.{own_records}
 use Rattle.tree_model.specs.Records.{boot_of}
-use Rattle.tree_model.specs.Nodes.{Role, AtLeaf, Effect, reaction_of}
+use Rattle.tree_model.specs.Nodes.{Role, AtLeaf, Effect, Place, reaction_of}
 use Rattle.tree_model.specs.Standings.{CoordinatorView, ManagerView, unknown_branch, unknown_view}
 use Rattle.tree_model.specs.Restarts.{data_records, forced_all, recorded_branch, recorded_view, reopens, resumes}
 use Rattle.tree_model.specs.SameViews.{SameView}
@@ -83,6 +83,11 @@ NotRestarted old keep new Device =
     RestartBreaks (seen old old.log) (seen old new.log) keep (logged old (reopened old keep))
     × (new.place ≡ old.place)
 NotRestarted old keep new e = ⊥
+
+-- the process that an earlier one was: it sat here, and its device failed so often
+pub record LeftSo (old : CoreState) (place : Place) (failures : ℕ) : Type 0 where
+  pub place_is : old.place ≡ place
+  pub failures_are : old.log.failures ≡ failures
 
 -- Trim.
 

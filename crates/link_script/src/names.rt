@@ -20,8 +20,8 @@ pub fn process_of(word: &str) -> Option<ProcessId>
     }
 }
 
-/// What follows a letter, where the word begins with it.
-fn after(word: &str, letter: char) -> Option<&str>
+/// What follows a letter or a sign, where the word begins with it.
+pub fn after(word: &str, letter: char) -> Option<&str>
     requires { letter < 128 }
     ensures { option_map (λ s. s.now) result ≡ after_at letter word.now }
 {
