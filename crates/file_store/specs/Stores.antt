@@ -6,6 +6,10 @@ use Rattle.file_blocks.specs.Files.{file_text}
 use Rattle.file_store.specs.declared.store.FileStore.{FileStore}
 
 module _ {F : Type 0} where
+  -- its file
+  abbrev pub file_of : FileStore F → F
+  file_of s = s.file
+
   -- the bytes that stand in it
   abbrev pub file_bytes : FileStore F → List ℕ
   file_bytes s = s.bytes.items

@@ -38,7 +38,7 @@ fn end_of(place: u64, size: usize) -> Option<u64>
 }
 
 impl<F: LogFile> FileStore<F> {
-    ghost use Rattle.file_store.specs.Stores.{Fails, PutsFile, file_bytes, file_failures, file_forced};
+    ghost use Rattle.file_store.specs.Stores.{Fails, PutsFile, file_bytes, file_of, file_failures, file_forced};
 
     /// A store over a file which held these bytes under this number: they are written anew, since what was
     /// read may not be on the disk. None: the device failed under it. It takes no memory.
@@ -62,6 +62,13 @@ impl<F: LogFile> FileStore<F> {
             failures: 0,
             stale: false,
         })
+    }
+
+    /// The file, which the store lets go.
+    pub fn into_file(self) -> F
+        ensures { result ≡ file_of self }
+    {
+        self.file
     }
 
     /// Counts a failure of the device.
