@@ -69,6 +69,10 @@ impl LogFile for FakeFile {
         }
         self.put(0, head, more)?;
         self.safe = self.held.len();
-        if fails { Err(io::Error::from(ErrorKind::Other)) } else { Ok(()) }
+        if fails {
+            Err(io::Error::from(ErrorKind::Other))
+        } else {
+            Ok(())
+        }
     }
 }
