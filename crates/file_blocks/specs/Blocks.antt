@@ -50,7 +50,8 @@ behind_all place (p ∷ ps) = behind_all (behind place p) ps
 abbrev pub whole_block : ℕ → ℕ → List ℕ → ℕ → List ℕ → Option (List ℕ × List ℕ)
 whole_block number place head size rest =
     if nat_lt (length rest) size then None
-    else (if bytes_eq (head_text number place (take size rest)) head then Some (take size rest, drop size rest)
+    else (if bytes_eq (head_text number place (take size rest)) head
+    then Some (take size rest, drop size rest)
     else None)
 
 -- the block with which these bytes begin at this place, and what is behind it: none where it is not whole
@@ -77,5 +78,6 @@ has_head number place (b ∷ bs) = is_head number place (b ∷ bs) || has_head n
 abbrev pub is_damaged : ℕ → ℕ → List ℕ → Bool
 is_damaged number place tail =
     if is_head number place tail
-    then has_head number (place + (72 + number_in (take 72 tail))) (drop (number_in (take 72 tail)) (drop 72 tail))
+    then has_head number (place + (72 + number_in (take 72 tail)))
+    (drop (number_in (take 72 tail)) (drop 72 tail))
     else has_head number place tail

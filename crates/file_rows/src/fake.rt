@@ -6,8 +6,8 @@ use file_store::LogFile;
 use std::io;
 use std::io::ErrorKind;
 
-/// A file in memory: what it holds, how much of that is safe, and how many calls it makes before one fails. One
-/// that fails does part of its work.
+/// A file in memory: what it holds, how much of that is safe, and how many calls it makes before one fails.
+/// One that fails does part of its work.
 #[derive(Drop)]
 pub struct FakeFile {
     pub held: Vec<u8>,
@@ -30,7 +30,8 @@ impl FakeFile {
     }
 
     fn put(&mut self, place: usize, head: &[u8], more: &[u8]) -> io::Result<()>
-        ensures { OnOk result (self.new.held.items ≡ take place self.old.held.items ++ (head.now ++ more.now)) }
+        ensures { OnOk result (self.new.held.items
+            ≡ take place self.old.held.items ++ (head.now ++ more.now)) }
     {
         self.held.truncate(place);
         self.held.extend_from_slice(head)?;

@@ -55,7 +55,8 @@ module _ {F : Type 0} where
     pub end : new.end ≡ behind 48 text
     pub fresh : new.stale ≡ false
 
-  -- a failure of the device was counted, and nothing else changed; the file may hold other bytes than the store
+  -- a failure of the device was counted, and nothing else changed; the file may hold other bytes than the
+  -- store
   pub record Fails (old new : FileStore F) : Type 0 where
     pub bytes : new.bytes ≡ old.bytes
     pub forced : new.forced ≡ old.forced

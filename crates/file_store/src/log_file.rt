@@ -17,8 +17,8 @@ pub trait LogFile: Drop {
     /// From the one to the other a file of these bytes alone, all of them safe, took its place.
     ghost replaces: { Self → Self → List ℕ → Type 0 } = { λ _ _ _. ⊤ };
 
-    /// Writes these bytes, one behind the other, behind so many of the file. Ok: a read returns them. Err: any
-    /// of them may stand there.
+    /// Writes these bytes, one behind the other, behind so many of the file. Ok: a read returns them. Err:
+    /// any of them may stand there.
     fn write(&mut self, place: u64, head: &[u8], more: &[u8]) -> io::Result<()>
         ensures { OnOk result (writes self.old self.new place (head.now ++ more.now)) };
 

@@ -38,7 +38,14 @@ fn end_of(place: u64, size: usize) -> Option<u64>
 }
 
 impl<F: LogFile> FileStore<F> {
-    ghost use Rattle.file_store.specs.Stores.{Fails, PutsFile, file_bytes, file_of, file_failures, file_forced};
+    ghost use Rattle.file_store.specs.Stores.{
+      Fails,
+      PutsFile,
+      file_bytes,
+      file_of,
+      file_failures,
+      file_forced,
+    };
 
     /// A store over a file which held these bytes under this number: they are written anew, since what was
     /// read may not be on the disk. None: the device failed under it. It takes no memory.
@@ -103,7 +110,8 @@ impl<F: LogFile> FileStore<F> {
     /// A file of these bytes takes the file's place. Gives its number, and where its next block begins; None,
     /// where the device failed.
     fn put(&mut self, new: &[u8]) -> Option<(u64, u64)>
-        ensures put { IfSome result (λ at. F.replaces self.old.file self.new.file (file_text at.0 (new.now ∷ []))) }
+        ensures put { IfSome result (λ at. F.replaces self.old.file self.new.file
+            (file_text at.0 (new.now ∷ []))) }
         ensures end { IfSome result (λ at. at.1 ≡ behind 48 new.now) }
         ensures rest { SameButFile self.old self.new }
     {
