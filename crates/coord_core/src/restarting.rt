@@ -1,14 +1,18 @@
 //! A coordinator's restart, and its trim.
 
-ghost use Rattle.std.specs.Prelude.{◌≡◌, IfErr, IfOk};
-ghost use Rattle.core_model.specs.Restarting.{NotRestarted, NotTrimmed, Restarts, Trims};
-ghost use Rattle.coord_core.specs.States.{error_of, state};
+ghost use Rattle.std.specs.Prelude.{◌≡◌, ℕ, IfErr, IfOk};
+ghost use Rattle.tree_model.specs.declared.names.Kind.TheVariants as kind;
+ghost use Rattle.rec_log.specs.Sights.{left_by, records_of};
+ghost use Rattle.core_model.specs.States.{CoreState};
+ghost use Rattle.core_model.specs.Restarting.{LeftSo, NotRestarted, NotTrimmed, Restarts, Trims};
+ghost use Rattle.coord_core.specs.States.{error_of, role_below, state};
 
 use crate::coordinator::Coordinator;
-use coord_table::rebuild;
+use coord_table::{Cases, rebuild};
 use log_store::LogStore;
-use rec_log::LogError;
-use tree_model::{Reaction, StepError};
+use rec_log::{LogError, RecLog};
+use std::alloc::Global;
+use tree_model::{ProcessId, Reaction, StepError, Tree};
 
 /// The error of a step for that of a log.
 fn step_error(error: LogError) -> StepError
@@ -57,5 +61,47 @@ impl<L: LogStore> Coordinator<L> {
             Ok(count) => Ok(count as u64),
             Err(error) => Err(step_error(error)),
         }
+    }
+}
+
+impl<L: LogStore + Drop> Coordinator<L> {
+    /// The coordinator `me` of this tree below this parent, as it restarts over the log that an earlier one
+    /// left: the records that stand in it are what a crash left. Memory, Device: as of `restart`; the log is
+    /// handed back.
+    pub fn reopen(
+        alloc: Global,
+        me: ProcessId,
+        parent: Option<ProcessId>,
+        tree: Tree,
+        log: RecLog<L>,
+    ) -> Result<(Coordinator<L>, Reaction), (StepError, RecLog<L>)>
+        requires { log.kind ≡ kind.Coordinator }
+        ensures ok { IfOk result (λ made. (old : CoreState) → LeftSo old
+            (record { me = me; role = role_below parent; tree = tree }) log.sight.failures
+            → (keep : ℕ) → left_by old.log keep ≡ records_of log.sight.kept
+            → Restarts old keep (state made.0) made.1) }
+    {
+        let mut coordinator = Coordinator {
+            alloc,
+            me,
+            parent,
+            tree,
+            log,
+            boot: 0,
+            begun: 0,
+            given: 0,
+            cases: Cases::new(alloc),
+        };
+        let keep = coordinator.log.size();
+        match coordinator.restart(keep) {
+            Ok(reaction) => Ok((coordinator, reaction)),
+            Err(error) => Err((error, coordinator.into_log())),
+        }
+    }
+
+    /// The log, as it stands.
+    fn into_log(self) -> RecLog<L> {
+        let Coordinator { log, .. } = self;
+        log
     }
 }

@@ -1,7 +1,8 @@
 -- A force that fails behind a record that was appended.
-use Rattle.std.proofs.Common.{◌≡◌, ◌<◌, ◌≤◌, ◌+◌, ◌++◌, ◌∷◌, [], ℕ, zero, suc, List, length, take, append_assoc, IfErr, Ok, Err, Result, refl, subst, sym, ap, ◌∙◌}
+use Rattle.std.proofs.Common.{◌≡◌, ◌≤◌, ◌+◌, ◌++◌, ◌∷◌, [], ℕ, zero, suc, List, length, take, append_assoc, IfErr, Ok, Err, Result, refl, subst, sym, ap, ◌∙◌}
 use Rattle.std.proofs.lemmas.List.{append-nil}
 use Rattle.tree_model.specs.declared.records.LogRecord.{LogRecord}
+use Rattle.log_store.specs.Stores.{MoreFailures}
 use Rattle.rec_log.specs.Sights.{Appended, Breaks, LogState, records_of, whole_within}
 
 -- nothing is taken of nothing
@@ -31,7 +32,7 @@ broken_force old mid new l appended breaks =
           breaks.leaves keep ∙ (λ i. appended.forced i
           ++ whole_within (appended.behind i + (breaks.more + keep)) (longer_by i));
       failed = breaks.failed;
-      cause = subst (λ n. n < new.sight.failures) appended.failures breaks.cause;
+      cause = subst (λ n. MoreFailures n new.sight.failures) appended.failures breaks.cause;
     }
 
 pub if_err : {A E : Type 0} (P Q : E → Type 0) → ((e : E) → P e → Q e)

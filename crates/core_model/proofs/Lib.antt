@@ -1,3 +1,5 @@
 pub mod Alike
 pub mod AlikeTurns
 pub mod Opened
+pub mod Numbers
+pub mod Lefts

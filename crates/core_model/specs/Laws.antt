@@ -1,13 +1,18 @@
 -- That the definitions of this crate fit one another.
-use Rattle.std.specs.Prelude.{◌≡◌, Option, None, [], ◌∷◌}
+use Rattle.std.specs.Prelude.{◌≡◌, ℕ, Option, None, [], ◌∷◌}
 use Rattle.tree_model.specs.declared.names.Case.{Case}
 use Rattle.tree_model.specs.declared.records.Record.TheVariants.{Opened}
 use Rattle.tree_model.specs.declared.events.Input.{Input}
+use Rattle.tree_model.specs.declared.events.Input.TheVariants.{Message as MessageInput}
+use Rattle.tree_model.specs.declared.events.Reaction.{Reaction}
+use Rattle.tree_model.specs.declared.messages.Message.{Message}
+use Rattle.rec_log.specs.Sights.{left_by}
+use Rattle.core_model.specs.Makes.{Makes}
 use Rattle.tree_model.specs.Nodes.{DataAnswer, Place}
 use Rattle.tree_model.specs.Standings.{unknown_branch, unknown_view}
 use Rattle.core_model.specs.States.{CoreState, SameCore, forced_sight}
 use Rattle.core_model.specs.Turns.{Finds, asked_by, reacted, turn_of}
-use Rattle.core_model.specs.Restarting.{ReadOff}
+use Rattle.core_model.specs.Restarting.{ReadOff, Restarts}
 
 -- Two processes between which nothing is otherwise do the same with each input: rows see of a view no more
 -- than views that say the same share.
@@ -37,3 +42,15 @@ opened_core place =
 -- it stands as its one record says
 abbrev pub OpenedIsReadOff : Type 0
 OpenedIsReadOff = (place : Place) → ReadOff (opened_core place) (Opened 1 ∷ [])
+
+-- Which message of the net it was that came makes no difference to what a process makes of it.
+abbrev pub NumbersAreAlike : Type 0
+NumbersAreAlike = (old new : CoreState) (a : DataAnswer) (j k : ℕ) (m : Message) (reaction : Reaction)
+    → Makes old new a (MessageInput j m) reaction → Makes old new a (MessageInput k m) reaction
+
+-- What a restart makes rests on where the process sits, on the records that are left, and on how often its
+-- device failed: not on what else the process kept before the crash.
+abbrev pub LeftLogsRestartAlike : Type 0
+LeftLogsRestartAlike = (s old : CoreState) (j k : ℕ) (new : CoreState) (reaction : Reaction)
+    → old.place ≡ s.place → old.log.failures ≡ s.log.failures → left_by old.log k ≡ left_by s.log j
+    → Restarts s j new reaction → Restarts old k new reaction

@@ -1,5 +1,5 @@
 -- Opening, restart and trim of a process.
-use Rattle.std.specs.Prelude.{◌≡◌, ◌<◌, ◌⊎◌, ℕ, true, List, [], ◌++◌, length, None}
+use Rattle.std.specs.Prelude.{◌≡◌, ◌⊎◌, ℕ, true, List, [], ◌++◌, length, None}
 use Rattle.tree_model.specs.declared.names.Case.{Case}
 use Rattle.tree_model.specs.declared.names.ProcessId.{ProcessId}
 use Rattle.tree_model.specs.declared.records.LogRecord.{LogRecord}
@@ -9,10 +9,11 @@ use Rattle.tree_model.specs.declared.events.StepError.{StepError}
 use Rattle.tree_model.specs.declared.events.StepError.TheVariants.{Memory, Device, Failed}
 use Rattle.tree_model.specs.LogNames.{own_records}
 use Rattle.tree_model.specs.Records.{boot_of}
-use Rattle.tree_model.specs.Nodes.{Role, AtLeaf, Effect, reaction_of}
+use Rattle.tree_model.specs.Nodes.{Role, AtLeaf, Effect, Place, reaction_of}
 use Rattle.tree_model.specs.Standings.{CoordinatorView, ManagerView, unknown_branch, unknown_view}
 use Rattle.tree_model.specs.Restarts.{data_records, forced_all, recorded_branch, recorded_view, reopens, resumes}
 use Rattle.tree_model.specs.SameViews.{SameView}
+use Rattle.log_store.specs.Stores.{MoreFailures}
 use Rattle.rec_log.specs.Trimming.{front_of_trim}
 use Rattle.rec_log.specs.Sights.{RestartBreaks, left_by, records_of}
 use Rattle.core_model.specs.States.{CoreState, SameButLog, SameCore, forced_sight, logged}
@@ -83,6 +84,11 @@ NotRestarted old keep new Device =
     × (new.place ≡ old.place)
 NotRestarted old keep new e = ⊥
 
+-- the process that an earlier one was: it sat here, and its device failed so often
+pub record LeftSo (old : CoreState) (place : Place) (failures : ℕ) : Type 0 where
+  pub place_is : old.place ≡ place
+  pub failures_are : old.log.failures ≡ failures
+
 -- Trim.
 
 -- the log that a trim leaves: what stays of its records, and a manager's data behind them
@@ -103,7 +109,7 @@ pub record TrimBreaks (old new : CoreState) : Type 0 where
   pub either : (new.log.kept ≡ old.log.kept)
       ⊎ (new.log.kept ≡ record { forced = trimmed_log old; unforced = [] })
   pub failed : new.log.failed ≡ true
-  pub cause : old.log.failures < new.log.failures
+  pub cause : MoreFailures old.log.failures new.log.failures
   pub place : new.place ≡ old.place
 
 -- why a process was not trimmed, and what that leaves

@@ -1,5 +1,5 @@
 -- What a turn makes of the data and of the promises.
-use Rattle.std.proofs.Common.{◌≡◌, ◌≤◌, ◌<◌, ◌+◌, ℕ, Bool, true, false, cond, List, [], ◌∷◌, ◌++◌, length, take, append_assoc, fold, map, Some, None, refl, sym, ap, subst, ◌∙◌, arith, rules, Option, ◌⊎◌, inl, inr}
+use Rattle.std.proofs.Common.{◌≡◌, ◌≤◌, ◌+◌, ℕ, Bool, true, false, cond, List, [], ◌∷◌, ◌++◌, length, take, append_assoc, fold, map, Some, None, refl, sym, ap, subst, ◌∙◌, arith, rules, Option, ◌⊎◌, inl, inr}
 use Rattle.std.proofs.lemmas.List.{append-nil}
 use Rattle.std.proofs.lemmas.List.Elements.{All-contains, All-from_recursion}
 use Rattle.std.specs.Prelude.{Contains, MatchBool}
@@ -18,6 +18,7 @@ use Rattle.xa_branch.specs.Names.{same}
 use Rattle.xa_branch.specs.Branches.{is_known}
 use Rattle.xa_branch.proofs.Names.{same_is}
 use Rattle.xa_assoc.specs.Answers.{Takes as TakesRow, state_at}
+use Rattle.log_store.specs.Stores.{MoreFailures}
 use Rattle.log_text.specs.Parts.{name_in}
 use Rattle.tree_model.specs.declared.names.Outcome.{Outcome}
 use Rattle.tree_model.specs.declared.names.Outcome.TheVariants.{Aborted as AbortedOutcome, Committed as CommittedOutcome}
@@ -927,7 +928,7 @@ fails_by old s s' x turn e room is broke tables writes locks decisions boot = re
         leaves = λ keep. broke.leaves keep ∙ ap (λ (k : LogSight). left_by
             (longer k (take broke.appended (l ∷ []))) (broke.more + keep)) room.sight;
         failed = broke.failed;
-        cause = subst (λ (k : LogSight). k.failures < s'.log.sight.failures) room.sight broke.cause;
+        cause = subst (λ (k : LogSight). MoreFailures k.failures s'.log.sight.failures) room.sight broke.cause;
       });
   tables = tables ∙ ap (λ (v : KeySight). v.tables) room.store;
   writes = writes ∙ ap (λ (v : KeySight). v.writes) room.store;

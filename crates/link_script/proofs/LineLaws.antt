@@ -31,7 +31,7 @@ use Rattle.link_script.proofs.Misses.{bind_some, misses, misses_without, not_at,
 use Rattle.link_script.proofs.NameLaws.{process_takes, process_again, process_misses, txn_takes, txn_again, case_takes, case_again, case_no_blank}
 
 -- which branch a test took
-chosen : {A : Type 0} (G : Type 0) (b : Bool) (x y : Option A) (v : A) → cond b x y ≡ Some v
+pub chosen : {A : Type 0} (G : Type 0) (b : Bool) (x y : Option A) (v : A) → cond b x y ≡ Some v
     → (b ≡ true → x ≡ Some v → G) → (b ≡ false → y ≡ Some v → G) → G
 chosen G true x y v e f g = f refl e
 chosen G false x y v e f g = g refl e
@@ -71,18 +71,18 @@ word_again most w h = ap (λ (b : Bool). cond b (Some w) None) h
 
 -- Operations.
 
-two_words : (head w a r x y : List ℕ) → w ≡ a ++ 32 ∷ r → a ≡ x → r ≡ y
+pub two_words : (head w a r x y : List ℕ) → w ≡ a ++ 32 ∷ r → a ≡ x → r ≡ y
     → head ++ w ≡ head ++ x ++ codes " " ++ y
 two_words head w a r x y e f g = rw (e, f, g) (simp append_assoc)
 
-three_words : (head w a r b s x y z : List ℕ) → w ≡ a ++ 32 ∷ r → r ≡ b ++ 32 ∷ s → a ≡ x → b ≡ y → s ≡ z
+pub three_words : (head w a r b s x y z : List ℕ) → w ≡ a ++ 32 ∷ r → r ≡ b ++ 32 ∷ s → a ≡ x → b ≡ y → s ≡ z
     → head ++ w ≡ head ++ x ++ codes " " ++ y ++ codes " " ++ z
 three_words head w a r b s x y z e d f g h = rw (e, d, f, g, h) (simp append_assoc)
 
-two_form : (head x y : List ℕ) → head ++ x ++ codes " " ++ y ≡ head ++ (x ++ 32 ∷ y)
+pub two_form : (head x y : List ℕ) → head ++ x ++ codes " " ++ y ≡ head ++ (x ++ 32 ∷ y)
 two_form head x y = simp append_assoc
 
-three_form : (head x y z : List ℕ) → head ++ x ++ codes " " ++ y ++ codes " " ++ z ≡ head
+pub three_form : (head x y z : List ℕ) → head ++ x ++ codes " " ++ y ++ codes " " ++ z ≡ head
     ++ (x ++ 32 ∷ (y ++ 32 ∷ z))
 three_form head x y z = simp append_assoc
 
@@ -357,7 +357,7 @@ event_takes root line e h = event_read root line (cut_at 32 line) refl e h
 
 -- The forms: what is spelled.
 
-case_cut : (root : ProcessId) (c : Case) (rest : List ℕ) → FitsCase root c
+pub case_cut : (root : ProcessId) (c : Case) (rest : List ℕ) → FitsCase root c
     → cut_at 32 (case_text c ++ 32 ∷ rest) ≡ Some (case_text c, rest)
 case_cut root c rest fits = cut_again 32 (case_text c) rest
     (misses_without 32 (case_text c) (case_no_blank root c fits))

@@ -20,8 +20,8 @@ pub fn process_of(word: &str) -> Option<ProcessId>
     }
 }
 
-/// What follows a letter, where the word begins with it.
-fn after(word: &str, letter: char) -> Option<&str>
+/// What follows a letter or a sign, where the word begins with it.
+pub fn after(word: &str, letter: char) -> Option<&str>
     requires { letter < 128 }
     ensures { option_map (λ s. s.now) result ≡ after_at letter word.now }
 {
@@ -60,7 +60,7 @@ pub fn txn_of(root: ProcessId, word: &str) -> Option<Txn>
 
 /// The ticket that a word names.
 #[tactic(auto, unfolding(crate::specs::Names::ticket_at))]
-fn ticket_of(word: &str) -> Option<Ticket>
+pub fn ticket_of(word: &str) -> Option<Ticket>
     ensures { result ≡ ticket_at word.now }
 {
     let (child, rest) = cut(word, '.')?;

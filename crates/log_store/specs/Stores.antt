@@ -1,6 +1,10 @@
 -- What the calls of a store do, over its bytes, the length of their forced front and the failures of its
 -- device.
-use Rattle.std.specs.Prelude.{◌≡◌, ◌≤◌, ◌<◌, ◌+◌, ◌⊎◌, ℕ, List, ◌++◌, length, take}
+use Rattle.std.specs.Prelude.{◌≡◌, ◌≤◌, ◌<◌, ◌+◌, ◌-◌, ◌^◌, ◌⊎◌, ℕ, List, ◌++◌, length, take, min}
+
+-- more failures were counted, where the count was not at its top
+abbrev pub MoreFailures : ℕ → ℕ → Type 0
+MoreFailures old new = min (old + 1) (2 ^ 64 - 1) ≤ new
 
 -- the store is as it was
 pub record SameStore {S : Type 0} (bytes : S → List ℕ) (forced failures : S → ℕ) (old new : S) : Type 0 where
@@ -27,7 +31,7 @@ pub record AppendBreaks {S : Type 0} (bytes : S → List ℕ) (forced failures :
   pub came : ℕ
   pub text : bytes new ≡ bytes old ++ take came more
   pub forced_stays : forced new ≡ forced old
-  pub cause : failures old < failures new
+  pub cause : MoreFailures (failures old) (failures new)
 
 -- all that stands is forced
 pub record Forces {S : Type 0} (bytes : S → List ℕ) (forced failures : S → ℕ) (old new : S) : Type 0 where
@@ -40,7 +44,7 @@ pub record ForceBreaks {S : Type 0} (bytes : S → List ℕ) (forced failures : 
     (old new : S) : Type 0 where
   pub text : bytes new ≡ bytes old
   pub no_less : forced old ≤ forced new
-  pub cause : failures old < failures new
+  pub cause : MoreFailures (failures old) (failures new)
 
 -- the new bytes stand alone, all of them forced
 pub record Replaces {S : Type 0} (bytes : S → List ℕ) (forced failures : S → ℕ) (old new : S)
@@ -54,7 +58,7 @@ pub record ReplaceBreaks {S : Type 0} (bytes : S → List ℕ) (forced failures 
     (text : List ℕ) : Type 0 where
   pub either : ((bytes new ≡ bytes old) × (forced new ≡ forced old))
       ⊎ ((bytes new ≡ text) × (forced new ≡ length text))
-  pub cause : failures old < failures new
+  pub cause : MoreFailures (failures old) (failures new)
 
 -- of what is not forced at most so many bytes are left, and the forced front is as it was
 pub record Crashes {S : Type 0} (bytes : S → List ℕ) (forced failures : S → ℕ) (old new : S)

@@ -22,7 +22,7 @@ pub enum StoreError {
     /// There was no memory for it; nothing changed.
     #[error("no memory")]
     Memory,
-    /// The device failed, and `failures` rose; each call says what may stand then.
+    /// The device failed, and `failures` rose, if it was not at its top; each call says what may stand then.
     #[error("the device failed")]
     Device,
 }
@@ -35,7 +35,7 @@ pub trait LogStore {
     /// How many of these bytes a crash cannot take.
     ghost forced: { Self → ℕ };
 
-    /// How often the device has failed.
+    /// How often the device has failed, counted up to 2^64 - 1.
     ghost failures: { Self → ℕ };
 
     /// No append and no replace that leaves at most so many bytes is refused for memory.
@@ -49,7 +49,7 @@ pub trait LogStore {
     fn forced(&self) -> usize
         ensures { result ≡ forced self.now };
 
-    /// How often the device has failed.
+    /// How often the device has failed, counted up to 2^64 - 1.
     fn failures(&self) -> u64
         ensures { result ≡ failures self.now };
 

@@ -71,6 +71,13 @@ pub record Restarts (old new : ManagerSight) (keep : ℕ) : Type 0 where
   pub boot : new.boot ≡ next_boot (left_by old.log keep)
   pub log : new.log ≡ forced_sight (with_boot (left_by old.log keep)) old.log.failures
 
+-- the manager is as a restart left some manager, and is not open: its log has the records that were left, and
+-- behind them that of its boot
+pub record IsRestarted (m : ManagerSight) : Type 0 where
+  pub old : ManagerSight
+  pub keep : ℕ
+  pub restarts : Restarts old m keep
+
 -- the device failed under a restart: it left the log as such a failure does, with the record of the next boot
 -- or without; and nothing else changed
 pub record RestartFails (old new : ManagerSight) (keep : ℕ) : Type 0 where

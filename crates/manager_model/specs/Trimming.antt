@@ -1,8 +1,9 @@
 -- A trim of a manager's log.
-use Rattle.std.specs.Prelude.{◌≡◌, ◌<◌, ◌⊎◌, ℕ, true, List, [], length}
+use Rattle.std.specs.Prelude.{◌≡◌, ◌⊎◌, ℕ, true, List, [], length}
 use Rattle.xa_xid.specs.declared.xid.Xid.{Xid}
 use Rattle.xa_assoc.specs.Answers.{Same}
 use Rattle.tree_model.specs.declared.records.LogRecord.{LogRecord}
+use Rattle.log_store.specs.Stores.{MoreFailures}
 use Rattle.log_rules.specs.trim.Trims.{trim_of}
 use Rattle.rec_log.specs.Sights.{LogSight, records_of}
 use Rattle.core_model.specs.States.{forced_sight}
@@ -29,7 +30,7 @@ pub record TrimFails (old new : ManagerSight) : Type 0 where
   pub either : (new.log.kept ≡ old.log.kept)
       ⊎ (new.log.kept ≡ record { forced = trimmed old.log; unforced = [] })
   pub failed : new.log.failed ≡ true
-  pub cause : old.log.failures < new.log.failures
+  pub cause : MoreFailures old.log.failures new.log.failures
   pub tables : Same old.tables new.tables
   pub boot : new.boot ≡ old.boot
   pub decided : (x : Xid) → new.decided x ≡ old.decided x

@@ -1,8 +1,9 @@
 -- Restarts.
-use Rattle.std.proofs.Common.{◌≡◌, ◌≤◌, ◌<◌, ◌+◌, ◌-◌, ◌⊎◌, inl, inr, ℕ, Bool, true, false, List, [], ◌++◌, length, take, drop, Option, Some, None, refl, sym, ap, subst, ◌∙◌, arith, append_assoc, append-nil, take-append-drop, length-append, is_some}
+use Rattle.std.proofs.Common.{◌≡◌, ◌≤◌, ◌+◌, ◌-◌, ◌⊎◌, inl, inr, ℕ, Bool, true, false, List, [], ◌++◌, length, take, drop, Option, Some, None, refl, sym, ap, subst, ◌∙◌, arith, append_assoc, append-nil, take-append-drop, length-append, is_some}
 use Rattle.std.proofs.Math.Seq.{take-append_seam}
 use Rattle.tree_model.specs.declared.names.Kind.{Kind}
 use Rattle.tree_model.specs.declared.records.LogRecord.{LogRecord}
+use Rattle.log_store.specs.Stores.{MoreFailures}
 use Rattle.log_text.specs.Frames.{Cut, first_frame, header}
 use Rattle.log_text.specs.Payloads.{records_text}
 use Rattle.log_text.specs.Reading.{read_record}
@@ -148,7 +149,7 @@ pub restart_breaks : (p : Kind) (text new bytes : List ℕ)
     → log_state p text forced failures room failed ≡ s → AreRecords p rs → IsLogText p text forced failed
     → forced ≤ length text → LeavesText p (take (forced + keep) text) rs new
     → ((bytes ≡ take (forced + keep) text) × (forced' ≡ forced)) ⊎ ((bytes ≡ new) × (forced' ≡ length new))
-    → failures < failures'
+    → MoreFailures failures failures'
     → RestartBreaks s (log_state p bytes forced' failures' room' true) keep rs
 restart_breaks p text new bytes forced forced' keep failures failures' room room' rs failed s view are is le l
     (inl e) g =

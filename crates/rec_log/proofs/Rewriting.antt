@@ -1,7 +1,8 @@
 -- Records that are put in place of all that stand.
-use Rattle.std.proofs.Common.{◌≡◌, ◌<◌, ◌-◌, ◌⊎◌, inl, inr, ℕ, Bool, true, false, List, [], ◌++◌, length, take, drop, refl, sym, ap, subst, ◌∙◌, arith, length-append, Result, OnOk, IfErr}
+use Rattle.std.proofs.Common.{◌≡◌, ◌-◌, ◌⊎◌, inl, inr, ℕ, Bool, true, false, List, [], ◌++◌, length, take, drop, refl, sym, ap, subst, ◌∙◌, arith, length-append, Result, OnOk, IfErr}
 use Rattle.tree_model.specs.declared.names.Kind.{Kind}
 use Rattle.tree_model.specs.declared.records.LogRecord.{LogRecord}
+use Rattle.log_store.specs.Stores.{MoreFailures}
 use Rattle.log_text.specs.Frames.{header}
 use Rattle.log_text.specs.Payloads.{records_text}
 use Rattle.rec_log.specs.Texts.{is_whole, records_in, whole_size}
@@ -152,7 +153,7 @@ kept_either p text bytes asked forced forced' rs s (inr e) =
 pub rewrite_breaks : (p : Kind) (text bytes asked : List ℕ) (forced forced' failures failures' room room' : ℕ)
     (rs : List LogRecord) (failed : Bool) (s : LogState)
     → log_state p text forced failures room failed ≡ s → Spells p asked rs
-    → Came text forced bytes forced' asked → failures < failures'
+    → Came text forced bytes forced' asked → MoreFailures failures failures'
     → RewriteBreaks s (log_state p bytes forced' failures' room' true) rs
 rewrite_breaks p text bytes asked forced forced' failures failures' room room' rs failed s view spells came g
     =

@@ -1,11 +1,12 @@
 -- What the calls of a store make of the records.
-use Rattle.std.proofs.Common.{◌≡◌, ◌≤◌, ◌<◌, ◌+◌, ◌-◌, ℕ, zero, suc, Bool, true, false, List, [], ◌∷◌, ◌++◌, length, take, drop, refl, sym, ap, subst, ◌∙◌, append-nil, arith, length-append}
+use Rattle.std.proofs.Common.{◌≡◌, ◌≤◌, ◌+◌, ◌-◌, ℕ, zero, suc, Bool, true, false, List, [], ◌∷◌, ◌++◌, length, take, drop, refl, sym, ap, subst, ◌∙◌, append-nil, arith, length-append}
 use Rattle.std.proofs.lemmas.List.{take-append-le, drop-append-le, length-drop, take_all}
 use Rattle.std.proofs.Math.Seq.{drop-append_seam}
 use Rattle.tree_model.specs.declared.names.Kind.{Kind}
 use Rattle.tree_model.specs.declared.records.LogRecord.{LogRecord}
 use Rattle.log_store.specs.declared.store.StoreError.{StoreError}
 use Rattle.log_store.specs.declared.store.StoreError.TheVariants.{Memory, Device}
+use Rattle.log_store.specs.Stores.{MoreFailures}
 use Rattle.log_text.specs.Frames.{frame_text}
 use Rattle.log_text.specs.Payloads.{record_text}
 use Rattle.rec_log.specs.Texts.{is_whole, records_in, whole_size}
@@ -110,7 +111,7 @@ text_failed p text text' more forced forced' failed is le e f = record {
 pub append_breaks : (p : Kind) (text text' : List ℕ) (forced forced' failures failures' room room' came : ℕ)
     (l : LogRecord) (failed : Bool) → failed ≡ false → IsRecord p l
     → IsLogText p text forced failed → forced ≤ length text
-    → text' ≡ text ++ take came (record_text l) → forced' ≡ forced → failures < failures'
+    → text' ≡ text ++ take came (record_text l) → forced' ≡ forced → MoreFailures failures failures'
     → Breaks (log_state p text forced failures room failed) (log_state p text' forced' failures' room' true)
     (l ∷ [])
 append_breaks p text text' forced forced' failures failures' room room' came l failed ok record_is is le e f
@@ -203,7 +204,7 @@ front_grows p text n m h =
 pub force_breaks : (p : Kind) (text text' : List ℕ) (forced forced' failures failures' room room' : ℕ)
     (failed : Bool)
     → 5 ≤ forced → forced ≤ length text → forced' ≤ length text' → text' ≡ text → forced ≤ forced'
-    → failures < failures'
+    → MoreFailures failures failures'
     → Breaks (log_state p text forced failures room failed)
     (log_state p text' forced' failures' room' true) []
 force_breaks p text text' forced forced' failures failures' room room' failed header within within' e f

@@ -1,7 +1,8 @@
 -- What is seen of a log: its records, a front of which is forced.
-use Rattle.std.specs.Prelude.{◌≡◌, ◌≤◌, ◌<◌, ◌+◌, ◌-◌, ◌⊎◌, ⊤, ℕ, Bool, true, false, nat_le, if◌then◌else◌, List, [], ◌∷◌, ◌++◌, length, take, drop, Some}
+use Rattle.std.specs.Prelude.{◌≡◌, ◌≤◌, ◌+◌, ◌-◌, ◌⊎◌, ⊤, ℕ, Bool, true, false, nat_le, if◌then◌else◌, List, [], ◌∷◌, ◌++◌, length, take, drop, Some}
 use Rattle.tree_model.specs.declared.names.Kind.{Kind}
 use Rattle.tree_model.specs.declared.records.LogRecord.{LogRecord}
+use Rattle.log_store.specs.Stores.{MoreFailures}
 use Rattle.log_text.specs.Frames.{header}
 use Rattle.log_text.specs.Payloads.{FitsFrame, kind_byte, payload_text, record_text, records_text}
 use Rattle.log_text.specs.Reading.{read_record}
@@ -151,7 +152,7 @@ pub record Breaks (old new : LogState) (ls : List LogRecord) : Type 0 where
   pub leaves : (keep : ℕ)
       → left_by new.sight keep ≡ left_by (longer old.sight (take appended ls)) (more + keep)
   pub failed : new.sight.failed ≡ true
-  pub cause : old.sight.failures < new.sight.failures
+  pub cause : MoreFailures old.sight.failures new.sight.failures
 
 -- the first so many bytes are whole frames of records, and behind them no whole frame of a record begins
 pub record Sounds (p : Kind) (bytes : List ℕ) (size : ℕ) : Type 0 where
@@ -191,7 +192,7 @@ pub record RestartBreaks (old new : LogState) (keep : ℕ) (rs : List LogRecord)
       × (new.sight.kept.forced ≡ old.sight.kept.forced))
       ⊎ (new.sight.kept ≡ record { forced = left_by old.sight keep ++ rs; unforced = [] })
   pub failed : new.sight.failed ≡ true
-  pub cause : old.sight.failures < new.sight.failures
+  pub cause : MoreFailures old.sight.failures new.sight.failures
 
 -- a restart that failed: for memory nothing changed
 abbrev pub NotRestarted : LogState → LogState → ℕ → List LogRecord → LogError → Type 0
@@ -212,7 +213,7 @@ pub record RewriteBreaks (old new : LogState) (rs : List LogRecord) : Type 0 whe
   pub kind : new.kind ≡ old.kind
   pub either : (new.sight.kept ≡ old.sight.kept) ⊎ (new.sight.kept ≡ record { forced = rs; unforced = [] })
   pub failed : new.sight.failed ≡ true
-  pub cause : old.sight.failures < new.sight.failures
+  pub cause : MoreFailures old.sight.failures new.sight.failures
 
 -- the records were not put in place: for memory nothing changed
 abbrev pub NotRewritten : LogState → LogState → List LogRecord → LogError → Type 0

@@ -1,5 +1,5 @@
 -- A process that opens over an empty store is refused for memory or by its device alone.
-use Rattle.std.proofs.Common.{◌≡◌, ◌∙◌, ◌<◌, inl, inr, ℕ, Some, None, List, [], ◌∷◌, ◌++◌, refl, sym, ap, subst, arith}
+use Rattle.std.proofs.Common.{◌≡◌, ◌∙◌, inl, inr, ℕ, Some, None, List, [], ◌∷◌, ◌++◌, refl, sym, ap, subst, arith}
 use Rattle.tree_model.specs.declared.names.Kind.{Kind}
 use Rattle.tree_model.specs.declared.names.Kind.TheVariants.{Manager}
 use Rattle.tree_model.specs.declared.names.ProcessId.{ProcessId}
@@ -9,6 +9,7 @@ use Rattle.tree_model.specs.declared.records.LogRecord.{LogRecord}
 use Rattle.tree_model.specs.Store.{stored}
 use Rattle.log_rules.specs.order.Logs.{Damaged, Whole, read_log}
 use Rattle.log_rules.specs.order.Orders.{SeenLog, keys_once, nothing_seen}
+use Rattle.log_store.specs.Stores.{MoreFailures}
 use Rattle.rec_log.specs.declared.opening.OpenError.{OpenError as LogError}
 use Rattle.rec_log.specs.declared.opening.OpenError.TheVariants as logs
 use Rattle.rec_log.specs.Openings.{NotOpened as LogNotOpened}
@@ -118,7 +119,7 @@ records_refused : {S : Type 0} (bytes : S → List ℕ) (forced failures : S →
 records_refused bytes forced failures p old new restarts.Memory empty h = tt
 records_refused bytes forced failures p old new restarts.Device empty h =
     let to : h.left_as.sight.failures ≡ failures new = ap (λ (s : LogSight). s.failures) h.holds in
-    let more : failures old < failures new = omega (arith, h.opens.failures_stay, to, h.why.2.cause) in
+    let more : MoreFailures (failures old) (failures new) = omega (arith, h.opens.failures_stay, to, h.why.2.cause) in
     (refl, record { empty = empty; left = new; more = more })
 records_refused bytes forced failures p old new restarts.Unfit empty h =
     absurd (never_unfit (as_none bytes forced failures old new restarts.Unfit empty h h.why.0))

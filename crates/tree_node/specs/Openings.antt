@@ -1,10 +1,11 @@
 -- A process that has opened an empty log, and why one did not.
-use Rattle.std.specs.Prelude.{◌≡◌, ◌≢◌, ◌<◌, ⊤, ℕ, Option, Some, None, IsSomeAnd, List, []}
+use Rattle.std.specs.Prelude.{◌≡◌, ◌≢◌, ⊤, ℕ, Option, Some, None, IsSomeAnd, List, []}
 use Rattle.tree_model.specs.declared.names.ProcessId.{ProcessId}
 use Rattle.tree_model.specs.declared.events.StepError.{StepError}
 use Rattle.tree_model.specs.declared.events.StepError.TheVariants as steps
 use Rattle.tree_model.specs.declared.trees.TreeEntry.{TreeEntry}
 use Rattle.tree_model.specs.Nodes.{Place, role_by}
+use Rattle.log_store.specs.Stores.{MoreFailures}
 use Rattle.rec_log.specs.declared.opening.OpenError.{OpenError as LogError}
 use Rattle.rec_log.specs.declared.opening.OpenError.TheVariants as logs
 use Rattle.kv_manager.specs.declared.manager.RestoreError.{RestoreError}
@@ -26,11 +27,12 @@ OpenedAs tree e s = OpenedAt (record { me = e.id; role = role_by e.kind e.parent
 
 -- Refusals.
 
--- the device of an empty store failed: there is a store that has more failures, as a failure leaves one
+-- the device of an empty store failed: there is a store that has more failures, as a failure leaves one, or
+-- whose count is at its top
 pub record DeviceFailed {L : Type 0} (bytes : L → List ℕ) (failures : L → ℕ) (store : L) : Type 0 where
   pub empty : bytes store ≡ []
   pub left : L
-  pub more : failures store < failures left
+  pub more : MoreFailures (failures store) (failures left)
 
 -- there is no store, or bytes stand in it
 abbrev pub IsNoEmptyStore : {L : Type 0} → (L → List ℕ) → Option L → Type 0

@@ -1,0 +1,5 @@
+pub mod Reading
+pub mod OneWay
+pub mod Tails
+pub mod Heads
+pub mod Begun

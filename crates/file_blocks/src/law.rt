@@ -1,0 +1,31 @@
+//! Laws of blocks. The functions do nothing: each one's contract is a law.
+
+ghost use Rattle.file_blocks.specs.Laws.{
+  BlocksGoBehind,
+  BlocksReadBack,
+  CutBlocksAreTails,
+  FilesReadOneWay,
+  ReadBlocksAreWritten,
+};
+
+/// A block that was written reads as its bytes, whatever stands behind it, and what reads as a block was
+/// written as one.
+pub fn blocks_read_back()
+    ensures back { BlocksReadBack }
+    ensures written { ReadBlocksAreWritten }
+{}
+
+/// A file reads as the blocks that were written to it, and as no others.
+pub fn files_read_one_way()
+    ensures { FilesReadOneWay }
+{}
+
+/// What is left of a block that was cut off anywhere is a tail: no block, and no damage.
+pub fn cut_blocks_are_tails()
+    ensures { CutBlocksAreTails }
+{}
+
+/// A file with one block more is that block behind it.
+pub fn blocks_go_behind()
+    ensures { BlocksGoBehind }
+{}

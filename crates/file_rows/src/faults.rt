@@ -1,0 +1,134 @@
+//! What each failure, and each cut of power behind it, leaves of a file.
+
+use crate::fake::FakeFile;
+use file_blocks::read_file;
+use file_store::FileStore;
+use log_store::LogStore;
+use std::alloc::{AllocError, Global};
+
+/// A call of a store.
+#[derive(Clone, Copy)]
+enum Call {
+    Append(&'static [u8]),
+    Force,
+    Replace(&'static [u8]),
+}
+
+const CALLS: [Call; 9] = [
+    Call::Append(b"the first"),
+    Call::Force,
+    Call::Append(b"the second, "),
+    Call::Append(b"and the third"),
+    Call::Force,
+    Call::Replace(b"all of these"),
+    Call::Append(b"the last"),
+    Call::Force,
+    Call::Force,
+];
+
+/// What a store held when it was last safe, and what it was to hold next.
+#[derive(Drop)]
+struct Safe {
+    last: Vec<u8>,
+    next: Vec<u8>,
+}
+
+/// Makes the calls up to one that fails, and notes what was safe.
+fn make(
+    alloc: Global,
+    store: &mut FileStore<FakeFile>,
+    safe: &mut Safe,
+) -> Result<bool, AllocError> {
+    for call in CALLS {
+        let made = match call {
+            Call::Append(more) => store.append(more),
+            Call::Force => {
+                safe.next = Vec::from_slice(alloc, store.bytes())?;
+                store.force()
+            }
+            Call::Replace(new) => {
+                safe.next = Vec::from_slice(alloc, new)?;
+                store.replace(new)
+            }
+        };
+        if made.is_err() {
+            return Ok(false);
+        }
+        if !matches!(call, Call::Append(_)) {
+            safe.last = Vec::from_slice(alloc, store.bytes())?;
+        }
+    }
+    Ok(true)
+}
+
+/// Whether a file of these bytes reads as what was safe, or as what was to be.
+fn reads(alloc: Global, text: &[u8], safe: &Safe) -> bool {
+    match read_file(alloc, text) {
+        Ok(found) => {
+            found.bytes.as_slice() == safe.last.as_slice()
+                || found.bytes.as_slice() == safe.next.as_slice()
+        }
+        Err(_) => false,
+    }
+}
+
+/// How much of what is not safe is left.
+const KEPT: [usize; 5] = [0, 40, 71, 73, 200];
+
+/// How many ends read so: of what is not safe a front is left, and behind it nothing, or zeros.
+fn ends(alloc: Global, file: &FakeFile, safe: &Safe) -> Result<Option<u64>, AllocError> {
+    let mut count = 0u64;
+    let held = file.held.as_slice();
+    for kept in KEPT {
+        let keep = held.len().min(file.safe.saturating_add(kept));
+        let mut text = Vec::from_slice(alloc, &held[..keep])?;
+        let cut = reads(alloc, &text, safe);
+        for _ in keep..held.len() {
+            text.push(0)?;
+        }
+        if !cut || !reads(alloc, &text, safe) {
+            return Ok(None);
+        }
+        count = count.saturating_add(2);
+    }
+    Ok(Some(count))
+}
+
+/// A store over a file whose calls fail behind so many, and what is then left. None: it does not read so.
+fn fault(alloc: Global, calls: u64, part: usize) -> Result<Option<u64>, AllocError> {
+    let file = FakeFile {
+        held: Vec::new(alloc),
+        safe: 0,
+        calls,
+        part,
+    };
+    let Some(mut store) = FileStore::settle(file, 0, Vec::new(alloc)) else {
+        return Ok(if calls == 0 { Some(1) } else { None });
+    };
+    let mut safe = Safe {
+        last: Vec::new(alloc),
+        next: Vec::new(alloc),
+    };
+    let all = make(alloc, &mut store, &mut safe)?;
+    let counted = store.failures() == if all { 0 } else { 1 };
+    let refused = all || (store.force().is_err() && store.append(b"more").is_err());
+    if !counted || !refused {
+        return Ok(None);
+    }
+    let file = store.into_file();
+    ends(alloc, &file, &safe)
+}
+
+/// How many ends of files read as they must; None, where one does not.
+pub fn run(alloc: Global) -> Option<u64> {
+    let mut count = 0u64;
+    for calls in 0..9 {
+        for part in [0, 72, 80] {
+            match fault(alloc, calls, part) {
+                Ok(Some(found)) => count = count.saturating_add(found),
+                _ => return None,
+            }
+        }
+    }
+    Some(count)
+}

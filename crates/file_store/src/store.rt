@@ -1,0 +1,227 @@
+//! The store over a file.
+
+ghost use Rattle.std.specs.Prelude.{◌≡◌, ◌≤◌, ◌<◌, ◌+◌, ◌∷◌, [], length, false, IfErr, IfOk, IfSome, OnOk};
+ghost use Rattle.std.specs.Vec.{vec_capacity};
+ghost use Rattle.file_blocks.specs.Blocks.{behind};
+ghost use Rattle.file_blocks.specs.Files.{file_text};
+ghost use Rattle.log_store.specs.Stores.{Forces, ForceBreaks, MemoryRefuses, ReplaceBreaks, Replaces};
+
+use crate::log_file::LogFile;
+use file_blocks::{FILE_HEAD, HEAD, file_start, head_of};
+use log_store::{LogStore, StoreError};
+use std::alloc::AllocError;
+
+/// A store in a file. What one force covers is written as one block, then: until it is forced nothing of it
+/// is in the file. Behind a failure, and behind a crash that was made on purpose, the file may hold other
+/// bytes than the store: until a `replace` was made, what is to be written is refused as by the device.
+#[derive(Drop)]
+pub struct FileStore<F> {
+    file: F,
+    /// The number of the file.
+    number: u64,
+    /// Where the next block begins.
+    end: u64,
+    bytes: Vec<u8>,
+    forced: usize,
+    failures: u64,
+    /// The file may hold other bytes than these.
+    stale: bool,
+    ghost within: { forced ≤ length bytes.items },
+}
+
+/// Where the block that begins behind a block at this place with so many bytes; None, where no file is so
+/// long.
+fn end_of(place: u64, size: usize) -> Option<u64>
+    ensures { IfSome result (λ end. end ≡ place + (72 + size)) }
+{
+    place.checked_add(HEAD as u64)?.checked_add(size as u64)
+}
+
+impl<F: LogFile> FileStore<F> {
+    ghost use Rattle.file_store.specs.Stores.{
+      Fails,
+      PutsFile,
+      file_bytes,
+      file_of,
+      file_failures,
+      file_forced,
+    };
+
+    /// A store over a file which held these bytes under this number: they are written anew, since what was
+    /// read may not be on the disk. None: the device failed under it. It takes no memory.
+    pub fn settle(mut file: F, number: u64, bytes: Vec<u8>) -> Option<Self>
+        ensures text { IfSome result (λ s. file_bytes s ≡ bytes.items) }
+        ensures forced { IfSome result (λ s. file_forced s ≡ length bytes.items) }
+        ensures works { IfSome result (λ s. file_failures s ≡ 0) }
+        ensures put { IfSome result (λ s. PutsFile F.replaces file s bytes.items) }
+    {
+        let number = number.checked_add(1)?;
+        let end = end_of(FILE_HEAD as u64, bytes.len())?;
+        let start = file_start(number, &bytes);
+        file.replace(&start, &bytes).ok()?;
+        let forced = bytes.len();
+        Some(FileStore {
+            file,
+            number,
+            end,
+            bytes,
+            forced,
+            failures: 0,
+            stale: false,
+        })
+    }
+
+    /// The file, which the store lets go.
+    pub fn into_file(self) -> F
+        ensures { result ≡ file_of self }
+    {
+        self.file
+    }
+
+    /// Counts a failure of the device.
+    fn fail(&mut self) -> StoreError
+        ensures fails { Fails self.old self.new }
+        ensures room { vec_capacity self.new.bytes ≡ vec_capacity self.old.bytes }
+        ensures error { result ≡ StoreError.Device }
+    {
+        self.failures = self.failures.saturating_add(1);
+        self.stale = true;
+        StoreError::Device
+    }
+}
+
+impl<F: LogFile> FileStore<F> {
+    ghost use Rattle.file_store.specs.Stores.{SameButFile, WritesBlock as Writes};
+
+    /// Writes what is not forced as a block, and syncs the file. Gives where the next block begins; None,
+    /// where the device failed.
+    fn write_block(&mut self) -> Option<u64>
+        ensures written { IfSome result (Writes F.writes F.syncs self.old self.new) }
+        ensures rest { SameButFile self.old self.new }
+    {
+        let payload = &self.bytes[self.forced..];
+        let end = end_of(self.end, payload.len())?;
+        let head = head_of(self.number, self.end, payload);
+        self.file.write(self.end, &head, payload).ok()?;
+        self.file.sync().ok()?;
+        Some(end)
+    }
+
+    /// A file of these bytes takes the file's place. Gives its number, and where its next block begins; None,
+    /// where the device failed.
+    fn put(&mut self, new: &[u8]) -> Option<(u64, u64)>
+        ensures put { IfSome result (λ at. F.replaces self.old.file self.new.file
+            (file_text at.0 (new.now ∷ []))) }
+        ensures end { IfSome result (λ at. at.1 ≡ behind 48 new.now) }
+        ensures rest { SameButFile self.old self.new }
+    {
+        let number = self.number.checked_add(1)?;
+        let end = end_of(FILE_HEAD as u64, new.len())?;
+        let start = file_start(number, new);
+        self.file.replace(&start, new).ok()?;
+        Some((number, end))
+    }
+}
+
+impl<F: LogFile> LogStore for FileStore<F> {
+    ghost use Rattle.file_store.specs.Stores.{
+      ForcesFile,
+      PutsFile as Puts,
+      file_bytes as text_of,
+      file_failures as failures_of,
+      file_forced as forced_of,
+    };
+
+    ghost bytes = { λ s. s.bytes.items };
+
+    ghost forced = { λ s. s.forced };
+
+    ghost failures = { λ s. s.failures };
+
+    ghost room = { λ s. vec_capacity s.bytes };
+
+    ghost front = { λ s. s.within };
+
+    fn bytes(&self) -> &[u8] {
+        &self.bytes
+    }
+
+    fn forced(&self) -> usize {
+        self.forced
+    }
+
+    fn failures(&self) -> u64 {
+        self.failures
+    }
+
+    fn reserve(&mut self, more: usize) -> Result<(), AllocError> {
+        self.bytes.reserve(more)
+    }
+
+    fn append(&mut self, more: &[u8]) -> Result<(), StoreError> {
+        if self.stale {
+            return Err(self.fail());
+        }
+        match self.bytes.extend_from_slice(more) {
+            Ok(()) => Ok(()),
+            Err(_) => Err(StoreError::Memory),
+        }
+    }
+
+    /// What is not forced is written as one block, and the file is synced.
+    fn force(&mut self) -> Result<(), StoreError>
+        ensures ok { OnOk result (Forces text_of forced_of failures_of self.old self.new) }
+        ensures room { vec_capacity self.old.bytes ≤ vec_capacity self.new.bytes }
+        ensures err { IfErr result (λ e. (e ≡ StoreError.Device)
+            × ForceBreaks text_of forced_of failures_of self.old self.new) }
+        ensures file { OnOk result (ForcesFile F.writes F.syncs self.old self.new) }
+    {
+        if self.stale {
+            return Err(self.fail());
+        }
+        if self.forced < self.bytes.len() {
+            match self.write_block() {
+                Some(end) => self.end = end,
+                None => return Err(self.fail()),
+            }
+        }
+        self.forced = self.bytes.len();
+        Ok(())
+    }
+
+    /// The new bytes are written to a new file, in one block, and that file takes the place of the old one.
+    fn replace(&mut self, new: &[u8]) -> Result<(), StoreError>
+        ensures ok { OnOk result (Replaces text_of forced_of failures_of self.old self.new new.now) }
+        ensures memory { IfErr result (λ e. e ≡ StoreError.Memory
+            → MemoryRefuses text_of forced_of failures_of self.old self.new (vec_capacity self.old.bytes)
+            (length new.now)) }
+        ensures device { IfErr result (λ e. e ≡ StoreError.Device
+            → ReplaceBreaks text_of forced_of failures_of self.old self.new new.now) }
+        ensures file { OnOk result (Puts F.replaces self.old.file self.new new.now) }
+    {
+        let more = new.len().saturating_sub(self.bytes.len());
+        if let Err(_) = self.bytes.reserve(more) {
+            return Err(StoreError::Memory);
+        }
+        let Some((number, end)) = self.put(new) else {
+            return Err(self.fail());
+        };
+        self.number = number;
+        self.end = end;
+        self.forced = 0;
+        self.bytes.clear();
+        match self.bytes.extend_from_slice(new) {
+            Ok(()) => {
+                self.forced = self.bytes.len();
+                self.stale = false;
+                Ok(())
+            }
+            Err(_) => Err(StoreError::Memory),
+        }
+    }
+
+    fn crash(&mut self, keep: usize) {
+        self.bytes.truncate(self.forced.saturating_add(keep));
+        self.stale = true;
+    }
+}
