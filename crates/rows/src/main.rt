@@ -137,6 +137,10 @@ impl<'a> Row<'a> {
         let wanted = self.file(rt, output)?;
         let mut out = Vec::new(rt.alloc());
         let status = self.program.run(rt.alloc(), input.as_slice(), &mut out);
+        if let Ok(text) = std::str::from_utf8(out.as_slice()) {
+            println!(rt; "== {}", self.name)?;
+            println!(rt; "{text}")?;
+        }
         Ok(status == Some(self.status) && out.as_slice() == wanted.as_slice())
     }
 }

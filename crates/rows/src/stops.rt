@@ -1,11 +1,12 @@
 //! A device that stops at each of its calls in turn, with each part of the call done: what the run answers, and
 //! that it goes on behind a restart.
 
+use crate::scripts::FLAT_PA_COMMIT;
 use link_script::read;
 use log_store::{FaultStore, MemoryStore, StoreCall};
 use std::alloc::{AllocError, Global};
 use tree_audit::{Line, Own, Report, audit};
-use tree_model::{Act, Case, Event, ProcessId, StepError, Tree};
+use tree_model::{Act, Case, Event, Message, ProcessId, StepError, Tree};
 use tree_world::{OpenError, World, copied_tree, logs_left};
 
 const CALLS: [StoreCall; 3] = [StoreCall::Append, StoreCall::Force, StoreCall::Replace];
@@ -24,7 +25,9 @@ struct Stop {
 struct Met {
     /// Runs whose device stopped.
     runs: usize,
-    /// Cases that were in doubt behind the restart.
+    /// Cases that were in doubt behind the restart, and asked.
+    asked: usize,
+    /// Cases that are in doubt in the end, since nothing is decided yet.
     in_doubt: usize,
     /// Runs that end with a mismatch in a log.
     mismatches: usize,
@@ -50,6 +53,7 @@ struct Script {
 /// How a run ends behind a restart.
 #[derive(Clone, Copy)]
 struct Ending {
+    asked: usize,
     in_doubt: usize,
     has_mismatch: bool,
 }
@@ -58,7 +62,11 @@ struct Ending {
 fn stores(alloc: Global, tree: &Tree, stop: Stop) -> Result<Vec<FaultStore>, AllocError> {
     let mut stores = Vec::new(alloc);
     for entry in tree.entries() {
-        let nth = if entry.id == stop.process { stop.nth } else { 0 };
+        let nth = if entry.id == stop.process {
+            stop.nth
+        } else {
+            0
+        };
         let store = MemoryStore::new(alloc);
         stores.push(FaultStore::new(store, stop.call, nth, stop.keep))?;
     }
@@ -159,11 +167,9 @@ fn goes_on(
     let cases = cases_in_doubt(alloc, &settled).ok()?;
     ask_each(alloc, tree, world, &cases)?;
     let last = audited_behind(alloc, tree, world, Event::Settle)?;
-    if !cases_in_doubt(alloc, &last).ok()?.is_empty() {
-        return None;
-    }
     Some(Ending {
-        in_doubt: cases.len(),
+        asked: cases.len(),
+        in_doubt: cases_in_doubt(alloc, &last).ok()?.len(),
         has_mismatch: last.mismatches > 0,
     })
 }
@@ -182,11 +188,16 @@ fn recovers(
     if world.apply(Event::Trim(stop.process)) != Err(StepError::Failed) {
         return None;
     }
-    goes_on(alloc, &script.tree, world, Event::Restart(stop.process, kept))
+    goes_on(
+        alloc,
+        &script.tree,
+        world,
+        Event::Restart(stop.process, kept),
+    )
 }
 
 /// How the run ends whose device stops so, where its process restarts with these bytes behind its forced front.
-fn ending(alloc: Global, script: &Script, stop: Stop, kept: Option<u64>) -> Option<Ending> {
+fn run_on(alloc: Global, script: &Script, stop: Stop, kept: Option<u64>) -> Option<Ending> {
     let mut world = opened(alloc, &script.tree, stop)?.ok()?;
     let ending = recovers(alloc, script, &mut world, stop, kept);
     world.close();
@@ -259,13 +270,16 @@ fn appended(alloc: Global, script: &Script, stop: Stop, left: LeftBehind) -> Opt
         keep: usize::MAX,
         ..stop
     };
-    left_behind(alloc, script, whole)?.bytes.checked_sub(left.bytes)
+    left_behind(alloc, script, whole)?
+        .bytes
+        .checked_sub(left.bytes)
 }
 
 impl Met {
     /// One more run, which ended so.
     fn add(&mut self, ending: Ending) {
         self.runs = self.runs.saturating_add(1);
+        self.asked = self.asked.saturating_add(ending.asked);
         self.in_doubt = self.in_doubt.saturating_add(ending.in_doubt);
         if ending.has_mismatch {
             self.mismatches = self.mismatches.saturating_add(1);
@@ -275,6 +289,7 @@ impl Met {
     /// These, and those of another sweep.
     fn add_all(&mut self, other: Met) {
         self.runs = self.runs.saturating_add(other.runs);
+        self.asked = self.asked.saturating_add(other.asked);
         self.in_doubt = self.in_doubt.saturating_add(other.in_doubt);
         self.mismatches = self.mismatches.saturating_add(other.mismatches);
     }
@@ -282,6 +297,7 @@ impl Met {
 
 const NOTHING_MET: Met = Met {
     runs: 0,
+    asked: 0,
     in_doubt: 0,
     mismatches: 0,
 };
@@ -292,7 +308,7 @@ fn sweep_call(alloc: Global, script: &Script, stop: Stop, bytes: usize) -> Optio
     let mut met = NOTHING_MET;
     for keep in 0..=bytes {
         for kept in [Some(0), None] {
-            met.add(ending(alloc, script, Stop { keep, ..stop }, kept)?);
+            met.add(run_on(alloc, script, Stop { keep, ..stop }, kept)?);
         }
     }
     Some(met)
@@ -346,7 +362,10 @@ fn sweep_calls(
             Size::Opening(bytes) => (sweep_opening(alloc, script, stop, bytes)?, bytes),
             Size::Bytes(bytes) => (sweep_call(alloc, script, stop, bytes)?, bytes),
         };
-        let line = format!(in alloc; "{number} {name} {nth}: {bytes} bytes, {} runs\n", runs.runs);
+        let line = format!(in alloc;
+            "{number} {name} {nth}: {bytes} bytes, {} runs\n",
+            runs.runs
+        );
         out.extend_from_slice(line.ok()?.as_bytes()).ok()?;
         met.add_all(runs);
     }
@@ -368,16 +387,78 @@ fn sweep(alloc: Global, script: &Script, out: &mut Vec<u8>) -> Option<Met> {
 }
 
 /// Stops each device of a script's tree at each of its calls, with each number of the call's bytes done, and
-/// writes what was met. None where a run does not answer Device at the stop, Failed behind it, or does not go
-/// on behind its restart to one outcome with no case in doubt.
+/// writes what was met. None where a run does not answer Device at the stop or Failed behind it, does not go on
+/// behind its restart, or has two outcomes.
 pub(crate) fn run_stops(alloc: Global, input: &[u8], out: &mut Vec<u8>) -> Option<()> {
     let (tree, events) = read(alloc, input).ok()?;
     let met = sweep(alloc, &Script { tree, events }, out)?;
     let Met {
         runs,
+        asked,
         in_doubt,
         mismatches,
     } = met;
-    let line = format!(in alloc; "{runs} runs, {in_doubt} in doubt, {mismatches} with a mismatch\n");
+    let line = format!(in alloc;
+        "{runs} runs, {asked} questions, {in_doubt} left in doubt, {mismatches} with a mismatch\n"
+    );
     out.extend_from_slice(line.ok()?.as_bytes()).ok()
+}
+
+/// The manager that votes first.
+const MANAGER: ProcessId = ProcessId(2);
+
+/// The message that asks it for its vote.
+const PREPARE: u64 = 7;
+
+/// Whether the manager's device stops as it hears PREPARE; it has failed until it restarts, and then hears
+/// PREPARE again.
+fn stops_at_promise(world: &mut World<FaultStore>) -> bool {
+    world.apply(Event::Deliver(PREPARE)) == Err(StepError::Device)
+        && world.apply(Event::Deliver(PREPARE)) == Err(StepError::Failed)
+        && world.apply(Event::Restart(MANAGER, Some(0))) == Ok(())
+        && world.apply(Event::Deliver(PREPARE)) == Ok(())
+}
+
+/// Whether a manager that promised before it stopped asks and votes YES, and one that did not votes NO.
+fn votes_as_promised(world: &World<FaultStore>, promised: bool) -> Result<bool, AllocError> {
+    let sent = world.sent()?;
+    let (first, second) = (sent.get(8), sent.get(9));
+    Ok(match (promised, first, second) {
+        (true, Some(first), Some(second)) => {
+            matches!(first.message, Message::Inquire(_))
+                && matches!(second.message, Message::Yes(_))
+        }
+        (false, Some(first), None) => matches!(first.message, Message::No(_)),
+        _ => false,
+    })
+}
+
+/// How many bytes a manager forces as it promises: its write, and its promise.
+const PROMISE_BYTES: usize = 60;
+
+/// Whether a manager votes as it promised whose device stops at its promise, with so many of the bytes done.
+fn votes_behind_stop(alloc: Global, tree: &Tree, events: &[Event], keep: usize) -> Option<bool> {
+    let stop = Stop {
+        process: MANAGER,
+        call: StoreCall::Force,
+        nth: 2,
+        keep,
+    };
+    let mut world = opened(alloc, tree, stop)?.ok()?;
+    let ran = world.run(events).is_ok() && stops_at_promise(&mut world);
+    let votes = votes_as_promised(&world, keep >= PROMISE_BYTES);
+    world.close();
+    Some(ran && votes == Ok(true))
+}
+
+/// A manager's promise counts just where all of its bytes are durable.
+pub(crate) fn a_promise_cut_at_each_byte(alloc: Global) -> Option<bool> {
+    let (tree, mut events) = read(alloc, FLAT_PA_COMMIT.as_bytes()).ok()?;
+    events.truncate(8);
+    for keep in 0..=PROMISE_BYTES {
+        if !votes_behind_stop(alloc, &tree, &events, keep)? {
+            return Some(false);
+        }
+    }
+    Some(true)
 }
