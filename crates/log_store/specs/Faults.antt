@@ -1,5 +1,7 @@
 -- A store whose device fails once.
-use Rattle.std.specs.Prelude.{◌≡◌, ◌-◌, ◌==◌, ◌&&◌, ◌||◌, not, ℕ, Bool, List, if◌then◌else◌}
+use Rattle.std.specs.Prelude.{◌≡◌, ◌-◌, ◌==◌, ◌&&◌, not, ℕ, Bool, true, false, List, if◌then◌else◌}
+use Rattle.log_store.specs.declared.fault.StoreCall.{StoreCall}
+use Rattle.log_store.specs.declared.fault.StoreCall.TheVariants.{Append, Force, Replace}
 use Rattle.log_store.specs.declared.fault.FaultStore.{FaultStore}
 
 -- the bytes that stand in it
@@ -10,17 +12,44 @@ fault_bytes s = s.store.bytes.items
 abbrev pub fault_forced : FaultStore → ℕ
 fault_forced s = s.store.forced
 
--- how often its device has failed: once or never
-abbrev pub fault_failures : FaultStore → ℕ
-fault_failures s = if s.failed then 1 else 0
+-- its device has not failed
+abbrev pub no_failures : FaultStore → Bool
+no_failures s = not s.failed
 
--- how many calls its device takes before the one at which it fails
-abbrev pub fault_calls : FaultStore → ℕ
-fault_calls s = s.calls
+-- At which call the device fails: the kind, how many calls of it there are up to the one that fails, and how many
+-- bytes of that one are done.
+pub record FaultPlan : Type 0 where
+  pub call : StoreCall
+  pub left : ℕ
+  pub keep : ℕ
 
--- the device fails at the call behind which none is left to count, once
-pub record Fails (old new : FaultStore) (now : Bool) : Type 0 where
+-- this call, this many calls on, and these bytes of it
+abbrev pub plans : StoreCall → ℕ → ℕ → FaultPlan
+plans call nth keep = record { call = call; left = nth; keep = keep }
+
+-- what is left of the plan
+abbrev pub fault_plan : FaultStore → FaultPlan
+fault_plan s = plans s.call s.left s.keep
+
+-- two calls are of one kind
+abbrev pub same_call : StoreCall → StoreCall → Bool
+same_call Append Append = true
+same_call Force Force = true
+same_call Replace Replace = true
+same_call _ _ = false
+
+-- the next call of this kind fails
+abbrev pub is_next : FaultStore → StoreCall → Bool
+is_next s call = (s.left == 1) && same_call s.call call
+
+-- a call of this kind did not fail: it is counted, and nothing else moves
+pub record Passes (call : StoreCall) (old new : FaultStore) : Type 0 where
   pub store : new.store ≡ old.store
-  pub chosen : now ≡ (not old.failed && (old.calls == 0))
-  pub failed : new.failed ≡ (old.failed || now)
-  pub counted : new.calls ≡ (if old.failed || now then old.calls else old.calls - 1)
+  pub plan : fault_plan new ≡ plans old.call (if same_call old.call call then old.left - 1 else old.left) old.keep
+  pub failed : new.failed ≡ old.failed
+
+-- the device failed, and none is to fail any more
+pub record Fails (old new : FaultStore) : Type 0 where
+  pub store : new.store ≡ old.store
+  pub plan : fault_plan new ≡ plans old.call 0 old.keep
+  pub failed : new.failed ≡ true

@@ -1,52 +1,88 @@
 //! A store whose device fails once, at a chosen call.
 
-ghost use Rattle.std.specs.Prelude.{◌≡◌, ◌≤◌, length, if◌then◌else◌};
+ghost use Rattle.std.specs.Prelude.{◌≡◌, ◌≤◌, length, true, if◌then◌else◌};
 
 use crate::memory::MemoryStore;
 use crate::store::{LogStore, StoreError};
 use std::alloc::AllocError;
 
-/// A store in memory whose device fails once: at the call that comes behind so many others, counted over
-/// `append`, `force` and `replace`. A failed append leaves none of its bytes, a failed force the forced
-/// front as it was, and a failed replace the old bytes.
+/// The calls at which the device of a store can fail.
+#[derive(Clone, Copy, PartialEq, Eq)]
+pub enum StoreCall {
+    Append,
+    Force,
+    Replace,
+}
+
+/// A store in memory whose device fails once: at the nth call of one kind. Of what that call was to do the
+/// first `keep` bytes are done: a failed append leaves so many of its bytes, a failed force moves the forced
+/// front by so many, and a failed replace leaves the old bytes where `keep` is 0, and else the new ones.
 #[derive(Drop)]
 pub struct FaultStore {
     store: MemoryStore,
-    calls: u64,
+    call: StoreCall,
+    /// How many calls of the kind there are up to the one that fails; 0 where none is to fail any more.
+    left: u64,
+    keep: usize,
     failed: bool,
+    ghost once: { failed ≡ true → left ≡ 0 },
 }
 
 impl FaultStore {
-    ghost use Rattle.log_store.specs.Faults.{Fails, fault_bytes, fault_calls, fault_failures, fault_forced};
+    ghost use Rattle.log_store.specs.Faults.{Fails, Passes, fault_bytes, fault_forced, fault_plan, is_next, no_failures, plans, same_call};
     ghost use Rattle.log_store.specs.Memory.{memory_bytes, memory_forced};
 
-    /// The store, whose device fails behind so many calls. It takes no memory.
-    pub fn new(store: MemoryStore, calls: u64) -> Self
+    /// The store, whose device fails at the `nth` call of this kind, counted from 1, and leaves the first
+    /// `keep` bytes of it; where `nth` is 0 it does not fail. It takes no memory.
+    pub fn new(store: MemoryStore, call: StoreCall, nth: u64, keep: usize) -> Self
         ensures text { fault_bytes result ≡ memory_bytes store }
         ensures forced { fault_forced result ≡ memory_forced store }
-        ensures works { fault_failures result ≡ 0 }
-        ensures counts { fault_calls result ≡ calls }
+        ensures works { no_failures result ≡ true }
+        ensures plan { fault_plan result ≡ plans call nth keep }
     {
         FaultStore {
             store,
-            calls,
+            call,
+            left: nth,
+            keep,
             failed: false,
         }
     }
 
-    /// Whether the device fails at this call, which is then counted as its failure.
-    fn fails(&mut self) -> bool
-        ensures { Fails self.old self.new result }
+    /// Whether the next call of this kind fails.
+    fn is_next(&self, call: StoreCall) -> bool
+        ensures { result ≡ is_next self.now call }
     {
-        if self.failed {
-            return false;
+        self.left == 1 && self.is_counted(call)
+    }
+
+    /// Whether calls of this kind are counted.
+    fn is_counted(&self, call: StoreCall) -> bool
+        ensures { result ≡ same_call self.now.call call }
+    {
+        matches!(
+            (self.call, call),
+            (StoreCall::Append, StoreCall::Append)
+                | (StoreCall::Force, StoreCall::Force)
+                | (StoreCall::Replace, StoreCall::Replace)
+        )
+    }
+
+    /// A call of this kind was made, and did not fail.
+    fn pass(&mut self, call: StoreCall)
+        ensures { Passes call self.old self.new }
+    {
+        if self.is_counted(call) {
+            self.left = self.left.saturating_sub(1);
         }
-        if self.calls == 0 {
-            self.failed = true;
-            return true;
-        }
-        self.calls -= 1;
-        false
+    }
+
+    /// The device failed.
+    fn fail(&mut self)
+        ensures { Fails self.old self.new }
+    {
+        self.left = 0;
+        self.failed = true;
     }
 }
 
@@ -80,24 +116,39 @@ impl LogStore for FaultStore {
     }
 
     fn append(&mut self, more: &[u8]) -> Result<(), StoreError> {
-        if self.fails() {
+        if self.is_next(StoreCall::Append) {
+            let came = more.len().min(self.keep);
+            self.store.append(&more[..came])?;
+            self.fail();
             return Err(StoreError::Device);
         }
-        self.store.append(more)
+        self.store.append(more)?;
+        self.pass(StoreCall::Append);
+        Ok(())
     }
 
     fn force(&mut self) -> Result<(), StoreError> {
-        if self.fails() {
+        if self.is_next(StoreCall::Force) {
+            self.store.force_more(self.keep);
+            self.fail();
             return Err(StoreError::Device);
         }
-        self.store.force()
+        self.store.force()?;
+        self.pass(StoreCall::Force);
+        Ok(())
     }
 
     fn replace(&mut self, new: &[u8]) -> Result<(), StoreError> {
-        if self.fails() {
+        if self.is_next(StoreCall::Replace) {
+            if self.keep > 0 {
+                self.store.replace(new)?;
+            }
+            self.fail();
             return Err(StoreError::Device);
         }
-        self.store.replace(new)
+        self.store.replace(new)?;
+        self.pass(StoreCall::Replace);
+        Ok(())
     }
 
     fn crash(&mut self, keep: usize) {

@@ -5,6 +5,6 @@ mod fault;
 mod memory;
 mod store;
 
-pub use fault::FaultStore;
+pub use fault::{FaultStore, StoreCall};
 pub use memory::MemoryStore;
 pub use store::{LogStore, StoreError};

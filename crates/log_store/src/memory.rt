@@ -1,6 +1,6 @@
 //! A store in memory, whose device never fails.
 
-ghost use Rattle.std.specs.Prelude.{◌≡◌, ◌≤◌, length, []};
+ghost use Rattle.std.specs.Prelude.{◌≡◌, ◌≤◌, ◌+◌, length, min, []};
 ghost use Rattle.std.specs.Vec.{vec_capacity};
 
 use crate::store::{LogStore, StoreError};
@@ -35,6 +35,15 @@ impl MemoryStore {
     {
         let forced = bytes.len();
         MemoryStore { bytes, forced }
+    }
+
+    /// Forces so many bytes more, at most all that stand. It takes no memory.
+    pub(crate) fn force_more(&mut self, more: usize)
+        ensures text { memory_bytes self.new ≡ memory_bytes self.old }
+        ensures front { memory_forced self.new ≡ min (memory_forced self.old + more) (length (memory_bytes self.old)) }
+        ensures room { vec_capacity self.new.bytes ≡ vec_capacity self.old.bytes }
+    {
+        self.forced = self.forced.saturating_add(more).min(self.bytes.len());
     }
 }
 

@@ -5,7 +5,7 @@ ghost use Rattle.std.specs.Io.KnownBytes.{Appends, Keeps};
 ghost use Rattle.report_io.specs.Streams.{WritesFront};
 
 use std::alloc::{AllocError, AllocFailed, Global};
-use std::io::{Read, Write};
+use std::io::{ErrorKind, Read, Write};
 use thiserror::Error;
 
 /// Why a run could not go on.
@@ -17,7 +17,7 @@ pub enum Failure {
     /// Memory was refused. Nothing was written.
     #[error("out of memory")]
     Memory,
-    /// A write failed, or took no byte. What was written is a beginning of the text.
+    /// A write failed, took no byte, or was the 2^30th. What was written is a beginning of the text.
     #[error("writing failed")]
     Write,
 }
@@ -44,44 +44,53 @@ impl<T: Drop> From<AllocFailed<T>> for Failure {
     }
 }
 
-/// The read call that is taken for a failure.
-const READ_LIMIT: u32 = 1 << 30;
+/// The call of one kind that is taken for a failure.
+const CALL_LIMIT: u32 = 1 << 30;
 
-/// Reads all there is.
+/// Reads all there is. A read that is interrupted is made again, and counts as a call.
 pub fn read_all<R: Read>(alloc: Global, reader: &mut R) -> Result<Vec<u8>, Failure>
     ensures all { IfOk result (λ v. IfSome (R.remaining reader.old) (λ input. v.items ≡ input)) }
     ensures err { IfErr result (λ e. e ≢ Failure.Write) }
 {
     let mut bytes = Vec::new(alloc);
     let mut buffer = [0u8; 4096];
-    for _ in 1..READ_LIMIT {
-        let Ok(count) = reader.read(&mut buffer) else {
-            return Err(Failure::Read);
-        };
-        if count == 0 {
-            return Ok(bytes);
+    for _ in 1..CALL_LIMIT {
+        match reader.read(&mut buffer) {
+            Ok(0) => return Ok(bytes),
+            Ok(count) => bytes.extend_from_slice(&buffer[..count])?,
+            Err(e) if e.kind() == ErrorKind::Interrupted => {}
+            Err(_) => return Err(Failure::Read),
         }
-        bytes.extend_from_slice(&buffer[..count])?;
     }
     Err(Failure::Read)
 }
 
-/// Writes these bytes. After a failure a front of them was written.
+/// Writes these bytes. A write that is interrupted is made again, and counts as a call. After a failure a front
+/// of the bytes was written.
 pub fn write_all<W: Write>(writer: &mut W, text: &[u8]) -> Result<(), Failure>
     ensures ok { OnOk result (Appends (W.contents writer.old) (W.contents writer.new) text.now) }
     ensures err { IfErr result (λ e. (e ≡ Failure.Write)
         × WritesFront (W.contents writer.old) (W.contents writer.new) text.now) }
 {
     let mut at = 0;
-    while at < text.len() {
+    for _ in 1..CALL_LIMIT {
+        if at == text.len() {
+            return flush(writer);
+        }
         match writer.write(&text[at..]) {
             Ok(0) => return Err(Failure::Write),
             Ok(count) => at += count,
+            Err(e) if e.kind() == ErrorKind::Interrupted => {}
             Err(_) => return Err(Failure::Write),
         }
     }
-    if writer.flush().is_err() {
-        return Err(Failure::Write);
-    }
-    Ok(())
+    Err(Failure::Write)
+}
+
+/// Sees that what was written is let out.
+fn flush<W: Write>(writer: &mut W) -> Result<(), Failure>
+    ensures keeps { Keeps (W.contents writer.old) (W.contents writer.new) }
+    ensures err { IfErr result (λ e. e ≡ Failure.Write) }
+{
+    writer.flush().map_err(|_| Failure::Write)
 }

@@ -1,7 +1,7 @@
 //! What no script can show: streams and devices that fail, a script cut at every byte, and the calls of a
 //! tree that runs.
 
-use crate::{scripts, streams, worlds};
+use crate::{scripts, stops, streams, worlds};
 use std::alloc::Global;
 
 /// Whether the edge of this name holds. There is none of another name, nor where memory is refused.
@@ -9,11 +9,13 @@ pub(crate) fn holds(alloc: Global, name: &str) -> bool {
     match name {
         "a_reader_that_fails" => streams::a_reader_that_fails(alloc),
         "a_writer_that_fails" => streams::a_writer_that_fails(alloc),
+        "streams_that_are_interrupted" => streams::streams_that_are_interrupted(alloc),
         "every_front_of_a_script" => scripts::every_front_of_a_script(alloc),
         "too_many_event_lines" => scripts::too_many_event_lines(alloc) == Ok(true),
         "stores_are_refused" => worlds::stores_are_refused(alloc) == Ok(true),
         "a_world_runs" => worlds::a_world_runs(alloc) == Some(true),
         "a_root_fails_with_its_device" => worlds::a_root_fails_with_its_device(alloc) == Some(true),
+        "a_promise_cut_at_each_byte" => stops::a_promise_cut_at_each_byte(alloc) == Some(true),
         "nothing_is_left_live" => worlds::nothing_is_left_live(alloc) == Some(true),
         _ => false,
     }

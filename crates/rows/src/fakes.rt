@@ -1,4 +1,4 @@
-//! A reader that fails, and a writer that fails or takes nothing.
+//! A reader that fails, a writer that fails or takes nothing, and both interrupted at each other call.
 
 use std::io;
 use std::io::{Read, Write};
@@ -25,6 +25,46 @@ impl Write for Full {
             Err(io::Error::from(io::ErrorKind::Other))
         } else {
             Ok(0)
+        }
+    }
+
+    fn flush(&mut self) -> io::Result<()> {
+        Ok(())
+    }
+}
+
+/// A reader of bytes, interrupted at each other call.
+#[derive(Drop)]
+pub struct InterruptedReader<'a> {
+    pub bytes: &'a [u8],
+    pub is_next: bool,
+}
+
+impl<'a> Read for InterruptedReader<'a> {
+    fn read(&mut self, buf: &mut [u8]) -> io::Result<usize> {
+        self.is_next = !self.is_next;
+        if self.is_next {
+            self.bytes.read(buf)
+        } else {
+            Err(io::Error::from(io::ErrorKind::Interrupted))
+        }
+    }
+}
+
+/// A writer to memory, interrupted at each other call.
+#[derive(Drop)]
+pub struct InterruptedWriter {
+    pub bytes: Vec<u8>,
+    pub is_next: bool,
+}
+
+impl Write for InterruptedWriter {
+    fn write(&mut self, buf: &[u8]) -> io::Result<usize> {
+        self.is_next = !self.is_next;
+        if self.is_next {
+            self.bytes.write(buf)
+        } else {
+            Err(io::Error::from(io::ErrorKind::Interrupted))
         }
     }
 

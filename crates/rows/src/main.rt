@@ -7,10 +7,12 @@
 mod edges;
 mod fakes;
 mod scripts;
+mod stops;
 mod streams;
 mod worlds;
 
 use crate::edges::holds;
+use crate::stops::run_stops;
 use audit_engine::{Detail, run_audit, run_log};
 use crash_engine::run_crash;
 use std::alloc::Global;
@@ -29,6 +31,8 @@ enum Program {
     Counts,
     /// A tree script, for what its crashes end with.
     Crash,
+    /// A tree script, for what stops of its devices end with.
+    Stops,
     /// An XA script.
     Xa,
     /// The logs of a tree, for what they hold.
@@ -53,6 +57,7 @@ impl Program {
             "logs" => Some(Program::Logs),
             "counts" => Some(Program::Counts),
             "crash" => Some(Program::Crash),
+            "stops" => Some(Program::Stops),
             "xa" => Some(Program::Xa),
             "log" => Some(Program::Log),
             "audit" => Some(Program::Audit),
@@ -68,6 +73,7 @@ impl Program {
             Program::Logs => ("tree", "logs"),
             Program::Counts => ("tree", "counts"),
             Program::Crash => ("tree", "crashes"),
+            Program::Stops => ("tree", "stops"),
             Program::Xa => ("xa", "out"),
             Program::Log | Program::Audit | Program::Explain => ("logs", "out"),
         }
@@ -83,6 +89,10 @@ impl Program {
                 let mut progress = Vec::new(alloc);
                 let ending = run_crash(alloc, &mut input, out, &mut progress).ok()?;
                 return Some(ending.number());
+            }
+            Program::Stops => {
+                run_stops(alloc, input, out)?;
+                return Some(0);
             }
             Program::Xa => run_xa(alloc, &mut input, out),
             Program::Log => run_log(alloc, &mut input, out),

@@ -1,6 +1,6 @@
-//! Readers and writers that fail, at each engine.
+//! Readers and writers that fail or are interrupted, at each engine.
 
-use crate::fakes::{Fails, Full};
+use crate::fakes::{Fails, Full, InterruptedReader, InterruptedWriter};
 use crate::scripts::FLAT_PA_COMMIT;
 use audit_engine::run_log;
 use report_io::Failure;
@@ -63,6 +63,32 @@ pub(crate) fn a_writer_that_fails(alloc: Global) -> bool {
             if failure != Some(Failure::Write) {
                 return false;
             }
+        }
+    }
+    true
+}
+
+/// Whether an engine writes through streams that are interrupted what it writes through others.
+fn goes_on(alloc: Global, engine: Engine) -> bool {
+    let mut out = Vec::new(alloc);
+    let plain = failure_of(alloc, engine, &mut input_of(engine), &mut out);
+    let mut reader = InterruptedReader {
+        bytes: input_of(engine),
+        is_next: true,
+    };
+    let mut writer = InterruptedWriter {
+        bytes: Vec::new(alloc),
+        is_next: true,
+    };
+    let interrupted = failure_of(alloc, engine, &mut reader, &mut writer);
+    plain.is_none() && interrupted.is_none() && writer.bytes.as_slice() == out.as_slice()
+}
+
+/// A read or a write that is interrupted is made again.
+pub(crate) fn streams_that_are_interrupted(alloc: Global) -> bool {
+    for engine in ENGINES {
+        if !goes_on(alloc, engine) {
+            return false;
         }
     }
     true

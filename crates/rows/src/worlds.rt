@@ -1,7 +1,7 @@
 //! A tree that runs over stores: what is refused, and each public call once, with ample memory: none of them
 //! answers want of memory.
 
-use log_store::{FaultStore, MemoryStore};
+use log_store::{FaultStore, MemoryStore, StoreCall};
 use std::alloc::{AllocError, Global};
 use tree_model::{
     Act, Bytes, Case, Event, Happening, Input, Kind, Message, Op, Presumption, ProcessId,
@@ -33,15 +33,21 @@ fn opened(alloc: Global, stores: Vec<FaultStore>) -> Option<Result<World<FaultSt
     Some(World::with_stores(alloc, tree, stores))
 }
 
-/// A store that begins with these bytes, and whose device fails behind so many calls.
-fn store(alloc: Global, bytes: &[u8], calls: u64) -> Result<FaultStore, AllocError> {
+/// A store that begins with these bytes, and whose device does not fail.
+fn store_of(alloc: Global, bytes: &[u8]) -> Result<FaultStore, AllocError> {
     let bytes = Vec::from_slice(alloc, bytes)?;
-    Ok(FaultStore::new(MemoryStore::from_bytes(bytes), calls))
+    Ok(FaultStore::new(MemoryStore::from_bytes(bytes), StoreCall::Append, 0, 0))
 }
 
 /// A store without bytes, whose device does not fail.
-fn sound_store(alloc: Global) -> Result<FaultStore, AllocError> {
-    store(alloc, b"", 1000)
+fn sound_store(alloc: Global) -> FaultStore {
+    FaultStore::new(MemoryStore::new(alloc), StoreCall::Append, 0, 0)
+}
+
+/// A store without bytes, whose device fails at the nth force, of which it makes the first `keep` bytes
+/// durable.
+fn failing_store(alloc: Global, nth: u64, keep: usize) -> FaultStore {
+    FaultStore::new(MemoryStore::new(alloc), StoreCall::Force, nth, keep)
 }
 
 /// Why a tree does not open over these stores, if it does not.
@@ -57,9 +63,9 @@ fn refusal_over(alloc: Global, stores: Vec<FaultStore>) -> Option<OpenError> {
 
 /// A process without a store is refused, and one with bytes, and one whose device fails.
 pub(crate) fn stores_are_refused(alloc: Global) -> Result<bool, AllocError> {
-    let one = vec![in alloc; sound_store(alloc)?]?;
-    let written = vec![in alloc; store(alloc, b"x", 1000)?, sound_store(alloc)?]?;
-    let failing = vec![in alloc; sound_store(alloc)?, store(alloc, b"", 0)?]?;
+    let one = vec![in alloc; sound_store(alloc)]?;
+    let written = vec![in alloc; store_of(alloc, b"x")?, sound_store(alloc)]?;
+    let failing = vec![in alloc; sound_store(alloc), failing_store(alloc, 1, 0)]?;
     Ok(
         refusal_over(alloc, one) == Some(OpenError::Store(CHILD))
             && refusal_over(alloc, written) == Some(OpenError::Store(ROOT))
@@ -91,11 +97,9 @@ fn joining(txn: Txn) -> [Event; 3] {
     ]
 }
 
-/// A root with one manager below it; the root's device fails behind so many calls.
-fn world_of(alloc: Global, calls: u64) -> Option<World<FaultStore>> {
-    let root = store(alloc, b"", calls).ok()?;
-    let child = store(alloc, b"", u64::MAX).ok()?;
-    match opened(alloc, vec![in alloc; root, child].ok()?)? {
+/// A root over this store, with one manager below it.
+fn world_of(alloc: Global, root: FaultStore) -> Option<World<FaultStore>> {
+    match opened(alloc, vec![in alloc; root, sound_store(alloc)].ok()?)? {
         Ok(world) => Some(world),
         Err(_) => None,
     }
@@ -132,7 +136,7 @@ fn shows_joining(world: &World<FaultStore>) -> Result<bool, AllocError> {
 /// answers want of it.
 pub(crate) fn a_world_runs(alloc: Global) -> Option<bool> {
     let txn = first_txn(Presumption::PresumeAbort);
-    let mut world = world_of(alloc, u64::MAX)?;
+    let mut world = world_of(alloc, sound_store(alloc))?;
     let ran = runs(&mut world, &joining(txn));
     let shown = shows_joining(&world);
     world.close();
@@ -143,7 +147,7 @@ pub(crate) fn a_world_runs(alloc: Global) -> Option<bool> {
 /// root has failed.
 pub(crate) fn a_root_fails_with_its_device(alloc: Global) -> Option<bool> {
     let txn = first_txn(Presumption::PresumeCommit);
-    let mut world = world_of(alloc, 3)?;
+    let mut world = world_of(alloc, failing_store(alloc, 2, 0))?;
     let ran = runs(&mut world, &joining(txn));
     let first = world.apply(Event::Act(Act::Commit(txn)));
     let second = world.apply(Event::Act(Act::Commit(txn)));
@@ -182,7 +186,7 @@ fn commits_each(
 
 /// Behind a thousand transactions that wrote and committed no process has a live case.
 pub(crate) fn nothing_is_left_live(alloc: Global) -> Option<bool> {
-    let mut world = world_of(alloc, u64::MAX)?;
+    let mut world = world_of(alloc, sound_store(alloc))?;
     let ran = commits_each(alloc, &mut world, 1000);
     let live = (world.live(ROOT), world.live(CHILD));
     world.close();

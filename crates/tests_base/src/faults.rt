@@ -2,17 +2,17 @@
 //! anew.
 
 use crate::damage::COMMITTED;
-use log_store::{FaultStore, LogStore, MemoryStore};
+use log_store::{FaultStore, LogStore, MemoryStore, StoreCall};
 use rec_log::{LogError, OpenError, RecLog};
 use std::alloc::Global;
 use std::test::Fail;
 use tree_model::Kind;
 
-/// A store with the log of a commit, whose next call fails.
-fn failing(torn: &[u8], alloc: Global) -> Result<FaultStore, Fail> {
+/// A store with the log of a commit, which fails at its first call of this kind.
+fn failing(torn: &[u8], call: StoreCall, alloc: Global) -> Result<FaultStore, Fail> {
     let mut text = Vec::from_slice(alloc, &COMMITTED)?;
     text.extend_from_slice(torn)?;
-    Ok(FaultStore::new(MemoryStore::from_bytes(text), 0))
+    Ok(FaultStore::new(MemoryStore::from_bytes(text), call, 1, 0))
 }
 
 /// The log in a store, which has not failed.
@@ -23,9 +23,9 @@ fn opened<L: LogStore + Drop>(store: L, alloc: Global) -> Result<RecLog<L>, Fail
     }
 }
 
-/// The log of a commit, whose device fails at the next call.
-fn failing_log(alloc: Global) -> Result<RecLog<FaultStore>, Fail> {
-    opened(failing(&[], alloc)?, alloc)
+/// The log of a commit, whose device fails at the first call of this kind.
+fn failing_log(call: StoreCall, alloc: Global) -> Result<RecLog<FaultStore>, Fail> {
+    opened(failing(&[], call, alloc)?, alloc)
 }
 
 /// Whether a trim answers that the device failed.
@@ -37,7 +37,7 @@ fn trim_fails(log: &mut RecLog<FaultStore>, alloc: Global) -> bool {
 #[test]
 fn a_failed_trim_leaves_the_old_log(rt: HostRuntime) -> Result<(), Fail> {
     let alloc = rt.alloc();
-    let mut log = failing_log(alloc)?;
+    let mut log = failing_log(StoreCall::Replace, alloc)?;
     assert!(rt; trim_fails(&mut log, alloc));
     assert_eq!(rt; log.records(alloc)?.len(), 3);
     assert!(rt; log.restart(0, &[], alloc) == Ok(()));
@@ -54,7 +54,7 @@ fn force_fails(log: &mut RecLog<FaultStore>) -> bool {
 #[test]
 fn a_failed_force_fails_the_log(rt: HostRuntime) -> Result<(), Fail> {
     let alloc = rt.alloc();
-    let mut log = failing_log(alloc)?;
+    let mut log = failing_log(StoreCall::Force, alloc)?;
     assert!(rt; force_fails(&mut log));
     assert_eq!(rt; log.records(alloc)?.len(), 3);
     Ok(())
@@ -65,7 +65,7 @@ fn a_failed_force_fails_the_log(rt: HostRuntime) -> Result<(), Fail> {
 #[test]
 fn a_failed_open_hands_the_store_back(rt: HostRuntime) -> Result<(), Fail> {
     let alloc = rt.alloc();
-    let store = failing(&[4, 0], alloc)?;
+    let store = failing(&[4, 0], StoreCall::Replace, alloc)?;
     let Err((error, store)) = RecLog::open(store, Kind::Coordinator, alloc) else {
         return Err(Fail::from("a store handed back"));
     };
