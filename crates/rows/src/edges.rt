@@ -12,6 +12,7 @@ pub(crate) fn holds(alloc: Global, name: &str) -> bool {
         "streams_that_are_interrupted" => streams::streams_that_are_interrupted(alloc),
         "every_front_of_a_script" => scripts::every_front_of_a_script(alloc),
         "too_many_event_lines" => scripts::too_many_event_lines(alloc) == Ok(true),
+        "too_many_request_lines" => scripts::too_many_request_lines(alloc) == Ok(true),
         "stores_are_refused" => worlds::stores_are_refused(alloc) == Ok(true),
         "a_world_runs" => worlds::a_world_runs(alloc) == Some(true),
         "a_root_fails_with_its_device" => worlds::a_root_fails_with_its_device(alloc) == Some(true),

@@ -15,6 +15,7 @@ use crate::edges::holds;
 use crate::stops::run_stops;
 use audit_engine::{Detail, run_audit, run_log};
 use crash_engine::run_crash;
+use explanation::{Script, refusal_text};
 use std::alloc::Global;
 use std::{fs, io};
 use tree_engine::{Output, run_tree};
@@ -41,6 +42,15 @@ enum Program {
     Audit,
     /// Likewise, and what decided those that are in doubt or show a mismatch.
     Explain,
+    /// An input that a program refuses, or an event of it, for what is told of it.
+    Why(Script),
+}
+
+/// What is told of an input that is refused. No status where it fails.
+fn told(alloc: Global, script: Script, input: &[u8], out: &mut Vec<u8>) -> Option<u8> {
+    let text = refusal_text(alloc, script, input).ok()?;
+    out.extend_from_slice(text.as_bytes()).ok()?;
+    Some(0)
 }
 
 /// Audits logs: the exit status, and what it writes. No status where it fails.
@@ -62,6 +72,9 @@ impl Program {
             "log" => Some(Program::Log),
             "audit" => Some(Program::Audit),
             "explain" => Some(Program::Explain),
+            "why_tree" => Some(Program::Why(Script::Tree)),
+            "why_xa" => Some(Program::Why(Script::Xa)),
+            "why_log" => Some(Program::Why(Script::Logs)),
             _ => None,
         }
     }
@@ -76,6 +89,9 @@ impl Program {
             Program::Stops => ("tree", "stops"),
             Program::Xa => ("xa", "out"),
             Program::Log | Program::Audit | Program::Explain => ("logs", "out"),
+            Program::Why(Script::Tree) => ("tree", "why"),
+            Program::Why(Script::Xa) => ("xa", "why"),
+            Program::Why(Script::Logs) => ("logs", "why"),
         }
     }
 
@@ -98,6 +114,7 @@ impl Program {
             Program::Log => run_log(alloc, &mut input, out),
             Program::Audit => return audited(alloc, Detail::Lines, input, out),
             Program::Explain => return audited(alloc, Detail::Explained, input, out),
+            Program::Why(script) => return told(alloc, script, input, out),
         };
         Some(ended.ok()?.number())
     }

@@ -1,7 +1,9 @@
-//! Tree scripts that are cut, or too long.
+//! Scripts that are cut, or too long.
 
+use explanation::{Script, refusal_text};
 use std::alloc::{AllocError, Global};
 use tree_engine::{Output, Status, run_tree};
+use xa_engine::run_xa;
 
 /// A script that commits one transaction of two managers.
 pub(crate) const FLAT_PA_COMMIT: &str =
@@ -47,13 +49,39 @@ fn long_script(alloc: Global, lines: u32) -> Result<Vec<u8>, AllocError> {
     Ok(script)
 }
 
-/// 100,000 event lines are run, and one more is refused.
+/// Whether a script that is refused gets these lines.
+fn is_told(alloc: Global, script: Script, input: &[u8], text: &str) -> Result<bool, AllocError> {
+    let told = refusal_text(alloc, script, input)?;
+    Ok(told.as_str() == text)
+}
+
+/// 100,000 event lines are run, and one more is refused, and explained.
 pub(crate) fn too_many_event_lines(alloc: Global) -> Result<bool, AllocError> {
     let most = long_script(alloc, 100_000)?;
     let more = long_script(alloc, 100_001)?;
     let text = b"log 1 Opened 1 forced\nend\n";
+    let why = "rstar: the script has more than 100000 event lines\n\
+               wanted: at most 100,000 lines; split the script\n";
     Ok(
         is_run(alloc, &most, text, Status::Ended)
-            && is_run(alloc, &more, b"error 5\n", Status::Refused),
+            && is_run(alloc, &more, b"error 5\n", Status::Refused)
+            && is_told(alloc, Script::Tree, &more, why)?,
+    )
+}
+
+/// 100,001 request lines are refused, and explained.
+pub(crate) fn too_many_request_lines(alloc: Global) -> Result<bool, AllocError> {
+    let mut script = Vec::new(alloc);
+    for _ in 0..100_001 {
+        script.extend_from_slice(b"trim\n")?;
+    }
+    let mut out = Vec::new(alloc);
+    let status = run_xa(alloc, &mut script.as_slice(), &mut out);
+    let why = "rstar: the script has more than 100000 request lines\n\
+               wanted: at most 100,000 lines; split the script\n";
+    Ok(
+        status == Ok(Status::Refused)
+            && out.as_slice() == b"error 5\n".as_slice()
+            && is_told(alloc, Script::Xa, &script, why)?,
     )
 }

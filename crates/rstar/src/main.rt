@@ -8,8 +8,11 @@ use audit_engine::{Detail, run_audit, run_log};
 use clap::error::ErrorKind;
 use clap::{Arg, ArgAction, ArgMatches, Command, Error};
 use crash_engine::run_crash;
+use explanation::{Script, failure_text, refusal_text};
+use report_io::{read_all, write_all};
 use std::alloc::{AllocError, Global};
 use std::io;
+use std::io::Read;
 use std::process::ExitCode;
 use tree_engine::{Failure, Output, Status, run_tree};
 use xa_engine::run_xa;
@@ -29,12 +32,22 @@ enum Request {
     Crash,
 }
 
+/// Whether a refusal is explained on standard error.
+#[derive(Clone, Copy, PartialEq, Eq)]
+enum Told {
+    Silent,
+    Explained,
+}
+
 /// What was read of a command line.
 #[derive(Clone, Copy, PartialEq, Eq)]
 enum Asked {
-    Request(Request),
+    Request(Request, Told),
     Memory,
 }
+
+/// What `rstar --version` says behind the name.
+const VERSION: &str = "0.1.0, format of logs 1";
 
 /// What `rstar --help` says behind its subcommands.
 const EXAMPLES: &str = "\
@@ -52,6 +65,8 @@ writing or memory failed.";
 
 /// What `rstar tree --help` says below its usage.
 const TREE_HELP: &str = "\
+Where it refuses, --explain tells on standard error what is wrong, and what is wanted there.
+
 In: the processes as TOML, a line ---, and an event a line:
   begin pa|pc                          a transaction, under Presumed Abort or Presumed Commit
   join CASE CHILD                      the case's process invites a child of it
@@ -83,6 +98,8 @@ Examples: rstar tree < examples/commit.tree
 
 /// What `rstar xa --help` says below its usage.
 const XA_HELP: &str = "\
+Where it refuses, --explain tells on standard error what is wrong, and what is wanted there.
+
 In: a request a line, of one resource manager:
   open FLAGS [INFO], close FLAGS
   start|end|prepare|commit|rollback|forget TH XID FLAGS
@@ -106,6 +123,8 @@ Examples: rstar xa < examples/migrate.xa
 
 /// What `rstar log --help` says below its usage.
 const LOG_HELP: &str = "\
+Where it refuses, --explain tells on standard error what is wrong, and what is wanted there.
+
 In: the processes as TOML, a line ---, and a line 'log P HEX' for the log of each process.
 Out: for each process 'log P' and a line for each record: the place of its first byte, its
 kind, its name, and what it carries; 'torn N' behind the last where N bytes are a torn tail.
@@ -132,6 +151,8 @@ Examples: rstar audit < examples/commit.logs
 
 /// What `rstar crash --help` says below its usage.
 const CRASH_HELP: &str = "\
+Where it refuses, --explain tells on standard error what is wrong, and what is wanted there.
+
 In: a tree script, as 'rstar tree' reads it. Behind each of its events, each process crashes
 in a run of its own, once with each number of its unforced records kept, from none to all.
 Then messages are delivered as by settle, every case that its log shows in doubt asks its
@@ -143,7 +164,8 @@ in-doubt D mismatches M': so many crashes were tried, and so many end with a cas
 and with a mismatch. 'refused N E' stands behind it where event N of the script is refused, and
 'error ..' alone where the script is. The status is 2 where an event is refused, else 3 where a
 crash leaves something. Standard error has a line for each event. Each crash runs its script
-anew, so the time goes with the square of the number of events.
+anew, so the time goes with the square of the number of events: of three processes some 1,000
+events take ten seconds, and some 2,500 a minute.
 
 Examples: rstar crash < examples/commit.tree
           rstar crash < examples/operator.tree";
@@ -161,6 +183,25 @@ fn subcommand<'a>(alloc: Global, name: &'a str, about: &'a str, help: &'a str) -
     Command::new(alloc, name).about(about).after_help(help)
 }
 
+/// The flag `--explain` of the subcommands that refuse without a word.
+fn explain<'a>(alloc: Global) -> Arg<'a> {
+    flag(
+        alloc,
+        "explain",
+        "Tells on standard error what is wrong with a refused input or event, and why",
+    )
+}
+
+/// A subcommand of this name that explains what it refuses.
+fn explaining<'a>(
+    alloc: Global,
+    name: &'a str,
+    about: &'a str,
+    help: &'a str,
+) -> Result<Command<'a>, AllocError> {
+    subcommand(alloc, name, about, help).arg(explain(alloc))
+}
+
 /// The flag `--counts` of `rstar tree`, which `--logs` excludes.
 fn counts<'a>(alloc: Global) -> Result<Arg<'a>, AllocError> {
     flag(
@@ -173,12 +214,12 @@ fn counts<'a>(alloc: Global) -> Result<Arg<'a>, AllocError> {
 
 /// The words of `rstar tree`.
 fn tree<'a>(alloc: Global) -> Result<Command<'a>, AllocError> {
-    subcommand(
+    explaining(
         alloc,
         "tree",
         "Runs a transaction script on a tree of processes, and writes the trace",
         TREE_HELP,
-    )
+    )?
     .arg(flag(
         alloc,
         "logs",
@@ -210,27 +251,28 @@ fn grammar<'a>(alloc: Global) -> Result<Command<'a>, AllocError> {
         "Distributed transactions by the R* commit protocol. Scripts come on standard input.",
         EXAMPLES,
     )
+    .version(VERSION)
     .subcommand_required(true)
     .subcommand(tree(alloc)?)?
-    .subcommand(subcommand(
+    .subcommand(explaining(
         alloc,
         "xa",
         "Makes the calls of an XA script on a key store with a log, and writes the answers",
         XA_HELP,
-    ))?
-    .subcommand(subcommand(
+    )?)?
+    .subcommand(explaining(
         alloc,
         "log",
         "Prints what the logs of a tree hold, one record a line",
         LOG_HELP,
-    ))?
+    )?)?
     .subcommand(audit(alloc)?)?
-    .subcommand(subcommand(
+    .subcommand(explaining(
         alloc,
         "crash",
         "Tries a crash of each process behind each event of a script, and tells what stays in doubt",
         CRASH_HELP,
-    ))
+    )?)
 }
 
 /// What is written of a tree script.
@@ -253,17 +295,26 @@ fn detail_of(matches: &ArgMatches) -> Detail {
     }
 }
 
+/// Whether a refusal is explained.
+fn told_of(matches: &ArgMatches) -> Told {
+    if matches.get_flag("explain") {
+        Told::Explained
+    } else {
+        Told::Silent
+    }
+}
+
 /// What these words ask for, the program's name first.
 fn read_words<'a>(alloc: Global, words: &'a [String]) -> Result<Asked, Error> {
     let matches = grammar(alloc)?.try_get_matches_from(words)?;
     match matches.subcommand() {
-        Some((name, found)) => Ok(Asked::Request(match name {
-            "tree" => Request::Tree(output_of(found)),
-            "log" => Request::Log,
-            "audit" => Request::Audit(detail_of(found)),
-            "crash" => Request::Crash,
-            _ => Request::Xa,
-        })),
+        Some((name, found)) => Ok(match name {
+            "tree" => Asked::Request(Request::Tree(output_of(found)), told_of(found)),
+            "log" => Asked::Request(Request::Log, told_of(found)),
+            "audit" => Asked::Request(Request::Audit(detail_of(found)), Told::Silent),
+            "crash" => Asked::Request(Request::Crash, told_of(found)),
+            _ => Asked::Request(Request::Xa, told_of(found)),
+        }),
         None => Ok(Asked::Memory),
     }
 }
@@ -276,28 +327,72 @@ fn number(ended: Result<Status, Failure>) -> Result<u8, Failure> {
     }
 }
 
-/// Runs what was asked, and answers the exit status.
-fn perform(rt: &HostRuntime, request: Request) -> u8 {
-    let mut reader = rt.reader();
+/// Runs what was asked on this input: the exit status, or why it could not go on.
+fn run<R: Read>(rt: &HostRuntime, request: Request, reader: &mut R) -> Result<u8, Failure> {
     let mut writer = io::writer(rt);
     let alloc = rt.alloc();
-    let ended = match request {
-        Request::Tree(output) => number(run_tree(alloc, output, &mut reader, &mut writer)),
-        Request::Xa => number(run_xa(alloc, &mut reader, &mut writer)),
-        Request::Log => number(run_log(alloc, &mut reader, &mut writer)),
-        Request::Audit(detail) => match run_audit(alloc, detail, &mut reader, &mut writer) {
+    match request {
+        Request::Tree(output) => number(run_tree(alloc, output, reader, &mut writer)),
+        Request::Xa => number(run_xa(alloc, reader, &mut writer)),
+        Request::Log => number(run_log(alloc, reader, &mut writer)),
+        Request::Audit(detail) => match run_audit(alloc, detail, reader, &mut writer) {
             Ok(ending) => Ok(ending.number()),
             Err(failure) => Err(failure),
         },
-        Request::Crash => match run_crash(alloc, &mut reader, &mut writer, &mut rt.stderr()) {
+        Request::Crash => match run_crash(alloc, reader, &mut writer, &mut rt.stderr()) {
             Ok(ending) => Ok(ending.number()),
             Err(failure) => Err(failure),
         },
-    };
+    }
+}
+
+/// The exit status of a run that ended so.
+fn status_by(ended: Result<u8, Failure>) -> u8 {
     match ended {
         Ok(number) => number,
         Err(Failure::Read | Failure::Memory | Failure::Write) => 4,
     }
+}
+
+/// What is read for a request.
+fn script_of(request: Request) -> Script {
+    match request {
+        Request::Tree(_) | Request::Crash => Script::Tree,
+        Request::Xa => Script::Xa,
+        Request::Log | Request::Audit(_) => Script::Logs,
+    }
+}
+
+/// Writes to standard error, as far as it takes it.
+fn tell(rt: &HostRuntime, text: Result<String, AllocError>) {
+    if let Ok(text) = text {
+        let _ = write_all(&mut rt.stderr(), text.as_bytes());
+    }
+}
+
+/// Runs what was asked, tells on standard error why it was refused or could not go on, and answers the exit
+/// status.
+fn explained(rt: &HostRuntime, request: Request) -> Result<u8, Failure> {
+    let alloc = rt.alloc();
+    let input = read_all(alloc, &mut rt.reader())?;
+    let mut reader = input.as_slice();
+    let status = run(rt, request, &mut reader)?;
+    if status == 1 || status == 2 {
+        tell(rt, refusal_text(alloc, script_of(request), &input));
+    }
+    Ok(status)
+}
+
+/// Runs what was asked, and answers the exit status.
+fn perform(rt: &HostRuntime, request: Request, told: Told) -> u8 {
+    if told == Told::Silent {
+        return status_by(run(rt, request, &mut rt.reader()));
+    }
+    let ended = explained(rt, request);
+    if let Err(failure) = ended {
+        tell(rt, failure_text(rt.alloc(), failure));
+    }
+    status_by(ended)
 }
 
 /// Reads the command line and runs it.
@@ -316,7 +411,7 @@ fn status_of(rt: &HostRuntime) -> u8 {
         return 4;
     };
     match read_words(alloc, words.as_slice()) {
-        Ok(Asked::Request(request)) => perform(rt, request),
+        Ok(Asked::Request(request, told)) => perform(rt, request, told),
         Ok(Asked::Memory) => 4,
         Err(error) => {
             if error.kind() == ErrorKind::OutOfMemory {

@@ -7,18 +7,22 @@ use crate::script::request::{Request, request_of};
 use script_words::{count_asked, lines_of, says_nothing};
 use std::alloc::{AllocError, Global};
 use std::str;
+use thiserror::Error;
 
 /// The most lines that are not skipped.
 const LINES: usize = 100_000;
 
 /// Why a script is refused.
-#[derive(Clone, Copy, PartialEq, Eq)]
+#[derive(Clone, Copy, Debug, PartialEq, Eq, Error)]
 pub enum ScriptError {
     /// A line that spells no request, by its number from 1. The first of them is named.
+    #[error("line {0} is the line of no request")]
     Line(usize),
     /// The input is no UTF-8.
+    #[error("the script is not UTF-8")]
     Utf8,
     /// More than 100,000 lines that are not skipped.
+    #[error("the script has more than 100000 request lines")]
     TooLong,
 }
 

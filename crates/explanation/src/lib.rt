@@ -1,0 +1,23 @@
+//! What a refusal is in sentences: which line, what is wrong with it, what the grammar wants there; which key or
+//! value of a tree text; why an event was refused, with the names in it; which of reading, writing and memory
+//! failed.
+//!
+//! ```text
+//! program      why an input, or an event of it, was refused
+//! history      a run, and in which event each of its steps was made
+//! reason       why an event was refused
+//! event        the sentences of that
+//! names        names as text
+//! clean        a text that a terminal can show
+//! ```
+#![tactic(auto)]
+
+mod clean;
+mod event;
+mod history;
+mod names;
+mod program;
+mod reason;
+
+pub use line_faults::Script;
+pub use program::{failure_text, refusal_text};

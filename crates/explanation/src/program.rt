@@ -1,0 +1,140 @@
+//! Why an input, or an event of it, was refused.
+
+use crate::clean::cleaned;
+use crate::event::EventFault;
+use crate::history::{History, play};
+use input_faults::{damaged_log, event_place, push_bytes, push_fault, push_line, push_line_fault};
+use line_faults::Script;
+use link_script::{ScriptError, read, read_front};
+use logs_script::read_logs;
+use report_io::Failure;
+use std::alloc::{AllocError, Global};
+use tree_engine::Run;
+use tree_model::{Event, Tree};
+use xa_engine::script::{ScriptError as RequestsError, requests_of};
+
+/// Adds why an event was refused.
+fn push_refused(
+    alloc: Global,
+    out: &mut String,
+    input: &[u8],
+    number: u64,
+    fault: EventFault,
+) -> Result<(), AllocError> {
+    if let Ok(front) = read_front(alloc, input) {
+        let made = number.saturating_sub(1) as usize;
+        if let Some(place) = event_place(&front.lines, made) {
+            let line_number = front.rule.saturating_add(place as u64).saturating_add(1);
+            if let Some(line) = front.lines.get(place) {
+                push_line(out, line_number, line)?;
+            }
+        }
+    }
+    writeln!(out, "{fault}")
+}
+
+/// Adds why the event was refused at which a run of these events stands still, if one was.
+fn push_reason(
+    alloc: Global,
+    out: &mut String,
+    input: &[u8],
+    run: &mut Run,
+    events: &[Event],
+) -> Result<(), AllocError> {
+    let mut steps = Vec::new(alloc);
+    if play(alloc, run, events, &mut steps).is_err() {
+        return Err(AllocError);
+    }
+    let Some((made, refusal)) = run.refusal() else {
+        return Ok(());
+    };
+    let number = (made as u64).saturating_add(1);
+    writeln!(out, "rstar: event {number} is refused: {refusal}")?;
+    let Some(event) = events.get(made) else {
+        return Ok(());
+    };
+    let history = History {
+        world: run.world(),
+        events,
+        steps: steps.as_slice(),
+    };
+    let fault = history.reason(event, refusal);
+    push_refused(alloc, out, input, number, fault)
+}
+
+/// Adds why an event of a script is refused, if one is.
+fn push_events(
+    alloc: Global,
+    out: &mut String,
+    input: &[u8],
+    tree: Tree,
+    events: &[Event],
+) -> Result<(), AllocError> {
+    if let Err(_) = tree.check() {
+        return Ok(());
+    }
+    let Ok(mut run) = Run::open(alloc, tree) else {
+        return Err(AllocError);
+    };
+    let told = push_reason(alloc, out, input, &mut run, events);
+    run.close();
+    told
+}
+
+/// Adds why a tree script, or an event of it, was refused.
+fn push_tree(alloc: Global, out: &mut String, input: &[u8]) -> Result<(), AllocError> {
+    match read(alloc, input) {
+        Ok((tree, events)) => push_events(alloc, out, input, tree, &events),
+        Err(ScriptError::Fault(fault)) => push_fault(alloc, out, Script::Tree, input, fault),
+        Err(ScriptError::Memory) => Err(AllocError),
+    }
+}
+
+/// Adds why an XA script was refused.
+fn push_xa(alloc: Global, out: &mut String, input: &[u8]) -> Result<(), AllocError> {
+    let Err(fault) = requests_of(alloc, input)? else {
+        return Ok(());
+    };
+    writeln!(out, "rstar: {fault}")?;
+    match fault {
+        RequestsError::Utf8 => push_bytes(out, input),
+        RequestsError::Line(number) => {
+            push_line_fault(alloc, out, Script::Xa, input, number as u64)
+        }
+        RequestsError::TooLong => writeln!(out, "wanted: at most 100,000 lines; split the script"),
+    }
+}
+
+/// Adds why logs were refused, or which is damaged.
+fn push_logs(alloc: Global, out: &mut String, input: &[u8]) -> Result<(), AllocError> {
+    match read_logs(alloc, input) {
+        Ok((tree, logs)) => match damaged_log(alloc, &tree, logs.as_slice())? {
+            None => Ok(()),
+            Some(fault) => writeln!(out, "rstar: {fault}"),
+        },
+        Err(ScriptError::Fault(fault)) => push_fault(alloc, out, Script::Logs, input, fault),
+        Err(ScriptError::Memory) => Err(AllocError),
+    }
+}
+
+/// Why the program that reads such a script refused this input, or an event of it, in some lines; none, where
+/// it did not.
+pub fn refusal_text(alloc: Global, script: Script, input: &[u8]) -> Result<String, AllocError> {
+    let mut out = String::new(alloc);
+    match script {
+        Script::Tree => push_tree(alloc, &mut out, input)?,
+        Script::Xa => push_xa(alloc, &mut out, input)?,
+        Script::Logs => push_logs(alloc, &mut out, input)?,
+    }
+    cleaned(alloc, &out)
+}
+
+/// Which of reading, writing and memory failed, and what may be done.
+pub fn failure_text(alloc: Global, failure: Failure) -> Result<String, AllocError> {
+    let advice = match failure {
+        Failure::Read => "standard input cannot be read; is it a file, and no directory?",
+        Failure::Write => "standard output takes no more; is its disk full?",
+        Failure::Memory => "there is too little memory for this input",
+    };
+    format!(in alloc; "rstar: {failure}\n{advice}\n")
+}

@@ -1,0 +1,114 @@
+//! The first thing that is wrong with a line.
+
+use crate::fault::{LineFault, Near};
+use crate::form::{Form, Script, script_by};
+use crate::near::nearest;
+use crate::part::Part;
+use std::alloc::{AllocError, Global};
+use xa_xid::Xid;
+
+/// What is wrong with a line, and what is wanted there.
+#[derive(Clone, Copy, Drop)]
+pub struct Finding<'a> {
+    pub fault: LineFault<'a>,
+    /// The form of the line that is wanted; or the words with which a line may begin.
+    pub wanted: &'static str,
+    /// The part at fault.
+    pub part: Option<Part>,
+}
+
+/// What is wrong with a word that is no such part.
+fn wrong<'a>(part: Part, word: &'a str) -> LineFault<'a> {
+    if word.is_empty() {
+        return LineFault::Blank;
+    }
+    if part == Part::Xid {
+        if let Err(cause) = Xid::parse(word) {
+            return LineFault::WrongXid { word, cause };
+        }
+    }
+    LineFault::Wrong {
+        word,
+        part: part.name(),
+        near: Near(nearest(word, part.words())),
+    }
+}
+
+/// What is wrong with the words of a line behind its first, by its form; and which part it is.
+fn fault_by<'a>(form: Form, words: &[&'a str]) -> Option<(LineFault<'a>, Option<Part>)> {
+    for (i, part) in form.parts.iter().enumerate() {
+        let Some(word) = words.get(i) else {
+            if i >= form.parts.len().saturating_sub(form.optional) {
+                return None;
+            }
+            let part_name = part.name();
+            return Some((LineFault::Missing { part: part_name }, Some(*part)));
+        };
+        if !part.fits(word) {
+            return Some((wrong(*part, word), Some(*part)));
+        }
+    }
+    match words.get(form.parts.len()) {
+        None => None,
+        Some(&"") => Some((LineFault::Blank, None)),
+        Some(word) => Some((LineFault::More { word }, None)),
+    }
+}
+
+/// What is wrong with a line that begins with a word that begins none.
+fn unknown<'a>(script: Script, word: &'a str) -> Finding<'a> {
+    let fault = match script_by(word) {
+        _ if word.is_empty() => LineFault::Blank,
+        Some(other) if other != script => LineFault::OtherScript {
+            script: other.what(),
+        },
+        _ => LineFault::Unknown {
+            word,
+            line: script.line(),
+            near: Near(nearest(word, script.words())),
+        },
+    };
+    Finding {
+        fault,
+        wanted: script.word_list(),
+        part: None,
+    }
+}
+
+/// The form of a word that was meant by one that begins no line.
+fn meant(script: Script, word: &str, verb: &str) -> Option<Form> {
+    let near = nearest(word, script.words())?;
+    script.form(near, verb)
+}
+
+/// The first thing that is wrong with a line of such a script by its form alone; None, where its form is
+/// right.
+pub fn finding_of<'a>(
+    alloc: Global,
+    script: Script,
+    line: &'a str,
+) -> Result<Option<Finding<'a>>, AllocError> {
+    let words: Vec<&'a str> = line.split(' ').collect(alloc)?;
+    let Some((first, rest)) = words.as_slice().split_first() else {
+        return Ok(None);
+    };
+    let verb = match rest.get(2) {
+        Some(verb) => verb,
+        None => "",
+    };
+    let Some(form) = script.form(first, verb) else {
+        let mut finding = unknown(script, first);
+        if let Some(form) = meant(script, first, verb) {
+            finding.wanted = form.shown;
+        }
+        return Ok(Some(finding));
+    };
+    match fault_by(form, rest) {
+        None => Ok(None),
+        Some((fault, part)) => Ok(Some(Finding {
+            fault,
+            wanted: form.shown,
+            part,
+        })),
+    }
+}
