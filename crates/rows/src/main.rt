@@ -30,6 +30,8 @@ enum Program {
     Logs,
     /// A tree script, for its trace and the counts behind it.
     Counts,
+    /// A tree script, for the picture of its run.
+    Picture,
     /// A tree script, for what its crashes end with.
     Crash,
     /// A tree script, for what stops of its devices end with.
@@ -66,6 +68,7 @@ impl Program {
             "tree" => Some(Program::Tree),
             "logs" => Some(Program::Logs),
             "counts" => Some(Program::Counts),
+            "picture" => Some(Program::Picture),
             "crash" => Some(Program::Crash),
             "stops" => Some(Program::Stops),
             "xa" => Some(Program::Xa),
@@ -85,6 +88,7 @@ impl Program {
             Program::Tree => ("tree", "out"),
             Program::Logs => ("tree", "logs"),
             Program::Counts => ("tree", "counts"),
+            Program::Picture => ("tree", "svg"),
             Program::Crash => ("tree", "crashes"),
             Program::Stops => ("tree", "stops"),
             Program::Xa => ("xa", "out"),
@@ -101,6 +105,7 @@ impl Program {
             Program::Tree => run_tree(alloc, Output::Trace, &mut input, out),
             Program::Logs => run_tree(alloc, Output::Logs, &mut input, out),
             Program::Counts => run_tree(alloc, Output::Counts, &mut input, out),
+            Program::Picture => run_tree(alloc, Output::Picture, &mut input, out),
             Program::Crash => {
                 let mut progress = Vec::new(alloc);
                 let ending = run_crash(alloc, &mut input, out, &mut progress).ok()?;

@@ -89,11 +89,14 @@ is (docs/ERRORS.md). With --counts, behind that, a line for each process: how ma
 wrote in its steps, how many of them forced, and how many messages it sent, in all and by kind;
 the first Opened of each process, which opening the tree writes, does not count. With --logs,
 where no event is refused: the processes, a line ---, and a line 'log P HEX' for the log of
-each process, as 'rstar log' and 'rstar audit' read them.
+each process, as 'rstar log' and 'rstar audit' read them. With --picture, in place of the trace:
+one SVG file, time downward, a line for each process, an arrow for each delivery, a mark for each
+record; a refused event is its last row.
 
 Examples: rstar tree < examples/commit.tree
           rstar tree < examples/crash.tree
           rstar tree --counts < examples/commit.tree
+          rstar tree --picture < examples/commit.tree > commit.svg
           rstar tree --logs < examples/commit.tree | rstar log";
 
 /// What `rstar xa --help` says below its usage.
@@ -212,6 +215,17 @@ fn counts<'a>(alloc: Global) -> Result<Arg<'a>, AllocError> {
     .conflicts_with("logs")
 }
 
+/// The flag `--picture` of `rstar tree`, which `--logs` and `--counts` exclude.
+fn picture<'a>(alloc: Global) -> Result<Arg<'a>, AllocError> {
+    flag(
+        alloc,
+        "picture",
+        "Writes a picture of the run in place of the trace, as one SVG file",
+    )
+    .conflicts_with("logs")?
+    .conflicts_with("counts")
+}
+
 /// The words of `rstar tree`.
 fn tree<'a>(alloc: Global) -> Result<Command<'a>, AllocError> {
     explaining(
@@ -225,7 +239,8 @@ fn tree<'a>(alloc: Global) -> Result<Command<'a>, AllocError> {
         "logs",
         "Writes the tree and the logs it leaves, as 'rstar log' reads them",
     ))?
-    .arg(counts(alloc)?)
+    .arg(counts(alloc)?)?
+    .arg(picture(alloc)?)
 }
 
 /// The words of `rstar audit`.
@@ -281,6 +296,8 @@ fn output_of(matches: &ArgMatches) -> Output {
         Output::Logs
     } else if matches.get_flag("counts") {
         Output::Counts
+    } else if matches.get_flag("picture") {
+        Output::Picture
     } else {
         Output::Trace
     }

@@ -8,7 +8,9 @@ use Rattle.core_law.specs.worlds.Refusals.{IsForItself, LeadsTo, Refusal}
 use Rattle.core_law.specs.worlds.Worlds.{WorldState}
 use Rattle.tree_world.specs.Worlds.{state}
 use Rattle.tree_engine.specs.declared.run.Run.{Run}
-use Rattle.tree_engine.specs.Trees.{IsNumbered, Plays}
+use Rattle.report_io.specs.declared.status.Status.{Status}
+use Rattle.run_picture.specs.Pictures.{IsPicture}
+use Rattle.tree_engine.specs.Trees.{IsNumbered, Plays, ending}
 use Rattle.link_script.specs.Inputs.{IsScript}
 
 -- so many given events led from one state to another, up to the refused one, if one was
@@ -36,3 +38,11 @@ pub record PlaysScript (input : List ℕ) (run : Run) : Type 0 where
   pub script : IsScript input tree events
   pub plays : Plays tree events run.refusal (state run.world)
   pub numbered : IsNumbered run.refusal
+
+-- a run of these events on this tree, which ended so and is drawn by the text
+pub record Draws (tree : List TreeEntry) (events : List Event) (status : Status) (text : List ℕ) : Type 0 where
+  pub refusal : Refusal
+  pub end : WorldState
+  pub plays : Plays tree events refusal end
+  pub status_is : status ≡ ending refusal
+  pub picture : IsPicture end.entries text

@@ -25,7 +25,8 @@ use Rattle.core_law.specs.worlds.Runs.{IsOpened}
 use Rattle.core_law.specs.worlds.Ties.{Follows}
 use Rattle.core_law.specs.worlds.Worlds.{WorldState}
 use Rattle.tree_engine.specs.declared.tree.Output.{Output}
-use Rattle.tree_engine.specs.declared.tree.Output.TheVariants.{Counts, Logs, Trace}
+use Rattle.tree_engine.specs.declared.tree.Output.TheVariants.{Counts, Logs, Picture, Trace}
+use Rattle.run_picture.specs.Pictures.{IsPicture}
 use Rattle.tree_engine.specs.Logs.{LeavesLogs}
 
 -- the line of a process that opened an empty log
@@ -82,12 +83,18 @@ ending (Some refused) = Stopped
 abbrev pub counts_text : WorldState → List ℕ
 counts_text w = rows_text (rows_of w.tree w.entries)
 
--- what is written of a run that ended so: its trace and the last line, or these and the counts, or, where it
--- was to its end, the logs it leaves
+-- what is written is lines of text, and no picture
+abbrev pub IsText : Output → Type 0
+IsText Picture = ⊥
+IsText output = Unit {0}
+
+-- what is written of a run that ended so: its trace and the last line, or these and the counts, or a picture
+-- of its steps, or, where it was to its end, the logs it leaves
 abbrev pub Tells : Output → WorldState → Refusal → List ℕ → Type 0
 Tells Logs w None text = LeavesLogs w text
 Tells Logs w (Some refused) text = text ≡ trace_of w ++ last_line (Some refused)
 Tells Trace w refusal text = text ≡ trace_of w ++ last_line refusal
+Tells Picture w refusal text = IsPicture w.entries text
 Tells Counts w refusal text = text ≡ (trace_of w ++ last_line refusal) ++ counts_text w
 
 -- The text is that of the run of just these events: they led the tree, opened, to a state that stands for a

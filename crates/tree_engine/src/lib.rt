@@ -3,6 +3,7 @@
 
 mod counting;
 mod counts;
+mod drawn;
 mod kinds;
 mod logs;
 mod rows;

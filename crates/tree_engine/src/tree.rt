@@ -8,13 +8,14 @@ ghost use Rattle.report_io.specs.declared.status.Status.{Status as AnyStatus};
 ghost use Rattle.report_io.specs.Streams.{IsInput, WritesFront};
 ghost use Rattle.tree_world.specs.Worlds.{state};
 ghost use Rattle.tree_engine.specs.Runs.{HasCome, PlaysScript};
-ghost use Rattle.tree_engine.specs.Trees.{IsNumbered, IsTreeReport, Tells, ending, fault_text};
+ghost use Rattle.tree_engine.specs.Trees.{IsNumbered, IsText, IsTreeReport, Tells, ending, fault_text};
 
 use crate::counting::counted_trace;
+use crate::drawn::draw_run;
 use crate::logs::left_text;
 use crate::run::{Refusal, Run};
 use crate::trace::trace;
-use link_script::{Lines, ScriptError, ScriptFault, open};
+use link_script::{Lines, ScriptError, ScriptFault, open, read};
 use log_store::MemoryStore;
 use report_io::{Failure, Status, read_all, write_all};
 use std::alloc::{AllocError, Global};
@@ -30,10 +31,12 @@ pub enum Output {
     Logs,
     /// Its trace, and behind it a line for each process with how many records it wrote and messages it sent.
     Counts,
+    /// A picture of it, as one SVG file.
+    Picture,
 }
 
 /// Reads a tree script, makes its events, and writes the trace, with the counts behind it where they are
-/// asked for, or the logs; or one line that says why the script is refused. A refused event ends the trace
+/// asked for, or the logs, or a picture; or one line that says why the script is refused. A refused event ends the trace
 /// by its number and why it was refused.
 ///
 /// What is written is that of the run of just the script's events in the model; a refused event is one that
@@ -70,6 +73,32 @@ pub fn run_tree<R: Read, W: Write>(
 
 /// The answer to an input.
 fn report(alloc: Global, output: Output, input: &[u8]) -> Result<(Vec<u8>, Status), Failure>
+    ensures report { IfOk result (λ r. IsTreeReport output r.1 input.now r.0.items) }
+    ensures memory { IfErr result (λ e. e ≡ Failure.Memory) }
+{
+    match output {
+        Output::Picture => picture_report(alloc, input),
+        Output::Trace => text_report(alloc, Output::Trace, input),
+        Output::Logs => text_report(alloc, Output::Logs, input),
+        Output::Counts => text_report(alloc, Output::Counts, input),
+    }
+}
+
+/// The picture of the run of a script, or what is wrong with it.
+fn picture_report(alloc: Global, input: &[u8]) -> Result<(Vec<u8>, Status), Failure>
+    ensures report { IfOk result (λ r. IsTreeReport Output.Picture r.1 input.now r.0.items) }
+    ensures memory { IfErr result (λ e. e ≡ Failure.Memory) }
+{
+    match read(alloc, input) {
+        Ok((tree, events)) => draw_run(alloc, tree, &events),
+        Err(ScriptError::Fault(fault)) => Ok((refusal(alloc, fault)?, Status::Refused)),
+        Err(ScriptError::Memory) => Err(Failure::Memory),
+    }
+}
+
+/// The answer to an input in lines of text.
+fn text_report(alloc: Global, output: Output, input: &[u8]) -> Result<(Vec<u8>, Status), Failure>
+    requires { IsText output }
     ensures report { IfOk result (λ r. IsTreeReport output r.1 input.now r.0.items) }
     ensures memory { IfErr result (λ e. e ≡ Failure.Memory) }
 {
@@ -162,14 +191,19 @@ fn told(
     world: &World<MemoryStore>,
     refusal: Refusal,
 ) -> Result<(Vec<u8>, Status), Failure>
-    requires { IsNumbered refusal }
+    requires text { IsText output }
+    requires numbered { IsNumbered refusal }
     ensures text { IfOk result (λ r. Tells output (state world.now) refusal r.0.items) }
     ensures status { IfOk result (λ r. r.1 ≡ ending refusal) }
     ensures memory { IfErr result (λ e. e ≡ Failure.Memory) }
 {
-    match (output, refusal) {
-        (Output::Logs, None) => Ok((left_text(alloc, world)?, Status::Ended)),
-        (Output::Counts, _) => counted_trace(alloc, world, refusal),
-        _ => trace(alloc, world, refusal),
+    match output {
+        Output::Trace => trace(alloc, world, refusal),
+        Output::Counts => counted_trace(alloc, world, refusal),
+        Output::Logs => match refusal {
+            None => Ok((left_text(alloc, world)?, Status::Ended)),
+            Some(_) => trace(alloc, world, refusal),
+        },
+        Output::Picture => unreachable!(),
     }
 }

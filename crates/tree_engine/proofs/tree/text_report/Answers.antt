@@ -2,10 +2,10 @@ use Rattle.std.proofs.Common.{subst, sym}
 use Rattle.tree_world.specs.Worlds.{state}
 use Rattle.tree_engine.specs.Trees.{IsNumbered, Plays}
 use Rattle.tree_engine.proofs.TreeReports.{reported}
-use Rattle.tree_engine.proofs.tree.report.Goals as goal
+use Rattle.tree_engine.proofs.tree.text_report.Goals as goal
 
-pub told-told-requires : goal.told-told-requires
-told-told-requires c = subst IsNumbered (sym c.refusal.ensures) c.in-Ok.ensures.ok.numbered
+pub told-told-requires-clause-numbered : goal.told-told-requires-clause-numbered
+told-told-requires-clause-numbered c = subst IsNumbered (sym c.refusal.ensures) c.in-Ok.ensures.ok.numbered
 
 pub returns-in-Ok-clause-report : goal.returns-in-Ok-clause-report
 returns-in-Ok-clause-report c =

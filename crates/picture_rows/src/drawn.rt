@@ -1,0 +1,243 @@
+//! What is drawn of a run: its arrows, its stubs and its marks.
+
+ghost use Rattle.std.specs.Prelude.{◌≡◌, ◌++◌, IfOk, OnOk, is_some, length, map, option_map, option_to_list};
+ghost use Rattle.picture_rows.specs.declared.drawn.Arrow.{Arrow as AnyArrow};
+ghost use Rattle.picture_rows.specs.declared.drawn.Mark.{Mark as AnyMark};
+ghost use Rattle.picture_rows.specs.Whole.{deliveries, delivery, is_known, records_in};
+
+use crate::fates::{Fate, heard_by};
+use crate::rows::{LONG, StepRows, has_stub};
+use crate::seats::{Seat, place_of};
+use std::alloc::{AllocError, Global};
+use tree_model::{Entry, Happening, Logged};
+
+/// A message that was delivered: from the row that it left to the row of the step that it made.
+#[derive(Clone, Copy)]
+pub struct Arrow {
+    pub number: u64,
+    pub from: u32,
+    pub left: u32,
+    pub to: u32,
+    pub row: u32,
+    /// It was delivered before.
+    pub again: bool,
+    /// It left more than so many steps before.
+    pub far: bool,
+}
+
+/// A message at the step that sent it, which is never delivered, or only much later: from the row that it left
+/// to a row of its own.
+#[derive(Clone, Copy)]
+pub struct Stub {
+    pub number: u64,
+    pub from: u32,
+    pub left: u32,
+    pub to: u32,
+    pub row: u32,
+    /// It is never delivered.
+    pub crossed: bool,
+}
+
+/// A record at its row.
+#[derive(Clone, Copy)]
+pub struct Mark {
+    pub place: u32,
+    pub row: u32,
+    pub logged: Logged,
+    /// Whether its words stand at the right.
+    pub right: bool,
+}
+
+/// The rows of a step.
+fn rows_at(rows: &[StepRows], step: usize) -> StepRows {
+    match rows.get(step) {
+        None => StepRows {
+            first: 0,
+            last: 0,
+            next: 0,
+        },
+        Some(rows) => *rows,
+    }
+}
+
+/// The place of the process of a step.
+fn place_at(seats: &[Seat], entries: &[Entry], step: usize) -> u32 {
+    match entries.get(step) {
+        None => 0,
+        Some(entry) => place_of(seats, entry.step.process),
+    }
+}
+
+/// The fate of a message.
+fn fate_of(fates: &[Fate], number: u64) -> Option<Fate>
+    ensures { is_some result ≡ is_known (length fates.now) number }
+{
+    if number == 0 || number > fates.len() as u64 {
+        return None;
+    }
+    Some(fates[(number - 1) as usize])
+}
+
+/// The arrow of a step, if it delivered a message.
+fn arrow_of(
+    seats: &[Seat],
+    entries: &[Entry],
+    fates: &[Fate],
+    rows: &[StepRows],
+    step: usize,
+    entry: &Entry,
+) -> Option<Arrow>
+    ensures { option_map (λ (a : AnyArrow). a.number) result ≡ delivery (length fates.now) entry.now }
+{
+    let Some(number) = heard_by(entry) else {
+        return None;
+    };
+    let Some(fate) = fate_of(fates, number) else {
+        return None;
+    };
+    Some(Arrow {
+        number,
+        from: place_at(seats, entries, fate.sent),
+        left: rows_at(rows, fate.sent).last,
+        to: place_of(seats, entry.step.process),
+        row: rows_at(rows, step).first,
+        again: fate.heard != Some(step),
+        far: step.saturating_sub(fate.sent) > LONG as usize,
+    })
+}
+
+/// Adds an arrow, if there is one.
+fn push_arrow(arrows: &mut Vec<Arrow>, found: Option<Arrow>) -> Result<(), AllocError>
+    ensures { OnOk result (map (λ (a : AnyArrow). a.number) arrows.new.items
+        ≡ map (λ (a : AnyArrow). a.number) arrows.old.items
+        ++ option_to_list (option_map (λ (a : AnyArrow). a.number) found)) }
+{
+    if let Some(arrow) = found {
+        arrows.push(arrow)?;
+    }
+    Ok(())
+}
+
+/// The arrows of a run, one for each delivery, in the order of the steps.
+#[tactic(auto, unfolding(crate::specs::Whole::deliveries))]
+pub fn arrows(
+    alloc: Global,
+    seats: &[Seat],
+    entries: &[Entry],
+    fates: &[Fate],
+    rows: &[StepRows],
+) -> Result<Vec<Arrow>, AllocError>
+    ensures { IfOk result (λ arrows. map (λ a. a.number) arrows.items
+        ≡ deliveries (length fates.now) entries.now) }
+{
+    let mut arrows = Vec::new(alloc);
+    for (step, entry) in entries.iter().enumerate() {
+        let found = arrow_of(seats, entries, fates, rows, step, entry);
+        push_arrow(&mut arrows, found)?;
+    }
+    Ok(arrows)
+}
+
+/// The stubs of the messages of a run, in the order of their numbers.
+pub fn stubs(
+    alloc: Global,
+    seats: &[Seat],
+    entries: &[Entry],
+    fates: &[Fate],
+    rows: &[StepRows],
+) -> Result<Vec<Stub>, AllocError> {
+    let mut stubs = Vec::new(alloc);
+    let mut number: u64 = 0;
+    for (step, entry) in entries.iter().enumerate() {
+        let left = rows_at(rows, step).last;
+        let mut row = left;
+        for envelope in entry.reaction.messages.as_slice() {
+            number = number.saturating_add(1);
+            let Some(fate) = fate_of(fates, number) else {
+                continue;
+            };
+            if has_stub(&fate) {
+                row = row.saturating_add(1);
+                stubs.push(Stub {
+                    number,
+                    from: place_of(seats, entry.step.process),
+                    left,
+                    to: place_of(seats, envelope.to),
+                    row,
+                    crossed: fate.heard.is_none(),
+                })?;
+            }
+        }
+    }
+    Ok(stubs)
+}
+
+/// Whether the words of a step's records stand at the right: the message that it delivered came from the left.
+fn is_right(seats: &[Seat], entries: &[Entry], fates: &[Fate], entry: &Entry) -> bool {
+    let Some(number) = heard_by(entry) else {
+        return true;
+    };
+    match fate_of(fates, number) {
+        None => true,
+        Some(fate) => { place_at(seats, entries, fate.sent) < place_of(seats, entry.step.process) }
+    }
+}
+
+/// The row of the first record of a step: that of its cause, but below a crash.
+fn first_record(entry: &Entry, rows: StepRows) -> u32 {
+    match entry.step.happening {
+        Happening::Restart(_) => rows.first.saturating_add(1),
+        _ => rows.first,
+    }
+}
+
+/// The marks of a step's records, from this row on.
+fn push_marks(
+    marks: &mut Vec<Mark>,
+    place: u32,
+    row: u32,
+    right: bool,
+    written: &[Logged],
+) -> Result<(), AllocError>
+    ensures { OnOk result (map (λ (m : AnyMark). m.logged) marks.new.items
+        ≡ map (λ (m : AnyMark). m.logged) marks.old.items ++ written.now) }
+{
+    let mut row = row;
+    for logged in written {
+        marks.push(Mark {
+            place,
+            row,
+            logged: *logged,
+            right,
+        })?;
+        row = row.saturating_add(1);
+    }
+    Ok(())
+}
+
+/// The marks of a run's records, one for each, in the order of the run.
+#[tactic(auto, unfolding(crate::specs::Whole::records_in))]
+pub fn marks(
+    alloc: Global,
+    seats: &[Seat],
+    entries: &[Entry],
+    fates: &[Fate],
+    rows: &[StepRows],
+) -> Result<Vec<Mark>, AllocError>
+    ensures { IfOk result (λ marks. map (λ m. m.logged) marks.items ≡ records_in entries.now) }
+{
+    let mut marks = Vec::new(alloc);
+    for (step, entry) in entries.iter().enumerate() {
+        let place = place_of(seats, entry.step.process);
+        let right = is_right(seats, entries, fates, entry);
+        let row = first_record(entry, rows_at(rows, step));
+        push_marks(
+            &mut marks,
+            place,
+            row,
+            right,
+            entry.reaction.written.as_slice(),
+        )?;
+    }
+    Ok(marks)
+}

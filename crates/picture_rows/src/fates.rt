@@ -1,0 +1,99 @@
+//! What becomes of each message.
+
+ghost use Rattle.std.specs.Prelude.{◌≡◌, ◌+◌, ◌++◌, IfOk, OnOk, length};
+ghost use Rattle.picture_rows.specs.Whole.{heard_in, sent_in};
+
+use std::alloc::{AllocError, Global};
+use tree_model::{Entry, Envelope, Happening, Input};
+
+/// By which step, from 0, a message was sent, and by which it was first delivered, if by any.
+#[derive(Clone, Copy, PartialEq, Eq)]
+pub struct Fate {
+    pub sent: usize,
+    pub heard: Option<usize>,
+}
+
+/// The number of the message that a step delivered, if it delivered one.
+pub fn heard_by(entry: &Entry) -> Option<u64>
+    ensures { result ≡ heard_in entry.now.step.happening }
+{
+    match &entry.step.happening {
+        Happening::Input(Input::Message(number, _)) => Some(*number),
+        _ => None,
+    }
+}
+
+/// The message with this number is delivered by this step, if by none before.
+fn hear(fates: &mut [Fate], number: u64, step: usize) {
+    if number == 0 || number > fates.len() as u64 {
+        return;
+    }
+    let fate = &mut fates[(number - 1) as usize];
+    if fate.heard.is_none() {
+        fate.heard = Some(step);
+    }
+}
+
+/// So many messages are sent by a step.
+fn send(fates: &mut Vec<Fate>, step: usize, count: usize) -> Result<(), AllocError>
+    ensures { OnOk result (length fates.new.items ≡ length fates.old.items + count) }
+{
+    let Some(len) = fates.len().checked_add(count) else {
+        return Err(AllocError);
+    };
+    fates.resize(
+        len,
+        Fate {
+            sent: step,
+            heard: None,
+        },
+    )
+}
+
+/// A step delivers a message or none.
+fn hear_step(fates: &mut Vec<Fate>, step: usize, entry: &Entry)
+    ensures { length fates.new.items ≡ length fates.old.items }
+{
+    if let Some(number) = heard_by(entry) {
+        hear(fates.as_mut_slice(), number, step);
+    }
+}
+
+/// What becomes of the messages of a run, in the order of their numbers, from 1.
+#[tactic(auto, unfolding(crate::specs::Whole::sent_in))]
+pub fn fates_of(alloc: Global, entries: &[Entry]) -> Result<Vec<Fate>, AllocError>
+    ensures { IfOk result (λ fates. length fates.items ≡ length (sent_in entries.now)) }
+{
+    let mut fates = Vec::new(alloc);
+    for (step, entry) in entries.iter().enumerate() {
+        hear_step(&mut fates, step, entry);
+        send(&mut fates, step, entry.reaction.messages.len())?;
+    }
+    Ok(fates)
+}
+
+/// Adds copies of these messages.
+fn push_copies(
+    alloc: Global,
+    out: &mut Vec<Envelope>,
+    messages: &[Envelope],
+) -> Result<(), AllocError>
+    ensures { OnOk result (out.new.items ≡ out.old.items ++ messages.now) }
+{
+    for envelope in messages {
+        out.push(envelope.copied(alloc)?)?;
+    }
+    Ok(())
+}
+
+/// The messages of a run, in the order of their numbers, from 1.
+#[tactic(auto, unfolding(crate::specs::Whole::sent_in))]
+pub fn messages_of(alloc: Global, entries: &[Entry]) -> Result<Vec<Envelope>, AllocError>
+    ensures { IfOk result (λ messages. messages.items ≡ sent_in entries.now) }
+{
+    let mut messages = Vec::new(alloc);
+    for entry in entries {
+        push_copies(alloc, &mut messages, entry.reaction.messages.as_slice())?;
+    }
+    Ok(messages)
+}

@@ -1,0 +1,17 @@
+//! The rows of a run's picture: which process stands at which place, at which row each step begins and ends,
+//! and what is drawn from which row to which.
+#![tactic(auto)]
+
+mod drawn;
+mod fates;
+mod rows;
+mod seats;
+mod standings;
+mod stretches;
+
+pub use drawn::{Arrow, Mark, Stub, arrows, marks, stubs};
+pub use fates::{Fate, fates_of, heard_by, messages_of};
+pub use rows::{LONG, Rows, Rule, StepRows, Turn, rows_of};
+pub use seats::{Seat, place_of, seats_of};
+pub use standings::{Crash, Ending, History, Mismatch, history_of};
+pub use stretches::{Band, Change, Stretch, stretches_of};

@@ -1,0 +1,64 @@
+//! The places of the processes, side by side.
+
+use std::alloc::{AllocError, Global};
+use tree_model::{Kind, ProcessId, TreeEntry};
+
+/// The most levels of a tree.
+const LEVELS: u32 = 8;
+
+/// A process at its place.
+#[derive(Clone, Copy)]
+pub struct Seat {
+    /// Its place, from 0, which is the root's.
+    pub place: u32,
+    pub process: ProcessId,
+    pub kind: Kind,
+    /// How many levels are above it.
+    pub level: u32,
+    /// The place of its parent; none of the root.
+    pub parent: Option<u32>,
+}
+
+/// Seats the children of a process, each with those below it behind it, where so many levels are left.
+fn sit_below(
+    tree: &[TreeEntry],
+    parent: Option<ProcessId>,
+    above: Option<u32>,
+    levels: u32,
+    seats: &mut Vec<Seat>,
+) -> Result<(), AllocError> {
+    if levels == 0 {
+        return Ok(());
+    }
+    for entry in tree {
+        if entry.parent == parent {
+            let Ok(place) = u32::try_from(seats.len()) else {
+                return Err(AllocError);
+            };
+            seats.push(Seat {
+                place,
+                process: entry.id,
+                kind: entry.kind,
+                level: LEVELS.saturating_sub(levels),
+                parent: above,
+            })?;
+            sit_below(tree, Some(entry.id), Some(place), levels - 1, seats)?;
+        }
+    }
+    Ok(())
+}
+
+/// The processes of a tree, depth first, the children of each in the order of the tree.
+pub fn seats_of(alloc: Global, tree: &[TreeEntry]) -> Result<Vec<Seat>, AllocError> {
+    let mut seats = Vec::new(alloc);
+    sit_below(tree, None, None, LEVELS, &mut seats)?;
+    Ok(seats)
+}
+
+/// The place of a process; the root's, where it has none.
+pub fn place_of(seats: &[Seat], process: ProcessId) -> u32 {
+    match seats.iter().find(|seat| seat.process == process) {
+        None => 0,
+        Some(seat) => seat.place,
+    }
+}

@@ -1,0 +1,84 @@
+//! The fixed parts of the picture: its style and its legend.
+
+/// The letters, lines and colours of a picture, on a light ground and on a dark one, and its two hatchings.
+pub(crate) const STYLE: &str = "\
+<style>text{font:12px ui-monospace,'DejaVu Sans Mono',Menlo,Consolas,monospace;\
+fill:currentColor}.b{font-weight:700}\n\
+.big{font-size:17px}.lost{text-decoration:line-through}\n\
+.l{fill:none;stroke:currentColor;stroke-width:1.6;stroke-linejoin:round}\
+.f{fill:currentColor}.o{stroke:currentColor;stroke-width:2}\n\
+.again{stroke-width:1;stroke-dasharray:5 3}.box,.bar{stroke:currentColor;stroke-width:1.5}\
+g:hover>.l{stroke-width:3}\n\
+.doubt{fill:url(#doubt);stroke:currentColor}\
+.oper{fill:url(#oper);stroke:currentColor;stroke-width:1.5}\n\
+.bg,.o,.box,.bar{fill:#fff}.ink{color:#1f2328}.dim{color:#59636e}.life{color:#818b98}\
+.rule{color:#e4e8ec}\n\
+.vote{color:#0550ae}.yes{color:#00694f}.no{color:#b42300}.ask{color:#8a5a00}\
+.op{color:#a0107a}.fill1{fill:#ffe9a8}.fill2{fill:#ffd9f2}\n\
+@media(prefers-color-scheme:dark){.bg,.o,.box,.bar{fill:#0d1117}.ink{color:#e6edf3}\
+.dim{color:#9da7b1}.life{color:#6e7781}.rule{color:#212830}\n\
+.vote{color:#79c0ff}.yes{color:#4cd9a8}.no{color:#ff8f73}.ask{color:#e8b23a}\
+.op{color:#ff8ad8}.fill1{fill:#4a3600}.fill2{fill:#4d1040}}</style>\n\
+<defs><pattern id=\"doubt\" width=\"8\" height=\"8\" patternUnits=\"userSpaceOnUse\">\
+<rect class=\"fill1\" width=\"8\" height=\"8\"/>\n\
+<path class=\"l ask\" d=\"M-2 2l4 -4M0 8l8 -8M6 10l4 -4\"/></pattern>\
+<pattern id=\"oper\" width=\"8\" height=\"8\" patternUnits=\"userSpaceOnUse\">\n\
+<rect class=\"fill2\" width=\"8\" height=\"8\"/>\
+<path class=\"l op\" d=\"M0 0l8 8M0 8l8 -8\"/></pattern></defs>\n\
+";
+
+/// The signs of the legend, and what they mean.
+pub(crate) const LEGEND: [(&str, &str); 12] = [
+    (
+        "<rect class=\"f vote\" x=\"15\" y=\"-5\" width=\"10\" height=\"10\"/>",
+        "record, forced",
+    ),
+    (
+        "<rect class=\"o dim\" x=\"15\" y=\"-5\" width=\"10\" height=\"10\"/>",
+        "record, not forced",
+    ),
+    (
+        "<text x=\"8\" y=\"4\" class=\"lost dim\">End</text>",
+        "lost in a crash",
+    ),
+    (
+        "<path class=\"l no\" d=\"M0 -4l5 -3 10 6 10 -6 10 6 5 -3M0 5l5 -3 10 6 10 -6 10 6 5 \
+         -3\"/>",
+        "crash and restart",
+    ),
+    (
+        "<path class=\"l vote\" d=\"M0 0h28\"/><path class=\"f vote\" d=\"M38 0l-10 -5v10z\"/>",
+        "message",
+    ),
+    (
+        "<path class=\"l vote again\" d=\"M0 0h28\"/>\
+         <path class=\"f vote\" d=\"M38 0l-10 -5v10z\"/>",
+        "delivered again",
+    ),
+    (
+        "<path class=\"l vote\" d=\"M0 0h33m-5 -5l10 10m0 -10l-10 10\"/>",
+        "never delivered",
+    ),
+    (
+        "<path class=\"l dim\" d=\"M0 0h10m18 0h10\"/>\
+         <circle class=\"bar dim\" cx=\"14\" r=\"4\"/><circle class=\"bar dim\" cx=\"24\" r=\"4\"/>",
+        "much later (see number)",
+    ),
+    (
+        "<rect class=\"doubt ask\" y=\"-7\" width=\"40\" height=\"14\" rx=\"3\"/>",
+        "in doubt",
+    ),
+    (
+        "<rect class=\"oper op\" y=\"-7\" width=\"40\" height=\"14\" rx=\"3\"/>",
+        "decided by an operator",
+    ),
+    (
+        "<path class=\"f op\" fill-rule=\"evenodd\" d=\"M20 -9l10 18h-20zm-1 6h2v6h-2zm0 \
+         8h2v2h-2z\"/>",
+        "operator acts; mismatch",
+    ),
+    (
+        "<circle class=\"f dim\" cx=\"20\" r=\"5\"/>",
+        "application below the root",
+    ),
+];

@@ -1,0 +1,21 @@
+//! Shapes of a picture at pixels, where rows and places are among them, and the text of each in SVG.
+#![tactic(auto)]
+
+mod fixed;
+mod frame;
+mod head;
+mod parts;
+mod shapes;
+mod strokes;
+mod svg;
+mod words;
+
+pub use frame::{APPLICATION, Frame, ROW, width_of, x_of};
+pub use head::{Summary, push_head};
+pub use shapes::{
+    Bar, Dot, EventRule, Joint, Label, Life, Look, Patch, Path, Plate, Ring, Shape, Spot, Square,
+    Stroke, Tip, Tone, Torn,
+};
+pub use strokes::push_strokes;
+pub use svg::{push_shapes, push_squares};
+pub use words::{push_escaped, push_pair, push_word};

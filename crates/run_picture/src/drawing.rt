@@ -1,0 +1,399 @@
+//! Draws the steps of a run: its messages, its records, and what was asked.
+
+ghost use Rattle.std.specs.Prelude.{◌≡◌, IfOk, map};
+ghost use Rattle.picture_rows.specs.declared.drawn.Arrow.{Arrow as AnyArrow};
+ghost use Rattle.picture_rows.specs.declared.drawn.Mark.{Mark as AnyMark};
+ghost use Rattle.picture_shapes.specs.declared.shapes.Stroke.{Stroke as AnyStroke};
+ghost use Rattle.picture_words.specs.Labels.{title_in};
+ghost use Rattle.run_picture.specs.Pictures.{record_key, square_key};
+
+use crate::plan::{Plan, Scene};
+use crate::sheet::{Draft, Sheet};
+use picture_rows::{Arrow, Mark, Rows, Seat, StepRows, Stretch, Stub, place_of};
+use picture_shapes::{
+    APPLICATION, Bar, Dot, EventRule, Frame, Label, Look, Patch, Shape, Spot, Square, Stroke, Tip,
+    Tone, push_word, width_of, x_of,
+};
+use picture_words::{
+    LABEL, act_label, act_line, act_tone, event_line, message_label, message_title, message_tone,
+    message_with, number_label, record_name, record_tone, shortened, told_label, told_title,
+    told_tone,
+};
+use std::alloc::{AllocError, Global};
+use trace_lines::{push, push_number};
+use tree_model::{Act, Entry, Envelope, Happening, Input, Logged, RecordKind, Subject};
+
+/// A sheet that is drawn on, and what its rows and places are.
+#[derive(Drop)]
+pub(crate) struct Drawing {
+    pub(crate) alloc: Global,
+    pub(crate) frame: Frame,
+    pub(crate) sheet: Sheet,
+}
+
+/// Bytes of these words.
+pub(crate) fn bytes_of(alloc: Global, words: &str) -> Result<Vec<u8>, AllocError> {
+    Vec::from_slice(alloc, words.as_bytes())
+}
+
+/// How the name of a record looks.
+fn look_of(forced: bool, lost: bool) -> Look {
+    if lost {
+        Look::Lost
+    } else if forced {
+        Look::Bold
+    } else {
+        Look::Plain
+    }
+}
+
+impl Drawing {
+    /// Words at a place, with nothing before or behind them.
+    pub(crate) fn say(
+        &mut self,
+        tone: Tone,
+        look: Look,
+        at: (u64, u64),
+        right: bool,
+        body: Vec<u8>,
+    ) -> Result<(), AllocError> {
+        let size = width_of(body.len());
+        self.sheet.write(Label {
+            tone,
+            look,
+            x: at.0,
+            y: at.1,
+            right,
+            number: Vec::new(self.alloc),
+            body,
+            gone: Vec::new(self.alloc),
+            size,
+        })
+    }
+
+    pub(crate) fn draw_rules(&mut self, scene: &Scene, rows: &Rows) -> Result<(), AllocError> {
+        for rule in &rows.rules {
+            let Some(event) = scene.events.get(rule.event) else {
+                continue;
+            };
+            let line = event_line(self.alloc, event)?;
+            let y = self.frame.y_of(rule.row);
+            self.sheet.back.push(Shape::Rule(EventRule {
+                y: y.saturating_sub(17),
+                width: self.frame.width(),
+                words_y: y.saturating_add(4),
+                event: (rule.event as u64).saturating_add(1),
+                line: shortened(line, LABEL)?,
+            }))?;
+        }
+        Ok(())
+    }
+
+    /// A row with the numbers of all processes.
+    pub(crate) fn draw_ruler(&mut self, seats: &[Seat], row: u32) -> Result<(), AllocError> {
+        let y = self.frame.y_of(row).saturating_add(4);
+        for seat in seats {
+            let mut number = Vec::new(self.alloc);
+            push_number(&mut number, u64::from(seat.process.0))?;
+            let x = x_of(seat.place).saturating_sub(width_of(number.len()) / 2);
+            self.say(Tone::Dim, Look::Bold, (x, y), true, number)?;
+        }
+        Ok(())
+    }
+
+    /// The line of a message that was delivered; its words are laid.
+    fn draw_arrow(&mut self, messages: &[Envelope], arrow: &Arrow) -> Result<Stroke, AllocError>
+        ensures { IfOk result (λ stroke. stroke.title.items ≡ title_in messages.now arrow.now.number) }
+    {
+        let title = message_title(self.alloc, arrow.number, messages)?;
+        let number = number_label(self.alloc, arrow.number)?;
+        let (tone, label) = match message_with(messages, arrow.number) {
+            None => (Tone::Dim, Vec::new(self.alloc)),
+            Some(envelope) => (
+                message_tone(&envelope.message),
+                message_label(self.alloc, number.len(), &envelope.message)?,
+            ),
+        };
+        let draft = Draft {
+            tone,
+            title,
+            x: x_of(arrow.from),
+            y: self.frame.y_of(arrow.left),
+            to_x: x_of(arrow.to),
+            to_y: self.frame.y_of(arrow.row),
+            label,
+            number,
+            tip: Tip::Head,
+            again: arrow.again,
+            far: arrow.far,
+        };
+        self.sheet.draw(self.alloc, draft)
+    }
+
+    /// The lines of all messages that were delivered.
+    pub(crate) fn draw_arrows(
+        &mut self,
+        messages: &[Envelope],
+        arrows: &[Arrow],
+    ) -> Result<Vec<Stroke>, AllocError>
+        ensures { IfOk result (λ strokes. map (λ (s : AnyStroke). s.title.items) strokes.items
+            ≡ map (λ (a : AnyArrow). title_in messages.now a.number) arrows.now) }
+    {
+        let mut strokes = Vec::new(self.alloc);
+        for arrow in arrows {
+            strokes.push(self.draw_arrow(messages, arrow)?)?;
+        }
+        Ok(strokes)
+    }
+
+    pub(crate) fn draw_stub(
+        &mut self,
+        messages: &[Envelope],
+        stub: &Stub,
+    ) -> Result<(), AllocError> {
+        let Some(envelope) = message_with(messages, stub.number) else {
+            return Ok(());
+        };
+        let number = number_label(self.alloc, stub.number)?;
+        let label = message_label(self.alloc, number.len(), &envelope.message)?;
+        let size = width_of(number.len().saturating_add(label.len())).saturating_add(48);
+        let x = x_of(stub.from);
+        let draft = Draft {
+            tone: message_tone(&envelope.message),
+            title: message_title(self.alloc, stub.number, messages)?,
+            x,
+            y: self.frame.y_of(stub.left),
+            to_x: if stub.to > stub.from {
+                x.saturating_add(size)
+            } else {
+                x.saturating_sub(size)
+            },
+            to_y: self.frame.y_of(stub.row),
+            label,
+            number,
+            tip: if stub.crossed { Tip::Cross } else { Tip::Ring },
+            again: false,
+            far: false,
+        };
+        self.sheet.draw_line(self.alloc, draft)
+    }
+
+    /// The mark of a record, which a crash takes or not; its words are laid.
+    fn draw_mark(&mut self, mark: &Mark, lost: bool) -> Result<Square, AllocError>
+        ensures { IfOk result (λ square. square_key square ≡ record_key mark.now.logged) }
+    {
+        let (x, y) = (x_of(mark.place), self.frame.y_of(mark.row));
+        let words = shortened(record_name(self.alloc, &mark.logged)?, LABEL)?;
+        let forced = mark.logged.forced;
+        let tone = record_tone(mark.logged.kind);
+        let look = look_of(forced, lost);
+        let words_x = if mark.right {
+            x.saturating_add(12)
+        } else {
+            x.saturating_sub(12)
+        };
+        self.say(
+            tone,
+            look,
+            (words_x, y.saturating_sub(5)),
+            mark.right,
+            words,
+        )?;
+        Ok(Square {
+            tone,
+            name: record_name(self.alloc, &mark.logged)?,
+            x: x.saturating_sub(5),
+            y: y.saturating_sub(5),
+            forced,
+            lost,
+        })
+    }
+
+    /// The marks of all records; `lost` says of each whether a crash takes it.
+    pub(crate) fn draw_marks(
+        &mut self,
+        marks: &[Mark],
+        lost: &[bool],
+    ) -> Result<Vec<Square>, AllocError>
+        ensures { IfOk result (λ squares. map square_key squares.items
+            ≡ map (λ (m : AnyMark). record_key m.logged) marks.now) }
+    {
+        let mut squares = Vec::new(self.alloc);
+        for mark in marks {
+            let is_lost = lost.get(squares.len()).copied().unwrap_or(false);
+            squares.push(self.draw_mark(mark, is_lost)?)?;
+        }
+        Ok(squares)
+    }
+
+    /// The mark of the Opened with which each process began.
+    pub(crate) fn draw_openings(&mut self, seats: &[Seat]) -> Result<(), AllocError> {
+        for seat in seats {
+            let mark = Mark {
+                place: seat.place,
+                row: 0,
+                logged: Logged {
+                    subject: Subject::Boot(1),
+                    kind: RecordKind::Opened,
+                    forced: true,
+                },
+                right: true,
+            };
+            let square = self.draw_mark(&mark, false)?;
+            self.sheet.marks.push(Shape::Square(square))?;
+        }
+        Ok(())
+    }
+
+    pub(crate) fn draw_stretch(
+        &mut self,
+        seats: &[Seat],
+        stretch: &Stretch,
+    ) -> Result<(), AllocError> {
+        let process = match seats.get(stretch.place as usize) {
+            None => 0,
+            Some(seat) => seat.process.0,
+        };
+        let half = stretch.count.saturating_sub(1).min(3) * 3 + 8;
+        let y = self.frame.y_of(stretch.first);
+        let end = self.frame.y_of(stretch.end);
+        let end = if stretch.stays {
+            end.saturating_add(8)
+        } else {
+            end
+        };
+        self.sheet.bands.push(Shape::Patch(Patch {
+            band: stretch.band,
+            process,
+            count: stretch.count,
+            x: x_of(stretch.place).saturating_sub(half),
+            y,
+            width: half * 2,
+            height: end.saturating_sub(y),
+        }))?;
+        Ok(())
+    }
+
+    /// A bar behind the marks of a step of several rows, and a dot where a step only sends.
+    fn draw_step(&mut self, place: u32, entry: &Entry, rows: StepRows) -> Result<(), AllocError> {
+        let (x, first, last) = (
+            x_of(place),
+            self.frame.y_of(rows.first),
+            self.frame.y_of(rows.last),
+        );
+        let crashes = matches!(entry.step.happening, Happening::Restart(_));
+        if last > first && !crashes {
+            self.sheet.bars.push(Shape::Bar(Bar {
+                x: x.saturating_sub(4),
+                y: first.saturating_sub(4),
+                height: last.saturating_sub(first).saturating_add(8),
+            }))?;
+        }
+        let reaction = &entry.reaction;
+        let writes = !reaction.written.as_slice().is_empty();
+        if !reaction.messages.as_slice().is_empty() && !writes {
+            self.sheet.marks.push(Shape::Dot(Dot {
+                tone: Tone::Dim,
+                x,
+                y: last,
+                radius: 4,
+            }))?;
+        }
+        if let Some(told) = reaction.told {
+            let draft = Draft {
+                tone: told_tone(told),
+                title: told_title(self.alloc, told)?,
+                x,
+                y: last,
+                to_x: APPLICATION,
+                to_y: last,
+                number: Vec::new(self.alloc),
+                label: told_label(self.alloc, told)?,
+                tip: Tip::Head,
+                again: false,
+                far: false,
+            };
+            self.sheet.draw_line(self.alloc, draft)?;
+        }
+        Ok(())
+    }
+
+    /// What an application or an operator asks.
+    fn draw_act(
+        &mut self,
+        place: u32,
+        act: &Act,
+        entry: &Entry,
+        row: u32,
+    ) -> Result<(), AllocError> {
+        let tone = act_tone(act);
+        let label = act_label(self.alloc, act, entry.reaction.begun)?;
+        let (to_x, y) = (x_of(place), self.frame.y_of(row));
+        let plain = tone == Tone::Dim;
+        let x = if place == 0 && plain {
+            APPLICATION
+        } else {
+            to_x.saturating_sub(width_of(label.len()).saturating_add(40))
+        };
+        if tone == Tone::Operator {
+            self.sheet.marks.push(Shape::Warning(Spot {
+                x,
+                y: y.saturating_sub(10),
+            }))?;
+        } else if place != 0 || !plain {
+            self.sheet.marks.push(Shape::Dot(Dot {
+                tone,
+                x,
+                y,
+                radius: 5,
+            }))?;
+        }
+        let draft = Draft {
+            tone,
+            title: act_line(self.alloc, act)?,
+            x,
+            y,
+            to_x,
+            to_y: y,
+            number: Vec::new(self.alloc),
+            label,
+            tip: Tip::Head,
+            again: false,
+            far: false,
+        };
+        self.sheet.draw_line(self.alloc, draft)
+    }
+
+    fn draw_trim(&mut self, place: u32, entry: &Entry, row: u32) -> Result<(), AllocError> {
+        let (x, y) = (x_of(place), self.frame.y_of(row));
+        self.sheet.marks.push(Shape::Trim(Spot {
+            x: x.saturating_sub(10),
+            y: y.saturating_sub(3),
+        }))?;
+        let mut words = Vec::new(self.alloc);
+        push_word(&mut words, "trim, ", entry.reaction.kept.unwrap_or(0))?;
+        push(&mut words, " left")?;
+        self.say(
+            Tone::Dim,
+            Look::Plain,
+            (x.saturating_add(14), y.saturating_sub(5)),
+            true,
+            words,
+        )
+    }
+
+    pub(crate) fn draw_steps(&mut self, scene: &Scene, plan: &Plan) -> Result<(), AllocError> {
+        for (entry, rows) in scene.entries.iter().zip(plan.rows.steps.iter()) {
+            let place = place_of(&plan.seats, entry.step.process);
+            match &entry.step.happening {
+                Happening::Input(Input::Act(act)) => {
+                    self.draw_act(place, act, entry, rows.first)?;
+                }
+                Happening::Trim => self.draw_trim(place, entry, rows.first)?,
+                _ => {}
+            }
+            self.draw_step(place, entry, *rows)?;
+        }
+        Ok(())
+    }
+}

@@ -1,0 +1,13 @@
+//! The picture of a run, as one SVG file: a line downward for each process, an arrow for each delivery, a mark
+//! for each record.
+#![tactic(auto)]
+
+mod drawing;
+mod endings;
+mod page;
+mod plan;
+mod sheet;
+mod tree;
+
+pub use page::picture;
+pub use plan::Scene;

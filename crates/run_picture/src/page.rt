@@ -1,0 +1,154 @@
+//! A whole picture.
+
+ghost use Rattle.std.specs.Prelude.{◌≡◌, ◌++◌, IfOk, OnOk, codes};
+ghost use Rattle.picture_shapes.specs.Svg.{shapes_text, squares_text, strokes_text};
+ghost use Rattle.run_picture.specs.Layers.{below_text, between_text};
+ghost use Rattle.run_picture.specs.Pictures.{IsPicture};
+
+use crate::drawing::Drawing;
+use crate::endings::draw_refusal;
+use crate::plan::{Plan, Scene, plan_of};
+use crate::sheet::Sheet;
+use crate::tree::draw_tree;
+use picture_rows::{Seat, place_of};
+use picture_shapes::{Frame, Square, Stroke, Summary, push_head, push_squares, push_strokes};
+use std::alloc::{AllocError, Global};
+use trace_lines::push;
+
+/// Draws all of a run but its tree, its arrows and its marks.
+fn draw_run(drawing: &mut Drawing, scene: &Scene, plan: &Plan) -> Result<(), AllocError> {
+    drawing.draw_rules(scene, &plan.rows)?;
+    for row in &plan.rows.rulers {
+        drawing.draw_ruler(&plan.seats, *row)?;
+    }
+    for stub in &plan.stubs {
+        drawing.draw_stub(&plan.messages, stub)?;
+    }
+    for stretch in &plan.stretches {
+        drawing.draw_stretch(&plan.seats, stretch)?;
+    }
+    drawing.draw_steps(scene, plan)?;
+    drawing.draw_crashes(scene, plan)?;
+    drawing.draw_mismatches(scene, plan)?;
+    draw_refusal(drawing, scene, plan)?;
+    for ending in &plan.history.endings {
+        drawing.draw_ending(ending, plan.rows.end)?;
+    }
+    Ok(())
+}
+
+/// How many levels a tree has.
+fn count_levels(seats: &[Seat]) -> u32 {
+    let mut levels: u32 = 0;
+    for seat in seats {
+        levels = levels.max(seat.level.saturating_add(1));
+    }
+    levels
+}
+
+fn summary_of(scene: &Scene, plan: &Plan, open: usize) -> Summary {
+    Summary {
+        events: scene.events.len() as u64,
+        processes: plan.seats.len() as u64,
+        messages: plan.messages.len() as u64,
+        open: open as u64,
+        crashes: plan.history.crashes.len() as u64,
+    }
+}
+
+/// The rows of the crashes of a process.
+fn crash_rows(alloc: Global, scene: &Scene, plan: &Plan) -> Result<Vec<(u32, u32)>, AllocError> {
+    let mut found = Vec::new(alloc);
+    for crash in &plan.history.crashes {
+        let Some(entry) = scene.entries.get(crash.step) else {
+            continue;
+        };
+        if let Some(rows) = plan.rows.steps.get(crash.step) {
+            found.push((place_of(&plan.seats, entry.step.process), rows.first))?;
+        }
+    }
+    Ok(found)
+}
+
+/// Draws the tree of a run, its lines down to the end.
+fn draw_lines(drawing: &mut Drawing, scene: &Scene, plan: &Plan) -> Result<(), AllocError> {
+    let frame = drawing.frame;
+    let crashes = crash_rows(drawing.alloc, scene, plan)?;
+    draw_tree(
+        drawing.alloc,
+        &mut drawing.sheet,
+        frame,
+        &plan.seats,
+        &crashes,
+        frame.y_of(plan.rows.end),
+    )
+}
+
+/// What stands before the shapes of a picture.
+fn head_of(alloc: Global, frame: Frame, scene: &Scene, plan: &Plan) -> Result<Vec<u8>, AllocError> {
+    let open = plan.stubs.iter().filter(|stub| stub.crossed).count();
+    let height = frame.y_of(plan.rows.end).saturating_add(30);
+    let mut out = Vec::new(alloc);
+    push_head(&mut out, frame, height, &summary_of(scene, plan, open))?;
+    Ok(out)
+}
+
+/// The text of a picture of these parts.
+fn text_of(
+    head: Vec<u8>,
+    sheet: &Sheet,
+    strokes: &[Stroke],
+    squares: &[Square],
+) -> Result<Vec<u8>, AllocError>
+    ensures { IfOk result (λ text. text.items ≡ (head.items ++ below_text sheet.now)
+        ++ strokes_text strokes.now ++ between_text sheet.now ++ squares_text squares.now
+        ++ (shapes_text sheet.now.words.items ++ codes "</svg>\n")) }
+{
+    let mut out = head;
+    sheet.push_below(&mut out)?;
+    push_strokes(&mut out, strokes)?;
+    sheet.push_between(&mut out)?;
+    push_squares(&mut out, squares)?;
+    push_end(&mut out, sheet)?;
+    Ok(out)
+}
+
+/// The words of a picture, and its end.
+fn push_end(out: &mut Vec<u8>, sheet: &Sheet) -> Result<(), AllocError>
+    ensures { OnOk result (out.new.items
+        ≡ out.old.items ++ (shapes_text sheet.now.words.items ++ codes "</svg>\n")) }
+{
+    sheet.push_above(out)?;
+    push(out, "</svg>\n")
+}
+
+/// A sheet for a plan.
+fn drawing_of(alloc: Global, plan: &Plan) -> Result<Drawing, AllocError> {
+    let Ok(processes) = u32::try_from(plan.seats.len()) else {
+        return Err(AllocError);
+    };
+    Ok(Drawing {
+        alloc,
+        frame: Frame {
+            processes,
+            levels: count_levels(&plan.seats),
+        },
+        sheet: Sheet::new(alloc),
+    })
+}
+
+/// The picture of a run, as one SVG file: time goes downward; each process is a line, each delivery an arrow and
+/// each record a mark.
+pub fn picture(alloc: Global, scene: &Scene) -> Result<Vec<u8>, AllocError>
+    ensures { IfOk result (λ text. IsPicture scene.now.entries.now text.items) }
+{
+    let plan = plan_of(alloc, scene)?;
+    let mut drawing = drawing_of(alloc, &plan)?;
+    drawing.draw_openings(&plan.seats)?;
+    let strokes = drawing.draw_arrows(&plan.messages, &plan.arrows)?;
+    let squares = drawing.draw_marks(&plan.marks, &plan.history.lost)?;
+    draw_run(&mut drawing, scene, &plan)?;
+    draw_lines(&mut drawing, scene, &plan)?;
+    let head = head_of(alloc, drawing.frame, scene, &plan)?;
+    text_of(head, &drawing.sheet, &strokes, &squares)
+}

@@ -1,0 +1,63 @@
+//! What is drawn of a run, by rows and places.
+
+ghost use Rattle.std.specs.Prelude.{◌≡◌, IfOk, length, map};
+ghost use Rattle.picture_rows.specs.declared.drawn.Arrow.{Arrow as AnyArrow};
+ghost use Rattle.picture_rows.specs.declared.drawn.Mark.{Mark as AnyMark};
+ghost use Rattle.picture_rows.specs.Whole.{deliveries, records_in, sent_in};
+
+use picture_rows::{
+    Arrow, History, Mark, Rows, Seat, Stretch, Stub, Turn, arrows, fates_of, history_of, marks,
+    messages_of, rows_of, seats_of, stretches_of, stubs,
+};
+use std::alloc::{AllocError, Global};
+use tree_model::{Entry, Envelope, Event, StepError, TreeEntry};
+
+/// What is drawn: a tree, the events of its script, how many steps were made behind each of them up to the
+/// refused one, the steps, and why the last of these events was refused, if it was.
+#[derive(Clone, Copy)]
+pub struct Scene<'a> {
+    pub tree: &'a [TreeEntry],
+    pub events: &'a [Event],
+    pub turns: &'a [Turn],
+    pub entries: &'a [Entry],
+    pub refusal: Option<StepError>,
+}
+
+/// All that is drawn of a run, by rows and places.
+#[derive(Drop)]
+pub(crate) struct Plan {
+    pub(crate) seats: Vec<Seat>,
+    pub(crate) rows: Rows,
+    pub(crate) arrows: Vec<Arrow>,
+    pub(crate) stubs: Vec<Stub>,
+    pub(crate) marks: Vec<Mark>,
+    pub(crate) stretches: Vec<Stretch>,
+    pub(crate) history: History,
+    /// The messages, in the order of their numbers.
+    pub(crate) messages: Vec<Envelope>,
+}
+
+pub(crate) fn plan_of(alloc: Global, scene: &Scene) -> Result<Plan, AllocError>
+    ensures arrows { IfOk result (λ plan. map (λ (a : AnyArrow). a.number) plan.arrows.items
+        ≡ deliveries (length (sent_in scene.now.entries.now)) scene.now.entries.now) }
+    ensures marks { IfOk result (λ plan. map (λ (m : AnyMark). m.logged) plan.marks.items
+        ≡ records_in scene.now.entries.now) }
+    ensures messages { IfOk result (λ plan. plan.messages.items ≡ sent_in scene.now.entries.now) }
+{
+    let entries = scene.entries;
+    let seats = seats_of(alloc, scene.tree)?;
+    let fates = fates_of(alloc, entries)?;
+    let history = history_of(alloc, &seats, entries)?;
+    let rows = rows_of(alloc, scene.turns, entries, &fates, &history.mismatches)?;
+    let steps = rows.steps.as_slice();
+    Ok(Plan {
+        arrows: arrows(alloc, &seats, entries, &fates, steps)?,
+        stubs: stubs(alloc, &seats, entries, &fates, steps)?,
+        marks: marks(alloc, &seats, entries, &fates, steps)?,
+        messages: messages_of(alloc, entries)?,
+        stretches: stretches_of(alloc, seats.len(), &history.changes, steps, rows.end)?,
+        seats,
+        rows,
+        history,
+    })
+}

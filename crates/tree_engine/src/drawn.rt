@@ -1,0 +1,133 @@
+//! The picture of a run.
+
+ghost use Rattle.std.specs.Prelude.{◌≡◌, ◌++◌, IfErr, IfOk, List, OnOk};
+ghost use Rattle.tree_model.specs.declared.events.Event.{Event as AnyEvent};
+ghost use Rattle.tree_model.specs.Trees.{IsTree};
+ghost use Rattle.core_law.specs.worlds.Worlds.{WorldState};
+ghost use Rattle.run_picture.specs.Pictures.{IsPicture};
+ghost use Rattle.tree_world.specs.Worlds.{state};
+ghost use Rattle.tree_engine.specs.Runs.{Draws, HasCome};
+ghost use Rattle.tree_engine.specs.Trees.{ending};
+
+use crate::run::{Refusal, Run};
+use log_store::MemoryStore;
+use picture_rows::Turn;
+use report_io::{Failure, Status};
+use run_picture::{Scene, picture};
+use std::alloc::{AllocError, Global};
+use tree_model::{Entry, Event, StepError, Tree};
+use tree_world::World;
+
+/// The steps that were made, each made anew.
+#[tactic(auto, using(crate::proofs::Traces::taken_at))]
+fn entries_of(alloc: Global, world: &World<MemoryStore>) -> Result<Vec<Entry>, AllocError>
+    ensures { IfOk result (λ entries. entries.items ≡ (state world.now).entries) }
+{
+    let mut entries = Vec::new(alloc);
+    for place in 0..world.made() {
+        let Some(entry) = world.entry(place)? else {
+            return Ok(entries);
+        };
+        entries.push(entry)?;
+    }
+    Ok(entries)
+}
+
+/// Makes these events, one after another, and answers how many steps were made behind each, up to the refused
+/// one.
+fn make_turns(alloc: Global, run: &mut Run, events: &[Event]) -> Result<Vec<Turn>, Failure>
+    ensures goes_on { OnOk result ((start : WorldState) (given : List AnyEvent)
+        → HasCome start given run.old → HasCome start (given ++ events.now) run.new) }
+    ensures memory { IfErr result (λ e. e ≡ Failure.Memory) }
+{
+    let mut turns = Vec::new(alloc);
+    for event in events {
+        let is_over = run.refusal.is_some();
+        run.make(event.copied(alloc)?)?;
+        if !is_over {
+            turns.push(Turn {
+                steps: run.world.made(),
+                refused: run.refusal.is_some(),
+            })?;
+        }
+    }
+    Ok(turns)
+}
+
+/// How a run ended.
+fn status_of(refusal: Refusal) -> Status
+    ensures { result ≡ ending refusal }
+{
+    match refusal {
+        None => Status::Ended,
+        Some(_) => Status::Stopped,
+    }
+}
+
+/// Why an event was refused, if one was.
+fn cause_of(refusal: Refusal) -> Option<StepError> {
+    match refusal {
+        None => None,
+        Some((_, cause)) => Some(cause),
+    }
+}
+
+/// The picture of a run of these events.
+fn drawn(
+    alloc: Global,
+    world: &World<MemoryStore>,
+    refusal: Refusal,
+    events: &[Event],
+    turns: &[Turn],
+) -> Result<Vec<u8>, AllocError>
+    ensures { IfOk result (λ text. IsPicture (state world.now).entries text.items) }
+{
+    let entries = entries_of(alloc, world)?;
+    let scene = Scene {
+        tree: world.tree().entries(),
+        events,
+        turns,
+        entries: &entries,
+        refusal: cause_of(refusal),
+    };
+    picture(alloc, &scene)
+}
+
+/// The same, and how the run ended.
+fn drawn_run(
+    alloc: Global,
+    run: &Run,
+    events: &[Event],
+    turns: &[Turn],
+) -> Result<(Vec<u8>, Status), Failure>
+    ensures text { IfOk result (λ r. IsPicture (state run.now.world).entries r.0.items) }
+    ensures status { IfOk result (λ r. r.1 ≡ ending run.now.refusal) }
+    ensures memory { IfErr result (λ e. e ≡ Failure.Memory) }
+{
+    let text = drawn(alloc, &run.world, run.refusal, events, turns)?;
+    Ok((text, status_of(run.refusal)))
+}
+
+/// Runs these events on a tree, and draws the run. The tree is one that passed its check.
+pub(crate) fn draw_run(
+    alloc: Global,
+    tree: Tree,
+    events: &[Event],
+) -> Result<(Vec<u8>, Status), Failure>
+    requires { IsTree tree }
+    ensures draws { IfOk result (λ r. Draws tree events.now r.1 r.0.items) }
+    ensures memory { IfErr result (λ e. e ≡ Failure.Memory) }
+{
+    let mut run = Run::open(alloc, tree)?;
+    match make_turns(alloc, &mut run, events) {
+        Err(failure) => {
+            run.close();
+            Err(failure)
+        }
+        Ok(turns) => {
+            let drawn = drawn_run(alloc, &run, events, &turns);
+            run.close();
+            drawn
+        }
+    }
+}
