@@ -1,3 +1,5 @@
+//! Floor: engines and program.
+//!
 //! What the records of a log say of each case to an audit.
 //!
 //! ```text

@@ -1,3 +1,5 @@
+//! Floor: engines and program.
+//!
 //! The engines that read the logs of a tree. That of `rstar audit` says how each case stands and ends by
 //! them, and where an operator decided otherwise; that of `rstar log` says what they hold.
 //!

@@ -1,3 +1,5 @@
+//! Floor: the world.
+//!
 //! The journal of a cluster: every entry with its caller's number, and what became of each message.
 //!
 //! ```text

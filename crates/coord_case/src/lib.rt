@@ -1,3 +1,5 @@
+//! Floor: coordinator and subordinate.
+//!
 //! What a coordinator keeps of a live case.
 //!
 //! ```text

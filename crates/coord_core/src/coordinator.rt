@@ -15,7 +15,7 @@ ghost use Rattle.coord_core.specs.Meets.{FindsAt, FindsLive};
 
 use coord_rows::Seat;
 use coord_table::Cases;
-use log_store::LogStore;
+use log_store::{LogStore, MemoryStore};
 use rec_log::RecLog;
 use std::alloc::{AllocError, Global};
 use std::marker::Model;
@@ -209,5 +209,14 @@ impl<L: LogStore> Coordinator<L> {
         ensures { result ≡ ticket_in self.now.slots case.now }
     {
         self.cases.ticket_for(case)
+    }
+}
+
+impl Coordinator<MemoryStore> {
+    /// A store in memory does not fail.
+    pub fn never_failed(&self)
+        ensures { (state self.now).log.failures ≡ 0 }
+    {
+        self.log.never_failed()
     }
 }

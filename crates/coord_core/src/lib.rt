@@ -1,3 +1,5 @@
+//! Floor: coordinator and subordinate.
+//!
 //! A coordinator: the root of a tree, or a coordinator below it (R*, under Presumed Abort and Presumed
 //! Commit).
 //!

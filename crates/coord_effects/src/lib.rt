@@ -1,3 +1,5 @@
+//! Floor: coordinator and subordinate.
+//!
 //! What a row of the reaction table makes (R*), and the rows of a case in doubt.
 //!
 //! ```text

@@ -1,3 +1,5 @@
+//! Floor: coordinator and subordinate.
+//!
 //! The rows of the reaction table over a coordinator's live case (R*), for the root and for a coordinator
 //! below it, under Presumed Abort and Presumed Commit.
 //!

@@ -1,3 +1,5 @@
+//! Floor: coordinator and subordinate.
+//!
 //! A coordinator without its log: its live cases, what an input makes of them, and what it is as it restarts.
 //!
 //! ```text

@@ -1,3 +1,5 @@
+//! Floor: the log.
+//!
 //! How a process writes into its log.
 #![tactic(auto)]
 

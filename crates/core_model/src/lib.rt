@@ -1,3 +1,5 @@
+//! Floor: the log.
+//!
 //! What a process keeps while it runs, and what each input makes of it: definitions, and laws that they fit
 //! one another.
 #![tactic(auto)]

@@ -1,3 +1,5 @@
+//! Floor: engines and program.
+//!
 //! The engine of `rstar crash`: a script in, what each crash of its run ends with out.
 #![tactic(auto)]
 

@@ -1,3 +1,5 @@
+//! Floor: the log.
+//!
 //! Blocks: how a log's bytes stand in a file, so that what a cut of power leaves of the last write is told
 //! from what was safe.
 //!

@@ -1,3 +1,5 @@
+//! Floor: engines and program.
+//!
 //! Runs stores over files: over a file in memory whose calls fail one after another, what each failure and
 //! each cut of power leaves is read; and over a file of the system one is made, filled, opened again and
 //! damaged.

@@ -1,3 +1,5 @@
+//! Floor: the log.
+//!
 //! A store whose bytes stand in a file: a log over it outlives the program.
 //!
 //! What a contract sees is the store's image in memory, which is what the file is to hold. What the store

@@ -1,3 +1,5 @@
+//! Floor: engines and program.
+//!
 //! Why an input is refused: which line, key, value, process or log is at fault, in sentences.
 //!
 //! ```text

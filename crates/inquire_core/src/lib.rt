@@ -1,3 +1,5 @@
+//! Floor: coordinator and subordinate.
+//!
 //! What the records of a log say of each case: where it stands, what a child in doubt is told of it, and
 //! what a restart makes of it.
 //!

@@ -1,3 +1,5 @@
+//! Floor: spellings and names.
+//!
 //! What a key of a key store has: the holders of its lock, and, in contracts, a list in a map by keys.
 //!
 //! ```text

@@ -1,3 +1,5 @@
+//! Floor: XA and the key store.
+//!
 //! The locks of a key store's branches.
 //!
 //! ```text

@@ -1,3 +1,5 @@
+//! Floor: XA and the key store.
+//!
 //! A key store with a log, as an XA manager.
 #![tactic(auto)]
 

@@ -21,7 +21,7 @@ ghost use Rattle.kv_manager.specs.Turns.{Calls, Refuses};
 
 use crate::restart::{Ready, RestartError, ready_for, restart_log, started};
 use kv_core::KeyStore;
-use log_store::LogStore;
+use log_store::{LogStore, MemoryStore};
 use rec_log::{OpenError, RecLog};
 use std::alloc::{AllocError, Global};
 use std::marker::Model;
@@ -360,5 +360,14 @@ impl<L: LogStore + Drop> KvManager<L> {
             Ok(manager) => Ok(manager),
             Err((error, log)) => Err((RestoreError::Records(error), log.into_store())),
         }
+    }
+}
+
+impl KvManager<MemoryStore> {
+    /// A store in memory does not fail.
+    pub fn never_failed(&self)
+        ensures { (sight_of self.now).log.failures ≡ 0 }
+    {
+        self.log.never_failed()
     }
 }

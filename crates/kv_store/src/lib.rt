@@ -1,3 +1,5 @@
+//! Floor: XA and the key store.
+//!
 //! The data of a key store, with what each key was behind each commit since the base.
 //!
 //! ```text

@@ -1,3 +1,5 @@
+//! Floor: XA and the key store.
+//!
 //! What a call that finishes a branch makes of it at a key store, and the records of it.
 //!
 //! | From | Call | Answer | To | Record |

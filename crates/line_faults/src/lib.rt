@@ -1,3 +1,5 @@
+//! Floor: engines and program.
+//!
 //! What is wrong with a line of a script, and what the grammar wants there.
 //!
 //! ```text

@@ -1,3 +1,5 @@
+//! Floor: the model.
+//!
 //! Scripts of events over a tree of processes.
 #![tactic(auto)]
 

@@ -1,3 +1,5 @@
+//! Floor: coordinator and subordinate.
+//!
 //! The live cases of a process, each with what the process keeps of it.
 //!
 //! ```text

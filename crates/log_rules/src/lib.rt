@@ -1,3 +1,5 @@
+//! Floor: the log.
+//!
 //! What makes a log's records right: their order, which of them a trim keeps, which can stand in a log at
 //! all, and what a process reads of them.
 #![tactic(auto)]

@@ -1,5 +1,5 @@
 -- A store whose device fails once.
-use Rattle.std.specs.Prelude.{◌≡◌, ◌-◌, ◌==◌, ◌&&◌, not, ℕ, Bool, true, false, List, if◌then◌else◌}
+use Rattle.std.specs.Prelude.{◌≡◌, ◌+◌, ◌-◌, ◌==◌, ◌&&◌, not, ℕ, Bool, true, false, List, ◌++◌, if◌then◌else◌, length, min, take}
 use Rattle.log_store.specs.declared.fault.StoreCall.{StoreCall}
 use Rattle.log_store.specs.declared.fault.StoreCall.TheVariants.{Append, Force, Replace}
 use Rattle.log_store.specs.declared.fault.FaultStore.{FaultStore}
@@ -11,6 +11,10 @@ fault_bytes s = s.store.bytes.items
 -- the length of their forced front
 abbrev pub fault_forced : FaultStore → ℕ
 fault_forced s = s.store.forced
+
+-- how often its device has failed
+abbrev pub fault_failures : FaultStore → ℕ
+fault_failures s = if s.failed then 1 else 0
 
 -- its device has not failed
 abbrev pub no_failures : FaultStore → Bool
@@ -53,3 +57,39 @@ pub record Fails (old new : FaultStore) : Type 0 where
   pub store : new.store ≡ old.store
   pub plan : fault_plan new ≡ plans old.call 0 old.keep
   pub failed : new.failed ≡ true
+
+-- a call of this kind was made and did not fail: none was to fail at it, and it is counted
+pub record IsPassed (call : StoreCall) (old new : FaultStore) : Type 0 where
+  pub due : is_next old call ≡ false
+  pub plan : fault_plan new ≡ plans old.call (if same_call old.call call then old.left - 1 else old.left) old.keep
+  pub failed : new.failed ≡ old.failed
+
+-- memory was refused: the call is not counted
+pub record IsUncounted (old new : FaultStore) : Type 0 where
+  pub plan : fault_plan new ≡ fault_plan old
+  pub failed : new.failed ≡ old.failed
+
+-- The device failed at a call of this kind, as was planned: these bytes stand, so many of them forced, and none is to
+-- fail any more.
+pub record IsBroken (call : StoreCall) (old new : FaultStore) (bytes : List ℕ) (forced : ℕ) : Type 0 where
+  pub due : is_next old call ≡ true
+  pub text : fault_bytes new ≡ bytes
+  pub front : fault_forced new ≡ forced
+  pub plan : fault_plan new ≡ plans old.call 0 old.keep
+  pub failed : new.failed ≡ true
+
+-- what an append that fails leaves: the first bytes of what it was given, none of them forced
+abbrev pub AppendIsBroken : FaultStore → FaultStore → List ℕ → Type 0
+AppendIsBroken old new more =
+    IsBroken Append old new (fault_bytes old ++ take old.keep more) (fault_forced old)
+
+-- what a force that fails leaves: the forced front moved on by so many bytes, at most to the end
+abbrev pub ForceIsBroken : FaultStore → FaultStore → Type 0
+ForceIsBroken old new =
+    IsBroken Force old new (fault_bytes old) (min (fault_forced old + old.keep) (length (fault_bytes old)))
+
+-- what a replace that fails leaves: the old bytes with their front, or else the new ones, all of them forced
+abbrev pub ReplaceIsBroken : FaultStore → FaultStore → List ℕ → Type 0
+ReplaceIsBroken old new text = IsBroken Replace old new
+    (if old.keep == 0 then fault_bytes old else text)
+    (if old.keep == 0 then fault_forced old else length text)

@@ -1,6 +1,8 @@
 //! A store whose device fails once, at a chosen call.
 
-ghost use Rattle.std.specs.Prelude.{◌≡◌, ◌≤◌, length, true, if◌then◌else◌};
+ghost use Rattle.std.specs.Prelude.{◌≡◌, ◌≤◌, ◌+◌, length, true, if◌then◌else◌, IfErr, OnOk};
+ghost use Rattle.std.specs.Vec.{vec_capacity};
+ghost use Rattle.log_store.specs.Stores.{Appends, AppendBreaks, ForceBreaks, Forces, MemoryRefuses, ReplaceBreaks, Replaces};
 
 use crate::memory::MemoryStore;
 use crate::store::{LogStore, StoreError};
@@ -87,7 +89,7 @@ impl FaultStore {
 }
 
 impl LogStore for FaultStore {
-    ghost use Rattle.std.specs.Vec.{vec_capacity};
+    ghost use Rattle.log_store.specs.Faults.{AppendIsBroken, ForceIsBroken, IsPassed, IsUncounted, ReplaceIsBroken, fault_bytes, fault_failures, fault_forced};
 
     ghost bytes = { λ s. s.store.bytes.items };
 
@@ -115,7 +117,19 @@ impl LogStore for FaultStore {
         self.store.reserve(more)
     }
 
-    fn append(&mut self, more: &[u8]) -> Result<(), StoreError> {
+    fn append(&mut self, more: &[u8]) -> Result<(), StoreError>
+        ensures ok { OnOk result (Appends fault_bytes fault_forced fault_failures self.old self.new more.now) }
+        ensures room { vec_capacity self.old.store.bytes ≤ vec_capacity self.new.store.bytes }
+        ensures memory { IfErr result (λ e. e ≡ StoreError.Memory
+            → MemoryRefuses fault_bytes fault_forced fault_failures self.old self.new
+            (vec_capacity self.old.store.bytes) (length (fault_bytes self.old) + length more.now)) }
+        ensures device { IfErr result (λ e. e ≡ StoreError.Device
+            → AppendBreaks fault_bytes fault_forced fault_failures self.old self.new more.now) }
+        ensures passed { OnOk result (IsPassed StoreCall.Append self.old self.new) }
+        ensures uncounted { IfErr result (λ e. e ≡ StoreError.Memory → IsUncounted self.old self.new) }
+        ensures broken { IfErr result (λ e. e ≡ StoreError.Device
+            → AppendIsBroken self.old self.new more.now) }
+    {
         if self.is_next(StoreCall::Append) {
             let came = more.len().min(self.keep);
             self.store.append(&more[..came])?;
@@ -127,7 +141,14 @@ impl LogStore for FaultStore {
         Ok(())
     }
 
-    fn force(&mut self) -> Result<(), StoreError> {
+    fn force(&mut self) -> Result<(), StoreError>
+        ensures ok { OnOk result (Forces fault_bytes fault_forced fault_failures self.old self.new) }
+        ensures room { vec_capacity self.old.store.bytes ≤ vec_capacity self.new.store.bytes }
+        ensures err { IfErr result (λ e. (e ≡ StoreError.Device)
+            × ForceBreaks fault_bytes fault_forced fault_failures self.old self.new) }
+        ensures passed { OnOk result (IsPassed StoreCall.Force self.old self.new) }
+        ensures broken { IfErr result (λ e. ForceIsBroken self.old self.new) }
+    {
         if self.is_next(StoreCall::Force) {
             self.store.force_more(self.keep);
             self.fail();
@@ -138,7 +159,18 @@ impl LogStore for FaultStore {
         Ok(())
     }
 
-    fn replace(&mut self, new: &[u8]) -> Result<(), StoreError> {
+    fn replace(&mut self, new: &[u8]) -> Result<(), StoreError>
+        ensures ok { OnOk result (Replaces fault_bytes fault_forced fault_failures self.old self.new new.now) }
+        ensures memory { IfErr result (λ e. e ≡ StoreError.Memory
+            → MemoryRefuses fault_bytes fault_forced fault_failures self.old self.new
+            (vec_capacity self.old.store.bytes) (length new.now)) }
+        ensures device { IfErr result (λ e. e ≡ StoreError.Device
+            → ReplaceBreaks fault_bytes fault_forced fault_failures self.old self.new new.now) }
+        ensures passed { OnOk result (IsPassed StoreCall.Replace self.old self.new) }
+        ensures uncounted { IfErr result (λ e. e ≡ StoreError.Memory → IsUncounted self.old self.new) }
+        ensures broken { IfErr result (λ e. e ≡ StoreError.Device
+            → ReplaceIsBroken self.old self.new new.now) }
+    {
         if self.is_next(StoreCall::Replace) {
             if self.keep > 0 {
                 self.store.replace(new)?;

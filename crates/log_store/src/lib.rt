@@ -1,3 +1,5 @@
+//! Floor: the log.
+//!
 //! Where the bytes of a log stand: a store that may lose what is not forced, and one in memory.
 #![tactic(auto)]
 

@@ -1,3 +1,5 @@
+//! Floor: the log.
+//!
 //! Records in bytes.
 #![tactic(auto)]
 

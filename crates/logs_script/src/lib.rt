@@ -1,3 +1,5 @@
+//! Floor: the log.
+//!
 //! A tree and the logs of its processes as text: what `tree --logs` writes and what `log` reads.
 #![tactic(auto)]
 

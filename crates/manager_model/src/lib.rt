@@ -1,3 +1,5 @@
+//! Floor: XA and the key store.
+//!
 //! A resource manager, as a process sees it that drives it.
 #![tactic(auto)]
 

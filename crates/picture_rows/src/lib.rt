@@ -1,3 +1,5 @@
+//! Floor: engines and program.
+//!
 //! The rows of a run's picture: which process stands at which place, at which row each step begins and ends,
 //! and what is drawn from which row to which.
 #![tactic(auto)]

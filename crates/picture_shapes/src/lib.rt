@@ -1,3 +1,5 @@
+//! Floor: engines and program.
+//!
 //! Shapes of a picture at pixels, where rows and places are among them, and the text of each in SVG.
 #![tactic(auto)]
 

@@ -1,3 +1,5 @@
+//! Floor: engines and program.
+//!
 //! The words of a picture: of messages, records, acts and events, and what colour they have.
 #![tactic(auto)]
 

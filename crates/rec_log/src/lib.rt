@@ -1,3 +1,5 @@
+//! Floor: the log.
+//!
 //! The log of a process: records over a store of bytes.
 //!
 //! A log is a header and then frames, and perhaps a torn tail: a frame with fewer bytes than its header and

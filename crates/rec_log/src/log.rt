@@ -15,7 +15,7 @@ ghost use Rattle.rec_log.specs.Trimming.{Spells, Trimmed, trim_of};
 
 use crate::opening::{Found, OpenError, find};
 use crate::trimming::trimmed_text;
-use log_store::{LogStore, StoreError};
+use log_store::{LogStore, MemoryStore, StoreError};
 use log_text::{Frame, HEADER, ReadFault, first_frame, read_record};
 use std::alloc::{AllocError, Global};
 use std::marker::Model;
@@ -448,4 +448,11 @@ impl<L: LogStore> RecLog<L> {
             Err(error) => Err(error),
         }
     }
+}
+
+impl RecLog<MemoryStore> {
+    /// A store in memory does not fail.
+    pub fn never_failed(&self)
+        ensures { self.now.sight.failures ≡ 0 }
+    {}
 }

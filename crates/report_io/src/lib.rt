@@ -1,3 +1,5 @@
+//! Floor: engines and program.
+//!
 //! What every engine of `rstar` reads and writes: all of an input, one text, and how a run ends.
 #![tactic(auto)]
 

@@ -1,3 +1,5 @@
+//! Floor: engines and program.
+//!
 //! Runs the worked rows: for each the script or the logs that it begins with, and the text and the exit
 //! status that it must end with. The folder data/ holds them; standard input lists them, a row a line:
 //! PROGRAM NAME STATUS. What no script can show of the engines, and of the tree that runs, is a row `edge

@@ -1,3 +1,5 @@
+//! Floor: engines and program.
+//!
 //! The program `rstar`: the command line, and standard input and output of the engines; and, as a law, that
 //! what `rstar audit` says of the logs which `rstar tree --logs` leaves is true.
 #![tactic(auto)]

@@ -1,3 +1,5 @@
+//! Floor: the model.
+//!
 //! What scripts have in common: which of their lines are skipped, and how an operation on data and a decision
 //! of an operator are spelled.
 #![tactic(auto)]

@@ -1,3 +1,5 @@
+//! Floor: spellings and names.
+//!
 //! Bytes in order, of which few stand in place.
 #![tactic(auto)]
 

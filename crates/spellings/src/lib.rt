@@ -1,3 +1,5 @@
+//! Floor: spellings and names.
+//!
 //! How numbers and bytes are spelled in a text, with one spelling each.
 //!
 //! ```text

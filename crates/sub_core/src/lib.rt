@@ -1,3 +1,5 @@
+//! Floor: coordinator and subordinate.
+//!
 //! A process below a parent, with a resource manager: it works, votes, and obeys (R*), or its operator
 //! decides.
 #![tactic(auto)]

@@ -1,3 +1,5 @@
+//! Floor: coordinator and subordinate.
+//!
 //! What a subordinate does with its manager in one event, and what it shows of one.
 #![tactic(auto)]
 

@@ -1,3 +1,5 @@
+//! Floor: coordinator and subordinate.
+//!
 //! The live branches of a subordinate and its active tickets, and what the records of a log leave of them.
 #![tactic(auto)]
 

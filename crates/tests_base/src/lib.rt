@@ -1,3 +1,5 @@
+//! Floor: engines and program.
+//!
 //! Tests of what a tree stands on: XA codes, scripts and copies, logs of bytes, the versions of keys, and
 //! how a subordinate votes over a manager that votes as it was told.
 #![tactic(auto)]
@@ -12,7 +14,6 @@ mod commits;
 mod damage;
 #[cfg(test)]
 mod faults;
-#[cfg(test)]
 #[cfg(test)]
 mod players;
 #[cfg(test)]

@@ -1,3 +1,5 @@
+//! Floor: the model.
+//!
 //! The text of a trace: the lines of each step of a run.
 #![tactic(auto)]
 

@@ -1,3 +1,5 @@
+//! Floor: engines and program.
+//!
 //! The auditor: from a tree and its processes' logs each case that is still told of, with its own standing
 //! and its transaction's outcome.
 //!

@@ -1,3 +1,5 @@
+//! Floor: engines and program.
+//!
 //! The engine of tree scripts: a script in, its trace or its logs out.
 #![tactic(auto)]
 

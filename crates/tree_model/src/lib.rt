@@ -1,3 +1,5 @@
+//! Floor: the model.
+//!
 //! The names, messages, records and steps of the commit protocols.
 #![tactic(auto)]
 

@@ -1,3 +1,5 @@
+//! Floor: the world.
+//!
 //! One process of a tree, of either kind: a coordinator, or a manager over a key store.
 #![tactic(auto)]
 

@@ -15,7 +15,7 @@ ghost use Rattle.tree_node.specs.Nodes.{NotHandled, SpellsLog, core_of, data_of,
 use coord_core::Coordinator;
 use core_model::InputRef;
 use kv_manager::KvManager;
-use log_store::LogStore;
+use log_store::{LogStore, MemoryStore};
 use std::alloc::AllocError;
 use sub_core::Subordinate;
 use tree_model::{LogRecord, Reaction, StepError};
@@ -108,6 +108,18 @@ impl<L: LogStore> Node<L> {
             return Err(StepError::Memory);
         }
         self.step(input)
+    }
+}
+
+impl Node<MemoryStore> {
+    /// A store in memory does not fail.
+    pub fn never_failed(&self)
+        ensures { (core_of self.now).log.failures ≡ 0 }
+    {
+        match self {
+            Node::Coordinator(coordinator) => coordinator.never_failed(),
+            Node::Manager(manager) => manager.manager().never_failed(),
+        }
     }
 }
 

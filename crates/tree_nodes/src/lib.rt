@@ -1,3 +1,5 @@
+//! Floor: the wing of proofs.
+//!
 //! What every run keeps at each single process, whatever the others do. The functions do nothing: each one's
 //! contract is a law.
 #![tactic(auto)]

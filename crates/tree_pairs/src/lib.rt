@@ -1,3 +1,5 @@
+//! Floor: the wing of proofs.
+//!
 //! What one pair, a parent's case and one ticket that its child got for it, can come to; the invariant
 //! that every move of the protocol keeps; and what the invariant promises. The functions do nothing:
 //! each one's contract is a law.

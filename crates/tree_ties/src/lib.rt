@@ -1,3 +1,5 @@
+//! Floor: the world.
+//!
 //! What ties the entries of each process to the journal that they enter.
 //!
 //! A process works under a lock of its own, and the journal lies under one of its own. Neither can see what the

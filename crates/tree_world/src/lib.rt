@@ -1,3 +1,5 @@
+//! Floor: the world.
+//!
 //! A tree that runs: its processes, the messages between them, and the journal of their steps.
 #![tactic(auto)]
 

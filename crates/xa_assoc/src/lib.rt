@@ -1,3 +1,5 @@
+//! Floor: XA and the key store.
+//!
 //! The associations of threads with branches, and with them all XA tables of one resource manager.
 //!
 //! ```text

@@ -1,3 +1,5 @@
+//! Floor: XA and the key store.
+//!
 //! The branches that a resource manager knows, in order of beginning, and the scans of them.
 //!
 //! ```text

@@ -1,3 +1,5 @@
+//! Floor: spellings and names.
+//!
 //! The numbers of the XA interface: what a resource manager answers, and the flags of a call.
 //!
 //! Source: X/Open CAE Specification C193, Distributed Transaction Processing: The XA Specification,

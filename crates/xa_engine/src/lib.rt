@@ -1,3 +1,5 @@
+//! Floor: engines and program.
+//!
 //! The engine of XA scripts: a script in, its answers out.
 #![tactic(auto)]
 

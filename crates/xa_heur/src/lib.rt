@@ -1,3 +1,5 @@
+//! Floor: XA and the key store.
+//!
 //! Operators' decisions of branches (C193, heuristic branch completion).
 //!
 //! ```text

@@ -1,3 +1,5 @@
+//! Floor: the wing of proofs.
+//!
 //! Laws of histories: what any list of calls, decisions and restarts does to the tables of a resource
 //! manager.
 #![tactic(auto)]

@@ -1,3 +1,5 @@
+//! Floor: XA and the key store.
+//!
 //! The XA state tables of this profile, drawn after X/Open C193 (1991), chapter 6.
 //!
 //! ```text

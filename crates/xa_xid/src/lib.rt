@@ -1,3 +1,5 @@
+//! Floor: spellings and names.
+//!
 //! XIDs: the names of transaction branches.
 #![tactic(auto)]
 
