@@ -454,5 +454,7 @@ impl RecLog<MemoryStore> {
     /// A store in memory does not fail.
     pub fn never_failed(&self)
         ensures { self.now.sight.failures ≡ 0 }
-    {}
+    {
+        let _ = self.store.failures();
+    }
 }
