@@ -1,5 +1,5 @@
 -- Trials one after another.
-use Rattle.std.proofs.Common.{◌≡◌, ◌∙◌, ap, sym, subst, ℕ, ◌+◌, ◌<◌, ◌≤◌, true, false, is_some, Some, None, List, [], ◌∷◌, ◌++◌, length, get_or, take, refl, append_assoc}
+use Rattle.std.proofs.Common.{◌≡◌, ◌∙◌, ap, sym, subst, ℕ, ◌+◌, ◌<◌, ◌≤◌, true, false, is_some, Option, Some, None, List, [], ◌∷◌, ◌++◌, length, get_or, take, refl, append_assoc}
 use Rattle.std.proofs.lemmas.List.{append-nil, take_all, take_more}
 use Rattle.tree_model.specs.declared.events.Event.{Event}
 use Rattle.tree_model.specs.declared.trees.TreeEntry.{TreeEntry}
@@ -19,7 +19,7 @@ use Rattle.crash_engine.specs.declared.points.Point.{Point}
 use Rattle.crash_engine.specs.declared.trial.Trial.{Trial}
 use Rattle.crash_engine.specs.Points.{crash_of, points_in}
 use Rattle.tree_engine.specs.Trees.{Plays}
-use Rattle.crash_engine.specs.Trials.{Adds, AddsTrials, AreTried, EndsWith, Tries}
+use Rattle.crash_engine.specs.Trials.{Adds, AddsTrials, AreTried, EndsWith, Known, Tries}
 
 -- what a run comes to is a run of the model
 pub comes_to : (tree : List TreeEntry) (start : WorldState) (given : List Event) (run : Run)
@@ -36,14 +36,14 @@ still_tree tree start given run is opens h = subst IsTree
     (sym (comes_to tree start given run is opens h).run.tree_is) is
 
 -- a crash was tried
-pub tried_so : (tree : List TreeEntry) (events : List Event) (p : Point) (a : Audited)
+pub tried_so : (tree : List TreeEntry) (known : Known) (events : List Event) (p : Option Point) (a : Audited)
     (crash asks : List Event) (start : WorldState)
     (middle end : Run) (f : Found) → IsTree tree → IsOpened start tree
     → HasCome start (events ++ crash) middle → crash ≡ crash_of p
     → Audits (state middle.world) a → asks ≡ asks_by a
     → HasCome start (((events ++ crash) ++ asks) ++ Settle ∷ []) end
-    → EndsWith (state end.world) end.refusal f → Tries tree events p f
-tried_so tree events p a crash asks start middle end f is opens crashes of_crash audits
+    → EndsWith known (state end.world) end.refusal f → Tries tree known events p f
+tried_so tree known events p a crash asks start middle end f is opens crashes of_crash audits
     of_asks ends found = record {
       early = middle.refusal;
       middle = state middle.world;
@@ -59,59 +59,59 @@ tried_so tree events p a crash asks start middle end f is opens crashes of_crash
       ends = found;
     }
 
-one_more : (tree : List TreeEntry) (events : List Event) (ps : List Point) (ts : List Trial) (p : Point)
-    (t : Trial) → AreTried tree events ps ts
-    → t.events ≡ length events → t.point ≡ p → Tries tree events p t.found
-    → AreTried tree events (ps ++ p ∷ []) (ts ++ t ∷ [])
-one_more tree events [] [] p t are count at tries = (count, at, tries, tt)
-one_more tree events [] (u ∷ ts) p t are count at tries = absurd are
-one_more tree events (o ∷ ps) [] p t are count at tries = absurd are
-one_more tree events (o ∷ ps) (u ∷ ts) p t are count at tries =
-    (are.0, are.1, are.2, one_more tree events ps ts p t are.3 count at tries)
+one_more : (tree : List TreeEntry) (known : Known) (events : List Event) (ps : List Point) (ts : List Trial) (p : Point)
+    (t : Trial) → AreTried tree known events ps ts
+    → t.events ≡ length events → t.point ≡ p → Tries tree known events (Some p) t.found
+    → AreTried tree known events (ps ++ p ∷ []) (ts ++ t ∷ [])
+one_more tree known events [] [] p t are count at tries = (count, at, tries, tt)
+one_more tree known events [] (u ∷ ts) p t are count at tries = absurd are
+one_more tree known events (o ∷ ps) [] p t are count at tries = absurd are
+one_more tree known events (o ∷ ps) (u ∷ ts) p t are count at tries =
+    (are.0, are.1, are.2, one_more tree known events ps ts p t are.3 count at tries)
 
-pub none_tried : (tree : List TreeEntry) (events : List Event) (old : List Trial)
-    → AddsTrials tree events [] old old
-none_tried tree events old = ([], sym (append-nil old), tt)
+pub none_tried : (tree : List TreeEntry) (known : Known) (events : List Event) (old : List Trial)
+    → AddsTrials tree known events [] old old
+none_tried tree known events old = ([], sym (append-nil old), tt)
 
-pub tried_more : (tree : List TreeEntry) (events : List Event) (ps : List Point) (i : ℕ) (p : Point)
+pub tried_more : (tree : List TreeEntry) (known : Known) (events : List Event) (ps : List Point) (i : ℕ) (p : Point)
     (t : Trial) (old mid new : List Trial)
     → i < length ps → p ≡ get_or ps i p → new ≡ mid ++ t ∷ [] → t.events ≡ length events → t.point ≡ p
-    → Tries tree events p t.found
-    → AddsTrials tree events (take i ps) old mid → AddsTrials tree events (take (i + 1) ps) old new
-tried_more tree events ps i p t old mid new within is pushed count at tries before = (
+    → Tries tree known events (Some p) t.found
+    → AddsTrials tree known events (take i ps) old mid → AddsTrials tree known events (take (i + 1) ps) old new
+tried_more tree known events ps i p t old mid new within is pushed count at tries before = (
   before.0 ++ t ∷ [],
   pushed ∙ ap (λ xs. xs ++ t ∷ []) before.1 ∙ append_assoc old before.0 (t ∷ []),
-  subst (λ qs. AreTried tree events qs (before.0 ++ t ∷ []))
+  subst (λ qs. AreTried tree known events qs (before.0 ++ t ∷ []))
       (sym (take_more ps i p within ∙ ap (λ q. take i ps ++ q ∷ []) (sym is)))
-      (one_more tree events (take i ps) before.0 p t before.2 count at tries),
+      (one_more tree known events (take i ps) before.0 p t before.2 count at tries),
 )
 
 -- all points behind these events were tried
-pub all_tried : (tree : List TreeEntry) (events : List Event) (now : WorldState) (refusal : Refusal)
+pub all_tried : (tree : List TreeEntry) (known : Known) (events : List Event) (now : WorldState) (refusal : Refusal)
     (ps : List Point) (old new : List Trial)
     → is_some refusal ≡ false → Plays tree events refusal now → ps ≡ points_in now
-    → AddsTrials tree events ps old new → Adds tree events None old new
-all_tried tree events now (Some r) ps old new is ran points tried = absurd (cc)
-all_tried tree events now None ps old new is ran points tried = (
+    → AddsTrials tree known events ps old new → Adds tree known events None old new
+all_tried tree known events now (Some r) ps old new is ran points tried = absurd (cc)
+all_tried tree known events now None ps old new is ran points tried = (
   tried.0,
   tried.1,
   record {
     state = now;
     ran = ran;
-    tried = subst (λ qs. AreTried tree events qs tried.0) points tried.2;
+    tried = subst (λ qs. AreTried tree known events qs tried.0) points tried.2;
   },
 )
 
 -- an event was refused
-pub refused_adds : (tree : List TreeEntry) (events : List Event) (now : WorldState)
+pub refused_adds : (tree : List TreeEntry) (known : Known) (events : List Event) (now : WorldState)
     (refusal : Refusal) (old : List Trial)
-    → is_some refusal ≡ true → Plays tree events refusal now → Adds tree events refusal old old
-refused_adds tree events now None old is ran = absurd (cc)
-refused_adds tree events now (Some r) old is ran = (refl, (now, ran))
+    → is_some refusal ≡ true → Plays tree events refusal now → Adds tree known events refusal old old
+refused_adds tree known events now None old is ran = absurd (cc)
+refused_adds tree known events now (Some r) old is ran = (refl, (now, ran))
 
 -- all of these points were
-pub all_points : (tree : List TreeEntry) (events : List Event) (ps : List Point) (i : ℕ)
+pub all_points : (tree : List TreeEntry) (known : Known) (events : List Event) (ps : List Point) (i : ℕ)
     (old new : List Trial) → length ps ≤ i
-    → AddsTrials tree events (take i ps) old new → AddsTrials tree events ps old new
-all_points tree events ps i old new past tried =
-    subst (λ qs. AddsTrials tree events qs old new) (take_all i ps past) tried
+    → AddsTrials tree known events (take i ps) old new → AddsTrials tree known events ps old new
+all_points tree known events ps i old new past tried =
+    subst (λ qs. AddsTrials tree known events qs old new) (take_all i ps past) tried

@@ -1,5 +1,7 @@
 -- What the logs of a tree say of its cases.
-use Rattle.std.specs.Prelude.{◌≡◌, Bool, true, false, Some, List, [], map, filter}
+use Rattle.std.specs.Prelude.{◌≡◌, Bool, true, false, not, Some, List, [], map, filter}
+use Rattle.std.specs.List.{list_any}
+use Rattle.tree_model.specs.Names.{same_case}
 use Rattle.tree_model.specs.declared.names.Case.{Case}
 use Rattle.tree_model.specs.declared.events.Act.TheVariants.{Ask}
 use Rattle.tree_model.specs.declared.events.Event.{Event}
@@ -39,6 +41,10 @@ doubts_in ls = map (λ l. l.case) (filter (λ l. stands_in_doubt l.own) ls)
 -- the cases that show a mismatch, in the order of the lines
 abbrev pub mismatched_in : List Line → List Case
 mismatched_in ls = map (λ l. l.case) (filter (λ l. l.mismatch) ls)
+
+-- those of these cases that are not among the known ones, in order
+abbrev pub beyond : List Case → List Case → List Case
+beyond known cs = filter (λ c. not (list_any (λ k. same_case k c) known)) cs
 
 -- the questions for these cases
 abbrev pub asks_for : List Case → List Event

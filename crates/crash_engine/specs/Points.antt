@@ -1,5 +1,5 @@
 -- Where crashes are tried.
-use Rattle.std.specs.Prelude.{ℕ, ◌+◌, Some, List, [], ◌∷◌, map}
+use Rattle.std.specs.Prelude.{ℕ, ◌+◌, Option, None, Some, List, [], ◌∷◌, map}
 use Rattle.std.specs.List.{flat_map}
 use Rattle.tree_model.specs.declared.names.ProcessId.{ProcessId}
 use Rattle.tree_model.specs.declared.events.Event.{Event}
@@ -31,6 +31,7 @@ sizes_at w q = map record_size (unforced_by (w.node_at q))
 unfoldable pub points_in : WorldState → List Point
 points_in w = flat_map (λ e. points_at e.id (sizes_at w e.id)) w.tree
 
--- the events of a crash: the restart, and all that comes of it
-abbrev pub crash_of : Point → List Event
-crash_of p = Restart p.process (Some p.keep) ∷ Settle ∷ []
+-- the events of a crash: the restart, and all that comes of it; without one, all that comes
+abbrev pub crash_of : Option Point → List Event
+crash_of None = Settle ∷ []
+crash_of (Some p) = Restart p.process (Some p.keep) ∷ Settle ∷ []

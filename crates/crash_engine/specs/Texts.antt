@@ -72,6 +72,10 @@ unfoldable pub trial_text : Trial → List ℕ
 trial_text t =
     if is_clean t.found then [] else point_text t.events t.point ++ found_text t.found ++ codes "\n"
 
+-- the line of what is left without any crash, where something is
+unfoldable pub alone_text : Found → List ℕ
+alone_text f = if is_clean f then [] else codes "no crash:" ++ found_text f ++ codes "\n"
+
 -- the line of the numbers: of crashes, of those with a case in doubt, and of those with a mismatch
 unfoldable pub totals_text : List Trial → List ℕ
 totals_text ts =
@@ -83,14 +87,15 @@ abbrev pub refusal_text : Refusal → List ℕ
 refusal_text None = []
 refusal_text (Some refused) = refused_text (refused.0 + 1) (step_error_number refused.1)
 
--- what is written of crashes
-abbrev pub crashes_text : List Trial → Refusal → List ℕ
-crashes_text ts refusal = (flat_map trial_text ts ++ totals_text ts) ++ refusal_text refusal
+-- what is written of crashes, and of the script without any
+abbrev pub crashes_text : Found → List Trial → Refusal → List ℕ
+crashes_text alone ts refusal =
+    ((alone_text alone ++ flat_map trial_text ts) ++ totals_text ts) ++ refusal_text refusal
 
 -- how it ends
-abbrev pub ending_by : List Trial → Refusal → Ending
-ending_by ts None = if are_clean ts then ending.Clean else ending.Finds
-ending_by ts (Some refused) = ending.Stopped
+abbrev pub ending_by : Found → List Trial → Refusal → Ending
+ending_by alone ts None = if is_clean alone && are_clean ts then ending.Clean else ending.Finds
+ending_by alone ts (Some refused) = ending.Stopped
 
 -- the exit status
 abbrev pub ending_number : Ending → ℕ

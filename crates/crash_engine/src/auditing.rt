@@ -1,9 +1,11 @@
 //! What the logs of a tree say of its cases.
 
-ghost use Rattle.std.specs.Prelude.{◌≡◌, IfErr, IfOk};
+ghost use Rattle.std.specs.Prelude.{◌≡◌, [], IfErr, IfOk};
+ghost use Rattle.std.specs.List.{list_any};
+ghost use Rattle.tree_model.specs.Names.{same_case};
 ghost use Rattle.tree_model.specs.Trees.{IsTree};
 ghost use Rattle.tree_world.specs.Worlds.{state};
-ghost use Rattle.crash_engine.specs.Audits.{Audits, asks_by, asks_for as asks_of_cases, doubts_in, mismatched_in, stands_in_doubt};
+ghost use Rattle.crash_engine.specs.Audits.{Audits, asks_by, asks_for as asks_of_cases, beyond, doubts_in, mismatched_in, stands_in_doubt};
 
 use audit_cases::Own;
 use log_store::MemoryStore;
@@ -26,6 +28,19 @@ pub enum Audited {
 pub struct Left {
     pub in_doubt: Vec<Case>,
     pub mismatches: Vec<Case>,
+}
+
+impl Left {
+    /// No case.
+    pub(crate) fn nothing(alloc: Global) -> Left
+        ensures in_doubt { result.in_doubt.items ≡ [] }
+        ensures mismatches { result.mismatches.items ≡ [] }
+    {
+        Left {
+            in_doubt: Vec::new(alloc),
+            mismatches: Vec::new(alloc),
+        }
+    }
 }
 
 /// Audits the logs that the processes of a tree keep.
@@ -68,6 +83,31 @@ pub(crate) fn mismatches_of(alloc: Global, lines: &[Line]) -> Result<Vec<Case>, 
         .filter(|line| line.mismatch)
         .map(|line| line.case)
         .collect(alloc)
+}
+
+/// Those of these cases that are not among the known ones, in order.
+pub(crate) fn cases_beyond(
+    alloc: Global,
+    known: &[Case],
+    cases: &[Case],
+) -> Result<Vec<Case>, AllocError>
+    ensures { IfOk result (λ new. new.items ≡ beyond known.now cases.now) }
+{
+    let mut new = Vec::new(alloc);
+    for case in cases {
+        if !is_known(known, case) {
+            new.push(*case)?;
+        }
+    }
+    Ok(new)
+}
+
+/// Whether a case is among these.
+#[tactic(auto, unfolding(tree_model::specs::Names::same_case))]
+fn is_known(known: &[Case], case: &Case) -> bool
+    ensures { result ≡ list_any (λ k. same_case k case.now) known.now }
+{
+    known.contains(case)
 }
 
 /// The questions for these cases.

@@ -4,14 +4,15 @@ ghost use Rattle.std.specs.Prelude.{◌≡◌, ℕ, List, IfErr, IfOk};
 ghost use Rattle.std.specs.Io.KnownBytes.{Appends, Keeps};
 ghost use Rattle.tree_model.specs.Trees.{IsTree};
 ghost use Rattle.report_io.specs.Streams.{IsInput, WritesFront};
-ghost use Rattle.crash_engine.specs.Trials.{GoesOver};
+ghost use Rattle.crash_engine.specs.Trials.{GoesOver, known_by};
 ghost use Rattle.crash_engine.specs.Crashes.{IsCrashReport};
 ghost use Rattle.crash_engine.specs.Texts.{ending_by};
 ghost use Rattle.crash_engine.specs.declared.ending.Ending.{Ending as AnyEnding};
 
+use crate::auditing::Left;
 use crate::ending::Ending;
-use crate::lines::{are_clean, text_of};
-use crate::trial::{Trial, try_event};
+use crate::lines::{are_clean, is_clean, text_of};
+use crate::trial::{Found, Trial, left_alone, try_alone, try_event};
 use link_script::{ScriptError, read};
 use report_io::{Failure, read_all, write_all};
 use std::alloc::Global;
@@ -19,7 +20,14 @@ use std::io::{Read, Write};
 use tree_engine::{Refusal, refusal};
 use tree_model::{Event, Tree};
 
-/// Shows which event is gone through. A failed write is no failure of the run.
+/// How many percent of the events so many are.
+fn percent(made: usize, events: usize) -> usize {
+    (made as u128 * 100)
+        .checked_div(events as u128)
+        .unwrap_or(0) as usize
+}
+
+/// Shows which event is gone through, once a percent of all. A failed write is no failure of the run.
 fn show<P: Write>(
     alloc: Global,
     progress: &mut P,
@@ -28,6 +36,9 @@ fn show<P: Write>(
 ) -> Result<(), Failure>
     ensures memory { IfErr result (λ e. e ≡ Failure.Memory) }
 {
+    if percent(event, events) == percent(event.saturating_sub(1), events) {
+        return Ok(());
+    }
     let line = format!(in alloc; "event {event} of {events}\n")?;
     let _ = write_all(progress, line.as_bytes());
     Ok(())
@@ -37,17 +48,18 @@ fn show<P: Write>(
 fn try_events<P: Write>(
     alloc: Global,
     tree: &Tree,
+    known: &Left,
     events: &[Event],
     progress: &mut P,
 ) -> Result<(Vec<Trial>, Refusal), Failure>
     requires { IsTree tree.now }
-    ensures goes { IfOk result (λ r. GoesOver tree.now events.now r.1 r.0.items) }
+    ensures goes { IfOk result (λ r. GoesOver tree.now (known_by known.now) events.now r.1 r.0.items) }
     ensures memory { IfErr result (λ e. e ≡ Failure.Memory) }
 {
     let mut trials = Vec::new(alloc);
     for made in 0..events.len() {
         show(alloc, progress, made + 1, events.len())?;
-        let refusal = try_event(alloc, tree, &events[..made + 1], &mut trials)?;
+        let refusal = try_event(alloc, tree, known, &events[..made + 1], &mut trials)?;
         if refusal.is_some() {
             return Ok((trials, refusal));
         }
@@ -56,12 +68,12 @@ fn try_events<P: Write>(
 }
 
 /// How it ends.
-fn ending_of(trials: &[Trial], refusal: Refusal) -> Ending
-    ensures { result ≡ ending_by trials.now refusal }
+fn ending_of(alone: &Found, trials: &[Trial], refusal: Refusal) -> Ending
+    ensures { result ≡ ending_by alone.now trials.now refusal }
 {
     match refusal {
         Some(_) => Ending::Stopped,
-        None if are_clean(trials) => Ending::Clean,
+        None if is_clean(alone) && are_clean(trials) => Ending::Clean,
         None => Ending::Finds,
     }
 }
@@ -77,9 +89,11 @@ fn answer<P: Write>(
 {
     match read(alloc, input) {
         Ok((tree, events)) => {
-            let (trials, refusal) = try_events(alloc, &tree, &events, progress)?;
-            let text = text_of(alloc, &trials, refusal)?;
-            Ok((text, ending_of(&trials, refusal)))
+            let alone = try_alone(alloc, &tree, &events)?;
+            let known = left_alone(alloc, &alone)?;
+            let (trials, refusal) = try_events(alloc, &tree, &known, &events, progress)?;
+            let text = text_of(alloc, &alone, &trials, refusal)?;
+            Ok((text, ending_of(&alone, &trials, refusal)))
         }
         Err(ScriptError::Fault(fault)) => Ok((refusal(alloc, fault)?, Ending::Refused)),
         Err(ScriptError::Memory) => Err(Failure::Memory),
@@ -89,12 +103,14 @@ fn answer<P: Write>(
 /// Reads a tree script and tries each crash of it: behind each of its events, of each process, with each
 /// number of its unforced records that the crash may leave. Each is a run of its own of the script's events
 /// so far and the crash; then everything is delivered, every case that the logs show in doubt asks its
-/// parent, everything is delivered again, and the logs are audited. Writes a line for each crash that leaves
-/// a case in doubt or a mismatch, and the numbers of crashes; behind them which event was refused, if one
-/// was, or alone why the script was.
+/// parent, everything is delivered again, and the logs are audited. Writes first what the script leaves
+/// without any crash, where it leaves a case in doubt or a mismatch; then a line for each crash that leaves
+/// more than that, and the numbers of crashes; behind them which event was refused, if one was, or alone why
+/// the script was.
 ///
 /// Each of these runs is one of the model, of which the headline holds. The time goes with the square of the
-/// number of events. `progress` gets a line for each event; a failed write there is no failure of the run.
+/// number of events. `progress` gets a line for each percent of them; a failed write there is no failure of
+/// the run.
 /// After a failed read, or where memory is refused, nothing was written; after a failed write, a beginning
 /// of the text.
 pub fn run_crash<R: Read, W: Write, P: Write>(

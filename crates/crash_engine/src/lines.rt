@@ -2,6 +2,7 @@
 
 ghost use Rattle.std.specs.Prelude.{◌≡◌, ◌+◌, ◌++◌, IfOk, OnOk};
 ghost use Rattle.crash_engine.specs.Texts.{
+  alone_text,
   are_clean as all_clean,
   cases_text,
   crashes_text,
@@ -95,7 +96,7 @@ fn event_behind(made: usize) -> Result<u64, AllocError>
 }
 
 /// Whether nothing is left.
-fn is_clean(found: &Found) -> bool
+pub(crate) fn is_clean(found: &Found) -> bool
     ensures { result ≡ clean_by found.now }
 {
     match found {
@@ -218,11 +219,31 @@ fn push_refusal(alloc: Global, out: &mut Vec<u8>, refusal: Refusal) -> Result<()
     }
 }
 
-/// A line for each crash of which something is left, the numbers, and which event was refused, if one was.
-pub fn text_of(alloc: Global, trials: &[Trial], refusal: Refusal) -> Result<Vec<u8>, AllocError>
-    ensures { IfOk result (λ text. text.items ≡ crashes_text trials.now refusal) }
+/// The line of what is left without any crash, where something is.
+#[tactic(auto, unfolding(crate::specs::Texts::alone_text))]
+fn push_alone(out: &mut Vec<u8>, alone: &Found) -> Result<(), AllocError>
+    ensures { OnOk result (out.new.items ≡ out.old.items ++ alone_text alone.now) }
+{
+    if is_clean(alone) {
+        return Ok(());
+    }
+    push(out, "no crash:")?;
+    push_found(out, alone)?;
+    push(out, "\n")
+}
+
+/// What is left without any crash, a line for each crash that leaves more, the numbers, and which event was
+/// refused, if one was.
+pub fn text_of(
+    alloc: Global,
+    alone: &Found,
+    trials: &[Trial],
+    refusal: Refusal,
+) -> Result<Vec<u8>, AllocError>
+    ensures { IfOk result (λ text. text.items ≡ crashes_text alone.now trials.now refusal) }
 {
     let mut out = Vec::new(alloc);
+    push_alone(&mut out, alone)?;
     push_trials(&mut out, trials)?;
     push_totals(&mut out, trials)?;
     push_refusal(alloc, &mut out, refusal)?;

@@ -47,12 +47,14 @@ pub fn points_of(alloc: Global, world: &World<MemoryStore>) -> Result<Vec<Point>
     Ok(points)
 }
 
-/// The events of a crash: the restart, and all that comes of it.
-pub(crate) fn crash_events(alloc: Global, point: Point) -> Result<Vec<Event>, AllocError>
+/// The events of a crash: the restart, and all that comes of it; without one, all that comes.
+pub(crate) fn crash_events(alloc: Global, point: Option<Point>) -> Result<Vec<Event>, AllocError>
     ensures { IfOk result (λ events. events.items ≡ crash_of point) }
 {
     let mut events = Vec::new(alloc);
-    events.push(Event::Restart(point.process, Some(point.keep)))?;
+    if let Some(point) = point {
+        events.push(Event::Restart(point.process, Some(point.keep)))?;
+    }
     events.push(Event::Settle)?;
     Ok(events)
 }

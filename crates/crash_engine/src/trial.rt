@@ -1,16 +1,20 @@
 //! A crash, tried.
 
-ghost use Rattle.std.specs.Prelude.{◌≡◌, ◌++◌, ◌∷◌, [], IfErr, IfOk, List, OnOk};
+ghost use Rattle.std.specs.Prelude.{◌≡◌, ◌++◌, ◌∷◌, [], IfErr, IfOk, List, OnOk, take};
+ghost use Rattle.core_law.specs.worlds.Refusals.{Refusal as AnyRefusal};
+ghost use Rattle.core_law.specs.worlds.Worlds.{WorldState};
+ghost use Rattle.tree_engine.specs.Trees.{Plays};
 ghost use Rattle.tree_model.specs.declared.trees.TreeEntry.{TreeEntry};
 ghost use Rattle.tree_model.specs.Trees.{IsTree};
 ghost use Rattle.tree_world.specs.Worlds.{state};
 ghost use Rattle.tree_engine.specs.Runs.{Begins};
-ghost use Rattle.crash_engine.specs.Trials.{Adds, AddsTrials, EndsWith, Leaves, Tries, trial_of};
+ghost use Rattle.crash_engine.specs.Trials.{Adds, AddsTrials, EndsAlone, EndsWith, Leaves, Tries, known_by, known_of, left_beyond, made_by, nothing_known, trial_of};
 
-use crate::auditing::{Audited, Left, asks_of, audit_of, doubts_of, mismatches_of};
+use crate::auditing::{Audited, Left, asks_of, audit_of, cases_beyond, doubts_of, mismatches_of};
 use crate::points::{Point, crash_events, points_of};
 use report_io::Failure;
 use std::alloc::{AllocError, Global};
+use tree_audit::Line;
 use tree_engine::{Refusal, Run};
 use tree_model::{Event, ProcessId, StepError, Tree};
 use tree_world::copied_tree;
@@ -43,40 +47,55 @@ fn opened(alloc: Global, tree: &Tree) -> Result<Run, Failure>
     Run::open(alloc, copied_tree(alloc, tree.entries())?)
 }
 
-/// What an audit leaves.
-fn found_by(alloc: Global, audited: &Audited) -> Result<Found, AllocError>
-    ensures { IfOk result (λ found. Leaves audited.now found) }
+/// The cases of an audit's lines that are in doubt or show a mismatch, beyond the known ones.
+fn left_beyond(alloc: Global, known: &Left, lines: &[Line]) -> Result<Left, AllocError>
+    ensures { IfOk result (λ left. known_by left ≡ left_beyond (known_by known.now) lines.now) }
 {
-    Ok(match audited {
-        Audited::Damaged(process, place) => Found::Damaged(*process, *place),
-        Audited::Report(report) => Found::Ended(Left {
-            in_doubt: doubts_of(alloc, &report.lines)?,
-            mismatches: mismatches_of(alloc, &report.lines)?,
-        }),
+    let in_doubt = doubts_of(alloc, lines)?;
+    let mismatches = mismatches_of(alloc, lines)?;
+    Ok(Left {
+        in_doubt: cases_beyond(alloc, &known.in_doubt, &in_doubt)?,
+        mismatches: cases_beyond(alloc, &known.mismatches, &mismatches)?,
     })
 }
 
-/// What a run ends with.
-fn found_of(alloc: Global, run: &Run) -> Result<Found, Failure>
+/// What an audit leaves beyond what is known.
+fn found_by(alloc: Global, known: &Left, audited: &Audited) -> Result<Found, AllocError>
+    ensures { IfOk result (λ found. Leaves (known_by known.now) audited.now found) }
+{
+    Ok(match audited {
+        Audited::Damaged(process, place) => Found::Damaged(*process, *place),
+        Audited::Report(report) => Found::Ended(left_beyond(alloc, known, &report.lines)?),
+    })
+}
+
+/// What a run ends with, beyond what is known.
+fn found_of(alloc: Global, known: &Left, run: &Run) -> Result<Found, Failure>
     requires { IsTree (state run.now.world).tree }
-    ensures ends { IfOk result (λ found. EndsWith (state run.now.world) run.now.refusal found) }
+    ensures ends { IfOk result (λ found. EndsWith (known_by known.now) (state run.now.world) run.now.refusal found) }
     ensures memory { IfErr result (λ e. e ≡ Failure.Memory) }
 {
     match run.refusal() {
         Some((made, refusal)) => Ok(Found::Refused(made, refusal)),
         None => {
             let audited = audit_of(alloc, run.world())?;
-            Ok(found_by(alloc, &audited)?)
+            Ok(found_by(alloc, known, &audited)?)
         }
     }
 }
 
-/// Runs these events and the crash behind them in a tree that has just opened, settles, asks for every case
-/// that is in doubt by the logs, settles again, and audits the logs.
-fn crash(alloc: Global, run: &mut Run, events: &[Event], point: Point) -> Result<Found, Failure>
+/// Runs these events and the crash behind them, if there is one, in a tree that has just opened, settles, asks
+/// for every case that is in doubt by the logs, settles again, and audits the logs.
+fn crash(
+    alloc: Global,
+    known: &Left,
+    run: &mut Run,
+    events: &[Event],
+    point: Option<Point>,
+) -> Result<Found, Failure>
     requires { (tree : List TreeEntry) × Begins tree run.old }
     ensures tries { IfOk result (λ found. (tree : List TreeEntry) → Begins tree run.old
-        → Tries tree events.now point found) }
+        → Tries tree (known_by known.now) events.now point found) }
     ensures memory { IfErr result (λ e. e ≡ Failure.Memory) }
 {
     run.make_all(alloc, events)?;
@@ -84,22 +103,23 @@ fn crash(alloc: Global, run: &mut Run, events: &[Event], point: Point) -> Result
     let audited = audit_of(alloc, run.world())?;
     run.make_all(alloc, &asks_of(alloc, &audited)?)?;
     run.make_all(alloc, &[Event::Settle])?;
-    found_of(alloc, run)
+    found_of(alloc, known, run)
 }
 
-/// Tries this crash behind these events, in a run of its own.
+/// Tries this crash behind these events, or none, in a run of its own: what it leaves beyond what is known.
 pub fn try_point(
     alloc: Global,
     tree: &Tree,
+    known: &Left,
     events: &[Event],
-    point: Point,
+    point: Option<Point>,
 ) -> Result<Found, Failure>
     requires { IsTree tree.now }
-    ensures tries { IfOk result (λ found. Tries tree.now events.now point found) }
+    ensures tries { IfOk result (λ found. Tries tree.now (known_by known.now) events.now point found) }
     ensures memory { IfErr result (λ e. e ≡ Failure.Memory) }
 {
     let mut run = opened(alloc, tree)?;
-    let found = crash(alloc, &mut run, events, point);
+    let found = crash(alloc, known, &mut run, events, point);
     run.close();
     found
 }
@@ -125,17 +145,18 @@ fn push_trial(
 fn try_points(
     alloc: Global,
     tree: &Tree,
+    known: &Left,
     events: &[Event],
     points: &[Point],
     trials: &mut Vec<Trial>,
 ) -> Result<(), Failure>
     requires { IsTree tree.now }
-    ensures tried { OnOk result (AddsTrials tree.now events.now points.now
+    ensures tried { OnOk result (AddsTrials tree.now (known_by known.now) events.now points.now
         trials.old.items trials.new.items) }
     ensures memory { IfErr result (λ e. e ≡ Failure.Memory) }
 {
     for point in points {
-        let found = try_point(alloc, tree, events, *point)?;
+        let found = try_point(alloc, tree, known, events, Some(*point))?;
         push_trial(trials, events.len(), *point, found)?;
     }
     Ok(())
@@ -145,12 +166,13 @@ fn try_points(
 fn try_behind(
     alloc: Global,
     tree: &Tree,
+    known: &Left,
     run: &mut Run,
     events: &[Event],
     trials: &mut Vec<Trial>,
 ) -> Result<Refusal, Failure>
     requires { Begins tree.now run.old }
-    ensures adds { IfOk result (λ refusal. Adds tree.now events.now refusal
+    ensures adds { IfOk result (λ refusal. Adds tree.now (known_by known.now) events.now refusal
         trials.old.items trials.new.items) }
     ensures memory { IfErr result (λ e. e ≡ Failure.Memory) }
 {
@@ -160,7 +182,7 @@ fn try_behind(
         return Ok(refusal);
     }
     let points = points_of(alloc, run.world())?;
-    try_points(alloc, tree, events, &points, trials)?;
+    try_points(alloc, tree, known, events, &points, trials)?;
     Ok(None)
 }
 
@@ -168,16 +190,71 @@ fn try_behind(
 pub fn try_event(
     alloc: Global,
     tree: &Tree,
+    known: &Left,
     events: &[Event],
     trials: &mut Vec<Trial>,
 ) -> Result<Refusal, Failure>
     requires { IsTree tree.now }
-    ensures adds { IfOk result (λ refusal. Adds tree.now events.now refusal
+    ensures adds { IfOk result (λ refusal. Adds tree.now (known_by known.now) events.now refusal
         trials.old.items trials.new.items) }
     ensures memory { IfErr result (λ e. e ≡ Failure.Memory) }
 {
     let mut run = opened(alloc, tree)?;
-    let refusal = try_behind(alloc, tree, &mut run, events, trials);
+    let refusal = try_behind(alloc, tree, known, &mut run, events, trials);
     run.close();
     refusal
+}
+
+/// How many of these events a run of them makes: all, or those before the first that is refused.
+fn made_of(alloc: Global, tree: &Tree, events: &[Event]) -> Result<usize, Failure>
+    requires { IsTree tree.now }
+    ensures made { IfOk result (λ made. (refusal : AnyRefusal) × (end : WorldState)
+        × Plays tree.now events.now refusal end × (made ≡ made_by events.now refusal)) }
+    ensures memory { IfErr result (λ e. e ≡ Failure.Memory) }
+{
+    let mut run = opened(alloc, tree)?;
+    let made = run.make_all(alloc, events);
+    let refusal = run.refusal();
+    run.close();
+    made?;
+    Ok(match refusal {
+        None => events.len(),
+        Some((made, _)) => made,
+    })
+}
+
+/// What the events of a script leave without any crash: those that a run of them makes, up to the first that is
+/// refused.
+pub fn try_alone(alloc: Global, tree: &Tree, events: &[Event]) -> Result<Found, Failure>
+    requires { IsTree tree.now }
+    ensures ends { IfOk result (λ found. EndsAlone tree.now events.now found) }
+    ensures memory { IfErr result (λ e. e ≡ Failure.Memory) }
+{
+    let made = made_of(alloc, tree, events)?;
+    let nothing = Left::nothing(alloc);
+    try_point(alloc, tree, &nothing, front(events, made), None)
+}
+
+/// The first so many events, or all.
+fn front(events: &[Event], count: usize) -> &[Event]
+    ensures { result.now ≡ take count events.now }
+{
+    if count < events.len() {
+        &events[..count]
+    } else {
+        events
+    }
+}
+
+/// What is known of crashes behind a run that ends so.
+pub fn left_alone(alloc: Global, found: &Found) -> Result<Left, AllocError>
+    ensures { IfOk result (λ left. known_by left ≡ known_of found.now) }
+{
+    match found {
+        Found::Ended(left) => Ok(Left {
+            in_doubt: Vec::from_slice(alloc, &left.in_doubt)?,
+            mismatches: Vec::from_slice(alloc, &left.mismatches)?,
+        }),
+        Found::Damaged(_, _) | Found::Refused(_, _) => Ok(Left::nothing(alloc)),
+    }
 }

@@ -13,12 +13,12 @@ const CALLS: [StoreCall; 3] = [StoreCall::Append, StoreCall::Force, StoreCall::R
 
 /// A stop of a process's device: at the nth call of a kind, of which the first `keep` bytes are done.
 #[derive(Clone, Copy)]
-pub(crate) struct Stop {
-    pub(crate) process: ProcessId,
-    pub(crate) call: StoreCall,
+struct Stop {
+    process: ProcessId,
+    call: StoreCall,
     /// Counted from 1; where it is 0 no call stops.
-    pub(crate) nth: u64,
-    pub(crate) keep: usize,
+    nth: u64,
+    keep: usize,
 }
 
 /// What the sweep of a script met.
@@ -75,11 +75,7 @@ fn stores(alloc: Global, tree: &Tree, stop: Stop) -> Result<Vec<FaultStore>, All
 }
 
 /// The tree over stores of which one stops.
-pub(crate) fn opened(
-    alloc: Global,
-    tree: &Tree,
-    stop: Stop,
-) -> Option<Result<World<FaultStore>, OpenError>> {
+fn opened(alloc: Global, tree: &Tree, stop: Stop) -> Option<Result<World<FaultStore>, OpenError>> {
     let stores = stores(alloc, tree, stop).ok()?;
     let tree = copied_tree(alloc, tree.entries()).ok()?;
     tree.check().ok()?;
@@ -99,7 +95,7 @@ fn runs_into_stop(alloc: Global, world: &mut World<FaultStore>, events: &[Event]
 }
 
 /// What the audit of a tree's logs says. None where a log is damaged.
-pub(crate) fn audited(alloc: Global, tree: &Tree, world: &World<FaultStore>) -> Option<Report> {
+fn audited(alloc: Global, tree: &Tree, world: &World<FaultStore>) -> Option<Report> {
     tree.check().ok()?;
     let logs = logs_left(alloc, world).ok()?;
     audit(alloc, tree, &logs).ok()
@@ -121,7 +117,7 @@ fn has_one_outcome_each(report: &Report) -> bool {
 }
 
 /// The cases in doubt.
-pub(crate) fn cases_in_doubt(alloc: Global, report: &Report) -> Result<Vec<Case>, AllocError> {
+fn cases_in_doubt(alloc: Global, report: &Report) -> Result<Vec<Case>, AllocError> {
     report
         .lines
         .iter()
@@ -147,7 +143,7 @@ fn audited_behind(
 }
 
 /// Each of these cases asks.
-pub(crate) fn ask_each(
+fn ask_each(
     alloc: Global,
     tree: &Tree,
     world: &mut World<FaultStore>,

@@ -62,7 +62,7 @@ Examples:
   rstar crash < examples/commit.tree
 
 Exit status: 0 the script was run to its end, 1 it was refused, 2 an event was refused,
-3 an audit found a mismatch, or a crash ends with one or with a case in doubt, 4 reading,
+3 an audit found a mismatch, or a run of crash ends with one or a case in doubt, 4 reading,
 writing or memory failed.";
 
 /// What `rstar tree --help` says below its usage.
@@ -89,7 +89,7 @@ Out: a line for each log record, message and word to the application, 'trim P N'
 records remain, and 'end'; 'refused N E' where event N is refused, 'error ..' where the script
 is (docs/ERRORS.md). With --counts, behind that, a line for each process: how many records it
 wrote in its steps, how many of them forced, and how many messages it sent, in all and by kind;
-the first Opened of each process, which opening the tree writes, does not count. With --logs,
+and 'counts all ..', the sums. The first Opened of each process does not count. With --logs,
 where no event is refused: the processes, a line ---, and a line 'log P HEX' for the log of
 each process, as 'rstar log' and 'rstar audit' read them. With --picture, in place of the trace:
 one SVG file, time downward, a line for each process, an arrow for each delivery, a mark for each
@@ -161,16 +161,17 @@ Where it refuses, --explain tells on standard error what is wrong, and what is w
 In: a tree script, as 'rstar tree' reads it. Behind each of its events, each process crashes
 in a run of its own, once with each number of its unforced records kept, from none to all.
 Then messages are delivered as by settle, every case that its log shows in doubt asks its
-parent, messages are delivered again, and the logs are audited. Out: a line for each crash that
-leaves something: 'event N restart P K:' and then 'in-doubt CASE ..', 'mismatch CASE ..', or
-both; it is the run of the first N events and 'restart P K'. 'damaged P PLACE' or 'refused N E'
-would stand there, too, were there such a crash; none was found. The last line is 'points N
-in-doubt D mismatches M': so many crashes were tried, and so many end with a case in doubt,
-and with a mismatch. 'refused N E' stands behind it where event N of the script is refused, and
-'error ..' alone where the script is. The status is 2 where an event is refused, else 3 where a
-crash leaves something. Standard error has a line for each event. Each crash runs its script
-anew, so the time goes with the square of the number of events: of three processes some 1,000
-events take ten seconds, and some 2,500 a minute.
+parent, messages are delivered again, and the logs are audited. Out: first 'no crash:' and what
+all events leave without one, where they leave something: 'in-doubt CASE ..', 'mismatch CASE
+..', or both. Then a line for each crash that leaves more than that: 'event N restart P K:' and
+likewise the cases that it adds; it is the run of the first N events and 'restart P K'. 'damaged
+P PLACE' or 'refused N E' would stand there, too, were there such a crash; none was found. The
+last line is 'points N in-doubt D mismatches M': so many crashes were tried, and so many add a
+case in doubt, and a mismatch. 'refused N E' stands behind it where event N of the script is
+refused, and 'error ..' alone where the script is. The status is 2 where an event is refused,
+else 3 where the script or a crash leaves something. Standard error has a line for each percent
+of the events. Each crash runs its script anew, so the time goes with the square of the number
+of events: of three processes some 1,000 events take ten seconds, and some 2,500 a minute.
 
 Examples: rstar crash < examples/commit.tree
           rstar crash < examples/operator.tree";

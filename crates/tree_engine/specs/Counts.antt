@@ -1,6 +1,6 @@
 -- What the processes of a run have written and sent, counted.
 use Rattle.std.specs.Prelude.{ℕ, ◌+◌, Bool, if◌then◌else◌, List, [], length, map, count_by}
-use Rattle.std.specs.List.{flat_map}
+use Rattle.std.specs.List.{flat_map, fold}
 use Rattle.tree_model.specs.declared.names.ProcessId.{ProcessId}
 use Rattle.tree_model.specs.declared.messages.Envelope.{Envelope}
 use Rattle.tree_model.specs.declared.messages.Message.{Message}
@@ -109,6 +109,10 @@ together a b = record {
   messages = a.messages + b.messages;
   sent = sent_together a.sent b.sent;
 }
+
+-- the counts of all these processes, together
+unfoldable pub total_of : List ProcessCounts → Counts
+total_of rows = fold (λ sum r. together sum r.counts) (counts_of [] []) rows
 
 -- a process's counts behind a step, which counts where it is the process's own
 abbrev pub row_behind : Entry → ProcessCounts → ProcessCounts

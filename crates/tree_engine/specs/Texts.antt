@@ -51,3 +51,7 @@ row_text r =
 -- the lines of processes
 unfoldable pub rows_text : List ProcessCounts → List ℕ
 rows_text rows = flat_map row_text rows
+
+-- the line of all processes together
+unfoldable pub total_text : Counts → List ℕ
+total_text c = codes "counts all" ++ totals_text c ++ sent_text c.sent ++ codes "\n"

@@ -15,8 +15,8 @@ use Rattle.tree_model.specs.World.{Made, World}
 use Rattle.link_script.specs.declared.script.ScriptFault.{ScriptFault}
 use Rattle.link_script.specs.declared.script.ScriptFault.TheVariants.{Utf8, TreeText, Tree, TooLong, Line}
 use Rattle.link_script.specs.Inputs.{IsScript, IsScriptFault}
-use Rattle.tree_engine.specs.Counts.{rows_of}
-use Rattle.tree_engine.specs.Texts.{rows_text}
+use Rattle.tree_engine.specs.Counts.{rows_of, total_of}
+use Rattle.tree_engine.specs.Texts.{rows_text, total_text}
 use Rattle.trace_lines.specs.Trace.{entries_text, entry_text, lines_text}
 use Rattle.report_io.specs.declared.status.Status.{Status}
 use Rattle.report_io.specs.declared.status.Status.TheVariants.{Ended, Refused, Stopped}
@@ -24,6 +24,8 @@ use Rattle.core_law.specs.worlds.Refusals.{IsRunOf, LeadsTo, Refusal, RefusesIn}
 use Rattle.core_law.specs.worlds.Runs.{IsOpened}
 use Rattle.core_law.specs.worlds.Ties.{Follows}
 use Rattle.core_law.specs.worlds.Worlds.{WorldState}
+use Rattle.tree_engine.specs.declared.tree.LineOutput.{LineOutput}
+use Rattle.tree_engine.specs.declared.tree.LineOutput.TheVariants as lines
 use Rattle.tree_engine.specs.declared.tree.Output.{Output}
 use Rattle.tree_engine.specs.declared.tree.Output.TheVariants.{Counts, Logs, Picture, Trace}
 use Rattle.run_picture.specs.Pictures.{IsPicture}
@@ -79,14 +81,15 @@ abbrev pub ending : Refusal → Status
 ending None = Ended
 ending (Some refused) = Stopped
 
--- the counts of all processes behind a trace: what each wrote and sent in the steps of the run
+-- the counts of all processes behind a trace: what each wrote and sent in the steps of the run, and the sums
 abbrev pub counts_text : WorldState → List ℕ
-counts_text w = rows_text (rows_of w.tree w.entries)
+counts_text w = rows_text (rows_of w.tree w.entries) ++ total_text (total_of (rows_of w.tree w.entries))
 
--- what is written is lines of text, and no picture
-abbrev pub IsText : Output → Type 0
-IsText Picture = ⊥
-IsText output = Unit {0}
+-- what is written in lines, among all that may be
+abbrev pub output_of : LineOutput → Output
+output_of lines.Trace = Trace
+output_of lines.Logs = Logs
+output_of lines.Counts = Counts
 
 -- what is written of a run that ended so: its trace and the last line, or these and the counts, or a picture
 -- of its steps, or, where it was to its end, the logs it leaves

@@ -4,7 +4,7 @@ ghost use Rattle.std.specs.Prelude.{◌≡◌, ◌++◌, ◌∷◌, [], IfOk, Li
 ghost use Rattle.tree_model.specs.declared.events.Entry.{Entry as AnyEntry};
 ghost use Rattle.tree_model.specs.declared.trees.TreeEntry.{TreeEntry as AnyTreeEntry};
 ghost use Rattle.tree_model.specs.Names.{same_process};
-ghost use Rattle.tree_engine.specs.Counts.{row_behind, rows_of};
+ghost use Rattle.tree_engine.specs.Counts.{row_behind, rows_of, total_of};
 
 use crate::counts::Counts;
 use std::alloc::{AllocError, Global};
@@ -92,6 +92,21 @@ impl RunCounts {
             → self.old ≡ rows_of tree entries → self.new ≡ rows_of tree (entries ++ entry.now ∷ [])) }
     {
         add_entry(self.rows.as_mut_slice(), entry)
+    }
+
+    /// The sums of all processes' counts. Sums of 2^64 are taken for want of memory.
+    #[tactic(auto, unfolding(crate::specs::Counts::total_of))]
+    pub fn total(&self) -> Result<Counts, AllocError>
+        ensures { IfOk result (λ total. total ≡ total_of self.now) }
+    {
+        let mut total = Counts::none();
+        for row in self.rows() {
+            let Some(sum) = total.plus(row.counts) else {
+                return Err(AllocError);
+            };
+            total = sum;
+        }
+        Ok(total)
     }
 
     /// The counts, as a slice.

@@ -1,7 +1,8 @@
 //! The lines of counts.
 
 ghost use Rattle.std.specs.Prelude.{◌≡◌, ◌++◌, OnOk};
-ghost use Rattle.tree_engine.specs.Texts.{count_text, kind_text, outcomes_text, row_text, rows_text, sent_text, tasks_text, totals_text, votes_text};
+ghost use Rattle.tree_engine.specs.Texts.{count_text, kind_text, outcomes_text, row_text, rows_text, sent_text, tasks_text, total_text, totals_text, votes_text};
+ghost use Rattle.tree_engine.specs.Counts.{total_of};
 
 use crate::counts::{Counts, Sent};
 use crate::rows::{ProcessCounts, RunCounts};
@@ -85,10 +86,29 @@ fn push_row(out: &mut Vec<u8>, row: &ProcessCounts) -> Result<(), AllocError>
     push(out, "\n")
 }
 
-/// Adds a line for each process: how many records it wrote, how many of them forced, and how many messages
-/// it sent, in all and of each kind that it sent. Where memory is refused, a beginning of them may stand.
-#[tactic(auto, unfolding(crate::specs::Texts::rows_text))]
+#[tactic(auto, unfolding(crate::specs::Texts::total_text))]
+fn push_total(out: &mut Vec<u8>, total: &Counts) -> Result<(), AllocError>
+    ensures { OnOk result (out.new.items ≡ out.old.items ++ total_text total.now) }
+{
+    push(out, "counts all")?;
+    push_totals(out, total)?;
+    push_sent(out, total.sent)?;
+    push(out, "\n")
+}
+
+/// Adds a line for each process, how many records it wrote, how many of them forced, and how many messages it
+/// sent, in all and of each kind that it sent, and a line of the sums. Where memory is refused, a beginning of
+/// them may stand.
 pub fn push_counts(out: &mut Vec<u8>, counts: &RunCounts) -> Result<(), AllocError>
+    ensures { OnOk result (out.new.items ≡ out.old.items
+        ++ (rows_text counts.now ++ total_text (total_of counts.now))) }
+{
+    push_rows(out, counts)?;
+    push_total(out, &counts.total()?)
+}
+
+#[tactic(auto, unfolding(crate::specs::Texts::rows_text))]
+fn push_rows(out: &mut Vec<u8>, counts: &RunCounts) -> Result<(), AllocError>
     ensures { OnOk result (out.new.items ≡ out.old.items ++ rows_text counts.now) }
 {
     for row in counts.rows() {

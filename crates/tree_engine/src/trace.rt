@@ -15,8 +15,8 @@ use tree_model::TreeEntry;
 use tree_world::World;
 use world_journal::Shown;
 
-/// The trace of what the tree has come to, and how its run ended.
-pub(crate) fn trace(
+/// The trace of what the tree has come to, and how its run ended. An error says that memory was refused.
+pub fn trace(
     alloc: Global,
     world: &World<MemoryStore>,
     refusal: Refusal,

@@ -8,7 +8,7 @@ ghost use Rattle.report_io.specs.declared.status.Status.{Status as AnyStatus};
 ghost use Rattle.report_io.specs.Streams.{IsInput, WritesFront};
 ghost use Rattle.tree_world.specs.Worlds.{state};
 ghost use Rattle.tree_engine.specs.Runs.{HasCome, PlaysScript};
-ghost use Rattle.tree_engine.specs.Trees.{IsNumbered, IsText, IsTreeReport, Tells, ending, fault_text};
+ghost use Rattle.tree_engine.specs.Trees.{IsNumbered, IsTreeReport, Tells, ending, fault_text, output_of};
 
 use crate::counting::counted_trace;
 use crate::drawn::draw_run;
@@ -29,15 +29,24 @@ pub enum Output {
     Trace,
     /// Where every event was made, the tree and the logs that its processes keep; else the trace.
     Logs,
-    /// Its trace, and behind it a line for each process with how many records it wrote and messages it sent.
+    /// Its trace, and behind it a line for each process with how many records it wrote and messages it sent,
+    /// and one with the sums.
     Counts,
     /// A picture of it, as one SVG file.
     Picture,
 }
 
+/// What is written in lines of text.
+#[derive(Clone, Copy, PartialEq, Eq)]
+enum LineOutput {
+    Trace,
+    Logs,
+    Counts,
+}
+
 /// Reads a tree script, makes its events, and writes the trace, with the counts behind it where they are
-/// asked for, or the logs, or a picture; or one line that says why the script is refused. A refused event ends the trace
-/// by its number and why it was refused.
+/// asked for, or the logs, or a picture; or one line that says why the script is refused. A refused event ends
+/// the trace by its number and why it was refused.
 ///
 /// What is written is that of the run of just the script's events in the model; a refused event is one that
 /// the model refuses by that number. In this run no two processes end one transaction differently except by
@@ -78,9 +87,9 @@ fn report(alloc: Global, output: Output, input: &[u8]) -> Result<(Vec<u8>, Statu
 {
     match output {
         Output::Picture => picture_report(alloc, input),
-        Output::Trace => text_report(alloc, Output::Trace, input),
-        Output::Logs => text_report(alloc, Output::Logs, input),
-        Output::Counts => text_report(alloc, Output::Counts, input),
+        Output::Trace => line_report(alloc, LineOutput::Trace, input),
+        Output::Logs => line_report(alloc, LineOutput::Logs, input),
+        Output::Counts => line_report(alloc, LineOutput::Counts, input),
     }
 }
 
@@ -97,9 +106,12 @@ fn picture_report(alloc: Global, input: &[u8]) -> Result<(Vec<u8>, Status), Fail
 }
 
 /// The answer to an input in lines of text.
-fn text_report(alloc: Global, output: Output, input: &[u8]) -> Result<(Vec<u8>, Status), Failure>
-    requires { IsText output }
-    ensures report { IfOk result (λ r. IsTreeReport output r.1 input.now r.0.items) }
+fn line_report(
+    alloc: Global,
+    output: LineOutput,
+    input: &[u8],
+) -> Result<(Vec<u8>, Status), Failure>
+    ensures report { IfOk result (λ r. IsTreeReport (output_of output) r.1 input.now r.0.items) }
     ensures memory { IfErr result (λ e. e ≡ Failure.Memory) }
 {
     match play(alloc, input) {
@@ -187,23 +199,21 @@ fn make_lines(alloc: Global, run: &mut Run, lines: &Lines) -> Result<(), ScriptE
 /// What is written of the tree that has come so far, and how its run ended.
 fn told(
     alloc: Global,
-    output: Output,
+    output: LineOutput,
     world: &World<MemoryStore>,
     refusal: Refusal,
 ) -> Result<(Vec<u8>, Status), Failure>
-    requires text { IsText output }
-    requires numbered { IsNumbered refusal }
-    ensures text { IfOk result (λ r. Tells output (state world.now) refusal r.0.items) }
+    requires { IsNumbered refusal }
+    ensures text { IfOk result (λ r. Tells (output_of output) (state world.now) refusal r.0.items) }
     ensures status { IfOk result (λ r. r.1 ≡ ending refusal) }
     ensures memory { IfErr result (λ e. e ≡ Failure.Memory) }
 {
     match output {
-        Output::Trace => trace(alloc, world, refusal),
-        Output::Counts => counted_trace(alloc, world, refusal),
-        Output::Logs => match refusal {
+        LineOutput::Trace => trace(alloc, world, refusal),
+        LineOutput::Counts => counted_trace(alloc, world, refusal),
+        LineOutput::Logs => match refusal {
             None => Ok((left_text(alloc, world)?, Status::Ended)),
             Some(_) => trace(alloc, world, refusal),
         },
-        Output::Picture => unreachable!(),
     }
 }

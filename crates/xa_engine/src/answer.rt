@@ -15,7 +15,7 @@ use xa_xid::Xid;
 
 /// What a request is answered.
 #[derive(Drop)]
-pub(crate) enum Answer {
+pub enum Answer {
     Code(Code),
     /// The branches that a recover gives.
     Given(Sequence<Xid>),
@@ -131,12 +131,8 @@ fn push_refusal(alloc: Global, out: &mut Vec<u8>, error: &WorkError) -> Result<(
     push(out, "\n")
 }
 
-/// Adds the line of an answer.
-pub(crate) fn push_answer(
-    alloc: Global,
-    out: &mut Vec<u8>,
-    answer: &Answer,
-) -> Result<(), AllocError>
+/// Adds the line of an answer. Where memory is refused, a beginning of it may stand.
+pub fn push_answer(alloc: Global, out: &mut Vec<u8>, answer: &Answer) -> Result<(), AllocError>
     ensures { OnOk result (out.new.items ≡ out.old.items ++ answer_text answer.now) }
 {
     match answer {

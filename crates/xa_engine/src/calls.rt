@@ -18,10 +18,10 @@ use xa_codes::{Code, Flags};
 use xa_xid::Xid;
 
 /// The manager of a script: its log is in memory.
-pub(crate) type Manager = KvManager<MemoryStore>;
+pub type Manager = KvManager<MemoryStore>;
 
-/// Makes a request.
-pub(crate) fn make(manager: &mut Manager, request: &Request) -> Result<Answer, AllocError>
+/// Makes a request. An error says that memory was refused.
+pub fn make(manager: &mut Manager, request: &Request) -> Result<Answer, AllocError>
     ensures { IfOk result (λ answer. Makes manager.old manager.new request.now answer) }
 {
     match request {

@@ -9,6 +9,8 @@ mod law;
 pub mod script;
 mod xa;
 
+pub use answer::{Answer, push_answer};
+pub use calls::{Manager, make};
 pub use law::histories_are_legal;
 pub use report_io::{Failure, Status};
-pub use xa::run_xa;
+pub use xa::{first_manager, run_xa};

@@ -71,8 +71,8 @@ fn refusal(alloc: Global, error: ScriptError) -> Result<Vec<u8>, AllocError>
     Ok(out)
 }
 
-/// A manager whose log begins with it.
-fn first_manager(alloc: Global) -> Result<Manager, AllocError>
+/// A manager over a store in memory whose log begins with it. An error says that memory was refused.
+pub fn first_manager(alloc: Global) -> Result<Manager, AllocError>
     ensures { IfOk result (λ manager. IsFresh manager) }
 {
     match KvManager::restore(MemoryStore::new(alloc), alloc) {

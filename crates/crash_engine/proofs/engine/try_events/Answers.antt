@@ -1,4 +1,5 @@
 use Rattle.std.proofs.Common.{◌≡◌, ◌<◌, is_some, length, true, false, rules, arith}
+use Rattle.crash_engine.specs.Trials.{known_by}
 use Rattle.crash_engine.proofs.Reports.{one_event_more, one_refused}
 use Rattle.crash_engine.proofs.engine.try_events.Goals as goal
 
@@ -6,13 +7,13 @@ pub returns-then-is_some-clause-goes : goal.returns-then-is_some-clause-goes
 returns-then-is_some-clause-goes g c =
     let is : is_some c.in_ok-refusal.refusal ≡ true = search rules in
     let within : c.loop-made.made < length c.args.events.now = omega arith in
-    one_refused c.args.tree.now c.args.events.now c.loop-made.made
+    one_refused c.args.tree.now (known_by c.args.known.now) c.args.events.now c.loop-made.made
     c.in_ok-refusal.refusal c.loop-made.trials.items
     c.try_event.new.trials.items is within c.in_ok-refusal.ensures.adds c.loop-made.invariant
 
 pub loop-made-preserved : goal.loop-made-preserved
 loop-made-preserved g c =
     let is : is_some c.in_ok-refusal.refusal ≡ false = search rules in
-    one_event_more c.args.tree.now c.args.events.now c.loop-made.made
+    one_event_more c.args.tree.now (known_by c.args.known.now) c.args.events.now c.loop-made.made
     c.in_ok-refusal.refusal c.loop-made.trials.items
     c.try_event.new.trials.items is c.in_ok-refusal.ensures.adds c.loop-made.invariant

@@ -3,6 +3,7 @@ use Rattle.std.proofs.lemmas.Result.{IfOk-weaker}
 use Rattle.tree_model.specs.Trees.{IsTree}
 use Rattle.tree_world.specs.Worlds.{state}
 use Rattle.crash_engine.specs.Audits.{Audits}
+use Rattle.crash_engine.specs.Trials.{known_by}
 use Rattle.crash_engine.proofs.Trying.{still_tree, tried_so}
 use Rattle.crash_engine.proofs.trial.crash.Goals as goal
 
@@ -40,7 +41,7 @@ returns-clause-tries c =
     let ended = c.in_ok-make_all-4.ensures.goes_on start ((events ++ crash) ++ asks) asked in
     let audits = subst (λ w. Audits (state w) c.in_ok-audited.audited) c.world.ensures
     c.in_ok-audited.ensures.audits in
-    IfOk-weaker c.found_of.result _ _ (λ f h. λ tree o. tried_so tree events c.args.point
+    IfOk-weaker c.found_of.result _ _ (λ f h. λ tree o. tried_so tree (known_by c.args.known.now) events c.args.point
     c.in_ok-audited.audited crash asks start
     c.make_all-2.new.self c.make_all-4.new.self f o.is_tree o.opened crashed
     (c.deref.ensures.value ∙ c.in_ok-crash_events.ensures) audits

@@ -2,7 +2,7 @@ use Rattle.std.proofs.Common.{◌≡◌, ◌∙◌, [], ap, is_some, false, true
 use Rattle.tree_world.specs.Worlds.{state}
 use Rattle.core_law.specs.worlds.Refusals.{Refusal}
 use Rattle.crash_engine.specs.Points.{points_in}
-use Rattle.crash_engine.specs.Trials.{Adds}
+use Rattle.crash_engine.specs.Trials.{Adds, known_by}
 use Rattle.crash_engine.proofs.Trying.{all_tried, comes_to, refused_adds}
 use Rattle.crash_engine.proofs.trial.try_behind.Goals as goal
 
@@ -16,8 +16,8 @@ returns-then-is_some-clause-adds c =
     let some : is_some c.refusal-refusal.result ≡ true = search rules in
     let same : c.refusal-refusal.result ≡ run.refusal = c.refusal-refusal.ensures in
     let refused : is_some run.refusal ≡ true = ap (λ (r : Refusal). is_some r) (sym same) ∙ some in
-    subst (λ r. Adds tree events r c.args.trials.now.items c.args.trials.now.items) (sym same)
-    (refused_adds tree events (state run.world) run.refusal c.args.trials.now.items refused
+    subst (λ r. Adds tree (known_by c.args.known.now) events r c.args.trials.now.items c.args.trials.now.items) (sym same)
+    (refused_adds tree (known_by c.args.known.now) events (state run.world) run.refusal c.args.trials.now.items refused
     (comes_to tree start events run c.requires.is_tree c.requires.opened come))
 
 pub returns-clause-adds : goal.returns-clause-adds
@@ -32,7 +32,7 @@ returns-clause-adds c =
     let made : is_some run.refusal ≡ false = ap (λ (r : Refusal). is_some r) (sym same) ∙ none in
     let points : c.deref.result.now ≡ points_in (state run.world) =
     c.deref.ensures.value ∙ c.in_ok-points.ensures ∙ ap (λ w. points_in (state w)) c.world.ensures in
-    all_tried tree events (state run.world) run.refusal c.deref.result.now c.args.trials.now.items
+    all_tried tree (known_by c.args.known.now) events (state run.world) run.refusal c.deref.result.now c.args.trials.now.items
     c.try_points.new.trials.items made
     (comes_to tree start events run c.requires.is_tree c.requires.opened come) points
     c.in_ok-try_points.ensures.tried

@@ -1,15 +1,15 @@
 use Rattle.std.proofs.Common.{subst, sym}
 use Rattle.tree_world.specs.Worlds.{state}
-use Rattle.tree_engine.specs.Trees.{IsNumbered, Plays}
+use Rattle.tree_engine.specs.Trees.{IsNumbered, Plays, output_of}
 use Rattle.tree_engine.proofs.TreeReports.{reported}
-use Rattle.tree_engine.proofs.tree.text_report.Goals as goal
+use Rattle.tree_engine.proofs.tree.line_report.Goals as goal
 
-pub told-told-requires-clause-numbered : goal.told-told-requires-clause-numbered
-told-told-requires-clause-numbered c = subst IsNumbered (sym c.refusal.ensures) c.in-Ok.ensures.ok.numbered
+pub told-told-requires : goal.told-told-requires
+told-told-requires c = subst IsNumbered (sym c.refusal.ensures) c.in-Ok.ensures.ok.numbered
 
 pub returns-in-Ok-clause-report : goal.returns-in-Ok-clause-report
 returns-in-Ok-clause-report c =
     let s = c.in-Ok.ensures.ok in
     let plays = subst (λ w. Plays s.tree s.events c.refusal.result (state w)) (sym c.world.ensures)
     (subst (λ r. Plays s.tree s.events r (state c.in-Ok.run'.world)) (sym c.refusal.ensures) s.plays) in
-    reported (λ r. r.0.items) _ _ _ _ _ _ _ s.script plays c.told-told.ensures.text c.told-told.ensures.status
+    reported (λ r. r.0.items) (output_of c.args.output) _ _ _ _ _ _ s.script plays c.told-told.ensures.text c.told-told.ensures.status
