@@ -6,13 +6,16 @@
 //! NAME`, a function of that name.
 #![tactic(auto)]
 
+mod damages;
 mod edges;
 mod fakes;
+mod floods;
 mod scripts;
 mod stops;
 mod streams;
 mod worlds;
 
+use crate::damages::{run_cuts, run_damages};
 use crate::edges::holds;
 use crate::stops::run_stops;
 use audit_engine::{Detail, run_audit, run_log};
@@ -38,6 +41,10 @@ enum Program {
     Crash,
     /// A tree script, for what stops of its devices end with.
     Stops,
+    /// A tree script that is cut at each byte.
+    Cuts,
+    /// The logs of a tree, the first with each byte set to each value.
+    Damages,
     /// An XA script.
     Xa,
     /// The logs of a tree, for what they hold.
@@ -73,6 +80,8 @@ impl Program {
             "picture" => Some(Program::Picture),
             "crash" => Some(Program::Crash),
             "stops" => Some(Program::Stops),
+            "cuts" => Some(Program::Cuts),
+            "damages" => Some(Program::Damages),
             "xa" => Some(Program::Xa),
             "log" => Some(Program::Log),
             "audit" => Some(Program::Audit),
@@ -93,6 +102,8 @@ impl Program {
             Program::Picture => ("tree", "svg"),
             Program::Crash => ("tree", "crashes"),
             Program::Stops => ("tree", "stops"),
+            Program::Cuts => ("tree", "cuts"),
+            Program::Damages => ("logs", "damages"),
             Program::Xa => ("xa", "out"),
             Program::Log | Program::Audit | Program::Explain => ("logs", "out"),
             Program::Why(Script::Tree) => ("tree", "why"),
@@ -115,6 +126,14 @@ impl Program {
             }
             Program::Stops => {
                 run_stops(alloc, input, out)?;
+                return Some(0);
+            }
+            Program::Cuts => {
+                run_cuts(alloc, input, out)?;
+                return Some(0);
+            }
+            Program::Damages => {
+                run_damages(alloc, input, out)?;
                 return Some(0);
             }
             Program::Xa => run_xa(alloc, &mut input, out),

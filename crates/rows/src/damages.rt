@@ -1,0 +1,129 @@
+//! Logs of which one byte is set to each value, and a script that is cut at each byte: what is answered to each,
+//! as a table in which equal answers stand together.
+
+use log_store::MemoryStore;
+use logs_script::read_logs;
+use rec_log::{OpenError, RecLog};
+use std::alloc::{AllocError, Global};
+use tree_engine::{Output, Status, run_tree};
+use tree_model::Kind;
+
+/// What opening a log answers: how many records it has, or the place of its damage.
+#[derive(Clone, Copy, PartialEq, Eq)]
+enum Answer {
+    Records(usize),
+    Damaged(usize),
+}
+
+/// What opening a log of these bytes answers.
+fn answer_to(alloc: Global, kind: Kind, text: &[u8]) -> Option<Answer> {
+    let bytes = Vec::from_slice(alloc, text).ok()?;
+    match RecLog::open(MemoryStore::from_bytes(bytes), kind, alloc) {
+        Ok(log) => Some(Answer::Records(log.records(alloc).ok()?.len())),
+        Err((OpenError::Damaged(place), _store)) => Some(Answer::Damaged(place)),
+        Err(_) => None,
+    }
+}
+
+/// Adds the line of the values from one to another that are answered alike at a place.
+fn push_alike(
+    alloc: Global,
+    out: &mut Vec<u8>,
+    place: usize,
+    from: u8,
+    to: u8,
+    answer: Answer,
+) -> Result<(), AllocError> {
+    let line = match answer {
+        Answer::Records(count) => format!(in alloc; "{place}: {from} to {to}: records {count}\n")?,
+        Answer::Damaged(at) => format!(in alloc; "{place}: {from} to {to}: damaged {at}\n")?,
+    };
+    out.extend_from_slice(line.as_bytes())
+}
+
+/// The answers to each value of the byte at a place.
+fn push_values(
+    alloc: Global,
+    out: &mut Vec<u8>,
+    kind: Kind,
+    text: &mut Vec<u8>,
+    place: usize,
+) -> Option<()> {
+    let (mut first, mut before) = (0u8, None);
+    for value in 0..=255u8 {
+        *text.get_mut(place)? = value;
+        let answer = answer_to(alloc, kind, text)?;
+        if let Some(before) = before {
+            if before != answer {
+                push_alike(alloc, out, place, first, value.saturating_sub(1), before).ok()?;
+                first = value;
+            }
+        }
+        before = Some(answer);
+    }
+    push_alike(alloc, out, place, first, 255, before?).ok()
+}
+
+/// The answers to each value of each byte of a log.
+fn push_log(alloc: Global, out: &mut Vec<u8>, kind: Kind, log: &[u8]) -> Option<()> {
+    for place in 0..log.len() {
+        let mut text = Vec::from_slice(alloc, log).ok()?;
+        push_values(alloc, out, kind, &mut text, place)?;
+    }
+    Some(())
+}
+
+/// Writes what is answered to the log of the first process of a tree, with each byte set to each value.
+pub(crate) fn run_damages(alloc: Global, input: &[u8], out: &mut Vec<u8>) -> Option<()> {
+    let (tree, logs) = read_logs(alloc, input).ok()?;
+    let first = tree.entries().first()?;
+    push_log(alloc, out, first.kind, &logs.first()?.bytes)
+}
+
+/// What the engine writes of a script.
+#[derive(Drop)]
+struct Report {
+    status: Status,
+    text: Vec<u8>,
+}
+
+impl Report {
+    fn of(alloc: Global, mut script: &[u8]) -> Option<Report> {
+        let mut text = Vec::new(alloc);
+        let status = run_tree(alloc, Output::Trace, &mut script, &mut text).ok()?;
+        Some(Report { status, text })
+    }
+
+    fn is_like(&self, other: &Report) -> bool {
+        self.status == other.status && self.text == other.text
+    }
+
+    /// Adds it, behind the cuts from one to another.
+    fn push(
+        &self,
+        alloc: Global,
+        out: &mut Vec<u8>,
+        from: usize,
+        to: usize,
+    ) -> Result<(), AllocError> {
+        let status = self.status.number();
+        let line = format!(in alloc; "cut at {from} to {to}: status {status}\n")?;
+        out.extend_from_slice(line.as_bytes())?;
+        out.extend_from_slice(&self.text)
+    }
+}
+
+/// Writes the reports of a script that is cut at each byte.
+pub(crate) fn run_cuts(alloc: Global, input: &[u8], out: &mut Vec<u8>) -> Option<()> {
+    let mut first = 0usize;
+    let mut before = Report::of(alloc, &[])?;
+    for cut in 1..=input.len() {
+        let report = Report::of(alloc, input.get(..cut)?)?;
+        if !report.is_like(&before) {
+            before.push(alloc, out, first, cut.saturating_sub(1)).ok()?;
+            first = cut;
+        }
+        before = report;
+    }
+    before.push(alloc, out, first, input.len()).ok()
+}
