@@ -77,7 +77,12 @@ fn push_log(alloc: Global, out: &mut Vec<u8>, kind: Kind, log: &[u8]) -> Option<
 pub(crate) fn run_damages(alloc: Global, input: &[u8], out: &mut Vec<u8>) -> Option<()> {
     let (tree, logs) = read_logs(alloc, input).ok()?;
     let first = tree.entries().first()?;
-    push_log(alloc, out, first.kind, &logs.first()?.bytes)
+    push_log(
+        alloc,
+        out,
+        first.kind,
+        logs.as_slice().first()?.bytes.as_slice(),
+    )
 }
 
 /// What the engine writes of a script.
