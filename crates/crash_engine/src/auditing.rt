@@ -103,11 +103,10 @@ pub(crate) fn cases_beyond(
 }
 
 /// Whether a case is among these.
-#[tactic(auto, unfolding(tree_model::specs::Names::same_case))]
 fn is_known(known: &[Case], case: &Case) -> bool
     ensures { result ≡ list_any (λ k. same_case k case.now) known.now }
 {
-    known.contains(case)
+    known.iter().any(|one| one.is(case))
 }
 
 /// The questions for these cases.

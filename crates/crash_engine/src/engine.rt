@@ -21,10 +21,11 @@ use tree_engine::{Refusal, refusal};
 use tree_model::{Event, Tree};
 
 /// How many percent of the events so many are.
-fn percent(made: usize, events: usize) -> usize {
-    (made as u128 * 100)
-        .checked_div(events as u128)
-        .unwrap_or(0) as usize
+fn percent(made: usize, events: usize) -> u64 {
+    (made as u64)
+        .saturating_mul(100)
+        .checked_div(events as u64)
+        .unwrap_or(0)
 }
 
 /// Shows which event is gone through, once a percent of all. A failed write is no failure of the run.

@@ -5,7 +5,7 @@ use crate::refuser::Refuser;
 use link_script::read;
 use log_store::MemoryStore;
 use std::alloc::{AllocError, Global};
-use tree_engine::trace;
+use tree_engine::trace_text;
 use tree_model::{Event, Happening, Input, StepError, Tree};
 use tree_world::{World, copied_tree};
 
@@ -44,7 +44,7 @@ fn opened(alloc: Global, tree: &Tree) -> Option<Opened> {
 
 /// What is seen of a tree as it stands.
 fn sight_of(alloc: Global, world: &Opened) -> Result<Sight, AllocError> {
-    let Ok((trace, _)) = trace(alloc, world, None) else {
+    let Ok((trace, _)) = trace_text(alloc, world, None) else {
         return Err(AllocError);
     };
     let mut logs = Vec::new(alloc);

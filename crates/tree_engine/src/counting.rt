@@ -8,7 +8,7 @@ ghost use Rattle.tree_engine.specs.Trees.{IsNumbered, counts_text, ending, last_
 use crate::rows::RunCounts;
 use crate::run::Refusal;
 use crate::text::push_counts;
-use crate::trace::trace;
+use crate::trace::trace_text;
 use log_store::MemoryStore;
 use report_io::{Failure, Status};
 use std::alloc::{AllocError, Global};
@@ -46,7 +46,7 @@ pub(crate) fn counted_trace(
     ensures status { IfOk result (λ r. r.1 ≡ ending refusal) }
     ensures memory { IfErr result (λ e. e ≡ Failure.Memory) }
 {
-    let (mut text, status) = trace(alloc, world, refusal)?;
+    let (mut text, status) = trace_text(alloc, world, refusal)?;
     let counts = counted(alloc, world)?;
     push_counts(&mut text, &counts)?;
     Ok((text, status))

@@ -16,5 +16,5 @@ mod tree;
 
 pub use report_io::{Failure, Status};
 pub use run::{Refusal, Run};
-pub use trace::{push_refused, trace};
+pub use trace::{push_refused, trace_text};
 pub use tree::{Output, refusal, run_tree};

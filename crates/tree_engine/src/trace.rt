@@ -16,7 +16,7 @@ use tree_world::World;
 use world_journal::Shown;
 
 /// The trace of what the tree has come to, and how its run ended. An error says that memory was refused.
-pub fn trace(
+pub fn trace_text(
     alloc: Global,
     world: &World<MemoryStore>,
     refusal: Refusal,

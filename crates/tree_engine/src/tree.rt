@@ -14,7 +14,7 @@ use crate::counting::counted_trace;
 use crate::drawn::draw_run;
 use crate::logs::left_text;
 use crate::run::{Refusal, Run};
-use crate::trace::trace;
+use crate::trace::trace_text;
 use link_script::{Lines, ScriptError, ScriptFault, open, read};
 use log_store::MemoryStore;
 use report_io::{Failure, Status, read_all, write_all};
@@ -209,11 +209,11 @@ fn told(
     ensures memory { IfErr result (λ e. e ≡ Failure.Memory) }
 {
     match output {
-        LineOutput::Trace => trace(alloc, world, refusal),
+        LineOutput::Trace => trace_text(alloc, world, refusal),
         LineOutput::Counts => counted_trace(alloc, world, refusal),
         LineOutput::Logs => match refusal {
             None => Ok((left_text(alloc, world)?, Status::Ended)),
-            Some(_) => trace(alloc, world, refusal),
+            Some(_) => trace_text(alloc, world, refusal),
         },
     }
 }
