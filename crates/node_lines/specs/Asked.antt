@@ -1,0 +1,54 @@
+-- What a line asks of a node.
+use Rattle.std.specs.Prelude.{ℕ, List, codes, Option, Some, None, if◌then◌else◌}
+use Rattle.spellings.specs.Words.{cut_at}
+use Rattle.tree_model.specs.declared.names.ProcessId.{ProcessId}
+use Rattle.tree_model.specs.declared.names.Txn.{Txn}
+use Rattle.tree_model.specs.declared.messages.Envelope.{Envelope}
+use Rattle.tree_model.specs.declared.events.Event.{Event}
+use Rattle.tree_model.specs.declared.events.Event.TheVariants.{Act as ActOf, Deliver, Settle, Restart, Trim as TrimOf}
+use Rattle.script_words.specs.Lines.{is_skipped}
+use Rattle.script_words.specs.Steps.{◌>>=◌, same}
+use Rattle.link_script.specs.Names.{txn_at}
+use Rattle.link_script.specs.Events.{event_at}
+use Rattle.node_lines.specs.Lines.{line_at}
+use Rattle.node_lines.specs.declared.asked.Asked.{Asked}
+use Rattle.node_lines.specs.declared.asked.Asked.TheVariants.{Nothing, Act, Message, Trim, Doubt, Outcome, Unknown}
+
+-- of the events of a script a node is asked for acts alone
+abbrev pub asked_by_event : Option Event → Asked
+asked_by_event (Some (ActOf a)) = Act a
+asked_by_event _ = Unknown
+
+-- an act, or nothing that a node knows
+abbrev pub act_asked : ProcessId → List ℕ → Asked
+act_asked root line = asked_by_event (event_at root line)
+
+-- a message, or what else is asked
+abbrev pub asked_by_line : Option (ℕ × Envelope) → Asked → Asked
+asked_by_line (Some sent) other = Message sent.0 sent.1
+asked_by_line None other = other
+
+-- a message or an act
+abbrev pub sent_asked : ProcessId → List ℕ → Asked
+sent_asked root line = asked_by_line (line_at root line) (act_asked root line)
+
+-- the transaction of a line `outcome`
+unfoldable pub ending_asked : ProcessId → List ℕ → Option Txn
+ending_asked root line = cut_at 32 line >>= λ p. if same p.0 (codes "outcome") then txn_at root p.1 else None
+
+-- the outcome of a transaction, or what else is asked
+abbrev pub asked_by_ending : Option Txn → Asked → Asked
+asked_by_ending (Some x) other = Outcome x
+asked_by_ending None other = other
+
+-- what a line asks that is no word alone
+abbrev pub longer_asked : ProcessId → List ℕ → Asked
+longer_asked root line = asked_by_ending (ending_asked root line) (sent_asked root line)
+
+-- what a line asks of a node, over a tree with this root
+unfoldable pub asked_at : ProcessId → List ℕ → Asked
+asked_at root line =
+    if is_skipped line then Nothing
+    else if same line (codes "trim") then Trim
+    else if same line (codes "doubt") then Doubt
+    else longer_asked root line

@@ -1,0 +1,4 @@
+pub mod Messages
+pub mod Lines
+pub mod Spellings
+pub mod Asked

@@ -1,0 +1,87 @@
+-- Reading the text of a message from left to right.
+use Rattle.std.specs.Prelude.{ℕ, List, codes, Option, Some, None, if◌then◌else◌}
+use Rattle.spellings.specs.Numerals.{number_at}
+use Rattle.spellings.specs.Words.{cut_at}
+use Rattle.tree_model.specs.declared.names.Case.{Case}
+use Rattle.tree_model.specs.declared.names.Outcome.{Outcome}
+use Rattle.tree_model.specs.declared.names.Outcome.TheVariants.{Committed, Aborted}
+use Rattle.tree_model.specs.declared.names.ProcessId.{ProcessId}
+use Rattle.tree_model.specs.declared.messages.Message.{Message}
+use Rattle.tree_model.specs.declared.messages.Message.TheVariants.{Join, Joined, Work, Prepare, Yes, No, Read, Commit, Abort, Ack, Inquire}
+use Rattle.script_words.specs.declared.operation.Task.{Task}
+use Rattle.script_words.specs.Operations.{op_at, op_view}
+use Rattle.script_words.specs.Steps.{◌>>=◌, same}
+use Rattle.link_script.specs.Names.{case_at, ticket_at}
+
+-- `JOINED`: the parent's case, and the child's ticket
+unfoldable pub joined_at : ProcessId → List ℕ → Option Message
+joined_at root rest = do
+  p ← cut_at 32 rest
+  case ← case_at root p.0
+  ticket ← ticket_at p.1
+  Some (Joined case ticket)
+
+-- `WORK`: a case, the work's number, and what is to be done
+unfoldable pub work_at : ProcessId → List ℕ → Option Message
+work_at root rest = do
+  p ← cut_at 32 rest
+  case ← case_at root p.0
+  q ← cut_at 32 p.1
+  number ← number_at q.0
+  op ← op_at q.1
+  Some (Work case number op)
+
+-- `PREPARE`: a case, and how many works it was sent
+unfoldable pub prepare_at : ProcessId → List ℕ → Option Message
+prepare_at root rest = do
+  p ← cut_at 32 rest
+  case ← case_at root p.0
+  count ← number_at p.1
+  Some (Prepare case count)
+
+-- the outcome that is acknowledged
+abbrev pub ending_at : List ℕ → Option Outcome
+ending_at word =
+    if same word (codes "commit") then Some Committed
+    else if same word (codes "abort") then Some Aborted
+    else None
+
+-- `ACK`: a case, and the outcome
+unfoldable pub ack_at : ProcessId → List ℕ → Option Message
+ack_at root rest = do
+  p ← cut_at 32 rest
+  case ← case_at root p.0
+  outcome ← ending_at p.1
+  Some (Ack case outcome)
+
+-- a word that a case alone follows
+abbrev pub of_case : (Case → Message) → ProcessId → List ℕ → Option Message
+of_case made root rest = case_at root rest >>= λ c. Some (made c)
+
+-- a message but a work, by its first word and the rest
+unfoldable pub plain_at : ProcessId → List ℕ → List ℕ → Option Message
+plain_at root word rest =
+    if same word (codes "JOIN") then of_case (λ c. Join c) root rest
+    else if same word (codes "JOINED") then joined_at root rest
+    else if same word (codes "PREPARE") then prepare_at root rest
+    else if same word (codes "YES") then of_case (λ c. Yes c) root rest
+    else if same word (codes "NO") then of_case (λ c. No c) root rest
+    else if same word (codes "READ") then of_case (λ c. Read c) root rest
+    else if same word (codes "COMMIT") then of_case (λ c. Commit c) root rest
+    else if same word (codes "ABORT") then of_case (λ c. Abort c) root rest
+    else if same word (codes "ACK") then ack_at root rest
+    else if same word (codes "INQUIRE") then of_case (λ c. Inquire c) root rest
+    else None
+
+-- a message, by its first word and what stands behind it
+abbrev pub message_parts : ProcessId → Option (List ℕ × List ℕ) → Option Message
+message_parts root None = None
+message_parts root (Some p) = if same p.0 (codes "WORK") then work_at root p.1 else plain_at root p.0 p.1
+
+-- the message of a text, of a transaction of this root
+unfoldable pub message_at : ProcessId → List ℕ → Option Message
+message_at root text = message_parts root (cut_at 32 text)
+
+-- the message of a work, as its parts are read
+abbrev pub work_view : Case × ℕ × Task → Message
+work_view (case, number, task) = Work case number (op_view task)

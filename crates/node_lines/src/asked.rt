@@ -1,0 +1,86 @@
+//! What a line asks of a node.
+
+ghost use Rattle.std.specs.Prelude.{◌≡◌, IfOk};
+ghost use Rattle.node_lines.specs.Asked.{act_asked, asked_at, ending_asked, longer_asked, sent_asked};
+
+use crate::line::line_of;
+use link_script::{event_of, txn_of};
+use script_words::says_nothing;
+use spellings::word::cut;
+use std::alloc::{AllocError, Global};
+use tree_model::{Act, Envelope, Event, ProcessId, Txn};
+
+/// What a line asks of a node.
+#[derive(Drop)]
+pub enum Asked {
+    /// Nothing: it is empty, or a remark.
+    Nothing,
+    /// An act of an application or an operator.
+    Act(Act),
+    /// That a message is taken, which has this number at its sender.
+    Message(u64, Envelope),
+    /// That the log is trimmed.
+    Trim,
+    /// Which cases are in doubt.
+    Doubt,
+    /// How a transaction ended, as far as the log tells.
+    Outcome(Txn),
+    /// It is the line of nothing.
+    Unknown,
+}
+
+/// What a line asks, over a tree with this root.
+#[tactic(auto, unfolding(crate::specs::Asked::asked_at))]
+pub fn asked_of(alloc: Global, root: ProcessId, line: &str) -> Result<Asked, AllocError>
+    ensures { IfOk result (λ asked. asked ≡ asked_at root line.now) }
+{
+    if says_nothing(line) {
+        return Ok(Asked::Nothing);
+    }
+    match line {
+        "trim" => Ok(Asked::Trim),
+        "doubt" => Ok(Asked::Doubt),
+        _ => longer_of(alloc, root, line),
+    }
+}
+
+/// What a line asks that is no word alone.
+fn longer_of(alloc: Global, root: ProcessId, line: &str) -> Result<Asked, AllocError>
+    ensures { IfOk result (λ asked. asked ≡ longer_asked root line.now) }
+{
+    match ending_of(root, line) {
+        Some(txn) => Ok(Asked::Outcome(txn)),
+        None => sent_of(alloc, root, line),
+    }
+}
+
+/// The transaction of a line `outcome TXN`.
+#[tactic(auto, unfolding(crate::specs::Asked::ending_asked))]
+fn ending_of(root: ProcessId, line: &str) -> Option<Txn>
+    ensures { result ≡ ending_asked root line.now }
+{
+    match cut(line, ' ')? {
+        ("outcome", name) => txn_of(root, name),
+        _ => None,
+    }
+}
+
+/// A message or an act.
+fn sent_of(alloc: Global, root: ProcessId, line: &str) -> Result<Asked, AllocError>
+    ensures { IfOk result (λ asked. asked ≡ sent_asked root line.now) }
+{
+    match line_of(alloc, root, line)? {
+        Some((number, envelope)) => Ok(Asked::Message(number, envelope)),
+        None => act_of(alloc, root, line),
+    }
+}
+
+/// An act; no other event of a script is asked of a node.
+fn act_of(alloc: Global, root: ProcessId, line: &str) -> Result<Asked, AllocError>
+    ensures { IfOk result (λ asked. asked ≡ act_asked root line.now) }
+{
+    match event_of(alloc, root, line)? {
+        Some(Event::Act(act)) => Ok(Asked::Act(act)),
+        _ => Ok(Asked::Unknown),
+    }
+}

@@ -1,0 +1,14 @@
+//! Floor: the model.
+//!
+//! The lines that a node reads: messages as they stand in the lines of a trace, read back
+//! (`7 1->2 PREPARE a1.1@2.1.1 1`), acts as they stand in scripts, and what else a node is asked.
+#![tactic(auto)]
+
+mod asked;
+pub mod law;
+mod line;
+mod message;
+
+pub use asked::{Asked, asked_of};
+pub use line::line_of;
+pub use message::message_of;
