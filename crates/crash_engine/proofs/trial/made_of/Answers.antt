@@ -1,0 +1,33 @@
+use Rattle.std.proofs.Common.{◌∙◌, [], None, Some, refl, subst, sym}
+use Rattle.tree_world.specs.Worlds.{state}
+use Rattle.tree_engine.specs.Trees.{Plays}
+use Rattle.crash_engine.proofs.Trying.{comes_to}
+use Rattle.crash_engine.proofs.trial.made_of.Goals as goal
+
+pub returns-in-None-clause-made : goal.returns-in-None-clause-made
+returns-in-None-clause-made c =
+    let start = state c.in_ok-run.run'.world in
+    let run = c.make_all-made.new.self in
+    let begins = c.in_ok-run.ensures.begins in
+    let come = c.in_ok-made.ensures.goes_on start [] begins.begins in
+    let plays = comes_to c.args.tree.now start c.args.events.now run begins.is_tree begins.opened come in (
+      None,
+      state run.world,
+      subst (λ r. Plays c.args.tree.now c.args.events.now r (state run.world))
+          (sym c.refusal-refusal.ensures ∙ c.in-None.is) plays,
+      refl,
+    )
+
+pub returns-in-Some-clause-made : goal.returns-in-Some-clause-made
+returns-in-Some-clause-made c =
+    let start = state c.in_ok-run.run'.world in
+    let run = c.make_all-made.new.self in
+    let begins = c.in_ok-run.ensures.begins in
+    let come = c.in_ok-made.ensures.goes_on start [] begins.begins in
+    let plays = comes_to c.args.tree.now start c.args.events.now run begins.is_tree begins.opened come in (
+      Some (c.in-Some.made, c.in-Some.field-0-1),
+      state run.world,
+      subst (λ r. Plays c.args.tree.now c.args.events.now r (state run.world))
+          (sym c.refusal-refusal.ensures ∙ c.in-Some.is) plays,
+      refl,
+    )
