@@ -1,0 +1,5 @@
+pub mod Asked
+pub mod Empty
+pub mod Entered
+pub mod OwnSteps
+pub mod Refusing

@@ -1,0 +1,5 @@
+pub mod Passes
+pub mod Marks
+pub mod Makes
+pub mod Locked
+pub mod Posts

@@ -1,0 +1,13 @@
+-- What a caller's pass shows.
+use Rattle.std.specs.Prelude.{◌≡◌, ℕ, List, [], ◌∷◌, ◌++◌}
+use Rattle.tree_model.specs.declared.events.Entry.{Entry}
+
+-- a caller's pass: its number, and the pairs of a place, from 0, and an entry that it was told
+pub record PassState : Type 0 where
+  pub caller : ℕ
+  pub pairs : List (ℕ × Entry)
+
+-- the pass has one pair more, of this place and this entry
+pub record NotesOne (old new : PassState) (place : ℕ) (x : Entry) : Type 0 where
+  pub caller : new.caller ≡ old.caller
+  pub pairs : new.pairs ≡ old.pairs ++ (place, x) ∷ []
