@@ -30,7 +30,7 @@ struct Sight {
 enum Ended {
     /// No allocation was refused, and it ended as a run without refusals.
     Whole,
-    /// One was, and all was as it has to be.
+    /// One was, and all was as it has to be: the answer is Memory, or, where less room was enough, the whole run.
     Refused,
 }
 
@@ -136,6 +136,7 @@ fn run_refused(
     let ran = world.run(&script.events);
     match (refuser.has_refused(), ran) {
         (false, Ok(())) if sight_of(alloc, world).ok()? == *whole => Some(Ended::Whole),
+        (true, Ok(())) if sight_of(alloc, world).ok()? == *whole => Some(Ended::Refused),
         (true, Err((made, StepError::Memory))) if runs_on(alloc, script, world, made, whole)? => {
             Some(Ended::Refused)
         }
