@@ -1,0 +1,3 @@
+pub mod Sayings
+pub mod News
+pub mod Doubts
