@@ -1,0 +1,8 @@
+//! Floor: engines and program.
+//!
+//! What a process of a tree answers to a line, where it runs as a program of its own, as text.
+#![tactic(auto)]
+
+mod text;
+
+pub use text::{doubt_text, error_text, outcome_text, refused_text, shown_text, trimmed_text};
