@@ -1,0 +1,58 @@
+-- What is asked of a process may be wanted.
+use Rattle.std.proofs.Common.{◌≡◌, ◌≢◌, ◌∙◌, ◌+◌, ◌-◌, ◌≤◌, ap, sym, subst, refl, ℕ, zero, suc, Option, Some, None, List, slice_get, arith}
+use Rattle.tree_model.specs.declared.names.ProcessId.{ProcessId}
+use Rattle.tree_model.specs.declared.messages.Envelope.{Envelope}
+use Rattle.tree_model.specs.declared.events.Event.{Event}
+use Rattle.tree_model.specs.declared.events.Event.TheVariants.{Act as ActOf, Deliver, Settle, Restart, Trim}
+use Rattle.tree_model.specs.declared.events.Happening.{Happening}
+use Rattle.tree_model.specs.declared.events.Happening.TheVariants.{Input as Handles}
+use Rattle.tree_model.specs.declared.events.Input.TheVariants.{Message as MessageInput}
+use Rattle.tree_model.specs.Plays.{sent_as}
+use Rattle.core_model.specs.States.{CoreState}
+use Rattle.tree_cut.specs.Cuts.{FindsMessage}
+use Rattle.tree_threads.specs.Makes.{FitsNode}
+use Rattle.tree_threads.specs.Marks.{Happens, IsNotFor, IsStrange}
+use Rattle.tree_threads.specs.Posts.{IsFor}
+
+sent_finds : (net : List Envelope) (me : ProcessId) (k : ℕ) (l : Envelope) → sent_as net k ≡ Some l → l.to ≡ me
+    → FindsMessage net me (Handles (MessageInput k l.message))
+sent_finds net me zero l sent to = absurd (cc)
+sent_finds net me (suc k) l sent to = record {
+  sender = l.from;
+  counted = omega arith;
+  stands = ap (slice_get net) (same k) ∙ sent
+      ∙ (λ i. Some (record { from = l.from; to = to i; message = l.message }));
+}
+  where
+    same : (k : ℕ) → 0 + (suc k - 1) ≡ k
+    same k = omega arith
+
+pub finds_it : (net : List Envelope) (me : ProcessId) (s : CoreState) (event : Event) (h : Happening) (keep : ℕ)
+    → Happens net me s event h keep → FindsMessage net me h
+finds_it net me s (ActOf a) h keep is = subst (λ x. FindsMessage net me x) (sym is) tt
+finds_it net me s (Deliver k) h keep is =
+    subst (λ x. FindsMessage net me x) (sym is.happens) (sent_finds net me k is.envelope is.sent is.receiver)
+finds_it net me s Settle h keep is = absurd is
+finds_it net me s (Restart p bytes) h keep is = subst (λ x. FindsMessage net me x) (sym is.2) tt
+finds_it net me s (Trim p) h keep is = subst (λ x. FindsMessage net me x) (sym is.1) tt
+
+pub fits_it : (net : List Envelope) (me : ProcessId) (s : CoreState) (event : Event) (h : Happening) (keep : ℕ)
+    → Happens net me s event h keep → FitsNode s keep h
+fits_it net me s (ActOf a) h keep is = subst (λ x. FitsNode s keep x) (sym is) tt
+fits_it net me s (Deliver k) h keep is = subst (λ x. FitsNode s keep x) (sym is.happens) tt
+fits_it net me s Settle h keep is = absurd is
+fits_it net me s (Restart p bytes) h keep is = subst (λ x. FitsNode s keep x) (sym is.2) refl
+fits_it net me s (Trim p) h keep is = subst (λ x. FitsNode s keep x) (sym is.1) tt
+
+-- what happens by an event is what it asks
+pub for_it : (net : List Envelope) (me : ProcessId) (s : CoreState) (event : Event) (h : Happening) (keep : ℕ)
+    → Happens net me s event h keep → IsFor event h
+for_it net me s (ActOf a) h keep is = is
+for_it net me s (Deliver k) h keep is = (is.envelope.message, is.happens)
+for_it net me s Settle h keep is = absurd is
+for_it net me s (Restart p bytes) h keep is = (_, is.2)
+for_it net me s (Trim p) h keep is = is.1
+
+pub not_strange : (net : List Envelope) (me : ProcessId) (k : ℕ) (l : Envelope) → sent_as net k ≡ Some l
+    → l.to ≡ me → IsNotFor me (sent_as net k) → ⊥
+not_strange net me k l sent to strange = subst (λ o. IsNotFor me o) sent strange to

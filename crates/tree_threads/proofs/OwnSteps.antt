@@ -1,0 +1,41 @@
+-- What a process makes under its own lock is a step behind its own entries.
+use Rattle.std.proofs.Common.{◌≡◌, ap, sym, subst, refl, ℕ, true, None, List}
+use Rattle.tree_model.specs.declared.names.ProcessId.{ProcessId}
+use Rattle.tree_model.specs.declared.events.Entry.{Entry}
+use Rattle.tree_model.specs.declared.events.Step.{Step}
+use Rattle.tree_model.specs.declared.events.Happening.{Happening}
+use Rattle.tree_model.specs.declared.events.Happening.TheVariants.{Input as Handles, Restart, Trim}
+use Rattle.tree_model.specs.declared.events.Reaction.{Reaction}
+use Rattle.tree_model.specs.declared.trees.TreeEntry.{TreeEntry}
+use Rattle.tree_model.specs.Nodes.{is_listed}
+use Rattle.tree_model.specs.Trees.{IsTree}
+use Rattle.core_model.specs.States.{CoreState}
+use Rattle.core_law.specs.worlds.Worlds.{step_entry}
+use Rattle.tree_cut.specs.Owns.{OwnMakes, OwnRun}
+use Rattle.tree_cut.proofs.Owns.{inputs_are_made, restarts_are_made, trims_are_made}
+use Rattle.tree_threads.specs.Makes.{FitsNode, IsAt, MakesIt}
+
+by_kind : (tree : List TreeEntry) (q : ProcessId) (own : List Entry) (old new : CoreState) (keep : ℕ)
+    (h : Happening) (r : Reaction) → IsTree tree → is_listed tree q ≡ true → OwnRun tree q own old
+    → FitsNode old keep h → MakesIt old new keep h r → OwnMakes tree q own new (step_entry q h r)
+by_kind tree q own old new keep (Handles i) r is_tree listed run fits made =
+    inputs_are_made tree q own old new made.before made.behind i r listed run made.handles
+by_kind tree q own old new keep (Restart k) r is_tree listed run fits made =
+    subst (λ n. OwnMakes tree q own new (step_entry q (Restart n) r)) (sym fits)
+    (restarts_are_made tree q own old new keep r is_tree listed run made)
+by_kind tree q own old new keep Trim r is_tree listed run fits made =
+    subst (λ s. OwnMakes tree q own new (step_entry q Trim s)) (sym made.shown)
+    (trims_are_made tree q own old new made.remain is_tree listed run made.works made.sound made.trims)
+
+-- the entry of the wanted step
+pub makes_own : (tree : List TreeEntry) (q : ProcessId) (own : List Entry) (old new : CoreState) (keep : ℕ)
+    (w : Entry) (r : Reaction) → IsTree tree → is_listed tree q ≡ true → OwnRun tree q own old
+    → IsAt q w → FitsNode old keep w.step.happening → MakesIt old new keep w.step.happening r
+    → OwnMakes tree q own new (record { step = w.step; reaction = r })
+makes_own tree q own old new keep w r is_tree listed run is fits made =
+    let one = by_kind tree q own old new keep w.step.happening r is_tree listed run fits made in
+    subst (λ y. OwnMakes tree q own new y)
+    (λ k. record {
+      step = record { process = sym is.process k; happening = w.step.happening; fault = sym is.unfailed k };
+      reaction = r;
+    }) one

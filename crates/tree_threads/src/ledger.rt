@@ -1,0 +1,198 @@
+//! What lies under the journal's lock.
+
+ghost use Rattle.std.specs.Prelude.{◌≡◌, ◌<◌, ℕ, [], IfSome, IfNone, OnOk, None, Some};
+ghost use Rattle.std.specs.Option.{option_copied};
+ghost use Rattle.tree_model.specs.Plays.{sent_as};
+ghost use Rattle.tree_model.specs.Trees.{IsTree};
+ghost use Rattle.tree_cut.specs.Cuts.{net_of};
+ghost use Rattle.tree_cut.specs.Owns.{CutHolds};
+ghost use Rattle.tree_ties.specs.Views.{AllIn, Rise, entries_in, keeper};
+ghost use Rattle.cluster_journal.specs.Marks.{first_open};
+
+use crate::pass::Pass;
+use cluster_journal::ClusterJournal;
+use std::alloc::{AllocError, Global};
+use std::marker::{Model, PhantomData};
+use tree_model::{Entry, Envelope, ProcessId};
+use tree_ties::seats::{Place, Seats, Ties};
+use tree_ties::ties::meet;
+
+/// How busy the workers are. No contract speaks of it.
+#[derive(Clone, Copy, PartialEq, Eq)]
+pub(crate) struct Turns {
+    /// So many messages are claimed.
+    claims: usize,
+    /// About so many were sent, and nobody has claimed them.
+    open: usize,
+}
+
+impl Turns {
+    /// So many messages more were sent.
+    pub(crate) fn with_sent(self, sent: usize) -> Turns {
+        Turns {
+            claims: self.claims,
+            open: self.open.saturating_add(sent),
+        }
+    }
+}
+
+/// A worker is woken for so many messages that nobody has claimed.
+const MESSAGES_A_WORKER: usize = 8;
+
+/// A message that somebody delivers now: its number, its receiver, and whether there is more to do than those who
+/// are awake have in hand.
+#[derive(Clone, Copy, PartialEq, Eq)]
+pub(crate) struct Claim {
+    pub(crate) number: u64,
+    pub(crate) to: ProcessId,
+    pub(crate) wakes: bool,
+}
+
+/// The journal, and its seat. To a contract it is its entries, each with its caller's number, and the marks of
+/// its messages.
+#[derive(Drop)]
+pub struct Ledger<N: Seats> {
+    pub(crate) journal: ClusterJournal,
+    pub(crate) seat: Place,
+    pub(crate) turns: Turns,
+    pub(crate) name: PhantomData<N>,
+}
+
+impl<N: Seats> Model for Ledger<N> {
+    ghost use Rattle.std.specs.Prelude.{◌≡◌, []};
+    ghost use Rattle.tree_model.specs.Trees.{IsTree};
+    ghost use Rattle.cluster_journal.specs.Journals.{ClusterState};
+    ghost use Rattle.tree_ties.specs.Views.{entries_in, keeper};
+    ghost use Rattle.tree_threads.specs.Locked.{HasCut};
+
+    ghost Value = { ClusterState };
+
+    ghost view = { λ l. l.journal };
+
+    ghost invariant = { λ l. (l.seat.table_id ≡ N.table)
+        × (l.seat.me ≡ (keeper l.seat.me.0.journal.names l.seat.me.0.journal.opened
+            l.seat.me.0.journal.given l.journal.entries, []))
+        × IsTree N.tree
+        × HasCut N.tree (entries_in l.journal.entries) };
+}
+
+/// Whether more messages are open than those who are awake have in hand.
+fn is_much(turns: Turns, holds: bool) -> bool {
+    if holds {
+        turns.open > 0
+    } else {
+        turns.open / MESSAGES_A_WORKER > turns.claims
+    }
+}
+
+impl<N: Seats> Ledger<N> {
+    /// A journal without entries.
+    pub(crate) fn new(alloc: Global, seat: Place) -> Ledger<N>
+        requires here { seat.table_id ≡ N.table }
+        requires seat { seat.me ≡ (keeper seat.me.0.journal.names seat.me.0.journal.opened
+            seat.me.0.journal.given [], []) }
+        requires tree { IsTree N.tree }
+        ensures { result.entries ≡ [] }
+    {
+        Ledger {
+            journal: ClusterJournal::new(alloc),
+            seat,
+            turns: Turns {
+                claims: 0,
+                open: 0,
+            },
+            name: PhantomData,
+        }
+    }
+
+    /// Whoever has the journal knows: it is a run of the tree, of which the headline holds.
+    pub fn is_a_run(&self)
+        ensures { CutHolds N.tree (entries_in self.now.entries) }
+    {
+        let _ = self.journal.len();
+    }
+
+    /// Places every entry, so that its messages are found.
+    pub(crate) fn place(&mut self) -> Result<(), AllocError>
+        ensures entries { self.new.entries ≡ self.old.entries }
+        ensures ok { OnOk result (self.new.late ≡ 0) }
+    {
+        self.journal.place()
+    }
+
+    /// The message with this number, where all entries are placed.
+    pub(crate) fn message(&self, number: u64) -> Option<&Envelope>
+        requires { self.now.late ≡ 0 }
+        ensures { option_copied result ≡ sent_as (net_of (entries_in self.now.entries)) number }
+    {
+        self.journal.message(number)
+    }
+
+    /// Claims the least message that nobody delivers and that was not delivered. Where a gate holds steps, a
+    /// worker is woken for each that is open.
+    pub(crate) fn claim(&mut self, holds: bool) -> Result<Option<Claim>, AllocError>
+        ensures { self.new.entries ≡ self.old.entries }
+    {
+        self.place()?;
+        let Some(number) = self.journal.claim() else {
+            self.turns.open = 0;
+            return Ok(None);
+        };
+        self.turns.claims = self.turns.claims.saturating_add(1);
+        self.turns.open = self.turns.open.saturating_sub(1);
+        let wakes = is_much(self.turns, holds);
+        Ok(match self.message(number) {
+            None => None,
+            Some(envelope) => Some(Claim {
+                number,
+                to: envelope.to,
+                wakes,
+            }),
+        })
+    }
+
+    /// A claim has ended.
+    pub(crate) fn end_claim(&mut self)
+        ensures { self.new ≡ self.old }
+    {
+        self.turns.claims = self.turns.claims.saturating_sub(1);
+    }
+
+    /// The claim of this message is given back: it is open again, if it was not delivered.
+    pub(crate) fn give_back(&mut self, number: u64)
+        ensures { self.new.entries ≡ self.old.entries }
+    {
+        self.journal.give_back(number);
+        self.turns.open = self.turns.open.saturating_add(1);
+        self.end_claim();
+    }
+
+    /// Whether nobody delivers a message.
+    pub(crate) fn is_quiet(&self) -> bool {
+        self.turns.claims == 0
+    }
+
+    /// The journal has every pair of the pass, under its caller's number, and their places rise.
+    pub(crate) fn meets(&mut self, ties: &Ties, pass: &mut Pass<N>)
+        requires { (ties.now.shared.table_id ≡ N.table) × (0 < N.table.words) }
+        ensures met { AllIn pass.old.caller self.old.entries pass.old.pairs × Rise 0 pass.old.pairs }
+        ensures same { (self.new ≡ self.old) × (pass.new ≡ pass.old) }
+    {
+        meet(ties, &mut self.seat, &mut pass.seat);
+    }
+
+    /// The entries, as plain data, where all of them are placed.
+    pub(crate) fn into_entries(self) -> Vec<(u64, Entry)>
+        requires { self.late ≡ 0 }
+        ensures same { result.items ≡ self.entries }
+        ensures run { CutHolds N.tree (entries_in result.items) }
+    {
+        let Ledger {
+            journal,
+            seat: _,
+            turns: _,
+            name: _,
+        } = self;
+        journal.into_entries()
+    }
+}

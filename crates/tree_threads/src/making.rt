@@ -1,0 +1,154 @@
+//! The step: what a process makes under its own lock alone.
+
+ghost use Rattle.std.specs.Prelude.{◌≡◌, ◌≢◌, ◌<◌, ◌++◌, [], ◌∷◌, true, Some, IfErr, IfOk, OnErr};
+ghost use Rattle.tree_model.specs.declared.events.Input.{Input as AnyInput};
+ghost use Rattle.tree_model.specs.declared.events.Happening.TheVariants as kinds;
+ghost use Rattle.tree_model.specs.Nodes.{is_listed};
+ghost use Rattle.tree_model.specs.Trees.{IsTree};
+ghost use Rattle.core_model.specs.States.{SameCore};
+ghost use Rattle.core_law.specs.Steps.{trim_reaction};
+ghost use Rattle.tree_cut.specs.Owns.{OwnMakes, OwnRun};
+ghost use Rattle.tree_node.specs.Nodes.{core_of};
+ghost use Rattle.tree_ties.specs.Seats.{WorksIn};
+ghost use Rattle.tree_ties.specs.Views.{cleared, made as made_by, worker};
+ghost use Rattle.tree_threads.specs.Makes.{IsAt, MakesIt, NotMadeIt, FitsNode};
+
+use crate::marking::Marked;
+use cluster_journal::Room;
+use core_model::InputRef;
+use log_store::MemoryStore;
+use std::alloc::Global;
+use tree_model::{Entry, Happening, Input, ProcessId, Reaction, Sequence, StepError, Txn};
+use tree_node::Node;
+use tree_ties::seats::{Place, Seats, Ties};
+use tree_ties::ties::{drop_want, make};
+
+/// What a process has made, and room for it in the journal.
+#[derive(Drop)]
+pub struct Made {
+    pub(crate) entry: Entry,
+    pub(crate) room: Room,
+}
+
+impl Made {
+    /// The transaction that was begun, if one was.
+    pub fn begun(&self) -> Option<Txn>
+        ensures { result ≡ self.now.entry.reaction.begun }
+    {
+        self.entry.reaction.begun
+    }
+}
+
+/// What a trim shows: how many records remain. It takes no memory.
+fn trimmed(alloc: Global, remain: u64) -> Reaction
+    ensures { result ≡ trim_reaction remain }
+{
+    Reaction {
+        begun: None,
+        written: Sequence::new(alloc),
+        told: None,
+        messages: Sequence::new(alloc),
+        kept: Some(remain),
+    }
+}
+
+/// A process handles an input. A store in memory does not fail.
+fn handle(node: &mut Node<MemoryStore>, input: &Input) -> Result<Reaction, StepError>
+    ensures ok { IfOk result (λ r. MakesIt (core_of node.old) (core_of node.new) 0 (kinds.Input input.now) r) }
+    ensures err { IfErr result (NotMadeIt (core_of node.old) (core_of node.new) (kinds.Input input.now)) }
+{
+    node.never_failed();
+    let handled = match input {
+        Input::Act(act) => node.handle(InputRef::Act(act)),
+        Input::Message(number, message) => node.handle(InputRef::Message(*number, message)),
+    };
+    node.never_failed();
+    handled
+}
+
+/// A process restarts. Its records are those of a store in memory.
+fn restart(node: &mut Node<MemoryStore>, keep: usize, kept: u64) -> Result<Reaction, StepError>
+    ensures ok { IfOk result (λ r. MakesIt (core_of node.old) (core_of node.new) keep (kinds.Restart kept) r) }
+    ensures err { IfErr result (NotMadeIt (core_of node.old) (core_of node.new) (kinds.Restart kept)) }
+{
+    node.never_failed();
+    let restarted = node.restart(keep);
+    node.never_failed();
+    let _ = kept;
+    restarted
+}
+
+/// The log of a process is trimmed.
+fn trim(alloc: Global, node: &mut Node<MemoryStore>) -> Result<Reaction, StepError>
+    ensures ok { IfOk result (λ r. MakesIt (core_of node.old) (core_of node.new) 0 kinds.Trim r) }
+    ensures err { IfErr result (NotMadeIt (core_of node.old) (core_of node.new) kinds.Trim) }
+{
+    node.never_failed();
+    let remain = node.trim_sound();
+    node.never_failed();
+    match remain {
+        Ok(remain) => Ok(trimmed(alloc, remain)),
+        Err(error) => Err(error),
+    }
+}
+
+/// A process makes what happens.
+fn make_it(
+    alloc: Global,
+    node: &mut Node<MemoryStore>,
+    happening: &Happening,
+    keep: usize,
+) -> Result<Reaction, StepError>
+    ensures ok { IfOk result (λ r. MakesIt (core_of node.old) (core_of node.new) keep happening.now r) }
+    ensures err { IfErr result (NotMadeIt (core_of node.old) (core_of node.new) happening.now) }
+{
+    match happening {
+        Happening::Input(input) => handle(node, input),
+        Happening::Restart(kept) => restart(node, keep, *kept),
+        Happening::Trim => trim(alloc, node),
+    }
+}
+
+/// Makes the marked step under the process's lock alone, whatever the others do meanwhile. The step's entry is
+/// one behind the process's own. A refusal, which is never Device, leaves the process as it was, and takes the
+/// mark away.
+pub fn make_step<N: Seats>(
+    alloc: Global,
+    ties: &Ties,
+    me: ProcessId,
+    word: usize,
+    node: &mut Node<MemoryStore>,
+    seat: &mut Place,
+    marked: Marked,
+) -> Result<Made, StepError>
+    requires here { (ties.now.shared.table_id ≡ N.table) × (seat.old.table_id ≡ N.table)
+        × (word < N.table.words) }
+    requires seat { WorksIn 1 seat.old.me × (seat.old.me.0.process.wanted ≡ Some marked.wanted)
+        × (seat.old.me.0.process.word ≡ word) }
+    requires own { IsTree N.tree × (is_listed N.tree me ≡ true)
+        × OwnRun N.tree me seat.old.me.0.process.own (core_of node.old) }
+    requires marked { IsAt me marked.wanted × FitsNode (core_of node.old) marked.keep marked.wanted.step.happening }
+    ensures here { seat.new.table_id ≡ seat.old.table_id }
+    ensures ok { IfOk result (λ m. (seat.new.me ≡ (worker (made_by seat.old.me.0.process m.entry), []))
+        × (m.entry.step ≡ marked.wanted.step)
+        × OwnMakes N.tree me seat.old.me.0.process.own (core_of node.new) m.entry) }
+    ensures err { OnErr result (seat.new.me ≡ (worker (cleared seat.old.me.0.process), [])) }
+    ensures refused { IfErr result (NotMadeIt (core_of node.old) (core_of node.new)
+        marked.wanted.step.happening) }
+{
+    let Marked { wanted, keep, room } = marked;
+    match make_it(alloc, node, &wanted.step.happening, keep) {
+        Err(error) => {
+            drop_want(ties, seat, word);
+            Err(error)
+        }
+        Ok(reaction) => {
+            let entry = Entry {
+                step: wanted.step,
+                reaction,
+            };
+            make(ties, seat, word, &entry);
+            Ok(Made { entry, room })
+        }
+    }
+}

@@ -1,0 +1,170 @@
+//! The mark of a step: what a process is asked to do, and room for the entry of it.
+
+ghost use Rattle.std.specs.Prelude.{◌≡◌, ◌≢◌, ◌<◌, ◌≤◌, [], Some, IfErr, IfNone, IfOk, IfSome, IsTrue, OnErr, OnOk, length};
+ghost use Rattle.tree_model.specs.Plays.{sent_as};
+ghost use Rattle.tree_model.specs.World.{entries_of};
+ghost use Rattle.core_law.specs.worlds.Worlds.{KeepsBytes};
+ghost use Rattle.tree_cut.specs.Cuts.{net_of};
+ghost use Rattle.tree_node.specs.Nodes.{core_of};
+ghost use Rattle.tree_ties.specs.Views.{entries_in, idle_at, wanting, worker};
+ghost use Rattle.tree_threads.specs.Marks.{Happens, IsMarked, IsNotFor, NotMarked};
+
+use crate::errors::PostError;
+use crate::ledger::Ledger;
+use cluster_journal::{Room, nothing};
+use log_store::MemoryStore;
+use std::alloc::Global;
+use tree_model::{Entry, Envelope, Event, Happening, Input, ProcessId, Step};
+use tree_node::Node;
+use tree_ties::seats::{Place, Seats, Ties};
+use tree_ties::ties::want;
+
+/// The most entries that a journal has when a step is marked.
+pub const MOST_ENTRIES: usize = 1_000_000;
+
+/// What a process wants to do, as an entry that shows nothing yet; how many bytes behind its forced front it
+/// keeps, where that is a restart; and room for the entry that comes of it.
+#[derive(Drop)]
+pub struct Marked {
+    pub(crate) wanted: Entry,
+    pub(crate) keep: usize,
+    pub(crate) room: Room,
+}
+
+/// Whether these are one process.
+pub(crate) fn is_same(a: ProcessId, b: ProcessId) -> bool
+    ensures yes { IsTrue result → a ≡ b }
+    ensures no { a ≡ b → IsTrue result }
+{
+    a.0 == b.0
+}
+
+/// So many bytes behind the forced front are kept as a restart names; all, where it names none.
+fn kept_of(node: &Node<MemoryStore>, bytes: Option<u64>) -> usize
+    ensures { KeepsBytes (core_of node.now) bytes result }
+{
+    match bytes {
+        None => node.log_size(),
+        Some(bytes) => bytes as usize,
+    }
+}
+
+/// The message with this number, if it was sent to this process.
+fn message_for<N: Seats>(ledger: &Ledger<N>, me: ProcessId, number: u64) -> Option<&Envelope>
+    requires { ledger.now.late ≡ 0 }
+    ensures found { IfSome result (λ l. (sent_as (net_of (entries_in ledger.now.entries)) number ≡ Some l.now)
+        × (l.now.to ≡ me)) }
+    ensures none { IfNone result (IsNotFor me (sent_as (net_of (entries_in ledger.now.entries)) number)) }
+{
+    let Some(envelope) = ledger.message(number) else {
+        return None;
+    };
+    if is_same(envelope.to, me) {
+        return Some(envelope);
+    }
+    None
+}
+
+/// Whether the journal takes one more entry.
+fn has_room<N: Seats>(ledger: &Ledger<N>) -> Result<(), PostError>
+    ensures ok { OnOk result (length ledger.now.entries < 1000000) }
+    ensures err { IfErr result (λ e. (e ≡ PostError.JournalFull) × (1000000 ≤ length ledger.now.entries)) }
+{
+    if ledger.journal.len() < MOST_ENTRIES {
+        Ok(())
+    } else {
+        Err(PostError::JournalFull)
+    }
+}
+
+/// What happens by the event at this process, and how many bytes it keeps, where that is its restart.
+fn asked<N: Seats>(
+    alloc: Global,
+    me: ProcessId,
+    node: &Node<MemoryStore>,
+    ledger: &Ledger<N>,
+    event: Event,
+) -> Result<(Happening, usize), PostError>
+    requires { ledger.now.late ≡ 0 }
+    ensures ok { IfOk result (λ h. Happens (net_of (entries_in ledger.now.entries)) me (core_of node.now)
+        event h.0 h.1) }
+    ensures room { OnOk result (length ledger.now.entries < 1000000) }
+    ensures err { IfErr result (NotMarked (net_of (entries_in ledger.now.entries))
+        (length ledger.now.entries) me event) }
+{
+    match event {
+        Event::Act(act) => {
+            has_room(ledger)?;
+            Ok((Happening::Input(Input::Act(act)), 0))
+        }
+        Event::Deliver(number) => {
+            let Some(envelope) = message_for(ledger, me, number) else {
+                return Err(PostError::Stranger);
+            };
+            has_room(ledger)?;
+            let message = envelope.message.copied(alloc)?;
+            Ok((Happening::Input(Input::Message(number, message)), 0))
+        }
+        Event::Settle => Err(PostError::Stranger),
+        Event::Restart(process, bytes) => {
+            if !is_same(process, me) {
+                return Err(PostError::Stranger);
+            }
+            has_room(ledger)?;
+            let keep = kept_of(node, bytes);
+            let kept = node.left_behind(keep)?;
+            Ok((Happening::Restart(kept as u64), keep))
+        }
+        Event::Trim(process) => {
+            if !is_same(process, me) {
+                return Err(PostError::Stranger);
+            }
+            has_room(ledger)?;
+            Ok((Happening::Trim, 0))
+        }
+    }
+}
+
+/// Marks the step that an event asks of a process, under its lock and the journal's, and takes room for the
+/// entry of it. An act is this process's.
+///
+/// Stranger: the event is a settle, delivers a message that was not sent to this process, or is another's
+/// restart or trim. JournalFull: else, and the journal has 1,000,000 entries or more. Memory: a growth was
+/// refused. Behind a refusal the process and the journal are as before.
+pub fn mark<N: Seats>(
+    alloc: Global,
+    ties: &Ties,
+    me: ProcessId,
+    word: usize,
+    node: &Node<MemoryStore>,
+    seat: &mut Place,
+    ledger: &mut Ledger<N>,
+    event: Event,
+) -> Result<Marked, PostError>
+    requires here { (ties.now.shared.table_id ≡ N.table) × (seat.old.table_id ≡ N.table)
+        × (word < N.table.words) }
+    requires seat { seat.old.me ≡ (worker (idle_at word (Some me) seat.old.me.0.process.own), []) }
+    ensures ledger { ledger.new.entries ≡ ledger.old.entries }
+    ensures tied { OnOk result (seat.old.me.0.process.own ≡ entries_of me (entries_in ledger.old.entries)) }
+    ensures here { seat.new.table_id ≡ seat.old.table_id }
+    ensures ok { IfOk result (λ m. IsMarked (net_of (entries_in ledger.old.entries)) me (core_of node.now) event m
+        × (seat.new.me ≡ (worker (wanting seat.old.me.0.process m.wanted), []))) }
+    ensures room { OnOk result (length ledger.old.entries < 1000000) }
+    ensures err { OnErr result (seat.new.me ≡ seat.old.me) }
+    ensures refused { IfErr result (NotMarked (net_of (entries_in ledger.old.entries))
+        (length ledger.old.entries) me event) }
+{
+    ledger.place()?;
+    let (happening, keep) = asked(alloc, me, node, ledger, event)?;
+    let room = Room::new(alloc)?;
+    let wanted = Entry {
+        step: Step {
+            process: me,
+            happening,
+            fault: None,
+        },
+        reaction: nothing(alloc),
+    };
+    want(ties, seat, &mut ledger.seat, word, &wanted);
+    Ok(Marked { wanted, keep, room })
+}

@@ -1,0 +1,213 @@
+//! What lies under a process's lock, and the three parts of posting an event.
+
+ghost use Rattle.std.specs.Prelude.{◌≡◌, ◌<◌, ◌+◌, [], Some, true, IfErr, IfOk, OnErr};
+ghost use Rattle.tree_model.specs.declared.events.Entry.{Entry as AnyEntry};
+ghost use Rattle.tree_model.specs.Nodes.{is_listed};
+ghost use Rattle.tree_model.specs.Trees.{IsTree};
+ghost use Rattle.tree_model.specs.World.{entries_of};
+ghost use Rattle.tree_cut.specs.Owns.{OwnRun, StandsInRun};
+ghost use Rattle.tree_node.specs.Nodes.{core_of};
+ghost use Rattle.tree_ties.specs.Views.{entries_in, idle_at, worker};
+ghost use Rattle.tree_threads.specs.Closing.{LeavesLog};
+ghost use Rattle.tree_threads.specs.Posts.{PostsOne};
+
+use crate::entering::enter;
+use crate::errors::PostError;
+use crate::ledger::{Claim, Ledger};
+use crate::making::make_step;
+use crate::marking::{is_same, mark};
+use crate::pass::Pass;
+use log_store::MemoryStore;
+use std::alloc::{AllocError, Global};
+use std::marker::{Model, PhantomData};
+use std::sync::{Mutex, Wait};
+use tree_model::{Event, LogRecord, ProcessId, StepError, Txn};
+use tree_node::Node;
+use tree_ties::seats::{Place, Seats, Ties};
+use tree_ties::ties::compare;
+
+/// What is called between a step and its entry.
+pub trait Gate {
+    /// The process has made a step, which is not entered yet.
+    fn before<R: Wait>(&self, rt: &R, process: ProcessId);
+
+    /// Whether it may hold a step until another process has made one.
+    fn holds(&self) -> bool;
+}
+
+/// A gate that lets every step through.
+pub struct Open;
+
+impl Gate for Open {
+    fn before<R: Wait>(&self, _rt: &R, _process: ProcessId) {}
+
+    fn holds(&self) -> bool {
+        false
+    }
+}
+
+/// Whose event is posted.
+#[derive(Clone, Copy, PartialEq, Eq)]
+pub(crate) enum Turn {
+    /// A caller's.
+    Once,
+    /// A worker's, which has a claim and makes another.
+    Worker,
+}
+
+/// What was posted: the place of its entry, from 0, the transaction that was begun, and a worker's next claim.
+#[derive(Clone, Copy)]
+pub(crate) struct Posted {
+    pub(crate) place: usize,
+    pub(crate) begun: Option<Txn>,
+    pub(crate) next: Option<Claim>,
+}
+
+/// A worker's claim ends, and it makes the next, if there is one and memory for it.
+fn next_of<N: Seats>(ledger: &mut Ledger<N>, holds: bool) -> Option<Claim> {
+    ledger.end_claim();
+    ledger.claim(holds).unwrap_or(None)
+}
+
+/// A process and its seat, between two events. To a contract it is its name, its entries and what it keeps.
+#[derive(Drop)]
+pub struct Seated<N: Seats> {
+    pub(crate) me: ProcessId,
+    pub(crate) word: usize,
+    pub(crate) node: Node<MemoryStore>,
+    pub(crate) seat: Place,
+    pub(crate) name: PhantomData<N>,
+}
+
+impl<N: Seats> Model for Seated<N> {
+    ghost use Rattle.std.specs.Prelude.{◌≡◌, ◌<◌, Some, [], true};
+    ghost use Rattle.tree_model.specs.Nodes.{is_listed};
+    ghost use Rattle.tree_model.specs.Trees.{IsTree};
+    ghost use Rattle.tree_cut.specs.Owns.{OwnRun};
+    ghost use Rattle.tree_threads.specs.Locked.{SeatedState};
+    ghost use Rattle.tree_node.specs.Nodes.{core_of};
+    ghost use Rattle.tree_ties.specs.Views.{idle_at, worker};
+
+    ghost Value = { SeatedState };
+
+    ghost view = { λ s. record { me = s.me; own = s.seat.me.0.process.own; core = core_of s.node } };
+
+    ghost invariant = { λ s. (s.seat.table_id ≡ N.table) × (s.word < N.table.words)
+        × (s.seat.me ≡ (worker (idle_at s.word (Some s.me) s.seat.me.0.process.own), []))
+        × IsTree N.tree
+        × (is_listed N.tree s.me ≡ true)
+        × OwnRun N.tree s.me s.seat.me.0.process.own (core_of s.node) };
+}
+
+impl<N: Seats> Seated<N> {
+    /// A process that has made nothing.
+    pub(crate) fn new(me: ProcessId, word: usize, node: Node<MemoryStore>, seat: Place) -> Seated<N>
+        requires here { (seat.table_id ≡ N.table) × (word < N.table.words) }
+        requires seat { seat.me ≡ (worker (idle_at word (Some me) []), []) }
+        requires tree { IsTree N.tree × (is_listed N.tree me ≡ true) }
+        requires own { OwnRun N.tree me [] (core_of node) }
+        ensures { result ≡ record { me = me; own = []; core = core_of node } }
+    {
+        Seated {
+            me,
+            word,
+            node,
+            seat,
+            name: PhantomData,
+        }
+    }
+
+    /// Marks, makes and enters an event of this process, under its lock, which the caller has; the journal's is
+    /// taken for the mark and for the entry. A worker's claim ends with the entry, and it makes the next there.
+    pub(crate) fn post<R: Wait, G: Gate>(
+        &mut self,
+        rt: &R,
+        alloc: Global,
+        ties: &Ties,
+        ledger: &Mutex<Ledger<N>>,
+        process: ProcessId,
+        event: Event,
+        pass: &mut Pass<N>,
+        gate: &G,
+        turn: Turn,
+    ) -> Result<Posted, PostError>
+        requires { ties.now.shared.table_id ≡ N.table }
+        ensures ok { IfOk result (λ r. PostsOne process event pass.old pass.new r.place r.begun) }
+        ensures err { OnErr result (pass.new ≡ pass.old) }
+    {
+        if !is_same(self.me, process) {
+            return Err(PostError::Step(StepError::NoSuch));
+        }
+        let marked = mark(
+            alloc,
+            ties,
+            self.me,
+            self.word,
+            &self.node,
+            &mut self.seat,
+            &mut *ledger.lock(rt),
+            event,
+        )?;
+        match make_step::<N>(
+            alloc,
+            ties,
+            self.me,
+            self.word,
+            &mut self.node,
+            &mut self.seat,
+            marked,
+        ) {
+            Err(error) => Err(PostError::from(error)),
+            Ok(made) => {
+                let begun = made.begun();
+                gate.before(rt, self.me);
+                let mut ledger = ledger.lock(rt);
+                let place = enter(
+                    rt,
+                    ties,
+                    self.me,
+                    self.word,
+                    &self.node,
+                    &mut self.seat,
+                    &mut *ledger,
+                    pass,
+                    made,
+                );
+                let next = match turn {
+                    Turn::Once => None,
+                    Turn::Worker => next_of(&mut *ledger, gate.holds()),
+                };
+                Ok(Posted { place, begun, next })
+            }
+        }
+    }
+
+    /// Whoever has the process's lock and the journal's knows: the process's entries are the journal's of it,
+    /// and it stands where some run of the whole journal leaves it.
+    pub fn stands(&mut self, ties: &Ties, ledger: &mut Ledger<N>)
+        requires { ties.now.shared.table_id ≡ N.table }
+        ensures own { self.old.own ≡ entries_of self.old.me (entries_in ledger.old.entries) }
+        ensures stands { StandsInRun N.tree (entries_in ledger.old.entries) self.old.me self.old.core }
+        ensures same { (self.new ≡ self.old) × (ledger.new ≡ ledger.old) }
+    {
+        compare(ties, &mut self.seat, &mut ledger.seat);
+    }
+
+    /// The records of the process's log, as the journal leaves it. Memory: a growth was refused.
+    pub(crate) fn left_log(
+        &mut self,
+        ties: &Ties,
+        ledger: &mut Ledger<N>,
+        process: ProcessId,
+    ) -> Result<Vec<LogRecord>, AllocError>
+        requires { ties.now.shared.table_id ≡ N.table }
+        ensures left { IfOk result (λ log. LeavesLog N.tree (entries_in ledger.old.entries) process log.items) }
+        ensures same { ledger.new ≡ ledger.old }
+    {
+        if !is_same(self.me, process) {
+            return Err(AllocError);
+        }
+        compare(ties, &mut self.seat, &mut ledger.seat);
+        self.node.records()
+    }
+}
