@@ -39,5 +39,5 @@ AddsTold journal places old new = new ≡ old ++ told_text journal places
 pub record TellsAll (journal : List (ℕ × Entry)) (text : List ℕ) : Type 0 where
   pub lines : List ToldPlace
   pub all : IsPermutation (told_from 0 journal) lines
-  pub sorted : IsSorted places.cmp lines
+  pub sorted : IsSorted places.ghosts.cmp lines
   pub text_is : text ≡ told_text journal lines

@@ -24,8 +24,8 @@ by_kind tree q own old new keep (Restart k) r is_tree listed run fits made =
     subst (λ n. OwnMakes tree q own new (step_entry q (Restart n) r)) (sym fits)
     (restarts_are_made tree q own old new keep r is_tree listed run made)
 by_kind tree q own old new keep Trim r is_tree listed run fits made =
-    subst (λ s. OwnMakes tree q own new (step_entry q Trim s)) (sym made.shown)
-    (trims_are_made tree q own old new made.remain is_tree listed run made.works made.sound made.trims)
+    subst (λ s. OwnMakes tree q own new (step_entry q Trim s)) (sym made.2)
+    (trims_are_made tree q own old new made.0 is_tree listed run made.1.works made.1.sound made.1.trims)
 
 -- the entry of the wanted step
 pub makes_own : (tree : List TreeEntry) (q : ProcessId) (own : List Entry) (old new : CoreState) (keep : ℕ)

@@ -4,16 +4,17 @@ use Rattle.tree_model.specs.declared.names.ProcessId.{ProcessId}
 use Rattle.tree_model.specs.declared.events.Entry.{Entry}
 use Rattle.tree_model.specs.declared.trees.TreeEntry.{TreeEntry}
 use Rattle.tree_model.specs.Nodes.{Node}
-use Rattle.core_model.specs.States.{CoreState}
+use Rattle.log_store.specs.declared.memory.MemoryStore.{MemoryStore}
 use Rattle.tree_cut.specs.Cuts.{IsCut}
+use Rattle.tree_node.specs.declared.node.Node.{Node as Process}
 
 -- the journal is cut by process: it is a run
 pub record HasCut (tree : List TreeEntry) (xs : List Entry) : Type 0 where
   pub left : ProcessId → Node
   pub cut : IsCut tree xs left
 
--- a process under its lock: its name, its entries, and what it keeps
+-- a process under its lock: its name, its entries, and the process itself
 pub record SeatedState : Type 0 where
   pub me : ProcessId
   pub own : List Entry
-  pub core : CoreState
+  pub node : Process MemoryStore

@@ -32,13 +32,15 @@ pub record HandlesIt (old new : CoreState) (i : Input) (r : Reaction) : Type 0 w
   pub behind : ManagerData
   pub handles : HandlesInput old new before behind i r
 
--- the log of a process, which is up, is trimmed
-pub record TrimsIt (old new : CoreState) (r : Reaction) : Type 0 where
-  pub remain : ℕ
+-- the log of a process, which is up, is trimmed, and so many records remain
+pub record TrimsSo (old new : CoreState) (remain : ℕ) : Type 0 where
   pub works : old.log.failed ≡ false
   pub sound : IsSoundLog old
   pub trims : Trims old new remain
-  pub shown : r ≡ trim_reaction remain
+
+-- the same, and this shows it
+abbrev pub TrimsIt : CoreState → CoreState → Reaction → Type 0
+TrimsIt old new r = (remain : ℕ) × TrimsSo old new remain × (r ≡ trim_reaction remain)
 
 -- what a process makes of what happens; a restart keeps so many bytes behind the forced front
 abbrev pub MakesIt : CoreState → CoreState → ℕ → Happening → Reaction → Type 0
@@ -68,3 +70,8 @@ WhyNot old new Trim e = NotTrimmedIt old e
 pub record NotMadeIt (old new : CoreState) (h : Happening) (e : StepError) : Type 0 where
   pub same : SameCore old new
   pub why : WhyNot old new h e
+
+-- a restart was not made, and the process is as it was
+pub record NotRestartedIt (old new : CoreState) (e : StepError) : Type 0 where
+  pub same : SameCore old new
+  pub memory : e ≡ Memory

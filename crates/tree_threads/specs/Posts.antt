@@ -13,7 +13,7 @@ use Rattle.tree_model.specs.declared.events.StepError.{StepError}
 use Rattle.tree_model.specs.declared.events.StepError.TheVariants as steps
 use Rattle.tree_model.specs.Plays.{process_of_act}
 use Rattle.tree_threads.specs.declared.errors.PostError.{PostError}
-use Rattle.tree_threads.specs.declared.errors.PostError.TheVariants.{Step, Memory}
+use Rattle.tree_threads.specs.declared.errors.PostError.TheVariants.{Stranger, JournalFull, Step, Memory}
 use Rattle.tree_threads.specs.Passes.{NotesOne, PassState}
 
 -- how a step's refusal is answered
@@ -28,6 +28,13 @@ IsOf root q (Deliver k) = ⊤
 IsOf root q Settle = ⊥
 IsOf root q (Restart p bytes) = q ≡ p
 IsOf root q (Trim p) = q ≡ p
+
+-- the number that is printed
+abbrev pub post_error_number : PostError → ℕ
+post_error_number Stranger = 1
+post_error_number JournalFull = 2
+post_error_number (Step e) = 3
+post_error_number Memory = 4
 
 -- what happens is what this event asks
 abbrev pub IsFor : Event → Happening → Type 0

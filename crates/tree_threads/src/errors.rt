@@ -1,5 +1,8 @@
 //! Why an event was not posted.
 
+ghost use Rattle.std.specs.Prelude.{◌≡◌};
+ghost use Rattle.tree_threads.specs.Posts.{post_error_number};
+
 use std::alloc::AllocError;
 use thiserror::Error;
 use tree_model::StepError;
@@ -48,7 +51,9 @@ impl From<StepError> for PostError {
 
 impl PostError {
     /// The number that is printed, 1 to 4.
-    pub fn number(self) -> u8 {
+    pub fn number(self) -> u8
+        ensures { result ≡ post_error_number self }
+    {
         match self {
             PostError::Stranger => 1,
             PostError::JournalFull => 2,

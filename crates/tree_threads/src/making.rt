@@ -1,17 +1,17 @@
 //! The step: what a process makes under its own lock alone.
 
-ghost use Rattle.std.specs.Prelude.{◌≡◌, ◌≢◌, ◌<◌, ◌++◌, [], ◌∷◌, true, Some, IfErr, IfOk, OnErr};
-ghost use Rattle.tree_model.specs.declared.events.Input.{Input as AnyInput};
+ghost use Rattle.std.specs.Prelude.{◌≡◌, ◌<◌, [], true, Some, IfErr, IfOk, OnErr};
 ghost use Rattle.tree_model.specs.declared.events.Happening.TheVariants as kinds;
 ghost use Rattle.tree_model.specs.Nodes.{is_listed};
 ghost use Rattle.tree_model.specs.Trees.{IsTree};
-ghost use Rattle.core_model.specs.States.{SameCore};
+ghost use Rattle.core_model.specs.Inputs.{input_of};
+ghost use Rattle.core_model.specs.Restarting.{Restarts};
 ghost use Rattle.core_law.specs.Steps.{trim_reaction};
 ghost use Rattle.tree_cut.specs.Owns.{OwnMakes, OwnRun};
 ghost use Rattle.tree_node.specs.Nodes.{core_of};
 ghost use Rattle.tree_ties.specs.Seats.{WorksIn};
 ghost use Rattle.tree_ties.specs.Views.{cleared, made as made_by, worker};
-ghost use Rattle.tree_threads.specs.Makes.{IsAt, MakesIt, NotMadeIt, FitsNode};
+ghost use Rattle.tree_threads.specs.Makes.{FitsNode, HandlesIt, IsAt, MakesIt, NotMadeIt, NotRestartedIt, TrimsIt, TrimsSo};
 
 use crate::marking::Marked;
 use cluster_journal::Room;
@@ -53,40 +53,42 @@ fn trimmed(alloc: Global, remain: u64) -> Reaction
 }
 
 /// A process handles an input. A store in memory does not fail.
-fn handle(node: &mut Node<MemoryStore>, input: &Input) -> Result<Reaction, StepError>
-    ensures ok { IfOk result (λ r. MakesIt (core_of node.old) (core_of node.new) 0 (kinds.Input input.now) r) }
-    ensures err { IfErr result (NotMadeIt (core_of node.old) (core_of node.new) (kinds.Input input.now)) }
+fn handle(node: &mut Node<MemoryStore>, input: InputRef<'_>) -> Result<Reaction, StepError>
+    ensures ok { IfOk result (HandlesIt (core_of node.old) (core_of node.new) (input_of input.entry)) }
+    ensures err { IfErr result (NotMadeIt (core_of node.old) (core_of node.new)
+        (kinds.Input (input_of input.entry))) }
 {
-    node.never_failed();
-    let handled = match input {
-        Input::Act(act) => node.handle(InputRef::Act(act)),
-        Input::Message(number, message) => node.handle(InputRef::Message(*number, message)),
-    };
+    let handled = node.handle(input);
     node.never_failed();
     handled
 }
 
-/// A process restarts. Its records are those of a store in memory.
-fn restart(node: &mut Node<MemoryStore>, keep: usize, kept: u64) -> Result<Reaction, StepError>
-    ensures ok { IfOk result (λ r. MakesIt (core_of node.old) (core_of node.new) keep (kinds.Restart kept) r) }
-    ensures err { IfErr result (NotMadeIt (core_of node.old) (core_of node.new) (kinds.Restart kept)) }
+/// A process restarts, and keeps so many bytes behind its forced front.
+fn restart(node: &mut Node<MemoryStore>, keep: usize) -> Result<Reaction, StepError>
+    ensures ok { IfOk result (Restarts (core_of node.old) keep (core_of node.new)) }
+    ensures err { IfErr result (NotRestartedIt (core_of node.old) (core_of node.new)) }
 {
-    node.never_failed();
     let restarted = node.restart(keep);
     node.never_failed();
-    let _ = kept;
     restarted
 }
 
-/// The log of a process is trimmed.
-fn trim(alloc: Global, node: &mut Node<MemoryStore>) -> Result<Reaction, StepError>
-    ensures ok { IfOk result (λ r. MakesIt (core_of node.old) (core_of node.new) 0 kinds.Trim r) }
+/// The log of a process is trimmed. Gives how many records remain.
+fn trim(node: &mut Node<MemoryStore>) -> Result<u64, StepError>
+    ensures ok { IfOk result (TrimsSo (core_of node.old) (core_of node.new)) }
     ensures err { IfErr result (NotMadeIt (core_of node.old) (core_of node.new) kinds.Trim) }
 {
-    node.never_failed();
     let remain = node.trim_sound();
     node.never_failed();
-    match remain {
+    remain
+}
+
+/// The same, as it is shown.
+fn trim_shown(alloc: Global, node: &mut Node<MemoryStore>) -> Result<Reaction, StepError>
+    ensures ok { IfOk result (TrimsIt (core_of node.old) (core_of node.new)) }
+    ensures err { IfErr result (NotMadeIt (core_of node.old) (core_of node.new) kinds.Trim) }
+{
+    match trim(node) {
         Ok(remain) => Ok(trimmed(alloc, remain)),
         Err(error) => Err(error),
     }
@@ -99,13 +101,16 @@ fn make_it(
     happening: &Happening,
     keep: usize,
 ) -> Result<Reaction, StepError>
-    ensures ok { IfOk result (λ r. MakesIt (core_of node.old) (core_of node.new) keep happening.now r) }
+    ensures ok { IfOk result (MakesIt (core_of node.old) (core_of node.new) keep happening.now) }
     ensures err { IfErr result (NotMadeIt (core_of node.old) (core_of node.new) happening.now) }
 {
     match happening {
-        Happening::Input(input) => handle(node, input),
-        Happening::Restart(kept) => restart(node, keep, *kept),
-        Happening::Trim => trim(alloc, node),
+        Happening::Input(Input::Act(act)) => handle(node, InputRef::Act(act)),
+        Happening::Input(Input::Message(number, message)) => {
+            handle(node, InputRef::Message(*number, message))
+        }
+        Happening::Restart(_) => restart(node, keep),
+        Happening::Trim => trim_shown(alloc, node),
     }
 }
 

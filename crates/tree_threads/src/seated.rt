@@ -69,7 +69,7 @@ fn next_of<N: Seats>(ledger: &mut Ledger<N>, holds: bool) -> Option<Claim> {
     ledger.claim(holds).unwrap_or(None)
 }
 
-/// A process and its seat, between two events. To a contract it is its name, its entries and what it keeps.
+/// A process and its seat, between two events. To a contract it is its name, its entries, and the process itself.
 #[derive(Drop)]
 pub struct Seated<N: Seats> {
     pub(crate) me: ProcessId,
@@ -90,7 +90,7 @@ impl<N: Seats> Model for Seated<N> {
 
     ghost Value = { SeatedState };
 
-    ghost view = { λ s. record { me = s.me; own = s.seat.me.0.process.own; core = core_of s.node } };
+    ghost view = { λ s. record { me = s.me; own = s.seat.me.0.process.own; node = s.node } };
 
     ghost invariant = { λ s. (s.seat.table_id ≡ N.table) × (s.word < N.table.words)
         × (s.seat.me ≡ (worker (idle_at s.word (Some s.me) s.seat.me.0.process.own), []))
@@ -106,7 +106,7 @@ impl<N: Seats> Seated<N> {
         requires seat { seat.me ≡ (worker (idle_at word (Some me) []), []) }
         requires tree { IsTree N.tree × (is_listed N.tree me ≡ true) }
         requires own { OwnRun N.tree me [] (core_of node) }
-        ensures { result ≡ record { me = me; own = []; core = core_of node } }
+        ensures { result ≡ record { me = me; own = []; node = node } }
     {
         Seated {
             me,
@@ -187,7 +187,7 @@ impl<N: Seats> Seated<N> {
     pub fn stands(&mut self, ties: &Ties, ledger: &mut Ledger<N>)
         requires { ties.now.shared.table_id ≡ N.table }
         ensures own { self.old.own ≡ entries_of self.old.me (entries_in ledger.old.entries) }
-        ensures stands { StandsInRun N.tree (entries_in ledger.old.entries) self.old.me self.old.core }
+        ensures stands { StandsInRun N.tree (entries_in ledger.old.entries) self.old.me (core_of self.old.node) }
         ensures same { (self.new ≡ self.old) × (ledger.new ≡ ledger.old) }
     {
         compare(ties, &mut self.seat, &mut ledger.seat);
