@@ -1,5 +1,6 @@
 pub mod Apart
 pub mod Asked
+pub mod Empty
 pub mod Entered
 pub mod Leaving
 pub mod Opening

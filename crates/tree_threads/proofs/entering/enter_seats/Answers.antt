@@ -65,8 +65,7 @@ returns-clause-pass g c =
     let all = ap (λ m. m.0.journal.all) (c.clear.ensures.journal.1 ∙ c.put.ensures.journal.1)
     ∙ ap (λ m. m.0.journal.all ++ (by, x) ∷ []) (c.offer.ensures.journal.1 ∙ behind) in
     let zeroed : 0 + length front ≡ length front = omega arith in
-    let last = ap (λ l. last_pair 0 l) all ∙ last_of 0 front (by, x) ∙ ap (λ k. (k, x) ∷ []) zeroed in
-    (
+    let last = ap (λ l. last_pair 0 l) all ∙ last_of 0 front (by, x) ∙ ap (λ k. (k, x) ∷ []) zeroed in (
       c.note.ensures.pass.0 ∙ c.meet.ensures.pass.0,
       c.note.ensures.pass.1 ∙ (λ i. (holder (caller i) (pairs i ++ last i), [])),
     )
@@ -80,7 +79,7 @@ returns-clause-cut g c =
     let behind = c.meet.ensures.journal.1 in
     let has = subst (λ m. HasCut g.N.Seats.tree (entries_in m.0.journal.all)) (sym behind) c.requires.cut in
     let entered = entering g.N.Seats.tree c.args.me v makes.0 x by (core_of c.args.node.now) c.requires.seat.1
-        c.offer.ensures.offered makes.1 c.requires.seat.3 c.requires.listed.1 c.requires.listed.0 makes.2 has in
+    c.offer.ensures.offered makes.1 c.requires.seat.3 c.requires.listed.1 c.requires.listed.0 makes.2 has in
     subst (λ m. HasCut g.N.Seats.tree (entries_in (m.0.journal.all ++ (by, x) ∷ []))) behind entered.has_cut
 
 pub returns-clause-own : goal.returns-clause-own
@@ -92,7 +91,7 @@ returns-clause-own g c =
     let behind = c.meet.ensures.journal.1 in
     let has = subst (λ m. HasCut g.N.Seats.tree (entries_in m.0.journal.all)) (sym behind) c.requires.cut in
     let entered = entering g.N.Seats.tree c.args.me v makes.0 x by (core_of c.args.node.now) c.requires.seat.1
-        c.offer.ensures.offered makes.1 c.requires.seat.3 c.requires.listed.1 c.requires.listed.0 makes.2 has in
+    c.offer.ensures.offered makes.1 c.requires.seat.3 c.requires.listed.1 c.requires.listed.0 makes.2 has in
     let process = ap (λ m. m.0.process) (c.put.ensures.seat.1 ∙ c.offer.ensures.seat.1) in
     let own = ap (λ m. m.0.process.own) c.clear.ensures.seat.1 ∙ ap (λ p. p.own) process ∙ makes.1 in
     subst (λ l. OwnRun g.N.Seats.tree c.args.me l (core_of c.args.node.now)) (sym own) entered.runs

@@ -1,0 +1,23 @@
+-- A journal without entries is cut.
+use Rattle.std.proofs.Common.{◌≡◌, refl, List, []}
+use Rattle.tree_model.specs.declared.names.ProcessId.{ProcessId}
+use Rattle.tree_model.specs.declared.trees.TreeEntry.{TreeEntry}
+use Rattle.tree_model.specs.Nodes.{opened_node}
+use Rattle.tree_model.specs.World.{entries_of, journal_of}
+use Rattle.tree_cut.specs.Cuts.{begins, none_given}
+use Rattle.tree_threads.specs.Locked.{HasCut}
+
+nothing_shown : (q : ProcessId) → journal_of [] ≡ entries_of q []
+unfolding entries_of journal_of
+nothing_shown q = refl
+
+pub empty_cut : (tree : List TreeEntry) → HasCut tree []
+empty_cut tree = record {
+  left = λ q. opened_node;
+  cut = record {
+    moves = λ q. [];
+    made = λ q. begins;
+    shown = nothing_shown;
+    given = none_given;
+  };
+}
