@@ -1,7 +1,8 @@
 //! A log file of the operating system. Each method makes the calls that it names, in that order, and answers
 //! what they answered.
 
-ghost use Rattle.std.specs.Prelude.{◌≡◌, IfOk, length};
+ghost use Rattle.std.specs.Prelude.{◌≡◌, IfOk, [], length};
+ghost use Rattle.file_store.specs.Stores.{file_bytes, file_failures, file_forced};
 
 use crate::log_file::LogFile;
 use crate::store::FileStore;
@@ -136,7 +137,11 @@ fn read(rt: &HostRuntime, alloc: Global, path: &str) -> Result<Option<Vec<u8>>, 
 }
 
 /// A store over these bytes, which are written anew under the name.
-fn settled(file: HostFile, number: u64, bytes: Vec<u8>) -> Result<FileStore<HostFile>, OpenError> {
+fn settled(file: HostFile, number: u64, bytes: Vec<u8>) -> Result<FileStore<HostFile>, OpenError>
+    ensures text { IfOk result (λ store. file_bytes store ≡ bytes.items) }
+    ensures forced { IfOk result (λ store. file_forced store ≡ length bytes.items) }
+    ensures works { IfOk result (λ store. file_failures store ≡ 0) }
+{
     match FileStore::settle(file, number, bytes) {
         Some(store) => Ok(store),
         None => Err(OpenError::Io(io::Error::from(ErrorKind::Other))),
@@ -146,7 +151,10 @@ fn settled(file: HostFile, number: u64, bytes: Vec<u8>) -> Result<FileStore<Host
 /// Opens the log with this name. What is read is written anew, under that name, before it counts as forced:
 /// what an earlier process could not sync reads as if it were there. Busy, Missing, Damaged, Io, Memory: the
 /// log is as it was.
-pub fn open(rt: &HostRuntime, alloc: Global, path: &str) -> Result<FileStore<HostFile>, OpenError> {
+pub fn open(rt: &HostRuntime, alloc: Global, path: &str) -> Result<FileStore<HostFile>, OpenError>
+    ensures forced { IfOk result (λ store. file_forced store ≡ length (file_bytes store)) }
+    ensures works { IfOk result (λ store. file_failures store ≡ 0) }
+{
     let file = named(rt, alloc, path)?;
     let Some(bytes) = read(rt, alloc, path)? else {
         return Err(OpenError::Missing);
@@ -157,11 +165,10 @@ pub fn open(rt: &HostRuntime, alloc: Global, path: &str) -> Result<FileStore<Hos
 
 /// Makes a log without bytes under this name, and opens it. Busy, Exists, Io, Memory: what stands under the
 /// name is as it was.
-pub fn create(
-    rt: &HostRuntime,
-    alloc: Global,
-    path: &str,
-) -> Result<FileStore<HostFile>, OpenError> {
+pub fn create(rt: &HostRuntime, alloc: Global, path: &str) -> Result<FileStore<HostFile>, OpenError>
+    ensures empty { IfOk result (λ store. file_bytes store ≡ []) }
+    ensures works { IfOk result (λ store. file_failures store ≡ 0) }
+{
     let file = named(rt, alloc, path)?;
     match File::open(rt, path) {
         Ok(_) => return Err(OpenError::Exists),
