@@ -7,7 +7,7 @@ use Rattle.tree_model.specs.declared.names.Outcome.{Outcome}
 use Rattle.tree_model.specs.declared.names.Outcome.TheVariants.{Committed as CommittedOutcome, Aborted as AbortedOutcome}
 use Rattle.tree_model.specs.declared.records.Branch.TheVariants.{Case as CaseBranch, Foreign}
 use Rattle.tree_model.specs.declared.records.Record.{Record}
-use Rattle.tree_model.specs.declared.records.Record.TheVariants.{Opened, Collecting, Prepare, Commit, Abort, End, Prepared, Committed, RolledBack, Direct, HeurCommit, HeurRollback, Told, Forgot, Base, Pair}
+use Rattle.tree_model.specs.declared.records.Record.TheVariants.{Opened, Collecting, Prepare, Commit, Abort, End, Prepared, Committed, RolledBack, Direct, HeurCommit, HeurRollback, Told, Forgot, Base, Pair, Cleared}
 use Rattle.tree_model.specs.Names.{same_case}
 use Rattle.tree_model.specs.Records.{has, is_abort, is_collecting, is_commit, is_committed, is_decided, is_end, is_forgot, is_prepare, is_prepared, is_rolled_back}
 use Rattle.tree_model.specs.Nodes.{Role, AtRoot, Below, AtLeaf}
@@ -125,7 +125,8 @@ one_kind c (Collecting d ts) = set_by (λ b. record no_kinds { collecting = b })
 one_kind c (Prepare d ts) = set_by (λ b. record no_kinds { prepare = b }) (same_case d c)
 one_kind c (Commit d ts) = set_by (λ b. record no_kinds { commit = b }) (same_case d c)
 one_kind c (Abort d ts) = set_by (λ b. record no_kinds { abort = b }) (same_case d c)
-one_kind c (End d) = set_by (λ b. record no_kinds { ended = b }) (same_case d c)
+one_kind c (End d rep) = set_by (λ b. record no_kinds { ended = b }) (same_case d c)
+one_kind c (Cleared d) = none_by (same_case d c)
 one_kind c (Prepared (CaseBranch d) ws) = set_by (λ b. record no_kinds { prepared = b }) (same_case d c)
 one_kind c (Prepared (Foreign x) ws) = refl
 one_kind c (Committed (CaseBranch d)) = set_by (λ b. record no_kinds { committed = b }) (same_case d c)
@@ -190,7 +191,8 @@ module _ (k : Kinds) where
   with_one c (Commit d ts) is = by_test (same_case d c) _ _
       (one_more (λ b m. record m { commit = b }) k.commit)
   with_one c (Abort d ts) is = by_test (same_case d c) _ _ (one_more (λ b m. record m { abort = b }) k.abort)
-  with_one c (End d) is = by_test (same_case d c) _ _ (one_more (λ b m. record m { ended = b }) k.ended)
+  with_one c (End d rep) is = by_test (same_case d c) _ _ (one_more (λ b m. record m { ended = b }) k.ended)
+  with_one c (Cleared d) is = by_test (same_case d c) _ _ no_more
   with_one c (Committed b) is = by_test (is_of c (Committed b)) _ _
       (one_more (λ b m. record m { committed = b }) k.committed)
   with_one c (RolledBack b) is = by_test (is_of c (RolledBack b)) _ _

@@ -7,7 +7,7 @@ use Rattle.tree_model.specs.declared.names.Case.{Case}
 use Rattle.tree_model.specs.declared.names.Ticket.{Ticket}
 use Rattle.tree_model.specs.declared.records.Branch.TheVariants.{Case as CaseBranch, Foreign}
 use Rattle.tree_model.specs.declared.records.Record.{Record}
-use Rattle.tree_model.specs.declared.records.Record.TheVariants.{Opened, Collecting, Prepare, Commit, Abort, End, Prepared, Committed, RolledBack, Direct, HeurCommit, HeurRollback, Told, Forgot, Base, Pair}
+use Rattle.tree_model.specs.declared.records.Record.TheVariants.{Opened, Collecting, Prepare, Commit, Abort, End, Prepared, Committed, RolledBack, Direct, HeurCommit, HeurRollback, Told, Forgot, Base, Pair, Cleared}
 use Rattle.tree_model.specs.Names.{same_case}
 use Rattle.tree_model.specs.Records.{cases_in, named_by, named_in, record_case}
 use Rattle.tree_headline.specs.auditor.Audits.{since_promise}
@@ -28,7 +28,8 @@ tickets_by c (Collecting d ts) = refl
 tickets_by c (Prepare d ts) = refl
 tickets_by c (Commit d ts) = refl
 tickets_by c (Abort d ts) = refl
-tickets_by c (End d) = none_named (same_case d c) []
+tickets_by c (End d rep) = none_named (same_case d c) []
+tickets_by c (Cleared d) = none_named (same_case d c) []
 tickets_by c (Opened n) = refl
 tickets_by c (Base n) = refl
 tickets_by c (Pair k v) = refl
@@ -103,7 +104,8 @@ none_promised (Collecting c ts) h = refl
 none_promised (Prepare c ts) h = refl
 none_promised (Commit c ts) h = refl
 none_promised (Abort c ts) h = refl
-none_promised (End c) h = refl
+none_promised (End c rep) h = refl
+none_promised (Cleared c) h = refl
 none_promised (Committed b) h = refl
 none_promised (RolledBack b) h = refl
 none_promised (Direct b ws) h = refl

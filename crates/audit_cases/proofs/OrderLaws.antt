@@ -8,7 +8,7 @@ use Rattle.tree_model.specs.declared.names.Case.{Case}
 use Rattle.tree_model.specs.Names.{same_case}
 use Rattle.tree_model.specs.declared.records.Branch.TheVariants.{Case as CaseBranch, Foreign}
 use Rattle.tree_model.specs.declared.records.Record.{Record}
-use Rattle.tree_model.specs.declared.records.Record.TheVariants.{Opened, Collecting, Prepare, Commit, Abort, End, Prepared, Committed, RolledBack, Direct, HeurCommit, HeurRollback, Told, Forgot, Base, Pair}
+use Rattle.tree_model.specs.declared.records.Record.TheVariants.{Opened, Collecting, Prepare, Commit, Abort, End, Prepared, Committed, RolledBack, Direct, HeurCommit, HeurRollback, Told, Forgot, Base, Pair, Cleared}
 use Rattle.tree_model.specs.Records.{has, has_case, is_prepared}
 use Rattle.tree_model.specs.NameLaws.{same_case-refl}
 use Rattle.tree_model.proofs.Equality.{case_equality}
@@ -128,7 +128,8 @@ names_prepared c (Collecting d ts) = refl
 names_prepared c (Prepare d ts) = refl
 names_prepared c (Commit d ts) = refl
 names_prepared c (Abort d ts) = refl
-names_prepared c (End d) = refl
+names_prepared c (End d rep) = refl
+names_prepared c (Cleared d) = refl
 names_prepared c (Committed b) = refl
 names_prepared c (RolledBack b) = refl
 names_prepared c (Direct b ws) = refl

@@ -4,7 +4,7 @@ use Rattle.tree_model.specs.declared.names.Case.{Case}
 use Rattle.tree_model.specs.declared.names.Outcome.{Outcome}
 use Rattle.tree_model.specs.declared.names.Outcome.TheVariants.{Committed as CommittedOutcome, Aborted as AbortedOutcome}
 use Rattle.tree_model.specs.declared.records.Record.{Record}
-use Rattle.tree_model.specs.declared.records.Record.TheVariants.{Opened, Collecting, Prepare, Commit, Abort, End, Prepared, Committed, RolledBack, Direct, HeurCommit, HeurRollback, Told, Forgot, Base, Pair}
+use Rattle.tree_model.specs.declared.records.Record.TheVariants.{Opened, Collecting, Prepare, Commit, Abort, End, Prepared, Committed, RolledBack, Direct, HeurCommit, HeurRollback, Told, Forgot, Base, Pair, Cleared}
 use Rattle.tree_model.specs.Records.{has, is_abort, is_collecting, is_commit, is_committed, is_decided, is_end, is_forgot, is_prepare, is_prepared, is_rolled_back}
 use Rattle.tree_model.specs.Nodes.{Role, AtRoot, Below, AtLeaf}
 use Rattle.tree_pairs.specs.readings.ReadingOf.{is_committing, is_promise, is_told_of}
@@ -79,7 +79,8 @@ kinds_after k (Collecting c ts) = record k { collecting = true }
 kinds_after k (Prepare c ts) = record k { prepare = true }
 kinds_after k (Commit c ts) = record k { commit = true }
 kinds_after k (Abort c ts) = record k { abort = true }
-kinds_after k (End c) = record k { ended = true }
+kinds_after k (End c rep) = record k { ended = true }
+kinds_after k (Cleared c) = k
 kinds_after k (Prepared b ws) = record no_kinds { prepared = true }
 kinds_after k (Committed b) = record k { committed = true }
 kinds_after k (RolledBack b) = record k { rolled_back = true }

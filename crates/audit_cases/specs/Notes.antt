@@ -9,7 +9,7 @@ use Rattle.tree_model.specs.declared.names.Kind.TheVariants.{Coordinator, Manage
 use Rattle.tree_model.specs.declared.names.Ticket.{Ticket}
 use Rattle.tree_model.specs.declared.records.Branch.TheVariants.{Case as CaseBranch}
 use Rattle.tree_model.specs.declared.records.Record.{Record}
-use Rattle.tree_model.specs.declared.records.Record.TheVariants.{Collecting, Prepare, Commit, Abort, End, Prepared}
+use Rattle.tree_model.specs.declared.records.Record.TheVariants.{Collecting, Prepare, Commit, Abort, End, Prepared, Cleared}
 use Rattle.tree_model.specs.declared.trees.TreeEntry.{TreeEntry}
 use Rattle.tree_model.specs.Nodes.{Place, Role, AtLeaf, role_by}
 use Rattle.tree_model.specs.Records.{cases_in, has_case, named_by, record_case}
@@ -30,7 +30,8 @@ is_coordinators (Collecting c ts) = true
 is_coordinators (Prepare c ts) = true
 is_coordinators (Commit c ts) = true
 is_coordinators (Abort c ts) = true
-is_coordinators (End c) = true
+is_coordinators (End c rep) = true
+is_coordinators (Cleared c) = true
 is_coordinators _ = false
 
 -- a record that may stand in the log of a process of this kind

@@ -73,7 +73,7 @@ impl Kinds {
             Record::Prepare(..) => self.prepare = true,
             Record::Commit(..) => self.commit = true,
             Record::Abort(..) => self.abort = true,
-            Record::End(_) => self.ended = true,
+            Record::End(..) => self.ended = true,
             Record::Prepared(..) => {
                 *self = Kinds::none();
                 self.prepared = true;
@@ -85,7 +85,11 @@ impl Kinds {
             Record::Told(_, Outcome::Committed) => self.told_commit = true,
             Record::Told(_, Outcome::Aborted) => self.told_abort = true,
             Record::Forgot(_) => self.forgot = true,
-            Record::Direct(..) | Record::Opened(_) | Record::Base(_) | Record::Pair(..) => (),
+            Record::Cleared(_)
+            | Record::Direct(..)
+            | Record::Opened(_)
+            | Record::Base(_)
+            | Record::Pair(..) => (),
         }
     }
 

@@ -17,7 +17,7 @@ use Rattle.tree_model.specs.LogNames.{in_log, parent_of}
 use Rattle.tree_model.specs.Nodes.{Written, entries_written, reaction_of}
 use Rattle.tree_model.specs.Standings.{CoordinatorView, unknown_view}
 use Rattle.tree_model.specs.declared.messages.Message.TheVariants.{Joined as JoinedMessage}
-use Rattle.tree_model.specs.CoordinatorRows.{Row, Seat as SeatRow, post, unknown_commit_by}
+use Rattle.tree_model.specs.CoordinatorRows.{Row, Seat as SeatRow, post, unknown_commit_by, unknown_abort_by}
 use Rattle.tree_model.specs.Reactions.{row_effect, sends_only}
 use Rattle.tree_model.specs.Views.{begin_effect}
 use Rattle.tree_model.specs.SameViews.{SameView, open_view}
@@ -26,7 +26,7 @@ use Rattle.live_table.specs.Tables.{AreApart, case_of, entry_at, live_value}
 use Rattle.live_table.proofs.Writes.{live_found}
 use Rattle.rec_log.specs.Sights.{Breaks, LogSight, LogState}
 use Rattle.core_model.specs.States.{CoreState, SameCore, logged, wrote}
-use Rattle.core_model.specs.Turns.{Says as SaysTurn, Takes as TakesTurn, reacted, seat_in, no_answer}
+use Rattle.core_model.specs.Turns.{Says as SaysTurn, Takes as TakesTurn, reacted, seat_in, no_answer, this_version}
 use Rattle.core_model.specs.Makes.{BreaksIn, Makes, NotMade, OpensCase, retired_by}
 use Rattle.core_model.proofs.Alike.{same_view}
 use Rattle.coord_table.specs.declared.held.Held.{Held}
@@ -408,11 +408,16 @@ unwritten s (Joined t) any = (refl, refl)
 unwritten s Prepare any = (refl, refl)
 unwritten s Commits any = by_presumption s.own.txn.presumption
   where
-    by_presumption : (p : Presumption) → ((unknown_commit_by s unknown_view p).written ≡ [])
-        × ((unknown_commit_by s unknown_view p).view ≡ unknown_view)
+    by_presumption : (p : Presumption) → ((unknown_commit_by this_version s unknown_view p).written ≡ [])
+        × ((unknown_commit_by this_version s unknown_view p).view ≡ unknown_view)
     by_presumption PresumeAbort = (refl, refl)
     by_presumption PresumeCommit = (refl, refl)
-unwritten s Aborts any = (refl, refl)
+unwritten s Aborts any = by_presumption s.own.txn.presumption
+  where
+    by_presumption : (p : Presumption) → ((unknown_abort_by this_version s unknown_view p).written ≡ [])
+        × ((unknown_abort_by this_version s unknown_view p).view ≡ unknown_view)
+    by_presumption PresumeAbort = (refl, refl)
+    by_presumption PresumeCommit = (refl, refl)
 unwritten s (Join q) any = absurd (cc)
 unwritten s (Work t op) any = absurd (cc)
 unwritten s Commit any = absurd (cc)

@@ -80,7 +80,7 @@ impl<L: LogStore> Coordinator<L> {
             Message::Yes(case) => self.hear_vote(*case, Vote::Yes),
             Message::No(case) => self.hear_vote(*case, Vote::No),
             Message::Read(case) => self.hear_vote(*case, Vote::Read),
-            Message::Ack(case, outcome) => self.hear_ack(*case, *outcome),
+            Message::Ack(case, outcome, _findings) => self.hear_ack(*case, *outcome),
             Message::Inquire(case) => self.hear_inquiry(*case),
             _ => Turn::Nothing,
         }

@@ -1,9 +1,10 @@
 //! A coordinator in one of its cases, and the messages that it sends from there.
 
 ghost use Rattle.std.specs.Prelude.{◌≡◌, ◌++◌, IfOk, List, OnOk};
-ghost use Rattle.tree_model.specs.CoordinatorRows.{abort_heard_above, acknowledges_abort, each, tells, tells_outcome, to_child, unknown_commit, up as up_of};
+ghost use Rattle.tree_model.specs.CoordinatorRows.{abort_heard_above, acknowledges_abort, each, tells, tells_outcome, to_child, unknown_abort, unknown_commit, up as up_of};
 ghost use Rattle.tree_model.specs.Reactions.{told_of};
 ghost use Rattle.tree_model.specs.Standings.{CoordinatorView};
+ghost use Rattle.core_model.specs.Turns.{this_version};
 ghost use Rattle.coord_effects.specs.Rows.{reason as reason_meant, seat as seat_meant};
 
 use core_model::one_message;
@@ -71,18 +72,48 @@ pub fn acknowledge_abort(alloc: Global, seat: Seat) -> Result<Envelopes, AllocEr
 {
     match seat.case.txn.presumption {
         Presumption::PresumeAbort => Ok(Sequence::new(alloc)),
-        Presumption::PresumeCommit => up(alloc, seat, Message::Ack(seat.case, Outcome::Aborted)),
+        Presumption::PresumeCommit => {
+            up(
+                alloc,
+                seat,
+                Message::Ack(seat.case, Outcome::Aborted, Sequence::new(alloc)),
+            )
+        }
     }
 }
 
 /// A commit under Presumed Abort is acknowledged; under Presumed Commit nothing is said.
 pub fn acknowledge_commit(alloc: Global, seat: Seat) -> Result<Envelopes, AllocError>
     ensures { IfOk result (λ messages. (view : CoordinatorView) → messages
-        ≡ (unknown_commit (seat_meant seat) view).messages) }
+        ≡ (unknown_commit this_version (seat_meant seat) view).messages) }
 {
     match seat.case.txn.presumption {
-        Presumption::PresumeAbort => up(alloc, seat, Message::Ack(seat.case, Outcome::Committed)),
+        Presumption::PresumeAbort => {
+            up(
+                alloc,
+                seat,
+                Message::Ack(seat.case, Outcome::Committed, Sequence::new(alloc)),
+            )
+        }
         Presumption::PresumeCommit => Ok(Sequence::new(alloc)),
+    }
+}
+
+/// An abort of a case of which nothing is known is acknowledged under Presumed Commit; under Presumed Abort
+/// nothing is said.
+pub fn acknowledge_unknown_abort(alloc: Global, seat: Seat) -> Result<Envelopes, AllocError>
+    ensures { IfOk result (λ messages. (view : CoordinatorView) → messages
+        ≡ (unknown_abort this_version (seat_meant seat) view).messages) }
+{
+    match seat.case.txn.presumption {
+        Presumption::PresumeAbort => Ok(Sequence::new(alloc)),
+        Presumption::PresumeCommit => {
+            up(
+                alloc,
+                seat,
+                Message::Ack(seat.case, Outcome::Aborted, Sequence::new(alloc)),
+            )
+        }
     }
 }
 

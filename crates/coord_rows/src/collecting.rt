@@ -141,7 +141,7 @@ fn collecting_read_only(alloc: Global, seat: Seat, live: &mut Live) -> Result<Ro
             Ok(RowEffect::tells(alloc, told, messages))
         }
         Presumption::PresumeCommit => {
-            let written = Written::plain(Record::End(seat.case));
+            let written = Written::plain(Record::End(seat.case, None));
             forgets_behind(alloc, seat, &written, told, messages, live)
         }
     }

@@ -1,6 +1,6 @@
 //! Rows of the reaction table for a case that was decided, and for one of which nothing is known (R*).
 
-ghost use Rattle.std.specs.Prelude.{◌≡◌, IfOk, OnErr};
+ghost use Rattle.std.specs.Prelude.{◌≡◌, [], IfOk, OnErr};
 ghost use Rattle.tree_model.specs.Standings.{CoordinatorView};
 ghost use Rattle.tree_model.specs.CoordinatorRows.{
   aborting_abort as abort_again_row,
@@ -19,7 +19,7 @@ ghost use Rattle.coord_effects.specs.Rows.{Does, seat as seat_meant};
 
 use coord_case::Live;
 use coord_effects::{
-    RowEffect, Seat, Written, acknowledge_abort, acknowledge_commit, forgets_behind,
+    RowEffect, Seat, Written, acknowledge_commit, acknowledge_unknown_abort, forgets_behind,
     outcome_message, up,
 };
 use inquire_core::presumed;
@@ -35,7 +35,7 @@ pub fn decided_ack(
     live: &mut Live,
 ) -> Result<RowEffect, AllocError>
     ensures ok { IfOk result (λ effect. (outcome : Outcome) → Does seat
-        (ack_row this_version (seat_meant seat) outcome ticket live.old) effect live.new) }
+        (ack_row this_version (seat_meant seat) outcome ticket [] live.old) effect live.new) }
     ensures err { OnErr result (live.new ≡ live.old) }
 {
     if !live.owes(&ticket) {
@@ -45,7 +45,7 @@ pub fn decided_ack(
         live.acknowledge(&ticket);
         return Ok(RowEffect::quiet(alloc));
     }
-    let written = Written::plain(Record::End(seat.case));
+    let written = Written::plain(Record::End(seat.case, None));
     forgets_behind(alloc, seat, &written, None, Sequence::new(alloc), live)
 }
 
@@ -82,7 +82,11 @@ pub fn committing_commit(alloc: Global, seat: Seat) -> Result<RowEffect, AllocEr
     ensures { IfOk result (λ effect. (view : CoordinatorView)
         → Does seat (commit_again_row this_version (seat_meant seat) view) effect view) }
 {
-    let messages = up(alloc, seat, Message::Ack(seat.case, Outcome::Committed))?;
+    let messages = up(
+        alloc,
+        seat,
+        Message::Ack(seat.case, Outcome::Committed, Sequence::new(alloc)),
+    )?;
     Ok(RowEffect::sends(alloc, messages))
 }
 
@@ -91,7 +95,11 @@ pub fn aborting_abort(alloc: Global, seat: Seat) -> Result<RowEffect, AllocError
     ensures { IfOk result (λ effect. (view : CoordinatorView)
         → Does seat (abort_again_row this_version (seat_meant seat) view) effect view) }
 {
-    let messages = up(alloc, seat, Message::Ack(seat.case, Outcome::Aborted))?;
+    let messages = up(
+        alloc,
+        seat,
+        Message::Ack(seat.case, Outcome::Aborted, Sequence::new(alloc)),
+    )?;
     Ok(RowEffect::sends(alloc, messages))
 }
 
@@ -116,7 +124,7 @@ pub fn unknown_prepare(alloc: Global, seat: Seat) -> Result<RowEffect, AllocErro
 /// COMMIT of a case of which nothing is known: acknowledged under Presumed Abort, else nothing.
 pub fn unknown_commit(alloc: Global, seat: Seat) -> Result<RowEffect, AllocError>
     ensures { IfOk result (λ effect. (view : CoordinatorView)
-        → Does seat (commit_row (seat_meant seat) view) effect view) }
+        → Does seat (commit_row this_version (seat_meant seat) view) effect view) }
 {
     let messages = acknowledge_commit(alloc, seat)?;
     Ok(RowEffect::sends(alloc, messages))
@@ -125,9 +133,9 @@ pub fn unknown_commit(alloc: Global, seat: Seat) -> Result<RowEffect, AllocError
 /// ABORT of a case of which nothing is known: acknowledged under Presumed Commit, else nothing.
 pub fn unknown_abort(alloc: Global, seat: Seat) -> Result<RowEffect, AllocError>
     ensures { IfOk result (λ effect. (view : CoordinatorView)
-        → Does seat (abort_row (seat_meant seat) view) effect view) }
+        → Does seat (abort_row this_version (seat_meant seat) view) effect view) }
 {
-    let messages = acknowledge_abort(alloc, seat)?;
+    let messages = acknowledge_unknown_abort(alloc, seat)?;
     Ok(RowEffect::sends(alloc, messages))
 }
 

@@ -1,5 +1,5 @@
 -- A case whose ticket stays active takes children and work behind the row, too.
-use Rattle.std.proofs.Common.{◌≡◌, Bool, true, false, refl, subst, sym, if◌then◌else◌}
+use Rattle.std.proofs.Common.{◌≡◌, Bool, true, false, refl, subst, sym, if◌then◌else◌, []}
 use Rattle.tree_model.specs.declared.names.Outcome.{Outcome}
 use Rattle.tree_model.specs.declared.names.Outcome.TheVariants.{Committed, Aborted}
 use Rattle.tree_model.specs.declared.standings.Standing.TheVariants.{Active}
@@ -19,7 +19,7 @@ either true r q this that = this
 either false r q this that = that
 
 acked : (s : Seat) (t : Ticket) (o : Outcome) (v : CoordinatorView) → v.standing ≡ Active
-    → (on_ack this_version s t o v Active).view.standing ≡ Active
+    → (on_ack this_version s t o [] v Active).view.standing ≡ Active
 acked s t Committed v active = active
 acked s t Aborted v active = active
 
@@ -37,7 +37,7 @@ stays_active s (Joined t) v active not_retiring below =
     subst (λ at. (on_joined t v at).view.standing ≡ Active) (sym active) (joined t v active)
 stays_active s (Vote t w) v active not_retiring below = rw active refl
 stays_active s (Ack t o) v active not_retiring below =
-    subst (λ at. (on_ack this_version s t o v at).view.standing ≡ Active) (sym active) (acked s t o v active)
+    subst (λ at. (on_ack this_version s t o [] v at).view.standing ≡ Active) (sym active) (acked s t o v active)
 stays_active s (Inquire t) v active not_retiring below = rw active refl
 stays_active s Commits v active not_retiring below = rw active refl
 stays_active s Commit v active not_retiring below = absurd (cc)

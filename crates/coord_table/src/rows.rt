@@ -1,6 +1,6 @@
 //! The row that an input meets where a case stands (R*).
 
-ghost use Rattle.std.specs.Prelude.{◌≡◌, true, IfOk, OnErr};
+ghost use Rattle.std.specs.Prelude.{◌≡◌, true, [], IfOk, OnErr};
 ghost use Rattle.tree_model.specs.Records.{in_list as is_in};
 ghost use Rattle.tree_model.specs.CoordinatorRows.{
   on_ack as ack_row,
@@ -70,7 +70,7 @@ fn on_ack(
     live: &mut Live,
 ) -> Result<RowEffect, AllocError>
     ensures ok { IfOk result (λ effect. Does seat
-        (ack_row this_version (seat_meant seat) ticket outcome live.old live.old.standing) effect live.new) }
+        (ack_row this_version (seat_meant seat) ticket outcome [] live.old live.old.standing) effect live.new) }
     ensures err { OnErr result (live.new ≡ live.old) }
 {
     match (outcome, live.standing()) {

@@ -42,7 +42,7 @@ module _ (me : ProcessId) (boot : ℕ) (c : Case) where
   quiet_message m (Yes d) q = quiet_hears c m (Yes d) q
   quiet_message m (No d) q = quiet_hears c m (No d) q
   quiet_message m (Read d) q = quiet_hears c m (Read d) q
-  quiet_message m (Ack d o) q = quiet_hears c m (Ack d o) q
+  quiet_message m (Ack d o fs) q = quiet_hears c m (Ack d o fs) q
   quiet_message m (Work d k op) q = q
   quiet_message m (Commit d) q = q
   quiet_message m (Inquire d) q = q

@@ -32,7 +32,7 @@ module _ (me : ProcessId) (boot : ℕ) where
   once_hears s (No d) once = once
   once_hears s (Read d) once = once
   once_hears s (Commit d) once = once
-  once_hears s (Ack d o) once = once
+  once_hears s (Ack d o fs) once = once
   once_hears s (Inquire d) once = once
 
   once_heard : (s : Self) (i : Input) → IsOnce s.active → IsOnce (issuer_self me boot true s i).active

@@ -29,10 +29,10 @@ use Rattle.tree_model.specs.Names.{child_case, root_case, same_case, same_txn}
 use Rattle.tree_model.specs.NameLaws.{same_case-refl, same_case_tells, same_txn-refl}
 use Rattle.tree_model.specs.Records.{boot_of, has, in_list, none_of, owing_by, promised_by}
 use Rattle.tree_model.specs.Restarts.{is_known}
-use Rattle.tree_model.specs.Nodes.{Below, DataAnswer, Heard, Node, Place, after, entries_written, is_child, is_leaf, kept, role_of}
+use Rattle.tree_model.specs.Nodes.{Below, DataAnswer, Heard, Node, Place, after, entries_written, is_child, is_leaf, kept, role_of, Version}
 use Rattle.tree_model.specs.Memory.{Asked, Idle, Memory, Open, Over, Phase, accepts_ticket, active_ticket, asks_votes, closes, gives, has_child, hears_child, is_counted, joins, memory_of, next_ticket, opens_case, remembers, retires, sends_work, takes_ack, takes_vote, ticket_of_child, undecided_of, with_vote}
 use Rattle.tree_model.specs.Standings.{CoordinatorView, case_of_child, coordinator_standing, coordinator_view, still_owed, view_at as view_by}
-use Rattle.tree_model.specs.CoordinatorRows.{Row, Seat, ByAbort, active_abort, active_commit, active_join, active_joined, active_work, collecting_abort, collecting_vote, decided_ack, on_abort, on_ack, on_commit, on_inquiry, on_joined, on_prepare, on_vote, other_tickets, post, prepared_ask, quiet, sends, unknown_commit_by}
+use Rattle.tree_model.specs.CoordinatorRows.{Row, Seat, ByAbort, active_abort, active_commit, active_join, active_joined, active_work, collecting_abort, collecting_vote, decided_ack, on_abort, on_ack, on_commit, on_inquiry, on_joined, on_prepare, on_vote, other_tickets, post, prepared_ask, quiet, sends, unknown_commit_by, unknown_abort_by}
 use Rattle.tree_model.specs.Reactions.{is_passed_over, sends_only}
 use Rattle.tree_model.specs.Views.{vote_message}
 use Rattle.tree_model.specs.SameViews.{SameRow, SameView, open_view}
@@ -61,6 +61,7 @@ use Rattle.core_law.proofs.Managers.{Follows, done_is, same_view-trans}
 use Rattle.core_law.proofs.OwnRows.{active_abort_of, active_commit_of, collecting_abort_of, on_abort_of, on_ack_of, on_commit_of, on_joined_of, on_vote_of, work_of}
 use Rattle.core_law.proofs.Records.{Holds, NoBoot, boot-after, held_after}
 use Rattle.core_law.proofs.Tickets.{found_fresh, found_more, found_without, one_case, unless_of}
+use Rattle.tree_model.specs.declared.messages.Finding.{Finding}
 
 apart_from : (x y : Standing) → (view : Standing) → view ≡ x → view ≡ y → x ≡ y
 apart_from x y view e f = sym e ∙ f
@@ -87,17 +88,22 @@ closes_keeps m Open = (refl, refl, refl, refl)
 closes_keeps m Asked = (refl, refl, refl, refl)
 closes_keeps m Over = (refl, refl, refl, refl)
 
-noted : (m : Memory) (t : Ticket) (o : Outcome) (ph : Phase) → (ph ≡ Open → ⊥) → (ph ≡ Asked → ⊥)
-    → takes_ack m t o ph ≡ acked m t o
-noted m t o Open a b = absurd (a refl)
-noted m t o Asked a b = absurd (b refl)
-noted m t o Idle a b = refl
-noted m t o Over a b = refl
+noted : (m : Memory) (t : Ticket) (o : Outcome) (fs : List Finding) (ph : Phase) → (ph ≡ Open → ⊥)
+    → (ph ≡ Asked → ⊥) → takes_ack m t o fs ph ≡ acked m t o fs
+noted m t o fs Open a b = absurd (a refl)
+noted m t o fs Asked a b = absurd (b refl)
+noted m t o fs Idle a b = refl
+noted m t o fs Over a b = refl
 
-quiet_commit : (s : Seat) (v : CoordinatorView) (q : Presumption)
-    → ((unknown_commit_by s v q).written ≡ []) × ((unknown_commit_by s v q).view ≡ v)
-quiet_commit s v PresumeAbort = (refl, refl)
-quiet_commit s v PresumeCommit = (refl, refl)
+quiet_commit : (ver : Version) (s : Seat) (v : CoordinatorView) (q : Presumption)
+    → ((unknown_commit_by ver s v q).written ≡ []) × ((unknown_commit_by ver s v q).view ≡ v)
+quiet_commit ver s v PresumeAbort = (refl, refl)
+quiet_commit ver s v PresumeCommit = (refl, refl)
+
+quiet_abort : (ver : Version) (s : Seat) (v : CoordinatorView) (q : Presumption)
+    → ((unknown_abort_by ver s v q).written ≡ []) × ((unknown_abort_by ver s v q).view ≡ v)
+quiet_abort ver s v PresumeAbort = (refl, refl)
+quiet_abort ver s v PresumeCommit = (refl, refl)
 
 module _ (n : Node) (s s' : CoreState) (me p : ProcessId) (tree : List TreeEntry) (a : DataAnswer)
     (fits : CascadeFits (cascaded_place me p tree) n)
@@ -465,7 +471,7 @@ module _ (n : Node) (s s' : CoreState) (me p : ProcessId) (tree : List TreeEntry
         (all_still m.acks Committed (promised_by c rs) (λ t e. fits.none_early c t Committed is e))))
         (λ d apart. refl)
     commit_at k c standing.Unknown is =
-        let quiet = quiet_commit (seat c) (view c) c.txn.presumption in
+        let quiet = quiet_commit this_version (seat c) (view c) c.txn.presumption in
         commit_rests k c standing.Unknown quiet.0 quiet.1
     commit_at k c standing.Committing is = commit_rests k c standing.Committing refl refl
     commit_at k c standing.Active is = commit_rests k c standing.Active refl refl
@@ -566,7 +572,9 @@ module _ (n : Node) (s s' : CoreState) (me p : ProcessId) (tree : List TreeEntry
         (none_of (promised_by c rs)) refl
         (all_still m.acks Aborted (promised_by c rs) (λ t e. fits.none_early c t Aborted is e))))
         (λ d apart. abort_keeps k c d apart)
-    abort_to k c standing.Unknown is = abort_rests k c standing.Unknown is (λ e. cc) (λ e. cc) refl refl
+    abort_to k c standing.Unknown is =
+        let quiet = quiet_abort this_version (seat c) (view c) c.txn.presumption in
+        abort_rests k c standing.Unknown is (λ e. cc) (λ e. cc) quiet.0 quiet.1
     abort_to k c standing.Committing is = abort_rests k c standing.Committing is (λ e. cc) (λ e. cc) refl refl
     abort_to k c standing.Aborting is = abort_rests k c standing.Aborting is (λ e. cc) (λ e. cc) refl refl
     abort_to k c standing.Heuristic is = abort_rests k c standing.Heuristic is (λ e. cc) (λ e. cc) refl refl
@@ -754,151 +762,151 @@ module _ (n : Node) (s s' : CoreState) (me p : ProcessId) (tree : List TreeEntry
 
     -- Acknowledgements.
 
-    ack_still : (k : ℕ) (o : Outcome) (x : Txn) (t : Ticket) (d : Case)
+    ack_still : (k : ℕ) (o : Outcome) (fs : List Finding) (x : Txn) (t : Ticket) (d : Case)
         → IsStranger place n d (fits.alike d) x t
-        → Still (MessageInput k (Ack (child_case x t) o)) d
-    ack_still k o x t d stranger = ack_keeps place n d (fits.alike d) x t o stranger
+        → Still (MessageInput k (Ack (child_case x t) o fs)) d
+    ack_still k o fs x t d stranger = ack_keeps place n d (fits.alike d) x t o fs stranger
 
-    ack_own : (k : ℕ) (o : Outcome) (t : Ticket) (c : Case)
-        → remembers me (Below p) boot c (memory c) (heard (MessageInput k (Ack (child_case c.txn t) o)))
-        ≡ takes_ack (memory c) t o (memory c).phase
-    ack_own k o t c = ap (λ b. if b then takes_ack (memory c) t o (memory c).phase
+    ack_own : (k : ℕ) (o : Outcome) (fs : List Finding) (t : Ticket) (c : Case)
+        → remembers me (Below p) boot c (memory c) (heard (MessageInput k (Ack (child_case c.txn t) o fs)))
+        ≡ takes_ack (memory c) t o fs (memory c).phase
+    ack_own k o fs t c = ap (λ b. if b then takes_ack (memory c) t o fs (memory c).phase
         else memory c) (same_txn-refl c.txn)
 
-    ack_others : (k : ℕ) (o : Outcome) (t : Ticket) (c : Case)
+    ack_others : (k : ℕ) (o : Outcome) (fs : List Finding) (t : Ticket) (c : Case)
         → Finds old (Some (c.txn, t)) (Some c) → (d : Case)
         → same_case c d ≡ false
-        → Still (MessageInput k (Ack (child_case c.txn t) o)) d
-    ack_others k o t c finds d apart = ack_still k o c.txn t d (strangers c.txn t (Some c) finds d apart)
+        → Still (MessageInput k (Ack (child_case c.txn t) o fs)) d
+    ack_others k o fs t c finds d apart = ack_still k o fs c.txn t d (strangers c.txn t (Some c) finds d apart)
 
-    same_ack : (k : ℕ) (o : Outcome) (e : Case) → Same (MessageInput k (Ack e o))
-    same_ack k o e = same (MessageInput k (Ack e o)) (λ g. refl) (λ d t. refl)
+    same_ack : (k : ℕ) (o : Outcome) (fs : List Finding) (e : Case) → Same (MessageInput k (Ack e o fs))
+    same_ack k o fs e = same (MessageInput k (Ack e o fs)) (λ g. refl) (λ d t. refl)
 
     -- an acknowledgement that is noted
-    ack_noted : (k : ℕ) (o : Outcome) (t : Ticket) (c : Case)
+    ack_noted : (k : ℕ) (o : Outcome) (fs : List Finding) (t : Ticket) (c : Case)
         → Finds old (Some (c.txn, t)) (Some c) → (st : Standing)
         → (view c).standing ≡ st
         → (st ≡ standing.Active → ⊥) → (st ≡ standing.Collecting → ⊥)
-        → (f : CoordinatorView → Row) → ((v : CoordinatorView) → on_ack this_version (seat c) t o v st ≡ f v)
-        → read (rs ++ entries_written (f (view_by st rs c (memory c))).written) c (acked (memory c) t o)
+        → (f : CoordinatorView → Row) → ((v : CoordinatorView) → on_ack this_version (seat c) t o [] v st ≡ f v)
+        → read (rs ++ entries_written (f (view_by st rs c (memory c))).written) c (acked (memory c) t o fs)
         ≡ (f (view_by st rs c (memory c))).view
-        → Leads (MessageInput k (Ack (child_case c.txn t) o))
-        (Takes c (on_ack this_version (seat c) t o (s.view_of c) st))
-    ack_noted k o t c finds st is shut silent f so reads =
+        → Leads (MessageInput k (Ack (child_case c.txn t) o fs))
+        (Takes c (on_ack this_version (seat c) t o [] (s.view_of c) st))
+    ack_noted k o fs t c finds st is shut silent f so reads =
         let m = memory c in
-        takes (MessageInput k (Ack (child_case c.txn t) o)) c _ (on_ack this_version (seat c) t o (view c) st)
-        (on_ack-same (s.view_of c) (view c) (shows c) this_version (seat c) t o st)
-        (on_ack_of (seat c) (view c) this_version t o st)
-        (same_ack k o (child_case c.txn t)) (acked m t o)
-        (ack_own k o t c
-        ∙ noted m t o m.phase (not_open c st is shut m.phase refl) (not_asked c st is silent m.phase refl))
-        (subst (λ (r : Row). read (rs ++ entries_written r.written) c (acked m t o)
+        takes (MessageInput k (Ack (child_case c.txn t) o fs)) c _ (on_ack this_version (seat c) t o [] (view c) st)
+        (on_ack-same (s.view_of c) (view c) (shows c) this_version (seat c) t o [] st)
+        (on_ack_of (seat c) (view c) this_version t o [] st)
+        (same_ack k o fs (child_case c.txn t)) (acked m t o fs)
+        (ack_own k o fs t c
+        ∙ noted m t o fs m.phase (not_open c st is shut m.phase refl) (not_asked c st is silent m.phase refl))
+        (subst (λ (r : Row). read (rs ++ entries_written r.written) c (acked m t o fs)
         ≡ r.view) (sym (so (view c)))
-        (own_by c st is f (acked m t o) reads))
-        (ack_others k o t c finds)
+        (own_by c st is f (acked m t o fs) reads))
+        (ack_others k o fs t c finds)
 
     -- one that comes while children or votes can come
-    ack_rests : (k : ℕ) (o : Outcome) (t : Ticket) (c : Case)
+    ack_rests : (k : ℕ) (o : Outcome) (fs : List Finding) (t : Ticket) (c : Case)
         → Finds old (Some (c.txn, t)) (Some c) → (st : Standing)
-        → takes_ack (memory c) t o (memory c).phase ≡ memory c
-        → (on_ack this_version (seat c) t o (view c) st).written ≡ []
-        → (on_ack this_version (seat c) t o (view c) st).view ≡ view c
-        → Leads (MessageInput k (Ack (child_case c.txn t) o))
-        (Takes c (on_ack this_version (seat c) t o (s.view_of c) st))
-    ack_rests k o t c finds st unheard none shown =
-        rests (MessageInput k (Ack (child_case c.txn t) o)) c _ (on_ack this_version (seat c) t o (view c) st)
-        (on_ack-same (s.view_of c) (view c) (shows c) this_version (seat c) t o st) none shown
-        (same_ack k o (child_case c.txn t))
+        → takes_ack (memory c) t o fs (memory c).phase ≡ memory c
+        → (on_ack this_version (seat c) t o [] (view c) st).written ≡ []
+        → (on_ack this_version (seat c) t o [] (view c) st).view ≡ view c
+        → Leads (MessageInput k (Ack (child_case c.txn t) o fs))
+        (Takes c (on_ack this_version (seat c) t o [] (s.view_of c) st))
+    ack_rests k o fs t c finds st unheard none shown =
+        rests (MessageInput k (Ack (child_case c.txn t) o fs)) c _ (on_ack this_version (seat c) t o [] (view c) st)
+        (on_ack-same (s.view_of c) (view c) (shows c) this_version (seat c) t o [] st) none shown
+        (same_ack k o fs (child_case c.txn t))
         keeps
       where
-        keeps : (d : Case) → Still (MessageInput k (Ack (child_case c.txn t) o)) d
+        keeps : (d : Case) → Still (MessageInput k (Ack (child_case c.txn t) o fs)) d
         keeps d = by_same (same_case c d) refl
           where
-            by_same : (b : Bool) → same_case c d ≡ b → Still (MessageInput k (Ack (child_case c.txn t) o)) d
-            by_same false other = ack_others k o t c finds d other
+            by_same : (b : Bool) → same_case c d ≡ b → Still (MessageInput k (Ack (child_case c.txn t) o fs)) d
+            by_same false other = ack_others k o fs t c finds d other
             by_same true one =
-                subst (λ e. Still (MessageInput k (Ack (child_case c.txn t) o)) e) (one_case c d one)
-                (ap (read rs c) (ack_own k o t c ∙ unheard))
+                subst (λ e. Still (MessageInput k (Ack (child_case c.txn t) o fs)) e) (one_case c d one)
+                (ap (read rs c) (ack_own k o fs t c ∙ unheard))
 
     -- one that comes while its case is Prepared is passed over
-    passed : (k : ℕ) (o : Outcome) (t : Ticket) (c : Case) → Finds old (Some (c.txn, t)) (Some c)
+    passed : (k : ℕ) (o : Outcome) (fs : List Finding) (t : Ticket) (c : Case) → Finds old (Some (c.txn, t)) (Some c)
         → (view c).standing ≡ standing.Prepared
-        → is_passed_over place n (MessageInput k (Ack (child_case c.txn t) o)) ≡ true
-    passed k o t c finds is =
+        → is_passed_over place n (MessageInput k (Ack (child_case c.txn t) o fs)) ≡ true
+    passed k o fs t c finds is =
         let found : case_of_child place n c.txn t ≡ Some c =
         found_case place n fits.children c.txn t c (fits.children.listed c (ap is_known is))
         (found_belongs place n fits.children old shows c.txn t c finds) in
         rw (found, is, runs) refl
 
     ack_quiet : (o : Outcome) (t : Ticket) (c : Case) (v : CoordinatorView)
-        → (on_ack this_version (seat c) t o v standing.Active ≡ quiet v)
-        × (on_ack this_version (seat c) t o v standing.Collecting ≡ quiet v)
+        → (on_ack this_version (seat c) t o [] v standing.Active ≡ quiet v)
+        × (on_ack this_version (seat c) t o [] v standing.Collecting ≡ quiet v)
     ack_quiet Committed t c v = (refl, refl)
     ack_quiet Aborted t c v = (refl, refl)
 
-    ack_to : (k : ℕ) (o : Outcome) (t : Ticket) (c : Case) → Finds old (Some (c.txn, t)) (Some c)
-        → is_passed_over place n (MessageInput k (Ack (child_case c.txn t) o)) ≡ false → (st : Standing)
+    ack_to : (k : ℕ) (o : Outcome) (fs : List Finding) (t : Ticket) (c : Case) → Finds old (Some (c.txn, t)) (Some c)
+        → is_passed_over place n (MessageInput k (Ack (child_case c.txn t) o fs)) ≡ false → (st : Standing)
         → (view c).standing ≡ st
-        → Leads (MessageInput k (Ack (child_case c.txn t) o))
-        (Takes c (on_ack this_version (seat c) t o (s.view_of c) st))
-    ack_to k Committed t c finds late standing.Committing is =
+        → Leads (MessageInput k (Ack (child_case c.txn t) o fs))
+        (Takes c (on_ack this_version (seat c) t o [] (s.view_of c) st))
+    ack_to k Committed fs t c finds late standing.Committing is =
         let m = memory c in
-        ack_noted k Committed t c finds standing.Committing is (λ e. cc) (λ e. cc)
-        (decided_ack this_version (seat c) Committed t) (λ v. refl)
-        (acked_commit me c c.txn.presumption t rs m (in_list (still_owed m.acks Committed (owing_by c rs)) t)
+        ack_noted k Committed fs t c finds standing.Committing is (λ e. cc) (λ e. cc)
+        (decided_ack this_version (seat c) Committed t []) (λ v. refl)
+        (acked_commit me c c.txn.presumption t rs m fs [] (in_list (still_owed m.acks Committed (owing_by c rs)) t)
         (none_of (other_tickets t (still_owed m.acks Committed (owing_by c rs))))
         (stands_as c standing.Committing is)
         refl refl)
-    ack_to k Aborted t c finds late standing.Committing is =
-        ack_noted k Aborted t c finds standing.Committing is (λ e. cc) (λ e. cc) quiet (λ v. refl)
-        (refused_commit c c.txn.presumption t rs (memory c) (stands_as c standing.Committing is))
-    ack_to k Aborted t c finds late standing.Aborting is =
+    ack_to k Aborted fs t c finds late standing.Committing is =
+        ack_noted k Aborted fs t c finds standing.Committing is (λ e. cc) (λ e. cc) quiet (λ v. refl)
+        (refused_commit c c.txn.presumption t rs (memory c) fs (stands_as c standing.Committing is))
+    ack_to k Aborted fs t c finds late standing.Aborting is =
         let m = memory c in
-        ack_noted k Aborted t c finds standing.Aborting is (λ e. cc) (λ e. cc)
-        (decided_ack this_version (seat c) Aborted t) (λ v. refl)
-        (acked_abort me c c.txn.presumption t rs m (in_list (still_owed m.acks Aborted (owing_by c rs)) t)
+        ack_noted k Aborted fs t c finds standing.Aborting is (λ e. cc) (λ e. cc)
+        (decided_ack this_version (seat c) Aborted t []) (λ v. refl)
+        (acked_abort me c c.txn.presumption t rs m fs [] (in_list (still_owed m.acks Aborted (owing_by c rs)) t)
         (none_of (other_tickets t (still_owed m.acks Aborted (owing_by c rs))))
         (stands_as c standing.Aborting is) refl
         refl)
-    ack_to k Committed t c finds late standing.Aborting is =
-        ack_noted k Committed t c finds standing.Aborting is (λ e. cc) (λ e. cc) quiet (λ v. refl)
-        (refused_abort c c.txn.presumption t rs (memory c) (stands_as c standing.Aborting is))
-    ack_to k o t c finds late standing.Active is =
+    ack_to k Committed fs t c finds late standing.Aborting is =
+        ack_noted k Committed fs t c finds standing.Aborting is (λ e. cc) (λ e. cc) quiet (λ v. refl)
+        (refused_abort c c.txn.presumption t rs (memory c) fs (stands_as c standing.Aborting is))
+    ack_to k o fs t c finds late standing.Active is =
         let m = memory c in
         let opened : m.phase ≡ Open = phase_active c.txn.presumption m.phase
         (active_facts _ _ _ _ _ _ _ (stands_as c standing.Active is)).heard in
         let row = (ack_quiet o t c (view c)).0 in
-        ack_rests k o t c finds standing.Active (ap (λ ph. takes_ack m t o ph) opened)
+        ack_rests k o fs t c finds standing.Active (ap (λ ph. takes_ack m t o fs ph) opened)
         (ap (λ (r : Row). r.written) row)
         (ap (λ (r : Row). r.view) row)
-    ack_to k o t c finds late standing.Collecting is =
+    ack_to k o fs t c finds late standing.Collecting is =
         let m = memory c in
         let row = (ack_quiet o t c (view c)).1 in
-        ack_rests k o t c finds standing.Collecting
-        (ap (λ ph. takes_ack m t o ph) ((fits.alike c).collecting_is_asked is))
+        ack_rests k o fs t c finds standing.Collecting
+        (ap (λ ph. takes_ack m t o fs ph) ((fits.alike c).collecting_is_asked is))
         (ap (λ (r : Row). r.written) row) (ap (λ (r : Row). r.view) row)
-    ack_to k o t c finds late standing.Prepared is =
-        let over = passed k o t c finds is in absurd (let clash : true ≡ false = sym over ∙ late in cc)
-    ack_to k o t c finds late standing.Unknown is =
+    ack_to k o fs t c finds late standing.Prepared is =
+        let over = passed k o fs t c finds is in absurd (let clash : true ≡ false = sym over ∙ late in cc)
+    ack_to k o fs t c finds late standing.Unknown is =
         let known = (found_known place n fits.children old shows c.txn t c finds).1 in
         absurd (let clash : false ≡ true = ap is_known (sym is) ∙ known in cc)
-    ack_to k o t c finds late standing.Heuristic is =
+    ack_to k o fs t c finds late standing.Heuristic is =
         absurd (never_heuristic _ _ _ _ _ _ _ (phase_standing_known c.txn.presumption (memory c).phase)
         (stands_as c standing.Heuristic is))
 
-    ack_at : (k : ℕ) (o : Outcome) (x : Txn) (t : Ticket) (found : Option Case)
+    ack_at : (k : ℕ) (o : Outcome) (fs : List Finding) (x : Txn) (t : Ticket) (found : Option Case)
         → Finds old (Some (x, t)) found
-        → is_passed_over place n (MessageInput k (Ack (child_case x t) o)) ≡ false
-        → Leads (MessageInput k (Ack (child_case x t) o)) (ack_turn old o t found)
-    ack_at k o x t None finds late =
-        says (MessageInput k (Ack (child_case x t) o)) [] (λ g. refl) (λ d u. refl)
-        (λ d. ack_still k o x t d (strangers x t None finds d tt))
-    ack_at k o x t (Some c) finds late =
+        → is_passed_over place n (MessageInput k (Ack (child_case x t) o fs)) ≡ false
+        → Leads (MessageInput k (Ack (child_case x t) o fs)) (ack_turn old o t found)
+    ack_at k o fs x t None finds late =
+        says (MessageInput k (Ack (child_case x t) o fs)) [] (λ g. refl) (λ d u. refl)
+        (λ d. ack_still k o fs x t d (strangers x t None finds d tt))
+    ack_at k o fs x t (Some c) finds late =
         subst (λ y. Finds old (Some (y, t)) (Some c)
-        → is_passed_over place n (MessageInput k (Ack (child_case y t) o)) ≡ false
-        → Leads (MessageInput k (Ack (child_case y t) o)) (ack_turn old o t (Some c)))
+        → is_passed_over place n (MessageInput k (Ack (child_case y t) o fs)) ≡ false
+        → Leads (MessageInput k (Ack (child_case y t) o fs)) (ack_turn old o t (Some c)))
         (found_known place n fits.children old shows x t c finds).0
-        (λ f l. ack_to k o t c f l (s.view_of c).standing (sym (shows c).standing)) finds late
+        (λ f l. ack_to k o fs t c f l (s.view_of c).standing (sym (shows c).standing)) finds late
 
     -- Inquiries.
 
@@ -946,13 +954,13 @@ module _ (n : Node) (s s' : CoreState) (me p : ProcessId) (tree : List TreeEntry
         says (MessageInput k (vote_message w (root_case x))) [] (ungiven k w (root_case x))
         (unretired k w (root_case x)) (vote_nameless k w x)
 
-    ack_by : (k : ℕ) (found : Option Case) (o : Outcome) (x : Txn) (t : Option Ticket) → let d : Case =
-        record { txn = x; ticket = t } in
-        Finds old (asked_of d) found → is_passed_over place n (MessageInput k (Ack d o)) ≡ false
-        → Leads (MessageInput k (Ack d o)) (child_turn d (λ t. ack_turn old o t found))
-    ack_by k found o x (Some t) finds late = ack_at k o x t found finds late
-    ack_by k found o x None finds late =
-        says (MessageInput k (Ack (root_case x) o)) [] (λ g. refl) (λ d t. refl)
+    ack_by : (k : ℕ) (found : Option Case) (o : Outcome) (fs : List Finding) (x : Txn) (t : Option Ticket)
+        → let d : Case = record { txn = x; ticket = t } in
+        Finds old (asked_of d) found → is_passed_over place n (MessageInput k (Ack d o fs)) ≡ false
+        → Leads (MessageInput k (Ack d o fs)) (child_turn d (λ t. ack_turn old o t found))
+    ack_by k found o fs x (Some t) finds late = ack_at k o fs x t found finds late
+    ack_by k found o fs x None finds late =
+        says (MessageInput k (Ack (root_case x) o fs)) [] (λ g. refl) (λ d t. refl)
         (λ d. nameless (same_txn x d.txn) d)
 
     inquiry_by : (k : ℕ) (found : Option Case) (x : Txn) (t : Option Ticket) → let d : Case =
@@ -1117,7 +1125,7 @@ module _ (n : Node) (s s' : CoreState) (me p : ProcessId) (tree : List TreeEntry
     heard_so k found (Yes d) finds late = vote_by k found VoteYes d.txn d.ticket finds
     heard_so k found (No d) finds late = vote_by k found VoteNo d.txn d.ticket finds
     heard_so k found (Read d) finds late = vote_by k found VoteRead d.txn d.ticket finds
-    heard_so k found (Ack d o) finds late = ack_by k found o d.txn d.ticket finds late
+    heard_so k found (Ack d o fs) finds late = ack_by k found o fs d.txn d.ticket finds late
     heard_so k found (Inquire d) finds late = inquiry_by k found d.txn d.ticket
     heard_so k found (Work d j op) finds late =
         says (MessageInput k (Work d j op)) [] (λ g. refl) (λ d t. refl) (λ d. refl)

@@ -29,6 +29,7 @@ use Rattle.core_model.specs.Turns.{Finds, is_case_of}
 use Rattle.core_law.specs.Ties.{ChildrenFit}
 use Rattle.core_law.proofs.Children.{and_all, lists}
 use Rattle.core_law.proofs.Coordinators.{read}
+use Rattle.tree_model.specs.declared.messages.Finding.{Finding}
 
 -- no other case was found
 abbrev pub IsOther : Option Case → Case → Type 0
@@ -230,9 +231,9 @@ module _ (place : Place) (n : Node) (d : Case) (alike : IsOpenAlike place n d) w
       by_txn false of = refl
       by_txn true of = not_taken t w (stranger of) m.phase refl
 
-  pub ack_keeps : (x : Txn) (t : Ticket) (o : Outcome) → IsStranger x t
-      → read rs d (hears_child d m (Ack (child_case x t) o)) ≡ read rs d m
-  ack_keeps x t o stranger = by_txn (same_txn x d.txn) refl
+  pub ack_keeps : (x : Txn) (t : Ticket) (o : Outcome) (fs : List Finding) → IsStranger x t
+      → read rs d (hears_child d m (Ack (child_case x t) o fs)) ≡ read rs d m
+  ack_keeps x t o fs stranger = by_txn (same_txn x d.txn) refl
     where
       unnamed : same_txn x d.txn ≡ true → is_known (coordinator_standing rs d m) ≡ true
           → in_list (owing_by d rs) t ≡ false
@@ -241,13 +242,13 @@ module _ (place : Place) (n : Node) (d : Case) (alike : IsOpenAlike place n d) w
           (other_false (in_list m.accepted t) (in_list (named_by d rs) t)
           (stranger of (ap is_known stands_as ∙ known)))
 
-      noted : same_txn x d.txn ≡ true → (ph : Phase) → read rs d (takes_ack m t o ph) ≡ read rs d m
+      noted : same_txn x d.txn ≡ true → (ph : Phase) → read rs d (takes_ack m t o fs ph) ≡ read rs d m
       noted of Open = refl
       noted of Asked = refl
       noted of Idle = acked_view rs d m t o (coordinator_standing rs d m) (unnamed of)
       noted of Over = acked_view rs d m t o (coordinator_standing rs d m) (unnamed of)
 
       by_txn : (b : Bool) → same_txn x d.txn ≡ b
-          → read rs d (if b then takes_ack m t o m.phase else m) ≡ read rs d m
+          → read rs d (if b then takes_ack m t o fs m.phase else m) ≡ read rs d m
       by_txn false of = refl
       by_txn true of = noted of m.phase

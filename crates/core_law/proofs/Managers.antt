@@ -38,7 +38,7 @@ use Rattle.std.proofs.lemmas.List.{append-nil}
 use Rattle.rec_log.specs.Sights.{LogSight}
 use Rattle.core_model.specs.States.{CoreState, wrote}
 use Rattle.core_model.specs.Makes.{HandlesRow, Moves, retired_by, retires as retires_ticket}
-use Rattle.core_model.specs.Turns.{Handles, Issues, Refuses, Says, Turn, childless_turn, decide_turn, forget_turn, leaf_ask_turn, leaf_joined_turn, manager_act, manager_turn, next_ticket as next_of, reacted, untold_turn, heard_now}
+use Rattle.core_model.specs.Turns.{Handles, Issues, Refuses, Says, Turn, childless_turn, decide_turn, forget_turn, leaf_ask_turn, leaf_joined_turn, manager_act, manager_turn, next_ticket as next_of, reacted, untold_turn, heard_now, this_version}
 use Rattle.core_law.specs.Ties.{Stands, StandsUp}
 use Rattle.core_law.proofs.Records.{Holds, NoBoot, boot-after, held_after, same_boot}
 use Rattle.core_law.proofs.Tickets.{found_fresh, found_more, found_without, manager_once, one_case, unless_of}
@@ -103,7 +103,7 @@ begun_hears me boot c m a (Yes d) = refl
 begun_hears me boot c m a (No d) = refl
 begun_hears me boot c m a (Read d) = refl
 begun_hears me boot c m a (Commit d) = refl
-begun_hears me boot c m a (Ack d o) = refl
+begun_hears me boot c m a (Ack d o fs) = refl
 begun_hears me boot c m a (Inquire d) = refl
 
 begun_heard : (me : ProcessId) (boot : ℕ) (c : Case) (m : Memory) (a : DataAnswer) (i : Input)
@@ -405,22 +405,22 @@ module _ (n : Node) (s s' : CoreState) (me p : ProcessId) (tree : List TreeEntry
 
     commit_at : (k : ℕ) (d : Case) (v : ManagerView) → v ≡ manager_view place n d
         → Follows n (heard (MessageInput k (Commit d))) old new (MessageInput k (Commit d))
-        (Handles d (on_commit (leaf_of place p d) v v.standing))
+        (Handles d (on_commit this_version (leaf_of place p d) [] v v.standing))
     commit_at k d v is =
-        handled (MessageInput k (Commit d)) d (on_commit (leaf_of place p d) v v.standing)
-        (commit_own (leaf_of place p d) v v.standing).boot
+        handled (MessageInput k (Commit d)) d (on_commit this_version (leaf_of place p d) [] v v.standing)
+        (commit_own this_version [] (leaf_of place p d) v v.standing).boot
         (subst (λ u. MovesBranch place n (heard (MessageInput k (Commit d))) d
-        (on_commit (leaf_of place p d) u u.standing)) (sym is) ((manager_views me p tree n d).commit k a))
+        (on_commit this_version (leaf_of place p d) [] u u.standing)) (sym is) ((manager_views me p tree n d).commit k a []))
         (remains_quiet (MessageInput k (Commit d)) (λ c. refl) (λ c t. refl))
 
     abort_at : (k : ℕ) (d : Case) (v : ManagerView) → v ≡ manager_view place n d
         → Follows n (heard (MessageInput k (Abort d))) old new (MessageInput k (Abort d))
-        (Handles d (on_abort (leaf_of place p d) v v.standing))
+        (Handles d (on_abort this_version (leaf_of place p d) [] v v.standing))
     abort_at k d v is =
-        handled (MessageInput k (Abort d)) d (on_abort (leaf_of place p d) v v.standing)
-        (abort_own (leaf_of place p d) v v.standing).boot
+        handled (MessageInput k (Abort d)) d (on_abort this_version (leaf_of place p d) [] v v.standing)
+        (abort_own this_version [] (leaf_of place p d) v v.standing).boot
         (subst (λ u. MovesBranch place n (heard (MessageInput k (Abort d))) d
-        (on_abort (leaf_of place p d) u u.standing)) (sym is) ((manager_views me p tree n d).abort k a))
+        (on_abort this_version (leaf_of place p d) [] u u.standing)) (sym is) ((manager_views me p tree n d).abort k a []))
         (remains_abort k d)
 
     -- JOIN.
@@ -568,5 +568,5 @@ module _ (n : Node) (s s' : CoreState) (me p : ProcessId) (tree : List TreeEntry
     heard_so k (Yes d) unmarked = ignored k (Yes d) (λ c y. refl) (λ g. refl) (λ c u. refl)
     heard_so k (No d) unmarked = ignored k (No d) (λ c y. refl) (λ g. refl) (λ c u. refl)
     heard_so k (Read d) unmarked = ignored k (Read d) (λ c y. refl) (λ g. refl) (λ c u. refl)
-    heard_so k (Ack d o) unmarked = ignored k (Ack d o) (λ c y. refl) (λ g. refl) (λ c u. refl)
+    heard_so k (Ack d o fs) unmarked = ignored k (Ack d o fs) (λ c y. refl) (λ g. refl) (λ c u. refl)
     heard_so k (Inquire d) unmarked = ignored k (Inquire d) (λ c y. refl) (λ g. refl) (λ c u. refl)

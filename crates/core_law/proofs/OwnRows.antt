@@ -17,9 +17,10 @@ use Rattle.tree_model.specs.Records.{in_list, none_of}
 use Rattle.tree_model.specs.Nodes.{Version, First, Second}
 use Rattle.tree_model.specs.Memory.{all_voted, has_child, is_counted, undecided_of, yes_of}
 use Rattle.tree_model.specs.Standings.{CoordinatorView}
-use Rattle.tree_model.specs.CoordinatorRows.{Reason, Row, Seat, ByVote, ByAbort, aborting_abort, active_abort, active_commit, active_commit_with, active_join, active_work, collecting_abort, collecting_abort_by, collecting_after, collecting_full, collecting_vote, committing_commit, decided_ack, decides, on_abort, on_ack, on_commit, on_inquiry, on_joined, on_prepare, on_vote, other_tickets, prepared_ask, prepared_abort_by, prepared_commit_by, read_only_end, root_commits, unknown_commit_by}
+use Rattle.tree_model.specs.CoordinatorRows.{Reason, Row, Seat, ByVote, ByAbort, aborting_abort, active_abort, active_commit, active_commit_with, active_join, active_work, collecting_abort, collecting_abort_by, collecting_after, collecting_full, collecting_vote, committing_commit, decided_ack, decides, on_abort, on_ack, on_commit, on_inquiry, on_joined, on_prepare, on_vote, other_tickets, prepared_ask, prepared_abort_by, prepared_commit_by, read_only_end, root_commits, unknown_commit_by, unknown_abort_by}
 use Rattle.tree_model.proofs.TicketLaws.{pushed}
 use Rattle.tree_model.proofs.RootViewLaws.{IsOf, abort_of, collecting_of, commit_of, end_of, quiet_of}
+use Rattle.tree_model.specs.declared.messages.Finding.{Finding}
 
 prepare_of : (c : Case) (ts : List Ticket) (row : Row) (b : Bool)
     → row.written ≡ record { entry = PrepareRecord c ts; is_forced = b } ∷ [] → IsOf c row
@@ -65,7 +66,7 @@ module _ (s : Seat) (v : CoordinatorView) where
 
   read_only_of : (p : Presumption) (row : Row) → row.written ≡ read_only_end s p → IsOf s.own row
   read_only_of PresumeAbort row h = quiet_of s.own row h
-  read_only_of PresumeCommit row h = end_of s.own row false h
+  read_only_of PresumeCommit row h = end_of s.own None row false h
 
   root_commits_of : (ys : List Ticket) (p : Presumption) → IsOf s.own (root_commits s v ys p)
   root_commits_of ys PresumeAbort = commit_of s.own ys _ true refl
@@ -85,11 +86,12 @@ module _ (s : Seat) (v : CoordinatorView) where
   after_of Yes = either_of s.own (all_voted v.accepted v.votes) _ _ full_of (quiet_of s.own _ refl)
   after_of Read = either_of s.own (all_voted v.accepted v.votes) _ _ full_of (quiet_of s.own _ refl)
 
-  decided_of : (ver : Version) (o : Outcome) (t : Ticket) → IsOf s.own (decided_ack ver s o t v)
-  decided_of ver o t =
+  decided_of : (ver : Version) (o : Outcome) (t : Ticket) (fs : List Finding)
+      → IsOf s.own (decided_ack ver s o t fs v)
+  decided_of ver o t fs =
       either_of s.own (in_list v.owed t) _ _
       (either_of s.own (none_of (other_tickets t v.owed)) _ _
-      (end_of s.own _ false refl) (quiet_of s.own _ refl))
+      (end_of s.own _ _ _ refl) (quiet_of s.own _ refl))
       (quiet_of s.own _ refl)
 
 module _ (s : Seat) (v : CoordinatorView) where
@@ -108,22 +110,22 @@ module _ (s : Seat) (v : CoordinatorView) where
   on_vote_of t w Aborting = quiet_of s.own _ refl
   on_vote_of t w Heuristic = quiet_of s.own _ refl
 
-  pub on_ack_of : (ver : Version) (t : Ticket) (o : Outcome) (st : Standing)
-      → IsOf s.own (on_ack ver s t o v st)
-  on_ack_of ver t Committed Committing = decided_of s v ver Committed t
-  on_ack_of ver t Aborted Aborting = decided_of s v ver Aborted t
-  on_ack_of ver t Committed Aborting = quiet_of s.own _ refl
-  on_ack_of ver t Committed Unknown = quiet_of s.own _ refl
-  on_ack_of ver t Committed Active = quiet_of s.own _ refl
-  on_ack_of ver t Committed Collecting = quiet_of s.own _ refl
-  on_ack_of ver t Committed Prepared = quiet_of s.own _ refl
-  on_ack_of ver t Committed Heuristic = quiet_of s.own _ refl
-  on_ack_of ver t Aborted Committing = quiet_of s.own _ refl
-  on_ack_of ver t Aborted Unknown = quiet_of s.own _ refl
-  on_ack_of ver t Aborted Active = quiet_of s.own _ refl
-  on_ack_of ver t Aborted Collecting = quiet_of s.own _ refl
-  on_ack_of ver t Aborted Prepared = quiet_of s.own _ refl
-  on_ack_of ver t Aborted Heuristic = quiet_of s.own _ refl
+  pub on_ack_of : (ver : Version) (t : Ticket) (o : Outcome) (fs : List Finding) (st : Standing)
+      → IsOf s.own (on_ack ver s t o fs v st)
+  on_ack_of ver t Committed fs Committing = decided_of s v ver Committed t fs
+  on_ack_of ver t Aborted fs Aborting = decided_of s v ver Aborted t fs
+  on_ack_of ver t Committed fs Aborting = quiet_of s.own _ refl
+  on_ack_of ver t Committed fs Unknown = quiet_of s.own _ refl
+  on_ack_of ver t Committed fs Active = quiet_of s.own _ refl
+  on_ack_of ver t Committed fs Collecting = quiet_of s.own _ refl
+  on_ack_of ver t Committed fs Prepared = quiet_of s.own _ refl
+  on_ack_of ver t Committed fs Heuristic = quiet_of s.own _ refl
+  on_ack_of ver t Aborted fs Committing = quiet_of s.own _ refl
+  on_ack_of ver t Aborted fs Unknown = quiet_of s.own _ refl
+  on_ack_of ver t Aborted fs Active = quiet_of s.own _ refl
+  on_ack_of ver t Aborted fs Collecting = quiet_of s.own _ refl
+  on_ack_of ver t Aborted fs Prepared = quiet_of s.own _ refl
+  on_ack_of ver t Aborted fs Heuristic = quiet_of s.own _ refl
 
   pub on_inquiry_of : (t : Ticket) (st : Standing) → IsOf s.own (on_inquiry s t v st)
   on_inquiry_of t Committing = quiet_of s.own _ refl
@@ -157,9 +159,13 @@ module _ (s : Seat) (v : CoordinatorView) where
   passed_commit_of ver PresumeAbort = commit_of s.own v.promised _ true refl
   passed_commit_of ver PresumeCommit = commit_of s.own [] _ false refl
 
-  no_commit_of : (p : Presumption) → IsOf s.own (unknown_commit_by s v p)
-  no_commit_of PresumeAbort = quiet_of s.own _ refl
-  no_commit_of PresumeCommit = quiet_of s.own _ refl
+  no_commit_of : (ver : Version) (p : Presumption) → IsOf s.own (unknown_commit_by ver s v p)
+  no_commit_of ver PresumeAbort = quiet_of s.own _ refl
+  no_commit_of ver PresumeCommit = quiet_of s.own _ refl
+
+  no_abort_of : (ver : Version) (p : Presumption) → IsOf s.own (unknown_abort_by ver s v p)
+  no_abort_of ver PresumeAbort = quiet_of s.own _ refl
+  no_abort_of ver PresumeCommit = quiet_of s.own _ refl
 
   commit_again_of : (ver : Version) → IsOf s.own (committing_commit ver s v)
   commit_again_of First = quiet_of s.own _ refl
@@ -171,7 +177,7 @@ module _ (s : Seat) (v : CoordinatorView) where
 
   pub on_commit_of : (ver : Version) (st : Standing) → IsOf s.own (on_commit ver s v st)
   on_commit_of ver Prepared = passed_commit_of ver s.own.txn.presumption
-  on_commit_of ver Unknown = no_commit_of s.own.txn.presumption
+  on_commit_of ver Unknown = no_commit_of ver s.own.txn.presumption
   on_commit_of ver Active = quiet_of s.own _ refl
   on_commit_of ver Collecting = quiet_of s.own _ refl
   on_commit_of ver Committing = commit_again_of ver
@@ -186,7 +192,7 @@ module _ (s : Seat) (v : CoordinatorView) where
   on_abort_of ver Active = active_abort_of s v
   on_abort_of ver Collecting = collecting_abort_of s v (ByAbort ver)
   on_abort_of ver Prepared = passed_abort_of ver s.own.txn.presumption
-  on_abort_of ver Unknown = quiet_of s.own _ refl
+  on_abort_of ver Unknown = no_abort_of ver s.own.txn.presumption
   on_abort_of ver Committing = quiet_of s.own _ refl
   on_abort_of ver Aborting = abort_again_of ver
   on_abort_of ver Heuristic = quiet_of s.own _ refl

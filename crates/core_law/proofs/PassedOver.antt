@@ -1,6 +1,6 @@
 -- An acknowledgement that comes while its case is Prepared: the model passes it over, and a coordinator does
 -- nothing with it.
-use Rattle.std.proofs.Common.{◌≡◌, ◌&&◌, not, ℕ, Bool, true, false, if◌then◌else◌, Option, Some, None, List, inl, inr, refl, sym, ap, subst, ◌∙◌}
+use Rattle.std.proofs.Common.{◌≡◌, ◌&&◌, not, ℕ, Bool, true, false, if◌then◌else◌, Option, Some, None, List, inl, inr, refl, sym, ap, subst, ◌∙◌, []}
 use Rattle.std.proofs.lemmas.List.{append-nil}
 use Rattle.tree_model.specs.declared.names.Case.{Case}
 use Rattle.tree_model.specs.declared.names.Outcome.{Outcome}
@@ -35,6 +35,7 @@ use Rattle.core_law.proofs.CascadeQuiet.{cascaded_place}
 use Rattle.core_law.proofs.Children.{found_case}
 use Rattle.core_law.proofs.Elsewhere.{belongs_not, found_belongs, found_known}
 use Rattle.core_law.proofs.Managers.{done_is}
+use Rattle.tree_model.specs.declared.messages.Finding.{Finding}
 
 both : (a b : Bool) → (a && b) ≡ true → (a ≡ true) × (b ≡ true)
 both true true e = (refl, refl)
@@ -55,15 +56,15 @@ abbrev pub IsNothing : CoreState → CoreState → Input → Turn → Type 0
 IsNothing old new i turn =
     (e : Effect) → reacted turn ≡ Does e → Moves old new i turn → (e ≡ no_effect) × SameCore old new
 
-unretired : (k : ℕ) (d e : Case) (o : Outcome) (t : Option Ticket)
-    → retired_by (MessageInput k (Ack d o)) e t ≡ t
-unretired k d e o None = refl
-unretired k d e o (Some t) = refl
+unretired : (k : ℕ) (d e : Case) (o : Outcome) (fs : List Finding) (t : Option Ticket)
+    → retired_by (MessageInput k (Ack d o fs)) e t ≡ t
+unretired k d e o fs None = refl
+unretired k d e o fs (Some t) = refl
 
 -- a quiet row leaves all as it is
-quiet_is_nothing : (old new : CoreState) (k : ℕ) (d c : Case) (o : Outcome)
-    → IsNothing old new (MessageInput k (Ack d o)) (Takes c (quiet (old.view_of c)))
-quiet_is_nothing old new k d c o e is made = (
+quiet_is_nothing : (old new : CoreState) (k : ℕ) (d c : Case) (o : Outcome) (fs : List Finding)
+    → IsNothing old new (MessageInput k (Ack d o fs)) (Takes c (quiet (old.view_of c)))
+quiet_is_nothing old new k d c o fs e is made = (
   sym (done_is no_effect e is),
   record {
     log = made.log
@@ -74,7 +75,7 @@ quiet_is_nothing old new k d c o e is made = (
       boot = made.stays.boot;
       begun = made.begun;
       given = made.given;
-      tickets = λ x. made.stays.tickets x ∙ unretired k d x o (old.ticket_for x);
+      tickets = λ x. made.stays.tickets x ∙ unretired k d x o fs (old.ticket_for x);
       views = λ x. elim (same_case_tells c x) [
         | inl one ↦ subst (λ y. SameView (new.view_of y) (old.view_of y)) one.1 made.own
         | inr apart ↦ made.others x apart.0
@@ -105,21 +106,21 @@ module _ (n : Node) (s s' : CoreState) (me p : ProcessId) (tree : List TreeEntry
     shows c = (stands.up runs).views c
 
     is_quiet : (c : Case) (t : Ticket) (o : Outcome) (st : Standing) → st ≡ standing.Prepared
-        → on_ack this_version (seat_in old c) t o (s.view_of c) st ≡ quiet (s.view_of c)
-    is_quiet c t o st is = ap (on_ack this_version (seat_in old c) t o (s.view_of c)) is ∙ by_outcome o
+        → on_ack this_version (seat_in old c) t o [] (s.view_of c) st ≡ quiet (s.view_of c)
+    is_quiet c t o st is = ap (on_ack this_version (seat_in old c) t o [] (s.view_of c)) is ∙ by_outcome o
       where
-        by_outcome : (o : Outcome) → on_ack this_version (seat_in old c) t o (s.view_of c)
+        by_outcome : (o : Outcome) → on_ack this_version (seat_in old c) t o [] (s.view_of c)
             standing.Prepared ≡ quiet (s.view_of c)
         by_outcome Committed = refl
         by_outcome Aborted = refl
 
     -- the case that the lists find, and that is Prepared, is what was found
-    ack_found : (k : ℕ) (d : Case) (x : Txn) (t : Ticket) (o : Outcome) (c : Case)
+    ack_found : (k : ℕ) (d : Case) (x : Txn) (t : Ticket) (o : Outcome) (fs : List Finding) (c : Case)
         → case_of_child place n x t ≡ Some c
         → (view c).standing ≡ standing.Prepared
         → (found : Option Case) → Finds old (Some (x, t)) found
-        → IsNothing old new (MessageInput k (Ack d o)) (ack_turn old o t found)
-    ack_found k d x t o c there prepared None finds =
+        → IsNothing old new (MessageInput k (Ack d o fs)) (ack_turn old o t found)
+    ack_found k d x t o fs c there prepared None finds =
         let of : c.txn ≡ x = child_txn me (Some p) tree n x t c there in
         let same : same_txn x c.txn ≡ true = subst (λ y. same_txn y c.txn ≡ true) of (same_txn-refl c.txn) in
         let none : belongs (memory_of place n c) (kept n) c t ≡ false =
@@ -127,7 +128,7 @@ module _ (n : Node) (s s' : CoreState) (me p : ProcessId) (tree : List TreeEntry
         let its : belongs (memory_of place n c) (kept n) c t ≡ true =
         child_belongs me (Some p) tree n x t c there in
         absurd (let clash : true ≡ false = sym its ∙ none in cc)
-    ack_found k d x t o c there prepared (Some e) finds =
+    ack_found k d x t o fs c there prepared (Some e) finds =
         let known = found_known place n fit old shows x t e finds in
         let listed = ap (λ y. has_case (own_cases place.role place n y) e)
         (sym known.0) ∙ fit.listed e known.1 in
@@ -136,34 +137,34 @@ module _ (n : Node) (s s' : CoreState) (me p : ProcessId) (tree : List TreeEntry
         let same : e ≡ c = the_one e c one in
         let stood : (s.view_of e).standing ≡ standing.Prepared =
         (shows e).standing ∙ ap (λ y. (view y).standing) same ∙ prepared in
-        subst (λ r. IsNothing old new (MessageInput k (Ack d o)) (Takes e r))
-        (sym (is_quiet e t o (s.view_of e).standing stood)) (quiet_is_nothing old new k d e o)
+        subst (λ r. IsNothing old new (MessageInput k (Ack d o fs)) (Takes e r))
+        (sym (is_quiet e t o (s.view_of e).standing stood)) (quiet_is_nothing old new k d e o fs)
       where
         the_one : (e c : Case) → Some e ≡ Some c → e ≡ c
         the_one e c one = cc
 
-    by_case : (k : ℕ) (d : Case) (x : Txn) (t : Ticket) (o : Outcome) (f : Option Case)
+    by_case : (k : ℕ) (d : Case) (x : Txn) (t : Ticket) (o : Outcome) (fs : List Finding) (f : Option Case)
         → case_of_child place n x t ≡ f
         → is_prepared_case place n f ≡ true
         → Finds old (Some (x, t)) found → IsNothing old new
-        (MessageInput k (Ack d o)) (ack_turn old o t found)
-    by_case k d x t o None there prepared finds = absurd (cc)
-    by_case k d x t o (Some c) there prepared finds =
-        ack_found k d x t o c there (prepared_is (view c).standing prepared) found finds
+        (MessageInput k (Ack d o fs)) (ack_turn old o t found)
+    by_case k d x t o fs None there prepared finds = absurd (cc)
+    by_case k d x t o fs (Some c) there prepared finds =
+        ack_found k d x t o fs c there (prepared_is (view c).standing prepared) found finds
 
-    by_ticket : (k : ℕ) (x : Txn) (t : Option Ticket) (o : Outcome)
+    by_ticket : (k : ℕ) (x : Txn) (t : Option Ticket) (o : Outcome) (fs : List Finding)
         → let d : Case = record { txn = x; ticket = t } in
         of_ticket t false (λ t. is_prepared_case place n (case_of_child place n x t)) ≡ true
         → Finds old (asked_of d) found
-        → IsNothing old new (MessageInput k (Ack d o)) (child_turn d (λ t. ack_turn old o t found))
-    by_ticket k x None o early finds = absurd (cc)
-    by_ticket k x (Some t) o early finds =
-        by_case k (record { txn = x; ticket = Some t }) x t o (case_of_child place n x t) refl early finds
+        → IsNothing old new (MessageInput k (Ack d o fs)) (child_turn d (λ t. ack_turn old o t found))
+    by_ticket k x None o fs early finds = absurd (cc)
+    by_ticket k x (Some t) o fs early finds =
+        by_case k (record { txn = x; ticket = Some t }) x t o fs (case_of_child place n x t) refl early finds
 
     passed_message : (k : ℕ) (m : Message) → is_early_ack place n m ≡ true
         → Finds old (asked_by (MessageInput k m)) found
         → IsNothing old new (MessageInput k m) (up_turn old a found (MessageInput k m))
-    passed_message k (Ack d o) early finds = by_ticket k d.txn d.ticket o early finds
+    passed_message k (Ack d o fs) early finds = by_ticket k d.txn d.ticket o fs early finds
     passed_message k (Join d) early finds = absurd (cc)
     passed_message k (Joined d t) early finds = absurd (cc)
     passed_message k (Work d j op) early finds = absurd (cc)

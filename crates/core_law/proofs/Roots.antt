@@ -50,6 +50,7 @@ use Rattle.core_law.proofs.Elsewhere.{IsOther, IsStranger, ack_keeps, belongs_no
 use Rattle.core_law.proofs.Managers.{Follows, done_is, same_view-trans}
 use Rattle.core_law.proofs.OwnRows.{active_abort_of, active_commit_of, collecting_abort_of, on_ack_of, on_joined_of, on_vote_of, work_of}
 use Rattle.core_law.proofs.Records.{Holds, NoBoot, boot-after, held_after}
+use Rattle.tree_model.specs.declared.messages.Finding.{Finding}
 
 -- A root gives no tickets.
 
@@ -476,31 +477,31 @@ module _ (n : Node) (s s' : CoreState) (me : ProcessId) (tree : List TreeEntry) 
             ((root_views me tree n x).vote k a t w (fits.alike c)).moved
             (λ d apart. vote_keeps place n d (fits.alike d) x t w (strangers x t (Some c) finds d apart))
 
-    ack_at : (k : ℕ) (o : Outcome) (x : Txn) (t : Ticket) (found : Option Case)
+    ack_at : (k : ℕ) (o : Outcome) (fs : List Finding) (x : Txn) (t : Ticket) (found : Option Case)
         → Finds old (Some (x, t)) found
-        → Leads (MessageInput k (Ack (child_case x t) o)) (ack_turn old o t found)
-    ack_at k o x t None finds =
-        let i = MessageInput k (Ack (child_case x t) o) in
-        says i [] (same i (λ g. refl)) (λ d. ack_keeps place n d (fits.alike d) x t o
+        → Leads (MessageInput k (Ack (child_case x t) o fs)) (ack_turn old o t found)
+    ack_at k o fs x t None finds =
+        let i = MessageInput k (Ack (child_case x t) o fs) in
+        says i [] (same i (λ g. refl)) (λ d. ack_keeps place n d (fits.alike d) x t o fs
         (strangers x t None finds d tt))
-    ack_at k o x t (Some c) finds =
+    ack_at k o fs x t (Some c) finds =
         subst (λ c. Finds old (Some (x, t)) (Some c)
-        → Leads (MessageInput k (Ack (child_case x t) o)) (ack_turn old o t (Some c)))
+        → Leads (MessageInput k (Ack (child_case x t) o fs)) (ack_turn old o t (Some c)))
         (found_root x t c finds) in_root finds
       where
         in_root : let c = root_case x in Finds old (Some (x, t)) (Some c)
-            → Leads (MessageInput k (Ack (child_case x t) o)) (ack_turn old o t (Some c))
+            → Leads (MessageInput k (Ack (child_case x t) o fs)) (ack_turn old o t (Some c))
         in_root finds =
             let c = root_case x in
-            let i = MessageInput k (Ack (child_case x t) o) in
-            takes i c _ (on_ack this_version (seat c) t o (view c) (view c).standing)
-            (at_standing (s.view_of c) (view c) (on_ack this_version (seat c) t o (s.view_of c))
-            (on_ack this_version (seat c) t o (view c))
+            let i = MessageInput k (Ack (child_case x t) o fs) in
+            takes i c _ (on_ack this_version (seat c) t o [] (view c) (view c).standing)
+            (at_standing (s.view_of c) (view c) (on_ack this_version (seat c) t o [] (s.view_of c))
+            (on_ack this_version (seat c) t o [] (view c))
             (shows c)
-            (on_ack-same (s.view_of c) (view c) (shows c) this_version (seat c) t o))
-            (on_ack_of (seat c) (view c) this_version t o (view c).standing) (same i (λ g. refl))
-            ((root_views me tree n x).acknowledgement k a t o (fits.alike c)).moved
-            (λ d apart. ack_keeps place n d (fits.alike d) x t o (strangers x t (Some c) finds d apart))
+            (on_ack-same (s.view_of c) (view c) (shows c) this_version (seat c) t o []))
+            (on_ack_of (seat c) (view c) this_version t o [] (view c).standing) (same i (λ g. refl))
+            ((root_views me tree n x).acknowledgement k a t o fs [] (fits.alike c)).moved
+            (λ d apart. ack_keeps place n d (fits.alike d) x t o fs (strangers x t (Some c) finds d apart))
 
     inquiry_row : (c : Case) (t : Ticket) (v : CoordinatorView) (st : Standing)
         → ((on_inquiry (seat c) t v st).written ≡ []) × ((on_inquiry (seat c) t v st).view ≡ v)
@@ -548,12 +549,12 @@ module _ (n : Node) (s s' : CoreState) (me : ProcessId) (tree : List TreeEntry) 
         let i = MessageInput k (vote_message w (root_case x)) in says i []
         (same i (λ g. refl)) (vote_nameless w x)
 
-    ack_by : (k : ℕ) (found : Option Case) (o : Outcome) (x : Txn) (t : Option Ticket) → let d : Case =
+    ack_by : (k : ℕ) (found : Option Case) (o : Outcome) (fs : List Finding) (x : Txn) (t : Option Ticket) → let d : Case =
         record { txn = x; ticket = t } in
-        Finds old (asked_of d) found → Leads (MessageInput k (Ack d o))
+        Finds old (asked_of d) found → Leads (MessageInput k (Ack d o fs))
         (child_turn d (λ t. ack_turn old o t found))
-    ack_by k found o x (Some t) finds = ack_at k o x t found finds
-    ack_by k found o x None finds = let i = MessageInput k (Ack (root_case x) o)
+    ack_by k found o fs x (Some t) finds = ack_at k o fs x t found finds
+    ack_by k found o fs x None finds = let i = MessageInput k (Ack (root_case x) o fs)
         in says i [] (same i (λ g. refl))
         (λ d. nameless (same_txn x d.txn) d)
 
@@ -570,7 +571,7 @@ module _ (n : Node) (s s' : CoreState) (me : ProcessId) (tree : List TreeEntry) 
     heard_so k found (Yes d) finds = vote_by k found VoteYes d.txn d.ticket finds
     heard_so k found (No d) finds = vote_by k found VoteNo d.txn d.ticket finds
     heard_so k found (Read d) finds = vote_by k found VoteRead d.txn d.ticket finds
-    heard_so k found (Ack d o) finds = ack_by k found o d.txn d.ticket finds
+    heard_so k found (Ack d o fs) finds = ack_by k found o fs d.txn d.ticket finds
     heard_so k found (Inquire d) finds = inquiry_by k found d.txn d.ticket
     heard_so k found (Join d) finds = let i =
         MessageInput k (Join d) in says i [] (same i (λ g. refl)) (λ d. refl)

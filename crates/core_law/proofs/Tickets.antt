@@ -165,7 +165,7 @@ once_next me boot g a (Yes d) once = once
 once_next me boot g a (No d) once = once
 once_next me boot g a (Read d) once = once
 once_next me boot g a (Commit d) once = once
-once_next me boot g a (Ack d o) once = once
+once_next me boot g a (Ack d o fs) once = once
 once_next me boot g a (Inquire d) once = once
 
 once_heard : (me : ProcessId) (boot : ℕ) (g : Givens) (a : DataAnswer) (i : Input) → IsOnce g.1

@@ -1,5 +1,5 @@
 -- An input meets at a process what it meets at the model's process for which it stands.
-use Rattle.std.proofs.Common.{◌≡◌, ◌+◌, Bool, true, false, if◌then◌else◌, Option, None, Some, [], ◌∷◌, refl, sym, ap, ◌∙◌}
+use Rattle.std.proofs.Common.{◌≡◌, ◌+◌, Bool, true, false, if◌then◌else◌, Option, None, Some, [], ◌∷◌, refl, sym, ap, ◌∙◌, List}
 use Rattle.tree_model.specs.declared.names.Case.{Case}
 use Rattle.tree_model.specs.declared.names.ProcessId.{ProcessId}
 use Rattle.tree_model.specs.declared.names.Ticket.{Ticket}
@@ -8,6 +8,7 @@ use Rattle.tree_model.specs.declared.names.Outcome.{Outcome}
 use Rattle.tree_model.specs.declared.names.Outcome.TheVariants.{Committed, Aborted}
 use Rattle.tree_model.specs.declared.messages.Message.{Message}
 use Rattle.tree_model.specs.declared.messages.Message.TheVariants.{Join, Joined, Work, Prepare, Yes, No, Read, Commit, Abort, Ack, Inquire}
+use Rattle.tree_model.specs.declared.standings.Standing.TheVariants as standing
 use Rattle.tree_model.specs.declared.standings.Vote.{Vote}
 use Rattle.tree_model.specs.declared.standings.Vote.TheVariants.{Yes as VoteYes, No as VoteNo, Read as VoteRead}
 use Rattle.tree_model.specs.declared.events.Act.{Act}
@@ -19,10 +20,11 @@ use Rattle.tree_model.specs.Records.{boot_of}
 use Rattle.tree_model.specs.LogNames.{parent_of}
 use Rattle.tree_model.specs.Nodes.{AtLeaf, AtRoot, Below, DataAnswer, Effect, Node, Role, kept, no_effect}
 use Rattle.tree_model.specs.Memory.{active_ticket, memory_of, next_ticket, of_ticket}
-use Rattle.tree_model.specs.Standings.{CoordinatorView, case_of_child, coordinator_view, manager_view, some_case, unknown_view}
-use Rattle.tree_model.specs.CoordinatorRows.{on_abort, on_ack, on_commit, on_inquiry, on_joined, on_prepare, on_vote, post, tells_outcome}
+use Rattle.tree_model.specs.Standings.{CoordinatorView, case_of_child, coordinator_view, manager_view, some_case, unknown_view, found_below, ManagerView}
+use Rattle.tree_model.specs.CoordinatorRows.{on_abort, on_ack, on_commit, on_inquiry, on_joined, on_prepare, on_vote, post, tells_outcome, Row, Seat}
+use Rattle.tree_model.specs.ManagerRows.{Leaf, LeafRow}
 use Rattle.tree_model.specs.ManagerRows as leaf
-use Rattle.tree_model.specs.Reactions.{Does, Refused, ack_for, act_is_listed, acts, cascaded_hears, coordinator_acts, handles, hears, hears_from_child, inquiry_for, joins_with, leaf_joins, leaf_of, manager_hears, reacts, row_effect, seat_of, sends_only, vote_for}
+use Rattle.tree_model.specs.Reactions.{Does, Refused, ack_for, act_is_listed, acts, cascaded_hears, coordinator_acts, handles, hears, hears_from_child, inquiry_for, joins_with, leaf_joins, leaf_of, manager_hears, reacts, row_effect, seat_of, sends_only, vote_for, leaf_effect}
 use Rattle.tree_model.specs.SameViews.{SameView}
 use Rattle.core_model.specs.States.{CoreState, SameCore, parent}
 use Rattle.core_model.specs.Turns.{Finds, Handles, Refuses, Says, Takes, Turn, act_turn, ack_turn, asked_by, asked_in, asked_of, cascaded_turn, child_says, child_turn, inquiry_turn, joined_turn, leaf_joined_turn, manager_turn, message_turn, next_ticket as next_ticket_of, reacted, seat_in, turn_of, up_turn, vote_turn, heard_now, this_version}
@@ -30,6 +32,9 @@ use Rattle.core_model.proofs.AlikeTurns.{finds-alike, same_cores_up}
 use Rattle.core_law.specs.Ties.{ChildrenFit, Stands, StandsUp, branch_at, view_at}
 use Rattle.core_law.proofs.Acts.{ReadsCoordinator, coordinator_acts_as, manager_acts_as}
 use Rattle.core_law.proofs.Children.{FoundAs, alike, dead, found_as}
+use Rattle.tree_model.specs.declared.messages.Finding.{Finding}
+use Rattle.tree_model.specs.declared.standings.Standing.{Standing}
+use Rattle.tree_model.specs.declared.records.Record.{Record}
 
 -- what a process that is up keeps, equal to what its lists read as
 record Reads (s : CoreState) (n : Node) : Type 0 where
@@ -42,6 +47,45 @@ record Reads (s : CoreState) (n : Node) : Type 0 where
 
 -- Messages of children.
 
+-- by this version an acknowledgement's row does not hang on what is found
+nothing_found : (s : Seat) (t : Ticket) (o : Outcome) (fs : List Finding) (v : CoordinatorView) (st : Standing)
+    → on_ack this_version s t o fs v st ≡ on_ack this_version s t o [] v st
+nothing_found s t Committed fs v standing.Committing = refl
+nothing_found s t Committed fs v standing.Aborting = refl
+nothing_found s t Committed fs v standing.Unknown = refl
+nothing_found s t Committed fs v standing.Active = refl
+nothing_found s t Committed fs v standing.Collecting = refl
+nothing_found s t Committed fs v standing.Prepared = refl
+nothing_found s t Committed fs v standing.Heuristic = refl
+nothing_found s t Aborted fs v standing.Committing = refl
+nothing_found s t Aborted fs v standing.Aborting = refl
+nothing_found s t Aborted fs v standing.Unknown = refl
+nothing_found s t Aborted fs v standing.Active = refl
+nothing_found s t Aborted fs v standing.Collecting = refl
+nothing_found s t Aborted fs v standing.Prepared = refl
+nothing_found s t Aborted fs v standing.Heuristic = refl
+
+-- nor do a branch's on its records
+commit_unfound : (l : Leaf) (rs : List Record) (v : ManagerView) (st : Standing)
+    → leaf.on_commit this_version l rs v st ≡ leaf.on_commit this_version l [] v st
+commit_unfound l rs v standing.Committing = refl
+commit_unfound l rs v standing.Aborting = refl
+commit_unfound l rs v standing.Unknown = refl
+commit_unfound l rs v standing.Active = refl
+commit_unfound l rs v standing.Collecting = refl
+commit_unfound l rs v standing.Prepared = refl
+commit_unfound l rs v standing.Heuristic = refl
+
+abort_unfound : (l : Leaf) (rs : List Record) (v : ManagerView) (st : Standing)
+    → leaf.on_abort this_version l rs v st ≡ leaf.on_abort this_version l [] v st
+abort_unfound l rs v standing.Committing = refl
+abort_unfound l rs v standing.Aborting = refl
+abort_unfound l rs v standing.Unknown = refl
+abort_unfound l rs v standing.Active = refl
+abort_unfound l rs v standing.Collecting = refl
+abort_unfound l rs v standing.Prepared = refl
+abort_unfound l rs v standing.Heuristic = refl
+
 module _ (s : CoreState) (n : Node) (fit : ChildrenFit s.place n)
     (views : (c : Case) → s.view_of c ≡ coordinator_view s.place n c) where
   vote_at : (w : Vote) (t : Ticket) (x : Txn) (k found : Option Case) → FoundAs s.place n x k found
@@ -52,16 +96,23 @@ module _ (s : CoreState) (n : Node) (fit : ChildrenFit s.place n)
   vote_at w t x _ _ (dead c of gone) =
       ap (λ v. Does (row_effect c (on_vote (seat_in s c) t w v v.standing))) gone
 
-  ack_at : (o : Outcome) (t : Ticket) (x : Txn) (k found : Option Case) → FoundAs s.place n x k found
-      → Does (ack_for this_version s.place (parent s) n t o k) ≡ reacted (ack_turn s o t found)
-  ack_at o t x _ _ (alike None) = refl
-  ack_at o t x _ _ (alike (Some c)) =
-      sym (ap (λ v. reacted (Takes c (on_ack this_version (seat_in s c) t o v v.standing))) (views c))
-  ack_at o t x _ _ (dead c of gone) =
-      ap (λ v. Does (row_effect c (on_ack this_version (seat_in s c) t o v v.standing))) gone ∙ quiet_at o
+  ack_at : (o : Outcome) (fs : List Finding) (t : Ticket) (x : Txn) (k found : Option Case)
+      → FoundAs s.place n x k found
+      → Does (ack_for this_version s.place (parent s) n t o fs k) ≡ reacted (ack_turn s o t found)
+  ack_at o fs t x _ _ (alike None) = refl
+  ack_at o fs t x _ _ (alike (Some c)) =
+      let v = coordinator_view s.place n c in
+      ap (λ (r : Row). Does (row_effect c r))
+      (nothing_found (seat_in s c) t o (found_below s.place n c o fs) v v.standing)
+      ∙ sym (ap (λ v. reacted (Takes c (on_ack this_version (seat_in s c) t o [] v v.standing))) (views c))
+  ack_at o fs t x _ _ (dead c of gone) =
+      let v = coordinator_view s.place n c in
+      ap (λ (r : Row). Does (row_effect c r))
+      (nothing_found (seat_in s c) t o (found_below s.place n c o fs) v v.standing)
+      ∙ (ap (λ v. Does (row_effect c (on_ack this_version (seat_in s c) t o [] v v.standing))) gone ∙ quiet_at o)
     where
       quiet_at : (o : Outcome)
-          → Does (row_effect c (on_ack this_version (seat_in s c) t o unknown_view unknown_view.standing))
+          → Does (row_effect c (on_ack this_version (seat_in s c) t o [] unknown_view unknown_view.standing))
           ≡ Does no_effect
       quiet_at Committed = refl
       quiet_at Aborted = refl
@@ -102,10 +153,10 @@ module _ (s : CoreState) (n : Node) (fit : ChildrenFit s.place n)
       child_at d found (λ t. vote_for s.place (parent s) n t VoteRead (case_of_child s.place n d.txn t))
       (λ t. vote_turn s VoteRead t found)
       (λ t is. vote_at VoteRead t d.txn _ _ (found_as s.place n fit s views d.txn t found is)) finds
-  child_hears found (Ack d o) finds =
-      child_at d found (λ t. ack_for this_version s.place (parent s) n t o
+  child_hears found (Ack d o fs) finds =
+      child_at d found (λ t. ack_for this_version s.place (parent s) n t o fs
       (case_of_child s.place n d.txn t)) (λ t. ack_turn s o t found)
-      (λ t is. ack_at o t d.txn _ _ (found_as s.place n fit s views d.txn t found is)) finds
+      (λ t is. ack_at o fs t d.txn _ _ (found_as s.place n fit s views d.txn t found is)) finds
   child_hears found (Inquire d) finds =
       child_at d found (λ t. inquiry_for s.place (parent s) n d.txn t (case_of_child s.place n d.txn t))
       (λ t. inquiry_turn s d.txn t found)
@@ -175,27 +226,33 @@ module _ (s : CoreState) (n : Node) (fit : ChildrenFit s.place n) (reads : Reads
   cascaded_at p par views found (Yes d) finds = from_child p par views found (Yes d) finds
   cascaded_at p par views found (No d) finds = from_child p par views found (No d) finds
   cascaded_at p par views found (Read d) finds = from_child p par views found (Read d) finds
-  cascaded_at p par views found (Ack d o) finds = from_child p par views found (Ack d o) finds
+  cascaded_at p par views found (Ack d o fs) finds = from_child p par views found (Ack d o fs) finds
   cascaded_at p par views found (Inquire d) finds = from_child p par views found (Inquire d) finds
   cascaded_at p par views found (Work d i op) finds = refl
 
   manager_at : (p : ProcessId) (a : DataAnswer)
       → ((c : Case) → s.branch_of c ≡ manager_view s.place n c) → (m : Message)
-      → Does (manager_hears s.place p n a m) ≡ reacted (manager_turn s p a m)
+      → Does (manager_hears this_version s.place p n a m) ≡ reacted (manager_turn s p a m)
   manager_at p a branches (Join d) = leaf_hears s n reads.boot reads.given reads.tickets p d a.starts
   manager_at p a branches (Work d i op) = sym
       (ap (λ v. reacted (Handles d (leaf.on_work i a.does v v.standing))) (branches d))
   manager_at p a branches (Prepare d k) = sym (ap (λ v. reacted
       (Handles d (leaf.on_prepare (leaf_of s.place p d) k a.holding v v.standing))) (branches d))
   manager_at p a branches (Commit d) =
-      sym (ap (λ v. reacted (Handles d (leaf.on_commit (leaf_of s.place p d) v v.standing))) (branches d))
+      let v = manager_view s.place n d in
+      ap (λ (r : LeafRow). Does (leaf_effect r)) (commit_unfound (leaf_of s.place p d) (kept n) v v.standing)
+      ∙ sym (ap (λ v. reacted (Handles d (leaf.on_commit this_version (leaf_of s.place p d) [] v v.standing)))
+      (branches d))
   manager_at p a branches (Abort d) =
-      sym (ap (λ v. reacted (Handles d (leaf.on_abort (leaf_of s.place p d) v v.standing))) (branches d))
+      let v = manager_view s.place n d in
+      ap (λ (r : LeafRow). Does (leaf_effect r)) (abort_unfound (leaf_of s.place p d) (kept n) v v.standing)
+      ∙ sym (ap (λ v. reacted (Handles d (leaf.on_abort this_version (leaf_of s.place p d) [] v v.standing)))
+      (branches d))
   manager_at p a branches (Joined d t) = refl
   manager_at p a branches (Yes d) = refl
   manager_at p a branches (No d) = refl
   manager_at p a branches (Read d) = refl
-  manager_at p a branches (Ack d o) = refl
+  manager_at p a branches (Ack d o fs) = refl
   manager_at p a branches (Inquire d) = refl
 
   views_at : (role : Role) → s.place.role ≡ role → (c : Case) → s.view_of c ≡ view_at role s.place n c

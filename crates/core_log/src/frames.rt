@@ -50,7 +50,7 @@ fn is_writable(entry: &Record, parent: Option<ProcessId>) -> bool
         | Record::Abort(case, tickets) => {
             is_whole(parent, *case) && are_writable(tickets.as_slice())
         }
-        Record::End(case) => is_whole(parent, *case),
+        Record::End(case, None) => is_whole(parent, *case),
         _ => false,
     }
 }

@@ -22,10 +22,11 @@ use Rattle.tree_model.specs.Records.{in_list, none_of}
 use Rattle.tree_model.specs.Nodes.{Version, First, Second}
 use Rattle.tree_model.specs.Memory.{all_voted, has_child, has_voted, is_counted, same_vote, undecided_of, voted_so, works_of, yes_of}
 use Rattle.tree_model.specs.Standings.{CoordinatorView, unknown_view}
-use Rattle.tree_model.specs.CoordinatorRows.{Reason, Row, Seat, ByVote, ByAbort, aborting_abort, active_abort, active_commit, active_commit_alone, active_commit_with, active_join, active_joined, active_work, awaits, collecting_abort, collecting_abort_by, collecting_after, collecting_full, collecting_read_only, collecting_vote, committing_commit, decided_ack, decided_ack_by, decides, on_abort, on_ack, on_commit, on_inquiry, on_joined, on_prepare, on_vote, other_tickets, post, prepared_abort_by, prepared_commit_by, prepares, quiet, root_commits, sends, unknown_commit_by}
+use Rattle.tree_model.specs.CoordinatorRows.{Reason, Row, Seat, ByVote, ByAbort, aborting_abort, active_abort, active_commit, active_commit_alone, active_commit_with, active_join, active_joined, active_work, awaits, collecting_abort, collecting_abort_by, collecting_after, collecting_full, collecting_read_only, collecting_vote, committing_commit, decided_ack, decided_ack_by, decides, on_abort, on_ack, on_commit, on_inquiry, on_joined, on_prepare, on_vote, other_tickets, post, prepared_abort_by, prepared_commit_by, prepares, quiet, root_commits, sends, unknown_commit_by, unknown_abort_by}
 use Rattle.tree_model.specs.Reactions.{row_effect}
 use Rattle.tree_model.specs.SameViews.{SameRow, SameView}
 use Rattle.tree_model.proofs.NameTests.{ticket_tells}
+use Rattle.tree_model.specs.declared.messages.Finding.{Finding}
 
 pub same_view : (v : CoordinatorView) → SameView v v
 same_view v = record {
@@ -319,16 +320,16 @@ module _ (v w : CoordinatorView) (same : SameView v w) where
   left-same t u = in_list-others t u v.owed ∙ ap (λ b. b && not (same_ticket t u)) (same.owed u)
       ∙ sym (in_list-others t u w.owed)
 
-  ended-same : (ver : Version) (s : Seat) (o : Outcome) (us vs : List Ticket)
+  ended-same : (ver : Version) (s : Seat) (o : Outcome) (fs : List Finding) (us vs : List Ticket)
       → ((u : Ticket) → in_list us u ≡ in_list vs u)
-      → SameRow (decided_ack_by ver s o us v) (decided_ack_by ver s o vs w)
-  ended-same ver s o us vs alike = rw (none_of-lists us vs alike)
+      → SameRow (decided_ack_by ver s o us fs v) (decided_ack_by ver s o vs fs w)
+  ended-same ver s o fs us vs alike = rw (none_of-lists us vs alike)
       (same_by (none_of vs) _ _ _ _ (same_row _) (quiet-same _ _ (owing-same us vs alike)))
 
-  ack-same : (ver : Version) (s : Seat) (o : Outcome) (t : Ticket)
-      → SameRow (decided_ack ver s o t v) (decided_ack ver s o t w)
-  ack-same ver s o t = rw (same.owed t) (same_by (in_list w.owed t) _ _ _ _
-      (ended-same ver s o (other_tickets t v.owed) (other_tickets t w.owed) (left-same t))
+  ack-same : (ver : Version) (s : Seat) (o : Outcome) (t : Ticket) (fs : List Finding)
+      → SameRow (decided_ack ver s o t fs v) (decided_ack ver s o t fs w)
+  ack-same ver s o t fs = rw (same.owed t) (same_by (in_list w.owed t) _ _ _ _
+      (ended-same ver s o fs (other_tickets t v.owed) (other_tickets t w.owed) (left-same t))
       (quiet-same v w same))
 
   pub on_vote-same : (s : Seat) (t : Ticket) (o : Vote) (st : Standing)
@@ -341,22 +342,22 @@ module _ (v w : CoordinatorView) (same : SameView v w) where
   on_vote-same s t o Aborting = quiet-same v w same
   on_vote-same s t o Heuristic = quiet-same v w same
 
-  pub on_ack-same : (ver : Version) (s : Seat) (t : Ticket) (o : Outcome) (st : Standing)
-      → SameRow (on_ack ver s t o v st) (on_ack ver s t o w st)
-  on_ack-same ver s t Committed Committing = ack-same ver s Committed t
-  on_ack-same ver s t Committed Aborting = quiet-same v w same
-  on_ack-same ver s t Committed Unknown = quiet-same v w same
-  on_ack-same ver s t Committed Active = quiet-same v w same
-  on_ack-same ver s t Committed Collecting = quiet-same v w same
-  on_ack-same ver s t Committed Prepared = quiet-same v w same
-  on_ack-same ver s t Committed Heuristic = quiet-same v w same
-  on_ack-same ver s t Aborted Aborting = ack-same ver s Aborted t
-  on_ack-same ver s t Aborted Committing = quiet-same v w same
-  on_ack-same ver s t Aborted Unknown = quiet-same v w same
-  on_ack-same ver s t Aborted Active = quiet-same v w same
-  on_ack-same ver s t Aborted Collecting = quiet-same v w same
-  on_ack-same ver s t Aborted Prepared = quiet-same v w same
-  on_ack-same ver s t Aborted Heuristic = quiet-same v w same
+  pub on_ack-same : (ver : Version) (s : Seat) (t : Ticket) (o : Outcome) (fs : List Finding) (st : Standing)
+      → SameRow (on_ack ver s t o fs v st) (on_ack ver s t o fs w st)
+  on_ack-same ver s t Committed fs Committing = ack-same ver s Committed t fs
+  on_ack-same ver s t Committed fs Aborting = quiet-same v w same
+  on_ack-same ver s t Committed fs Unknown = quiet-same v w same
+  on_ack-same ver s t Committed fs Active = quiet-same v w same
+  on_ack-same ver s t Committed fs Collecting = quiet-same v w same
+  on_ack-same ver s t Committed fs Prepared = quiet-same v w same
+  on_ack-same ver s t Committed fs Heuristic = quiet-same v w same
+  on_ack-same ver s t Aborted fs Aborting = ack-same ver s Aborted t fs
+  on_ack-same ver s t Aborted fs Committing = quiet-same v w same
+  on_ack-same ver s t Aborted fs Unknown = quiet-same v w same
+  on_ack-same ver s t Aborted fs Active = quiet-same v w same
+  on_ack-same ver s t Aborted fs Collecting = quiet-same v w same
+  on_ack-same ver s t Aborted fs Prepared = quiet-same v w same
+  on_ack-same ver s t Aborted fs Heuristic = quiet-same v w same
 
   pub on_inquiry-same : (s : Seat) (t : Ticket) (st : Standing)
       → SameRow (on_inquiry s t v st) (on_inquiry s t w st)
@@ -571,10 +572,15 @@ module _ (v w : CoordinatorView) (same : SameView v w) where
   on_prepare-same s Committing = quiet-same v w same
   on_prepare-same s Heuristic = quiet-same v w same
 
-  unknown_commit-same : (s : Seat) (p : Presumption)
-      → SameRow (unknown_commit_by s v p) (unknown_commit_by s w p)
-  unknown_commit-same s PresumeAbort = sends-same _ v w same
-  unknown_commit-same s PresumeCommit = quiet-same v w same
+  unknown_commit-same : (ver : Version) (s : Seat) (p : Presumption)
+      → SameRow (unknown_commit_by ver s v p) (unknown_commit_by ver s w p)
+  unknown_commit-same ver s PresumeAbort = sends-same _ v w same
+  unknown_commit-same ver s PresumeCommit = quiet-same v w same
+
+  unknown_abort-same : (ver : Version) (s : Seat) (p : Presumption)
+      → SameRow (unknown_abort_by ver s v p) (unknown_abort_by ver s w p)
+  unknown_abort-same ver s PresumeAbort = quiet-same v w same
+  unknown_abort-same ver s PresumeCommit = sends-same _ v w same
 
   commit_again-same : (ver : Version) (s : Seat)
       → SameRow (committing_commit ver s v) (committing_commit ver s w)
@@ -590,7 +596,7 @@ module _ (v w : CoordinatorView) (same : SameView v w) where
       → SameRow (on_commit ver s v st) (on_commit ver s w st)
   on_commit-same ver s Prepared = commit_by-same ver s s.own.txn.presumption
   on_commit-same ver s Committing = commit_again-same ver s
-  on_commit-same ver s Unknown = unknown_commit-same s s.own.txn.presumption
+  on_commit-same ver s Unknown = unknown_commit-same ver s s.own.txn.presumption
   on_commit-same ver s Active = quiet-same v w same
   on_commit-same ver s Collecting = quiet-same v w same
   on_commit-same ver s Aborting = quiet-same v w same
@@ -602,7 +608,7 @@ module _ (v w : CoordinatorView) (same : SameView v w) where
   on_abort-same ver s Collecting = collecting_abort-same v w same s (ByAbort ver)
   on_abort-same ver s Prepared = abort_by-promised ver s s.own.txn.presumption
   on_abort-same ver s Aborting = abort_again-same ver s
-  on_abort-same ver s Unknown = sends-same _ v w same
+  on_abort-same ver s Unknown = unknown_abort-same ver s s.own.txn.presumption
   on_abort-same ver s Committing = quiet-same v w same
   on_abort-same ver s Heuristic = quiet-same v w same
 

@@ -144,8 +144,8 @@ module _ (s : CoreState) (f g : Case → CoordinatorView) (same : (c : Case) →
       → reacted (ack_turn (showing s f) o t found) ≡ reacted (ack_turn (showing s g) o t found)
   ack-alike o None t = refl
   ack-alike o (Some c) t =
-      ap (λ st. reacted (Takes c (on_ack this_version (seat_in s c) t o (f c) st))) (same c).standing
-      ∙ alike c _ _ (on_ack-same (f c) (g c) (same c) this_version (seat_in s c) t o (g c).standing)
+      ap (λ st. reacted (Takes c (on_ack this_version (seat_in s c) t o [] (f c) st))) (same c).standing
+      ∙ alike c _ _ (on_ack-same (f c) (g c) (same c) this_version (seat_in s c) t o [] (g c).standing)
 
   inquiry-alike : (x : Txn) (found : Option Case) (t : Ticket)
       → reacted (inquiry_turn (showing s f) x t found) ≡ reacted (inquiry_turn (showing s g) x t found)
@@ -161,7 +161,7 @@ module _ (s : CoreState) (f g : Case → CoordinatorView) (same : (c : Case) →
   child-says found (Yes d) = child-alike d.ticket _ _ (vote-alike VoteYes found)
   child-says found (No d) = child-alike d.ticket _ _ (vote-alike VoteNo found)
   child-says found (Read d) = child-alike d.ticket _ _ (vote-alike VoteRead found)
-  child-says found (Ack d o) = child-alike d.ticket _ _ (ack-alike o found)
+  child-says found (Ack d o fs) = child-alike d.ticket _ _ (ack-alike o found)
   child-says found (Inquire d) = child-alike d.ticket _ _ (inquiry-alike d.txn found)
   child-says found (Join d) = refl
   child-says found (Work d i op) = refl
@@ -185,7 +185,7 @@ module _ (s : CoreState) (f g : Case → CoordinatorView) (same : (c : Case) →
   cascaded-alike p found (Yes d) = child-says found (Yes d)
   cascaded-alike p found (No d) = child-says found (No d)
   cascaded-alike p found (Read d) = child-says found (Read d)
-  cascaded-alike p found (Ack d o) = child-says found (Ack d o)
+  cascaded-alike p found (Ack d o fs) = child-says found (Ack d o fs)
   cascaded-alike p found (Inquire d) = child-says found (Inquire d)
   cascaded-alike p found (Work d i op) = refl
 

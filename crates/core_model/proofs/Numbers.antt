@@ -25,7 +25,7 @@ retires_alike j k (No c) d t = refl
 retires_alike j k (Read c) d t = refl
 retires_alike j k (Commit c) d t = refl
 retires_alike j k (Abort c) d t = refl
-retires_alike j k (Ack c o) d t = refl
+retires_alike j k (Ack c o fs) d t = refl
 retires_alike j k (Inquire c) d t = refl
 
 retired_alike : (j k : ℕ) (m : Message) (d : Case) (o : Option Ticket)

@@ -93,7 +93,7 @@ abbrev pub asked_in : Message → Option (Txn × Ticket)
 asked_in (Yes d) = asked_of d
 asked_in (No d) = asked_of d
 asked_in (Read d) = asked_of d
-asked_in (Ack d o) = asked_of d
+asked_in (Ack d o fs) = asked_of d
 asked_in (Inquire d) = asked_of d
 asked_in _ = None
 
@@ -185,11 +185,11 @@ abbrev pub vote_turn : CoreState → Vote → Ticket → Option Case → Turn
 vote_turn s w t None = Says []
 vote_turn s w t (Some c) = let v = s.view_of c in Takes c (on_vote (seat_in s c) t w v v.standing)
 
--- an acknowledgement, in the case that was found for the child
+-- an acknowledgement, in the case that was found for the child; by this version nothing is found
 abbrev pub ack_turn : CoreState → Outcome → Ticket → Option Case → Turn
 ack_turn s o t None = Says []
 ack_turn s o t (Some c) =
-    let v = s.view_of c in Takes c (on_ack this_version (seat_in s c) t o v v.standing)
+    let v = s.view_of c in Takes c (on_ack this_version (seat_in s c) t o [] v v.standing)
 
 -- an inquiry, in the case that was found for the child; where there is none, the child gets what is presumed
 abbrev pub inquiry_turn : CoreState → Txn → Ticket → Option Case → Turn
@@ -207,7 +207,7 @@ child_says s found (Joined d t) = let v = s.view_of d in Takes d (on_joined t v 
 child_says s found (Yes d) = child_turn d (λ t. vote_turn s VoteYes t found)
 child_says s found (No d) = child_turn d (λ t. vote_turn s VoteNo t found)
 child_says s found (Read d) = child_turn d (λ t. vote_turn s VoteRead t found)
-child_says s found (Ack d o) = child_turn d (λ t. ack_turn s o t found)
+child_says s found (Ack d o fs) = child_turn d (λ t. ack_turn s o t found)
 child_says s found (Inquire d) = child_turn d (λ t. inquiry_turn s d.txn t found)
 child_says s found _ = Says []
 
@@ -292,8 +292,9 @@ manager_turn s p a (Work d i op) = let v = s.branch_of d in Handles d (leaf.on_w
 manager_turn s p a (Prepare d k) =
     let v = s.branch_of d in Handles d (leaf.on_prepare (leaf_in s p d) k a.holding v v.standing)
 manager_turn s p a (Commit d) =
-    let v = s.branch_of d in Handles d (leaf.on_commit (leaf_in s p d) v v.standing)
-manager_turn s p a (Abort d) = let v = s.branch_of d in Handles d (leaf.on_abort (leaf_in s p d) v v.standing)
+    let v = s.branch_of d in Handles d (leaf.on_commit this_version (leaf_in s p d) [] v v.standing)
+manager_turn s p a (Abort d) =
+    let v = s.branch_of d in Handles d (leaf.on_abort this_version (leaf_in s p d) [] v v.standing)
 manager_turn s p a _ = Says []
 
 -- Any process.

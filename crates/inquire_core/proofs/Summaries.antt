@@ -10,7 +10,7 @@ use Rattle.tree_model.specs.declared.names.Presumption.{Presumption}
 use Rattle.tree_model.specs.declared.names.Presumption.TheVariants.{PresumeAbort, PresumeCommit}
 use Rattle.tree_model.specs.declared.names.Ticket.{Ticket}
 use Rattle.tree_model.specs.declared.records.Record.{Record}
-use Rattle.tree_model.specs.declared.records.Record.TheVariants.{Opened, Collecting, Prepare, Commit, Abort, End, Prepared, Committed, RolledBack, Direct, HeurCommit, HeurRollback, Told, Forgot, Base, Pair}
+use Rattle.tree_model.specs.declared.records.Record.TheVariants.{Opened, Collecting, Prepare, Commit, Abort, End, Prepared, Committed, RolledBack, Direct, HeurCommit, HeurRollback, Told, Forgot, Base, Pair, Cleared}
 use Rattle.tree_model.specs.declared.standings.Standing.TheVariants.{Unknown}
 use Rattle.tree_model.specs.Memory.{Idle, fresh_memory, has_acked}
 use Rattle.tree_model.specs.Names.{same_case}
@@ -19,6 +19,7 @@ use Rattle.tree_model.specs.Standings.{coordinator_standing, decided_outcome, kn
 use Rattle.tree_model.specs.Restarts.{recorded_view}
 use Rattle.inquire_core.specs.declared.recorded.Stage.TheVariants as stage
 use Rattle.inquire_core.specs.Summaries.{Summary, furthest, no_records, restored_view, stage_by, standing_at, standing_of, summary_after, summary_of, view_of}
+use Rattle.tree_model.specs.declared.records.Reports.{Reports}
 
 -- One more record.
 
@@ -215,22 +216,22 @@ module _ (e co a p col : Bool) (ps ns os : List Ticket) where
   }
   abort_more c ts false = nothing_more
 
-  end_more : (c : Case) (b : Bool)
+  end_more : (c : Case) (rep : Option Reports) (b : Bool)
       → record {
         stage = stage_by (e || b) (co || false) (a || false) (p || false) (col || false);
         promised = ps ++ [];
         named = ns ++ [];
         owing = os ++ [];
       }
-      ≡ (if b then summary_after before (End c) else before)
+      ≡ (if b then summary_after before (End c rep) else before)
   unfolding before
-  end_more c true = λ i. record {
+  end_more c rep true = λ i. record {
     stage = stage_ended e co a p col i;
     promised = append-nil ps i;
     named = append-nil ns i;
     owing = append-nil os i;
   }
-  end_more c false = nothing_more
+  end_more c rep false = nothing_more
 
   -- a record that says nothing of the case's stage
   silent : (b : Bool)
@@ -251,7 +252,8 @@ module _ (e co a p col : Bool) (ps ns os : List Ticket) where
   by_record c (Prepare d ts) = prepare_more d ts (same_case d c)
   by_record c (Commit d ts) = commit_more d ts (same_case d c)
   by_record c (Abort d ts) = abort_more d ts (same_case d c)
-  by_record c (End d) = end_more d (same_case d c)
+  by_record c (End d rep) = end_more d rep (same_case d c)
+  by_record c (Cleared d) = silent (same_case d c)
   by_record c (Prepared b ws) = silent (is_of c (Prepared b ws))
   by_record c (Committed b) = silent (is_of c (Committed b))
   by_record c (RolledBack b) = silent (is_of c (RolledBack b))

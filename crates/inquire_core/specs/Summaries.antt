@@ -74,7 +74,7 @@ summary_after s (CollectingRecord c ts) = names stage.Collecting ts s
 summary_after s (PrepareRecord c ts) = record (names stage.Prepared ts s) { promised = s.promised ++ ts }
 summary_after s (CommitRecord c ts) = decides stage.Committed ts s
 summary_after s (AbortRecord c ts) = decides stage.Aborted ts s
-summary_after s (EndRecord c) = record s { stage = furthest s.stage stage.Ended }
+summary_after s (EndRecord c rep) = record s { stage = furthest s.stage stage.Ended }
 summary_after s _ = s
 
 -- what these records say of a case

@@ -97,7 +97,7 @@ impl Recorded {
             Record::Prepare(_, tickets) => self.promises(tickets),
             Record::Commit(_, tickets) => self.decides(Stage::Committed, tickets),
             Record::Abort(_, tickets) => self.decides(Stage::Aborted, tickets),
-            Record::End(_) => {
+            Record::End(..) => {
                 self.stage = self.stage.furthest(Stage::Ended);
                 Ok(())
             }

@@ -10,7 +10,7 @@ use Rattle.tree_model.specs.declared.records.Branch.{Branch}
 use Rattle.tree_model.specs.declared.records.Branch.TheVariants.{Foreign}
 use Rattle.tree_model.specs.declared.records.LogRecord.{LogRecord}
 use Rattle.tree_model.specs.declared.records.Record.{Record}
-use Rattle.tree_model.specs.declared.records.Record.TheVariants.{Opened, Collecting, Prepare, Commit, Abort, End, Prepared, Committed, RolledBack, Direct, HeurCommit, HeurRollback, Told, Forgot, Base, Pair}
+use Rattle.tree_model.specs.declared.records.Record.TheVariants.{Opened, Collecting, Prepare, Commit, Abort, End, Prepared, Committed, RolledBack, Direct, HeurCommit, HeurRollback, Told, Forgot, Base, Pair, Cleared}
 use Rattle.tree_model.specs.LogNames.{name_xid, by_xid}
 use Rattle.tree_model.specs.Records.{branch_case, record_branch, record_case, same_branch}
 use Rattle.log_rules.specs.trim.Tables.{is_live, is_prepared, log_name}
@@ -77,7 +77,8 @@ module _ (x : Xid) where
   says (Prepare c ts) q = plain q (Prepare c ts) (λ d. refl) refl
   says (Commit c ts) q = plain q (Commit c ts) (λ d. refl) refl
   says (Abort c ts) q = plain q (Abort c ts) (λ d. refl) refl
-  says (End c) q = plain q (End c) (λ d. refl) refl
+  says (End c rep) q = plain q (End c rep) (λ d. refl) refl
+  says (Cleared c) q = plain q (Cleared c) (λ d. refl) refl
   says (Committed b) q = plain q (Committed b) (λ d. refl) refl
   says (RolledBack b) q = plain q (RolledBack b) (λ d. refl) refl
   says (Direct b ws) q = plain q (Direct b ws) (λ d. refl) refl

@@ -4,7 +4,7 @@ use Rattle.std.proofs.lemmas.List.{append-nil, append_assoc, take_more}
 use Rattle.tree_model.specs.declared.records.Branch.{Branch}
 use Rattle.tree_model.specs.declared.records.LogRecord.{LogRecord}
 use Rattle.tree_model.specs.declared.records.Record.{Record}
-use Rattle.tree_model.specs.declared.records.Record.TheVariants.{Opened, Collecting, Prepare, Commit, Abort, End, Prepared, Committed, RolledBack, Direct, HeurCommit, HeurRollback, Told, Forgot, Base, Pair}
+use Rattle.tree_model.specs.declared.records.Record.TheVariants.{Opened, Collecting, Prepare, Commit, Abort, End, Prepared, Committed, RolledBack, Direct, HeurCommit, HeurRollback, Told, Forgot, Base, Pair, Cleared}
 use Rattle.tree_model.specs.declared.records.Write.{Write}
 use Rattle.kv_core.specs.Names.{keys_in, keys_of}
 
@@ -50,7 +50,8 @@ names_none (Collecting c ts) p d q = refl
 names_none (Prepare c ts) p d q = refl
 names_none (Commit c ts) p d q = refl
 names_none (Abort c ts) p d q = refl
-names_none (End c) p d q = refl
+names_none (End c rep) p d q = refl
+names_none (Cleared c) p d q = refl
 names_none (Committed b) p d q = refl
 names_none (RolledBack b) p d q = refl
 names_none (HeurCommit b) p d q = refl

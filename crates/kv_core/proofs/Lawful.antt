@@ -8,7 +8,7 @@ use Rattle.tree_model.specs.declared.records.Branch.{Branch}
 use Rattle.tree_model.specs.declared.records.Branch.TheVariants.{Case as CaseBranch, Foreign}
 use Rattle.tree_model.specs.declared.records.LogRecord.{LogRecord}
 use Rattle.tree_model.specs.declared.records.Record.{Record}
-use Rattle.tree_model.specs.declared.records.Record.TheVariants.{Opened, Collecting, Prepare, Commit, Abort, End, Prepared, Committed, RolledBack, Direct, HeurCommit, HeurRollback, Told as ToldRecord, Forgot, Base as BaseRecord, Pair as PairRecord}
+use Rattle.tree_model.specs.declared.records.Record.TheVariants.{Opened, Collecting, Prepare, Commit, Abort, End, Prepared, Committed, RolledBack, Direct, HeurCommit, HeurRollback, Told as ToldRecord, Forgot, Base as BaseRecord, Pair as PairRecord, Cleared}
 use Rattle.tree_model.specs.declared.records.Write.{Write}
 use Rattle.tree_model.specs.LogNames.{name_xid, renamed_by, by_xid}
 use Rattle.tree_model.specs.Records.{record_branch, same_branch, same_xid, is_opened}
@@ -189,7 +189,8 @@ lawful_followed s t q (Commit c ts) d l h =
 lawful_followed s t q (Abort c ts) d l h =
     let is = (taken (nat_lt (rank_in s.ranks (name_xid q (CaseBranch c))) 3) _ t h).1 in
     lawful_stays s t d d (ap (λ u. u.live) (sym is)) refl l.tied.rise l
-lawful_followed s t q (End c) d l h =
+lawful_followed s t q (Cleared c) d l h = absurd (cc)
+lawful_followed s t q (End c rep) d l h =
     let is = (taken (nat_lt (rank_in s.ranks (name_xid q (CaseBranch c))) 4) _ t h).1 in
     lawful_stays s t d d (ap (λ u. u.live) (sym is)) refl l.tied.rise l
 lawful_followed s t q (Prepared b ws) d l h =

@@ -10,7 +10,7 @@ use Rattle.tree_model.specs.declared.records.Branch.{Branch}
 use Rattle.tree_model.specs.declared.records.Branch.TheVariants.{Foreign}
 use Rattle.tree_model.specs.declared.records.LogRecord.{LogRecord}
 use Rattle.tree_model.specs.declared.records.Record.{Record}
-use Rattle.tree_model.specs.declared.records.Record.TheVariants.{Opened, Collecting, Prepare, Commit, Abort, End, Prepared, Committed, RolledBack, Direct, HeurCommit, HeurRollback, Told, Forgot, Base, Pair}
+use Rattle.tree_model.specs.declared.records.Record.TheVariants.{Opened, Collecting, Prepare, Commit, Abort, End, Prepared, Committed, RolledBack, Direct, HeurCommit, HeurRollback, Told, Forgot, Base, Pair, Cleared}
 use Rattle.tree_model.specs.Records.{same_branch, same_xid}
 use Rattle.tree_model.specs.Standings.{Decided, Finished, Mark, Promised, ToldOf, Unmarked, mark_after, mark_of}
 use Rattle.tree_model.specs.LogNames.{name_xid, by_xid}
@@ -77,7 +77,8 @@ known_as b o (Collecting c ts) = refl
 known_as b o (Prepare c ts) = refl
 known_as b o (Commit c ts) = refl
 known_as b o (Abort c ts) = refl
-known_as b o (End c) = refl
+known_as b o (End c rep) = refl
+known_as b o (Cleared c) = refl
 known_as b o (Committed a) = refl
 known_as b o (RolledBack a) = refl
 known_as b o (Direct a ws) = refl
@@ -118,7 +119,8 @@ still_known b m o (Collecting c ts) known = known
 still_known b m o (Prepare c ts) known = known
 still_known b m o (Commit c ts) known = known
 still_known b m o (Abort c ts) known = known
-still_known b m o (End c) known = known
+still_known b m o (End c rep) known = known
+still_known b m o (Cleared c) known = known
 still_known b m o (Base n) known = known
 still_known b m o (Pair k v) known = known
 

@@ -8,7 +8,7 @@ use Rattle.tree_model.specs.declared.records.Branch.{Branch}
 use Rattle.tree_model.specs.declared.records.Branch.TheVariants.{Case as CaseBranch, Foreign}
 use Rattle.tree_model.specs.declared.records.LogRecord.{LogRecord}
 use Rattle.tree_model.specs.declared.records.Record.{Record}
-use Rattle.tree_model.specs.declared.records.Record.TheVariants.{Opened, Collecting, Prepare, Commit, Abort, End, Prepared, Committed, RolledBack, Direct, HeurCommit, HeurRollback, Told, Forgot, Base, Pair}
+use Rattle.tree_model.specs.declared.records.Record.TheVariants.{Opened, Collecting, Prepare, Commit, Abort, End, Prepared, Committed, RolledBack, Direct, HeurCommit, HeurRollback, Told, Forgot, Base, Pair, Cleared}
 use Rattle.tree_model.specs.declared.records.Write.{Write}
 use Rattle.tree_model.specs.LogNames.{name_by, name_xid, by_xid}
 use Rattle.tree_model.specs.Records.{branch_case, record_branch, record_case, same_branch, same_xid}
@@ -184,7 +184,8 @@ module _ (x : Xid) where
   one (Prepare c ts) q h = absurd (cc)
   one (Commit c ts) q h = absurd (cc)
   one (Abort c ts) q h = absurd (cc)
-  one (End c) q h = absurd (cc)
+  one (End c rep) q h = absurd (cc)
+  one (Cleared c) q h = absurd (cc)
 
   -- the records of a log
 

@@ -5,7 +5,7 @@ use Rattle.xa_xid.specs.declared.xid.Xid.{Xid}
 use Rattle.tree_model.specs.declared.records.Branch.TheVariants.{Foreign}
 use Rattle.tree_model.specs.declared.records.LogRecord.{LogRecord}
 use Rattle.tree_model.specs.declared.records.Record.{Record}
-use Rattle.tree_model.specs.declared.records.Record.TheVariants.{Collecting, Prepare, Commit, Abort, End}
+use Rattle.tree_model.specs.declared.records.Record.TheVariants.{Collecting, Prepare, Commit, Abort, End, Cleared}
 use Rattle.tree_model.specs.Restarts.{is_open}
 use Rattle.tree_model.specs.Standings.{mark_at}
 use Rattle.tree_model.specs.Store.{writes_of, data_of}
@@ -19,7 +19,8 @@ is_managers (Collecting c ts) = false
 is_managers (Prepare c ts) = false
 is_managers (Commit c ts) = false
 is_managers (Abort c ts) = false
-is_managers (End c) = false
+is_managers (End c rep) = false
+is_managers (Cleared c) = false
 is_managers _ = true
 
 -- these records make the same data; each branch that is open by the first has the same writes, its last

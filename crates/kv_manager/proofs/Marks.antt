@@ -10,7 +10,7 @@ use Rattle.tree_model.specs.declared.names.ProcessId.{ProcessId}
 use Rattle.tree_model.specs.declared.records.Branch.TheVariants.{Case as CaseBranch, Foreign}
 use Rattle.tree_model.specs.declared.records.LogRecord.{LogRecord}
 use Rattle.tree_model.specs.declared.records.Record.{Record}
-use Rattle.tree_model.specs.declared.records.Record.TheVariants.{Opened, Collecting, Prepare, Commit, Abort, End, Prepared, Committed, RolledBack, Direct, HeurCommit, HeurRollback, Told as ToldRecord, Forgot, Base as BaseRecord, Pair as PairRecord}
+use Rattle.tree_model.specs.declared.records.Record.TheVariants.{Opened, Collecting, Prepare, Commit, Abort, End, Prepared, Committed, RolledBack, Direct, HeurCommit, HeurRollback, Told as ToldRecord, Forgot, Base as BaseRecord, Pair as PairRecord, Cleared}
 use Rattle.tree_model.specs.LogNames.{name_xid, renamed_by, by_xid}
 use Rattle.tree_model.specs.Records.{boot_after, boot_of, record_branch, same_branch, same_xid, is_opened}
 use Rattle.tree_model.specs.Standings.{Mark, Unmarked, Promised, Decided as DecidedMark, ToldOf, Finished, mark_after, mark_of, mark_at}
@@ -159,7 +159,8 @@ module _ (s t : SeenLog) (m : Xid → Mark) (n : ℕ) (q : Option ProcessId)
   by_record (Abort c ts) h =
       let is = (taken (nat_lt (rank_in s.ranks (name_xid q (CaseBranch c))) 3) _ t h).1 in
       agrees_stays s t m n n (ap (λ u. u.live) (sym is)) (ap (λ u. boot_is u.boot) (sym is) ∙ a.last) a
-  by_record (End c) h =
+  by_record (Cleared c) h = absurd (cc)
+  by_record (End c rep) h =
       let is = (taken (nat_lt (rank_in s.ranks (name_xid q (CaseBranch c))) 4) _ t h).1 in
       agrees_stays s t m n n (ap (λ u. u.live) (sym is)) (ap (λ u. boot_is u.boot) (sym is) ∙ a.last) a
   by_record (Prepared b ws) h =

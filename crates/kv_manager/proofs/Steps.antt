@@ -9,7 +9,7 @@ use Rattle.tree_model.specs.declared.records.Branch.{Branch}
 use Rattle.tree_model.specs.declared.records.Branch.TheVariants.{Case as CaseBranch}
 use Rattle.tree_model.specs.declared.records.LogRecord.{LogRecord}
 use Rattle.tree_model.specs.declared.records.Record.{Record}
-use Rattle.tree_model.specs.declared.records.Record.TheVariants.{Opened, Collecting, Prepare, Commit, Abort, End, Prepared, Committed, RolledBack, Direct, HeurCommit, HeurRollback, Told as ToldRecord, Forgot, Base as BaseRecord, Pair as PairRecord}
+use Rattle.tree_model.specs.declared.records.Record.TheVariants.{Opened, Collecting, Prepare, Commit, Abort, End, Prepared, Committed, RolledBack, Direct, HeurCommit, HeurRollback, Told as ToldRecord, Forgot, Base as BaseRecord, Pair as PairRecord, Cleared}
 use Rattle.tree_model.specs.declared.records.Write.{Write}
 use Rattle.tree_model.specs.LogNames.{name_xid}
 use Rattle.tree_model.specs.Records.{is_opened}
@@ -71,7 +71,8 @@ steps_followed s t q (Commit c ts) h =
     Stays (live_of _ t (taken (nat_lt (rank_in s.ranks (name_xid q (CaseBranch c))) 3) _ t h).1)
 steps_followed s t q (Abort c ts) h =
     Stays (live_of _ t (taken (nat_lt (rank_in s.ranks (name_xid q (CaseBranch c))) 3) _ t h).1)
-steps_followed s t q (End c) h =
+steps_followed s t q (Cleared c) h = absurd (cc)
+steps_followed s t q (End c rep) h =
     Stays (live_of _ t (taken (nat_lt (rank_in s.ranks (name_xid q (CaseBranch c))) 4) _ t h).1)
 steps_followed s t q (Prepared b ws) h =
     let made = taken (not (is_some (found s (name_xid q b))) && nat_lt (length s.live) 1024 && keys_once ws
@@ -144,7 +145,8 @@ boots_followed s t q (Commit c ts) h b =
     booted s _ t (taken (nat_lt (rank_in s.ranks (name_xid q (CaseBranch c))) 3) _ t h).1 refl b
 boots_followed s t q (Abort c ts) h b =
     booted s _ t (taken (nat_lt (rank_in s.ranks (name_xid q (CaseBranch c))) 3) _ t h).1 refl b
-boots_followed s t q (End c) h b =
+boots_followed s t q (Cleared c) h b = absurd (cc)
+boots_followed s t q (End c rep) h b =
     booted s _ t (taken (nat_lt (rank_in s.ranks (name_xid q (CaseBranch c))) 4) _ t h).1 refl b
 boots_followed s t q (Prepared x ws) h b =
     booted s _ t (taken (not (is_some (found s (name_xid q x))) && nat_lt (length s.live) 1024 && keys_once ws

@@ -11,7 +11,7 @@ use Rattle.tree_model.specs.declared.names.ProcessId.{ProcessId}
 use Rattle.tree_model.specs.declared.records.Branch.TheVariants.{Case as CaseBranch, Foreign}
 use Rattle.tree_model.specs.declared.records.LogRecord.{LogRecord}
 use Rattle.tree_model.specs.declared.records.Record.{Record}
-use Rattle.tree_model.specs.declared.records.Record.TheVariants.{Opened, Collecting, Prepare, Commit, Abort, End, Prepared, Committed, RolledBack, Direct, HeurCommit, HeurRollback, Told as ToldRecord, Forgot, Base as BaseRecord, Pair as PairRecord}
+use Rattle.tree_model.specs.declared.records.Record.TheVariants.{Opened, Collecting, Prepare, Commit, Abort, End, Prepared, Committed, RolledBack, Direct, HeurCommit, HeurRollback, Told as ToldRecord, Forgot, Base as BaseRecord, Pair as PairRecord, Cleared}
 use Rattle.tree_model.specs.LogNames.{by_xid, name_xid, renamed_by}
 use Rattle.tree_model.specs.Records.{record_branch, same_branch}
 use Rattle.tree_model.specs.Store.{Data, data_of, stored_after}
@@ -99,7 +99,8 @@ module _ (s t : SeenLog) (ds : Xid → Decision) (q : Option ProcessId)
       told_stays s t ds (live_of _ t (taken (nat_lt (rank_in s.ranks (name_xid q (CaseBranch c))) 3) _ t h).1) a
   by_record (Abort c ts) h =
       told_stays s t ds (live_of _ t (taken (nat_lt (rank_in s.ranks (name_xid q (CaseBranch c))) 3) _ t h).1) a
-  by_record (End c) h =
+  by_record (Cleared c) h = absurd (cc)
+  by_record (End c rep) h =
       told_stays s t ds (live_of _ t (taken (nat_lt (rank_in s.ranks (name_xid q (CaseBranch c))) 4) _ t h).1) a
   by_record (Prepared b ws) h =
       subst (λ u. AreTold u (next_known q (Prepared b ws) ds)) (taken (not (is_some (found s (name_xid q b)))

@@ -8,7 +8,7 @@ use Rattle.xa_xid.specs.declared.xid.Xid.{Xid}
 use Rattle.tree_model.specs.declared.names.ProcessId.{ProcessId}
 use Rattle.tree_model.specs.declared.records.LogRecord.{LogRecord}
 use Rattle.tree_model.specs.declared.records.Record.{Record}
-use Rattle.tree_model.specs.declared.records.Record.TheVariants.{Opened, Collecting, Prepare, Commit, Abort, End, Prepared, Committed, RolledBack, Direct, HeurCommit, HeurRollback, Told as ToldRecord, Forgot, Base as BaseRecord, Pair as PairRecord}
+use Rattle.tree_model.specs.declared.records.Record.TheVariants.{Opened, Collecting, Prepare, Commit, Abort, End, Prepared, Committed, RolledBack, Direct, HeurCommit, HeurRollback, Told as ToldRecord, Forgot, Base as BaseRecord, Pair as PairRecord, Cleared}
 use Rattle.tree_model.specs.declared.records.Write.{Write}
 use Rattle.tree_model.specs.declared.records.Branch.{Branch}
 use Rattle.tree_model.specs.declared.records.Branch.TheVariants.{Case as CaseBranch, Foreign}
@@ -375,7 +375,8 @@ module _ (all behind : List LogRecord) (s u t : SeenLog) (q : Option ProcessId) 
   next_by (Prepare c ts) m trails h = absurd (cc)
   next_by (Commit c ts) m trails h = absurd (cc)
   next_by (Abort c ts) m trails h = absurd (cc)
-  next_by (End c) m trails h = absurd (cc)
+  next_by (End c rep) m trails h = absurd (cc)
+  next_by (Cleared c) m trails h = absurd (cc)
   next_by (Opened n) m trails h = skips all behind _ s u t (before (Opened n) refl trails) trails.opened refl
       (live_is _ u (taken (boot_rises s.boot n) _ u h).1)
   next_by (BaseRecord n) m trails h = skips all behind _ s u t (before (BaseRecord n) refl trails) trails.opened
@@ -497,7 +498,8 @@ booted q (Collecting c ts) h = absurd (cc)
 booted q (Prepare c ts) h = absurd (cc)
 booted q (Commit c ts) h = absurd (cc)
 booted q (Abort c ts) h = absurd (cc)
-booted q (End c) h = absurd (cc)
+booted q (End c rep) h = absurd (cc)
+booted q (Cleared c) h = absurd (cc)
 booted q (Prepared b ws) h = absurd (cc)
 booted q (Committed b) h = absurd (cc)
 booted q (RolledBack b) h = absurd (cc)

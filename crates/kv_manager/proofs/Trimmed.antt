@@ -8,7 +8,7 @@ use Rattle.tree_model.specs.declared.names.ProcessId.{ProcessId}
 use Rattle.tree_model.specs.declared.records.Branch.TheVariants.{Foreign}
 use Rattle.tree_model.specs.declared.records.LogRecord.{LogRecord}
 use Rattle.tree_model.specs.declared.records.Record.{Record}
-use Rattle.tree_model.specs.declared.records.Record.TheVariants.{Opened, Collecting, Prepare, Commit, Abort, End, Prepared, Committed, RolledBack, Direct, HeurCommit, HeurRollback, Told, Forgot, Base, Pair}
+use Rattle.tree_model.specs.declared.records.Record.TheVariants.{Opened, Collecting, Prepare, Commit, Abort, End, Prepared, Committed, RolledBack, Direct, HeurCommit, HeurRollback, Told, Forgot, Base, Pair, Cleared}
 use Rattle.tree_model.specs.Restarts.{is_open}
 use Rattle.tree_model.specs.Store.{base_records, pair_record, writes_of as promised_of, data_of}
 use Rattle.log_rules.specs.sound.Sound.{IsSound, IsSoundEntry}
@@ -51,7 +51,8 @@ of_manager q (Collecting c ts) h = absurd h.1
 of_manager q (Prepare c ts) h = absurd h.1
 of_manager q (Commit c ts) h = absurd h.1
 of_manager q (Abort c ts) h = absurd h.1
-of_manager q (End c) h = absurd h.1
+of_manager q (End c rep) h = absurd h.1
+of_manager q (Cleared c) h = absurd h.1
 of_manager q (Opened n) h = refl
 of_manager q (Prepared b ws) h = refl
 of_manager q (Committed b) h = refl

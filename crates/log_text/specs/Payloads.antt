@@ -11,10 +11,11 @@ use Rattle.tree_model.specs.declared.records.Branch.{Branch}
 use Rattle.tree_model.specs.declared.records.Branch.TheVariants.{Case as CaseBranch}
 use Rattle.tree_model.specs.declared.records.LogRecord.{LogRecord}
 use Rattle.tree_model.specs.declared.records.Record.{Record}
-use Rattle.tree_model.specs.declared.records.Record.TheVariants.{Opened, Collecting, Prepare, Commit, Abort, End, Prepared, Committed, RolledBack, Direct, HeurCommit, HeurRollback, Told, Forgot, Base, Pair}
+use Rattle.tree_model.specs.declared.records.Record.TheVariants.{Opened, Collecting, Prepare, Commit, Abort, End, Prepared, Committed, RolledBack, Direct, HeurCommit, HeurRollback, Told, Forgot, Base, Pair, Cleared}
 use Rattle.tree_model.specs.declared.records.Write.{Write}
 use Rattle.tree_model.specs.LogNames.{name_xid}
 use Rattle.log_text.specs.Frames.{frame_text}
+use Rattle.tree_model.specs.declared.records.Reports.{Reports}
 
 -- the byte of a record's kind
 abbrev pub kind_byte : Record → ℕ
@@ -23,7 +24,9 @@ kind_byte (Collecting c ts) = 2
 kind_byte (Prepare c ts) = 3
 kind_byte (Commit c ts) = 4
 kind_byte (Abort c ts) = 5
-kind_byte (End c) = 6
+kind_byte (End c None) = 6
+kind_byte (End c (Some r)) = 7
+kind_byte (Cleared c) = 8
 kind_byte (Prepared b ws) = 17
 kind_byte (Committed b) = 18
 kind_byte (RolledBack b) = 19
@@ -42,6 +45,10 @@ ticket_text t = big_bytes 4 t.child.0 ++ (big_bytes 8 t.boot ++ big_bytes 8 t.nu
 -- tickets: how many, and each
 abbrev pub tickets_text : List Ticket → List ℕ
 tickets_text ts = length ts ∷ flat_map ticket_text ts
+
+-- what the root found: the mixed tickets, and the unreported ones
+abbrev pub reports_text : Reports → List ℕ
+reports_text r = tickets_text r.mixed ++ tickets_text r.unreported
 
 -- a key behind its length
 abbrev pub key_text : List ℕ → List ℕ
@@ -80,7 +87,9 @@ payload_text p (Collecting c ts) = name_text p (CaseBranch c) ++ tickets_text ts
 payload_text p (Prepare c ts) = name_text p (CaseBranch c) ++ tickets_text ts
 payload_text p (Commit c ts) = name_text p (CaseBranch c) ++ tickets_text ts
 payload_text p (Abort c ts) = name_text p (CaseBranch c) ++ tickets_text ts
-payload_text p (End c) = name_text p (CaseBranch c)
+payload_text p (End c None) = name_text p (CaseBranch c)
+payload_text p (End c (Some r)) = name_text p (CaseBranch c) ++ reports_text r
+payload_text p (Cleared c) = name_text p (CaseBranch c)
 payload_text p (Prepared b ws) = name_text p b ++ writes_text ws
 payload_text p (Committed b) = name_text p b
 payload_text p (RolledBack b) = name_text p b
@@ -117,6 +126,7 @@ IsSized (Collecting c ts) = length ts < 256
 IsSized (Prepare c ts) = length ts < 256
 IsSized (Commit c ts) = length ts < 256
 IsSized (Abort c ts) = length ts < 256
+IsSized (End c (Some r)) = (length r.mixed < 256) × (length r.unreported < 256)
 IsSized (Prepared b ws) = (length ws < 256) × All SizedWrite ws
 IsSized (Direct b ws) = (length ws < 256) × All SizedWrite ws
 IsSized (Pair k v) = (length k < 256) × (length v < 65536)

@@ -33,10 +33,11 @@ listing kind c ts =
     if kind == 2 then Collecting c ts else if kind == 3 then Prepare c ts else if kind == 4 then Commit c ts
     else Abort c ts
 
--- a record of a case, with the tickets that are left behind its name
+-- a record of a case, with the tickets that are left behind its name; one that has what the root found, and one that
+-- clears it, are not read yet
 abbrev pub case_record : ℕ → Option ProcessId → Case → List ℕ → Option LogRecord
 case_record kind p c rest =
-    if kind == 6 then (if length rest == 0 then Some (named p (End c)) else None)
+    if kind == 6 then (if length rest == 0 then Some (named p (End c None)) else None)
     else if nat_le 2 kind && nat_le kind 5
     then option_map (λ ts. named p (listing kind c ts)) (tickets_of rest)
     else None

@@ -17,6 +17,7 @@ ghost use Rattle.log_text.specs.Payloads.{
   name_text,
   payload_text,
   record_text,
+  reports_text,
   ticket_text,
   tickets_text,
   value_text,
@@ -28,7 +29,8 @@ use crate::xids::{branch_xid, format_of, ticket_name, txn_name};
 use std::alloc::{AllocError, Global};
 use std::snapshot::Snapshot;
 use tree_model::{
-    Branch, Bytes, Case, LogRecord, Outcome, ProcessId, Record, Ticket, Tickets, Write, Writes,
+    Branch, Bytes, Case, LogRecord, Outcome, ProcessId, Record, Reports, Ticket, Tickets, Write,
+    Writes,
 };
 use xa_xid::Xid;
 
@@ -118,6 +120,15 @@ fn push_tickets(text: &mut Vec<u8>, tickets: &Tickets) -> Result<(), AllocError>
     Ok(())
 }
 
+fn push_reports(text: &mut Vec<u8>, reports: &Reports) -> Result<(), AllocError>
+    requires mixed { length reports.now.mixed < 256 }
+    requires unreported { length reports.now.unreported < 256 }
+    ensures { OnOk result (text.new.items ≡ text.old.items ++ reports_text reports.now) }
+{
+    push_tickets(text, &reports.mixed)?;
+    push_tickets(text, &reports.unreported)
+}
+
 fn push_key(text: &mut Vec<u8>, key: &Bytes) -> Result<(), AllocError>
     requires { length key.now < 256 }
     ensures { OnOk result (text.new.items ≡ text.old.items ++ key_text key.now) }
@@ -184,7 +195,11 @@ fn push_payload(
             push_case(text, parent, case)?;
             push_tickets(text, tickets)
         }
-        Record::End(case) => push_case(text, parent, case),
+        Record::End(case, None) | Record::Cleared(case) => push_case(text, parent, case),
+        Record::End(case, Some(reports)) => {
+            push_case(text, parent, case)?;
+            push_reports(text, reports)
+        }
         Record::Prepared(branch, writes) | Record::Direct(branch, writes) => {
             push_name(text, parent, branch)?;
             push_writes(text, writes)
@@ -216,7 +231,9 @@ fn kind_byte(entry: &Record) -> u8
         Record::Prepare(..) => 0x03,
         Record::Commit(..) => 0x04,
         Record::Abort(..) => 0x05,
-        Record::End(_) => 0x06,
+        Record::End(_, None) => 0x06,
+        Record::End(_, Some(_)) => 0x07,
+        Record::Cleared(_) => 0x08,
         Record::Prepared(..) => 0x11,
         Record::Committed(_) => 0x12,
         Record::RolledBack(_) => 0x13,

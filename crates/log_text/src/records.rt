@@ -68,7 +68,7 @@ fn case_record(
         0x03 => Record::Prepare(case, tickets_of(rest, alloc)?),
         0x04 => Record::Commit(case, tickets_of(rest, alloc)?),
         0x05 => Record::Abort(case, tickets_of(rest, alloc)?),
-        0x06 if rest.is_empty() => Record::End(case),
+        0x06 if rest.is_empty() => Record::End(case, None),
         _ => return Err(ReadFault::Malformed),
     };
     Ok(LogRecord { entry, parent })

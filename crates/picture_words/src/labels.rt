@@ -9,8 +9,8 @@ ghost use Rattle.picture_words.specs.Labels.{record_name as name_of_record, subj
 use picture_shapes::{Tone, push_word};
 use std::alloc::{AllocError, Global};
 use trace_lines::{
-    kind_word, outcome_word, push, push_case, push_case_word, push_number, push_number_word,
-    push_ticket,
+    kind_word, outcome_word, push, push_case, push_case_word, push_findings, push_number,
+    push_number_word, push_ticket,
 };
 use tree_model::{
     Act, Case, Conclusion, Envelope, Event, Logged, Message, Op, Outcome, Presumption, RecordKind,
@@ -78,7 +78,7 @@ pub fn message_tone(message: &Message) -> Tone {
         Message::Prepare(..) | Message::Yes(_) | Message::Read(_) => Tone::Vote,
         Message::Commit(_) => Tone::Yes,
         Message::Abort(_) | Message::No(_) => Tone::No,
-        Message::Ack(_, outcome) => outcome_tone(*outcome),
+        Message::Ack(_, outcome, _) => outcome_tone(*outcome),
         Message::Inquire(_) => Tone::Ask,
         Message::Join(_) | Message::Joined(..) | Message::Work(..) => Tone::Dim,
     }
@@ -99,10 +99,11 @@ fn push_message(out: &mut Vec<u8>, message: &Message) -> Result<(), AllocError> 
         Message::Read(case) => push_of(out, "READ ", case),
         Message::Commit(case) => push_of(out, "COMMIT ", case),
         Message::Abort(case) => push_of(out, "ABORT ", case),
-        Message::Ack(case, outcome) => {
+        Message::Ack(case, outcome, findings) => {
             push_of(out, "ACK ", case)?;
             push(out, " ")?;
-            push(out, outcome_word(*outcome))
+            push(out, outcome_word(*outcome))?;
+            push_findings(out, findings.as_slice())
         }
         Message::Inquire(case) => push_of(out, "INQUIRE ", case),
     }
@@ -161,10 +162,11 @@ fn push_whole(out: &mut Vec<u8>, message: &Message) -> Result<(), AllocError>
         Message::Read(case) => push_case_of(out, "READ ", case),
         Message::Commit(case) => push_case_of(out, "COMMIT ", case),
         Message::Abort(case) => push_case_of(out, "ABORT ", case),
-        Message::Ack(case, outcome) => {
+        Message::Ack(case, outcome, findings) => {
             push_case_of(out, "ACK ", case)?;
             push(out, " ")?;
-            push(out, outcome_word(*outcome))
+            push(out, outcome_word(*outcome))?;
+            push_findings(out, findings.as_slice())
         }
         Message::Inquire(case) => push_case_of(out, "INQUIRE ", case),
     }

@@ -325,17 +325,17 @@ listed_long kind p c rest (Some ts) l f e =
 
 ended_long : (none : Bool) (p : Option ProcessId) (c : Case) (rest : List ℕ) (l : LogRecord)
     → (length rest == 0) ≡ none
-    → (if none then Some (named p (End c)) else None) ≡ Some l
+    → (if none then Some (named p (End c None)) else None) ≡ Some l
     → length (name_text p (CaseBranch c)) + length rest ≡ size_of l
 ended_long false p c rest l n e = absurd (cc)
 ended_long true p c rest l n e =
-    let is : named p (End c) ≡ l = cc in
+    let is : named p (End c None) ≡ l = cc in
     let nothing : length rest ≡ 0 = grind (arith, nat_tests) in
     omega (arith, nothing, ap size_of is)
 
 case_record_long : (six mid : Bool) (kind : ℕ) (p : Option ProcessId) (c : Case) (rest : List ℕ)
     (l : LogRecord)
-    → (if six then (if length rest == 0 then Some (named p (End c)) else None)
+    → (if six then (if length rest == 0 then Some (named p (End c None)) else None)
     else if mid then option_map (λ ts. named p (listing kind c ts)) (tickets_of rest) else None) ≡ Some l
     → length (name_text p (CaseBranch c)) + length rest ≡ size_of l
 case_record_long true mid kind p c rest l e = ended_long (length rest == 0) p c rest l refl e

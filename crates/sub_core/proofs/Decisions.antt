@@ -23,7 +23,7 @@ use Rattle.tree_model.specs.Names.{same_outcome}
 use Rattle.tree_model.specs.CoordinatorRows.{forced, tells_outcome}
 use Rattle.tree_model.specs.ManagerRows.{Leaf, LeafRow, acknowledgement, heuristic_forget, heuristic_outcome, is_acknowledged, on_abort, on_commit, prepared_decide, unmoved}
 use Rattle.log_text.specs.Parts.{Name}
-use Rattle.core_model.specs.Turns.{Handles, Turn, decide_turn, forget_turn, leaf_in}
+use Rattle.core_model.specs.Turns.{Handles, Turn, decide_turn, forget_turn, leaf_in, this_version}
 use Rattle.core_model.specs.Makes.{retired_by}
 use Rattle.manager_model.specs.Sights.{ManagerSight, manager_data}
 use Rattle.manager_model.specs.Deciding.{decision_writes}
@@ -118,16 +118,16 @@ module _ (s : SubState) (key : ℕ) (c : Case) (x : Xid) (o : Outcome) (tied : I
 module _ (s : SubState) (key : ℕ) (c : Case) (x : Xid) (told : Option Outcome) (kept : IsKept s.table)
     (at : IsAt s.table key c (decided x told)) where
   outcome_is : (o : Outcome) → turn_for s (tells_outcome o c)
-      ≡ Handles c (heuristic_outcome (leaf_in (core_of s) s.parent c) o (view_in s.table c) told)
+      ≡ Handles c (heuristic_outcome (leaf_in (core_of s) s.parent c) o [] (view_in s.table c) told)
   outcome_is Committed =
       let l : Leaf = leaf_in (core_of s) s.parent c in
-      ap (λ (k : Option Branch). Handles c (on_commit l (view_in s.table c) (kept_view k).standing)) at.live
-      ∙ ap (λ (k : Option Branch). Handles c (heuristic_outcome l Committed (view_in s.table c)
+      ap (λ (k : Option Branch). Handles c (on_commit this_version l [] (view_in s.table c) (kept_view k).standing)) at.live
+      ∙ ap (λ (k : Option Branch). Handles c (heuristic_outcome l Committed [] (view_in s.table c)
       (kept_view k).told)) at.live
   outcome_is Aborted =
       let l : Leaf = leaf_in (core_of s) s.parent c in
-      ap (λ (k : Option Branch). Handles c (on_abort l (view_in s.table c) (kept_view k).standing)) at.live
-      ∙ ap (λ (k : Option Branch). Handles c (heuristic_outcome l Aborted (view_in s.table c)
+      ap (λ (k : Option Branch). Handles c (on_abort this_version l [] (view_in s.table c) (kept_view k).standing)) at.live
+      ∙ ap (λ (k : Option Branch). Handles c (heuristic_outcome l Aborted [] (view_in s.table c)
       (kept_view k).told)) at.live
 
   outcome_data : (o : Outcome) → message_data (core_of s) (answer_for s (tells_outcome o c)) (tells_outcome o c)
@@ -148,8 +148,7 @@ pub told_same : (s : SubState) (key : ℕ) (c : Case) (x : Xid) (told o : Outcom
     → Stays s c (tells_outcome o c)
     (record {
       written = [];
-      messages = acknowledgement (leaf_in (core_of s) s.parent c)
-          o;
+      messages = acknowledgement (leaf_in (core_of s) s.parent c) o [];
       view = view_in s.table c;
     })
 told_same s key c x told o kept at is =
@@ -159,7 +158,7 @@ told_same s key c x told o kept at is =
       turn = outcome_is s key c x (Some told) kept at o
           ∙ ap (λ b. Handles c (if b then record {
             written = [];
-            messages = acknowledgement l o;
+            messages = acknowledgement l o [];
             view = v;
           } else unmoved v)) is;
       view = refl;
@@ -179,7 +178,7 @@ told_other s key c x told o kept at is =
       turn = outcome_is s key c x (Some told) kept at o
           ∙ ap (λ b. Handles c (if b then record {
             written = [];
-            messages = acknowledgement l o;
+            messages = acknowledgement l o [];
             view = v;
           } else unmoved v)) is;
       view = refl;
@@ -213,7 +212,7 @@ module _ (s : SubState) (key : ℕ) (c : Case) (x : Xid) (o : Outcome) (tied : I
   l = leaf_in (core_of s) s.parent c
 
   abbrev row : LeafRow
-  row = heuristic_outcome (leaf_in (core_of s) s.parent c) o (view_in s.table c) None
+  row = heuristic_outcome (leaf_in (core_of s) s.parent c) o [] (view_in s.table c) None
 
   none_told : (s.manager.decided x).told ≡ None
   none_told = tied.told c (decided x None) at.live

@@ -17,7 +17,7 @@ use Rattle.tree_model.specs.Names.{child_case, same_case}
 use Rattle.tree_model.specs.ManagerRows.{Leaf, LeafRow, active_abort, active_prepare_holding, on_abort, on_commit, on_prepare, prepared_outcome, replies}
 use Rattle.tree_model.specs.Plays.{held_writes}
 use Rattle.tree_model.specs.Standings.{unknown_branch}
-use Rattle.core_model.specs.Turns.{Handles, Turn, leaf_in}
+use Rattle.core_model.specs.Turns.{Handles, Turn, leaf_in, this_version}
 use Rattle.core_model.specs.Makes.{retired_by}
 use Rattle.manager_model.specs.Sights.{ManagerSight, manager_data}
 use Rattle.xa_heur.specs.declared.decision.Decision.{Decision}
@@ -191,7 +191,7 @@ pub abort_row : (s : SubState) (key : ℕ) (c g : Case) (n : ℕ) (p : Bool) (x 
 abort_row s key c g n p x at =
     let l : Leaf = leaf_in (core_of s) s.parent c in
     record {
-      turn = ap (λ (o : Option Branch). Handles c (on_abort l (kept_view o) (kept_view o).standing)) at.live;
+      turn = ap (λ (o : Option Branch). Handles c (on_abort this_version l [] (kept_view o) (kept_view o).standing)) at.live;
       view = refl;
       written = none_written g c n p (s.manager.writes x) (s.manager.decided x);
       of = tt;
@@ -207,7 +207,7 @@ pub rolled_row : (s : SubState) (key : ℕ) (c : Case) (x : Xid) → IsKept s.ta
 rolled_row s key c x kept at =
     let l : Leaf = leaf_in (core_of s) s.parent c in
     record {
-      turn = ap (λ (o : Option Branch). Handles c (on_abort l (kept_view o) (kept_view o).standing)) at.live;
+      turn = ap (λ (o : Option Branch). Handles c (on_abort this_version l [] (kept_view o) (kept_view o).standing)) at.live;
       view = refl;
       written = refl;
       of = (refl, tt);
@@ -223,7 +223,7 @@ pub commit_row : (s : SubState) (key : ℕ) (c : Case) (x : Xid) → IsKept s.ta
 commit_row s key c x kept at =
     let l : Leaf = leaf_in (core_of s) s.parent c in
     record {
-      turn = ap (λ (o : Option Branch). Handles c (on_commit l (kept_view o) (kept_view o).standing)) at.live;
+      turn = ap (λ (o : Option Branch). Handles c (on_commit this_version l [] (kept_view o) (kept_view o).standing)) at.live;
       view = refl;
       written = refl;
       of = (refl, tt);

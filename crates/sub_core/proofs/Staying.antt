@@ -17,7 +17,7 @@ use Rattle.tree_model.specs.ManagerRows.{Leaf, LeafRow, on_abort, on_commit, on_
 use Rattle.tree_model.specs.Plays.{held_writes}
 use Rattle.rec_log.specs.Sights.{LogSight}
 use Rattle.core_model.specs.States.{log_behind, wrote}
-use Rattle.core_model.specs.Turns.{Handles, Turn, leaf_in}
+use Rattle.core_model.specs.Turns.{Handles, Turn, leaf_in, this_version}
 use Rattle.core_model.specs.Makes.{retired_by}
 use Rattle.sub_branch.specs.declared.branch.Branch.{Branch}
 use Rattle.sub_branch.specs.declared.branch.Stage.{Stage}
@@ -140,13 +140,13 @@ module _ (s : SubState) (c : Case) (kept : IsKept s.table) where
       }
 
   pub commit_unknown : branch_in s.table c ≡ None
-      → Stays s c (Commit c) (unknown_outcome (leaf_in (core_of s) s.parent c)
+      → Stays s c (Commit c) (unknown_outcome this_version (leaf_in (core_of s) s.parent c)
       CommittedOutcome (view_in s.table c))
   commit_unknown none =
       let l : Leaf = leaf_in (core_of s) s.parent c in
       record {
         turn = ap (λ (o : Option Branch). Handles c
-            (on_commit l (view_in s.table c) (kept_view o).standing)) none;
+            (on_commit this_version l [] (view_in s.table c) (kept_view o).standing)) none;
         view = refl;
         written = refl;
         tickets = λ k d. never_retired k c d (ticket_in s.table d);
@@ -160,7 +160,7 @@ module _ (s : SubState) (c : Case) (kept : IsKept s.table) where
       let l : Leaf = leaf_in (core_of s) s.parent c in
       record {
         turn = ap (λ (o : Option Branch). Handles c
-            (on_commit l (view_in s.table c) (kept_view o).standing)) at.live;
+            (on_commit this_version l [] (view_in s.table c) (kept_view o).standing)) at.live;
         view = refl;
         written = refl;
         tickets = λ k d. never_retired k c d (ticket_in s.table d);
@@ -169,13 +169,13 @@ module _ (s : SubState) (c : Case) (kept : IsKept s.table) where
       }
 
   pub abort_unknown : branch_in s.table c ≡ None
-      → Stays s c (Abort c) (unknown_outcome (leaf_in (core_of s) s.parent c)
+      → Stays s c (Abort c) (unknown_outcome this_version (leaf_in (core_of s) s.parent c)
       AbortedOutcome (view_in s.table c))
   abort_unknown none =
       let l : Leaf = leaf_in (core_of s) s.parent c in
       record {
         turn = ap (λ (o : Option Branch). Handles c
-            (on_abort l (view_in s.table c) (kept_view o).standing)) none;
+            (on_abort this_version l [] (view_in s.table c) (kept_view o).standing)) none;
         view = refl;
         written = refl;
         tickets = λ k d. unknown_untouched s.table c kept none d ∙ retired_abort k c d (ticket_in s.table d);

@@ -266,6 +266,6 @@ unheard_of s (Joined d t) no_join no_work no_prepare no_commit no_abort =
 unheard_of s (Yes c) no_join no_work no_prepare no_commit no_abort = unheard s (Yes c) refl (rests s.manager)
 unheard_of s (No c) no_join no_work no_prepare no_commit no_abort = unheard s (No c) refl (rests s.manager)
 unheard_of s (Read c) no_join no_work no_prepare no_commit no_abort = unheard s (Read c) refl (rests s.manager)
-unheard_of s (Ack c o) no_join no_work no_prepare no_commit no_abort = unheard s (Ack c o) refl (rests s.manager)
+unheard_of s (Ack c o fs) no_join no_work no_prepare no_commit no_abort = unheard s (Ack c o fs) refl (rests s.manager)
 unheard_of s (Inquire c) no_join no_work no_prepare no_commit no_abort =
     unheard s (Inquire c) refl (rests s.manager)

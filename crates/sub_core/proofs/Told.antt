@@ -5,7 +5,7 @@ use Rattle.tree_model.specs.declared.names.Outcome.{Outcome}
 use Rattle.tree_model.specs.declared.names.ProcessId.{ProcessId}
 use Rattle.tree_model.specs.declared.records.Branch.{Branch as AnyBranch}
 use Rattle.tree_model.specs.declared.records.Record.{Record}
-use Rattle.tree_model.specs.declared.records.Record.TheVariants.{Opened, Collecting, Prepare, Commit, Abort, End, Prepared as PreparedRecord, Committed, RolledBack, Direct, HeurCommit, HeurRollback, Told, Forgot, Base, Pair}
+use Rattle.tree_model.specs.declared.records.Record.TheVariants.{Opened, Collecting, Prepare, Commit, Abort, End, Prepared as PreparedRecord, Committed, RolledBack, Direct, HeurCommit, HeurRollback, Told, Forgot, Base, Pair, Cleared}
 use Rattle.tree_model.specs.Records.{same_branch}
 use Rattle.tree_model.specs.Standings.{Decided, Finished, Mark, Promised, ToldOf, Unmarked, mark_after, mark_of}
 use Rattle.xa_heur.specs.declared.decision.Decision.{Decision}
@@ -47,7 +47,8 @@ agree_after b m d (Collecting c ts) h = h
 agree_after b m d (Prepare c ts) h = h
 agree_after b m d (Commit c ts) h = h
 agree_after b m d (Abort c ts) h = h
-agree_after b m d (End c) h = h
+agree_after b m d (End c rep) h = h
+agree_after b m d (Cleared c) h = h
 agree_after b m d (Base n) h = h
 agree_after b m d (Pair k v) h = h
 

@@ -11,7 +11,7 @@ use Rattle.tree_model.specs.declared.records.Branch.{Branch}
 use Rattle.tree_model.specs.declared.records.Branch.TheVariants.{Foreign}
 use Rattle.tree_model.specs.declared.records.LogRecord.{LogRecord}
 use Rattle.tree_model.specs.declared.records.Record.{Record}
-use Rattle.tree_model.specs.declared.records.Record.TheVariants.{Opened, Collecting, Prepare, Commit, Abort, End, Prepared, Committed, RolledBack, Direct, HeurCommit, HeurRollback, Told, Forgot, Base, Pair}
+use Rattle.tree_model.specs.declared.records.Record.TheVariants.{Opened, Collecting, Prepare, Commit, Abort, End, Prepared, Committed, RolledBack, Direct, HeurCommit, HeurRollback, Told, Forgot, Base, Pair, Cleared}
 use Rattle.tree_model.specs.declared.records.Write.{Write}
 use Rattle.tree_model.specs.declared.trees.TreeEntry.{TreeEntry}
 use Rattle.tree_model.specs.LogNames.{in_log, name_xid, own_by, own_records, renamed, by_xid, unnamed}
@@ -122,7 +122,8 @@ module _ (me p : ProcessId) (tree : List TreeEntry) where
   stored_one d e (Prepare c ts) q h k = absurd h.1
   stored_one d e (Commit c ts) q h k = absurd h.1
   stored_one d e (Abort c ts) q h k = absurd h.1
-  stored_one d e (End c) q h k = absurd h.1
+  stored_one d e (End c rep) q h k = absurd h.1
+  stored_one d e (Cleared c) q h k = absurd h.1
 
   stored_from : (d e : Data) (ls : List LogRecord) → AllByRecursion (IsSound Manager) ls → Alike d e
       → Alike (fold stored_after d (own_records (leaf_place me p tree) ls)) (fold stored_after e (map by_xid ls))

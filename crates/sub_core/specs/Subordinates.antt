@@ -224,7 +224,7 @@ decision_kind Aborted = HeurRollback
 
 -- the acknowledgement of an outcome, unless the presumption covers it
 abbrev pub acknowledged : ProcessId → ProcessId → Case → Outcome → List Envelope
-acknowledged from to c o = if is_acknowledged c.txn.presumption o then post from to (Ack c o) ∷ [] else []
+acknowledged from to c o = if is_acknowledged c.txn.presumption o then post from to (Ack c o []) ∷ [] else []
 
 -- the reaction that shows the record of an outcome, and its acknowledgement
 abbrev pub outcome_reply : RecordKind → Case → Outcome → ProcessId → ProcessId → Reaction

@@ -29,7 +29,12 @@ fn acknowledgement(
     ensures { IfOk result (λ messages. messages ≡ acknowledged me parent case outcome) }
 {
     if outcome.is_acknowledged(case.txn.presumption) {
-        one_message(alloc, me, parent, Message::Ack(case, outcome))
+        one_message(
+            alloc,
+            me,
+            parent,
+            Message::Ack(case, outcome, Sequence::new(alloc)),
+        )
     } else {
         Ok(Sequence::new(alloc))
     }

@@ -9,7 +9,7 @@ use Rattle.tree_model.specs.declared.records.Branch.{Branch}
 use Rattle.tree_model.specs.declared.records.Branch.TheVariants.{Case as CaseBranch, Foreign}
 use Rattle.tree_model.specs.declared.records.LogRecord.{LogRecord}
 use Rattle.tree_model.specs.declared.records.Record.{Record}
-use Rattle.tree_model.specs.declared.records.Record.TheVariants.{Opened, Collecting, Prepare, Commit, Abort, End, Prepared, Committed, RolledBack, Direct, HeurCommit, HeurRollback, Told, Forgot, Base, Pair}
+use Rattle.tree_model.specs.declared.records.Record.TheVariants.{Opened, Collecting, Prepare, Commit, Abort, End, Prepared, Committed, RolledBack, Direct, HeurCommit, HeurRollback, Told, Forgot, Base, Pair, Cleared}
 use Rattle.tree_model.specs.declared.trees.TreeEntry.{TreeEntry}
 use Rattle.tree_model.specs.LogNames.{foreign_to, is_own, name_xid, own_records, renamed, same_parent}
 use Rattle.tree_model.specs.Names.{same_case}
@@ -142,10 +142,16 @@ module _ (me p : ProcessId) (tree : List TreeEntry) (c : Case)
           (cond t (Abort d ts ∷ []) (foreign_to (AtLeaf p) q d (Abort d ts)) ++ []) ≡ m
       by_own true = refl
       by_own false = refl
-  one_marked (End d) q m h = by_own (is_own (leaf_place me p tree) q d)
+  one_marked (End d rep) q m h = by_own (is_own (leaf_place me p tree) q d)
     where
       by_own : (t : Bool) → fold (mark_after (CaseBranch c)) m
-          (cond t (End d ∷ []) (foreign_to (AtLeaf p) q d (End d)) ++ []) ≡ m
+          (cond t (End d rep ∷ []) (foreign_to (AtLeaf p) q d (End d rep)) ++ []) ≡ m
+      by_own true = refl
+      by_own false = refl
+  one_marked (Cleared d) q m h = by_own (is_own (leaf_place me p tree) q d)
+    where
+      by_own : (t : Bool) → fold (mark_after (CaseBranch c)) m
+          (cond t (Cleared d ∷ []) (foreign_to (AtLeaf p) q d (Cleared d)) ++ []) ≡ m
       by_own true = refl
       by_own false = refl
   one_marked (Prepared b ws) q m h = marked (λ c. Prepared c ws) q b Promised m h
@@ -225,10 +231,16 @@ module _ (me p : ProcessId) (tree : List TreeEntry) where
           (cond t (Abort d ts ∷ []) (foreign_to (AtLeaf p) q d (Abort d ts)) ++ []) ≡ n
       by_own true = refl
       by_own false = refl
-  one_boot (End d) q n = by_own (is_own (leaf_place me p tree) q d)
+  one_boot (End d rep) q n = by_own (is_own (leaf_place me p tree) q d)
     where
       by_own : (t : Bool) → fold boot_after n
-          (cond t (End d ∷ []) (foreign_to (AtLeaf p) q d (End d)) ++ []) ≡ n
+          (cond t (End d rep ∷ []) (foreign_to (AtLeaf p) q d (End d rep)) ++ []) ≡ n
+      by_own true = refl
+      by_own false = refl
+  one_boot (Cleared d) q n = by_own (is_own (leaf_place me p tree) q d)
+    where
+      by_own : (t : Bool) → fold boot_after n
+          (cond t (Cleared d ∷ []) (foreign_to (AtLeaf p) q d (Cleared d)) ++ []) ≡ n
       by_own true = refl
       by_own false = refl
   one_boot (Prepared b ws) q n = named_boot (λ c. Prepared c ws) q b n (λ c d. refl) (λ c. refl) (λ c n. refl)

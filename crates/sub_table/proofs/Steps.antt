@@ -9,7 +9,7 @@ use Rattle.tree_model.specs.declared.records.Branch.{Branch as AnyBranch}
 use Rattle.tree_model.specs.declared.records.Branch.TheVariants.{Case as CaseBranch, Foreign}
 use Rattle.tree_model.specs.declared.records.LogRecord.{LogRecord}
 use Rattle.tree_model.specs.declared.records.Record.{Record}
-use Rattle.tree_model.specs.declared.records.Record.TheVariants.{Opened, Collecting, Prepare, Commit, Abort, End, Prepared as PreparedRecord, Committed, RolledBack, Direct, HeurCommit, HeurRollback, Told, Forgot, Base, Pair}
+use Rattle.tree_model.specs.declared.records.Record.TheVariants.{Opened, Collecting, Prepare, Commit, Abort, End, Prepared as PreparedRecord, Committed, RolledBack, Direct, HeurCommit, HeurRollback, Told, Forgot, Base, Pair, Cleared}
 use Rattle.tree_model.specs.declared.trees.TreeEntry.{TreeEntry}
 use Rattle.tree_model.specs.LogNames.{is_own, name_xid, own_records, same_parent}
 use Rattle.tree_model.specs.Names.{same_case}
@@ -320,7 +320,8 @@ module _ (me p : ProcessId) (tree : List TreeEntry) (ls : List LogRecord) (old :
   by_entry new q (Prepare c ts) made = absurd made
   by_entry new q (Commit c ts) made = absurd made
   by_entry new q (Abort c ts) made = absurd made
-  by_entry new q (End c) made = absurd made
+  by_entry new q (End c rep) made = absurd made
+  by_entry new q (Cleared c) made = absurd made
 
   pub taken : (new : Cases) (l : LogRecord) → Takes (leaf_place me p tree) p old new l
       → Leaves (leaf_place me p tree) p (ls ++ l ∷ []) new

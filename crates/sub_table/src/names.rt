@@ -55,7 +55,8 @@ pub(crate) fn saying_of(entry: &Record) -> Saying
         | Record::Prepare(..)
         | Record::Commit(..)
         | Record::Abort(..)
-        | Record::End(_) => Saying::Coordinates,
+        | Record::End(..)
+        | Record::Cleared(_) => Saying::Coordinates,
         Record::Prepared(branch, _) => Saying::Promises(*branch),
         Record::Committed(branch)
         | Record::RolledBack(branch)

@@ -5,7 +5,8 @@ use Rattle.std.specs.Fmt.{decimal}
 use Rattle.tree_model.specs.declared.names.Case.{Case}
 use Rattle.tree_model.specs.declared.messages.Envelope.{Envelope}
 use Rattle.tree_model.specs.declared.events.Entry.{Entry}
-use Rattle.tree_model.specs.Texts.{case_text, reaction_lines}
+use Rattle.tree_model.specs.Texts.{case_text, reaction_lines, mixed_word, unreported_word}
+use Rattle.tree_model.specs.declared.messages.Finding.{Finding}
 
 -- a number, behind a space
 abbrev pub number_word : ℕ → List ℕ
@@ -18,6 +19,14 @@ case_word c = codes " " ++ case_text c
 -- a message's number, its sender and its receiver, before its word
 unfoldable pub way_text : ℕ → Envelope → List ℕ
 way_text n e = decimal n ++ codes " " ++ decimal e.from.0 ++ codes "->" ++ decimal e.to.0 ++ codes " "
+
+-- the tickets that findings report as mixed, each behind a space
+abbrev pub mixed_words : List Finding → List ℕ
+mixed_words fs = flat_map mixed_word fs
+
+-- the tickets that they report as unreported, each behind a space
+abbrev pub unreported_words : List Finding → List ℕ
+unreported_words fs = flat_map unreported_word fs
 
 -- a line with its end
 abbrev pub line_text : List ℕ → List ℕ

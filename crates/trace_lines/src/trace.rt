@@ -1,6 +1,7 @@
 //! The text of a trace.
 
-ghost use Rattle.std.specs.Prelude.{◌≡◌, ◌+◌, ◌<◌, ◌≤◌, ◌^◌, ◌++◌, ◌∷◌, [], OnOk, IfOk, drop, length, decimal, codes, flat_map};
+ghost use Rattle.std.specs.Prelude.{◌≡◌, ◌+◌, ◌<◌, ◌≤◌, ◌^◌, ◌++◌, ◌∷◌, [], OnOk, IfOk, drop, length, decimal, codes, flat_map, if◌then◌else◌};
+ghost use Rattle.std.specs.List.{list_any};
 ghost use Rattle.trace_lines.specs.declared.names.TheConstants.{CASE};
 ghost use Rattle.trace_lines.specs.declared.trace.TheConstants.{WAY};
 ghost use Rattle.tree_model.specs.Texts.{
@@ -10,6 +11,11 @@ ghost use Rattle.tree_model.specs.Texts.{
   op_text,
   outcome_word as word_of_outcome,
   message_text,
+  findings_text,
+  is_mixed,
+  is_unreported,
+  mixed_word,
+  unreported_word,
   kind_word as word_of_kind,
   subject_text,
   logged_text,
@@ -21,15 +27,15 @@ ghost use Rattle.tree_model.specs.Texts.{
   envelope_lines,
   kept_lines,
 };
-ghost use Rattle.trace_lines.specs.Trace.{case_word, line_text, lines_text, number_word, way_text};
+ghost use Rattle.trace_lines.specs.Trace.{case_word, line_text, lines_text, mixed_words, number_word, unreported_words, way_text};
 
 use crate::names::{
     CASE, NUMBER, TICKET, write_byte, write_case, write_number, write_ticket, write_txn, write_word,
 };
 use std::alloc::{AllocError, Global};
 use tree_model::{
-    Bytes, Case, Conclusion, Envelope, Logged, Message, Op, Outcome, RecordKind, Subject, Ticket,
-    Told, Txn,
+    Bytes, Case, Conclusion, Envelope, Finding, Logged, Message, Op, Outcome, RecordKind, Subject,
+    Ticket, Told, Txn,
 };
 
 /// The most bytes of a message's number, its sender and its receiver: four marks and three numbers.
@@ -175,6 +181,88 @@ fn push_head(
     out.extend_from_slice(&line[begin..])
 }
 
+/// A ticket that is reported as mixed, behind a space; nothing of another.
+fn push_if_mixed(out: &mut Vec<u8>, finding: &Finding) -> Result<(), AllocError>
+    ensures { OnOk result (out.new.items ≡ out.old.items ++ mixed_word finding.now) }
+{
+    match finding {
+        Finding::Mixed(ticket) => {
+            push_byte(out, b' ')?;
+            push_ticket(out, ticket)
+        }
+        Finding::Unreported(_) => Ok(()),
+    }
+}
+
+/// A ticket that is reported as unreported, behind a space; nothing of another.
+fn push_if_unreported(out: &mut Vec<u8>, finding: &Finding) -> Result<(), AllocError>
+    ensures { OnOk result (out.new.items ≡ out.old.items ++ unreported_word finding.now) }
+{
+    match finding {
+        Finding::Mixed(_) => Ok(()),
+        Finding::Unreported(ticket) => {
+            push_byte(out, b' ')?;
+            push_ticket(out, ticket)
+        }
+    }
+}
+
+/// The tickets that are reported as mixed, each behind a space.
+fn push_mixed(out: &mut Vec<u8>, findings: &[Finding]) -> Result<(), AllocError>
+    ensures { OnOk result (out.new.items ≡ out.old.items ++ mixed_words findings.now) }
+{
+    for finding in findings {
+        push_if_mixed(out, finding)?;
+    }
+    Ok(())
+}
+
+/// The tickets that are reported as unreported, each behind a space.
+fn push_unreported(out: &mut Vec<u8>, findings: &[Finding]) -> Result<(), AllocError>
+    ensures { OnOk result (out.new.items ≡ out.old.items ++ unreported_words findings.now) }
+{
+    for finding in findings {
+        push_if_unreported(out, finding)?;
+    }
+    Ok(())
+}
+
+/// Whether some ticket is reported as mixed.
+fn is_any_mixed(findings: &[Finding]) -> bool
+    ensures { result ≡ list_any is_mixed findings.now }
+{
+    findings
+        .iter()
+        .any(|finding| matches!(finding, Finding::Mixed(_)))
+}
+
+/// Whether some ticket is reported as unreported.
+fn is_any_unreported(findings: &[Finding]) -> bool
+    ensures { result ≡ list_any is_unreported findings.now }
+{
+    findings
+        .iter()
+        .any(|finding| matches!(finding, Finding::Unreported(_)))
+}
+
+/// This word, if it is to stand there.
+fn push_if(out: &mut Vec<u8>, stands: bool, word: &str) -> Result<(), AllocError>
+    ensures { OnOk result (out.new.items ≡ out.old.items ++ (if stands then word.now else [])) }
+{
+    if stands { push(out, word) } else { Ok(()) }
+}
+
+/// What an acknowledgement found: the mixed tickets, then the unreported ones.
+#[tactic(auto, unfolding(tree_model::specs::Texts::findings_text))]
+pub fn push_findings(out: &mut Vec<u8>, findings: &[Finding]) -> Result<(), AllocError>
+    ensures { OnOk result (out.new.items ≡ out.old.items ++ findings_text findings.now) }
+{
+    push_if(out, is_any_mixed(findings), " mixed")?;
+    push_mixed(out, findings)?;
+    push_if(out, is_any_unreported(findings), " unreported")?;
+    push_unreported(out, findings)
+}
+
 fn push_envelope(out: &mut Vec<u8>, number: u64, envelope: &Envelope) -> Result<(), AllocError>
     ensures { OnOk result (out.new.items
         ≡ out.old.items ++ (way_text number envelope.now ++ message_text envelope.now.message)) }
@@ -201,10 +289,11 @@ fn push_envelope(out: &mut Vec<u8>, number: u64, envelope: &Envelope) -> Result<
         Message::Read(case) => push_head(out, number, envelope, "READ ", case),
         Message::Commit(case) => push_head(out, number, envelope, "COMMIT ", case),
         Message::Abort(case) => push_head(out, number, envelope, "ABORT ", case),
-        Message::Ack(case, outcome) => {
+        Message::Ack(case, outcome, findings) => {
             push_head(out, number, envelope, "ACK ", case)?;
             push_byte(out, b' ')?;
-            push(out, outcome_word(*outcome))
+            push(out, outcome_word(*outcome))?;
+            push_findings(out, findings.as_slice())
         }
         Message::Inquire(case) => push_head(out, number, envelope, "INQUIRE ", case),
     }
@@ -222,6 +311,8 @@ pub fn kind_word(kind: RecordKind) -> &'static str
         RecordKind::Commit => "Commit",
         RecordKind::Abort => "Abort",
         RecordKind::End => "End",
+        RecordKind::EndMixed => "EndMixed",
+        RecordKind::Cleared => "Cleared",
         RecordKind::Prepared => "Prepared",
         RecordKind::Committed => "Committed",
         RecordKind::RolledBack => "RolledBack",

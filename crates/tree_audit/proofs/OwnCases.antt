@@ -10,7 +10,7 @@ use Rattle.tree_model.specs.declared.names.Ticket.{Ticket}
 use Rattle.tree_model.specs.declared.records.Branch.TheVariants.{Case as CaseBranch, Foreign}
 use Rattle.tree_model.specs.declared.records.LogRecord.{LogRecord}
 use Rattle.tree_model.specs.declared.records.Record.{Record}
-use Rattle.tree_model.specs.declared.records.Record.TheVariants.{Opened, Collecting, Prepare, Commit, Abort, End, Prepared, Committed, RolledBack, Direct, HeurCommit, HeurRollback, Told, Forgot, Base, Pair}
+use Rattle.tree_model.specs.declared.records.Record.TheVariants.{Opened, Collecting, Prepare, Commit, Abort, End, Prepared, Committed, RolledBack, Direct, HeurCommit, HeurRollback, Told, Forgot, Base, Pair, Cleared}
 use Rattle.tree_model.specs.declared.trees.TreeEntry.{TreeEntry}
 use Rattle.tree_model.specs.LogNames.{foreign_to, is_own, is_ticketed, name_xid, own_by, own_records, renamed}
 use Rattle.tree_model.specs.Names.{process_of, same_process}
@@ -103,7 +103,8 @@ one_promised P (Collecting c ts) of = tt
 one_promised P (Prepare c ts) of = tt
 one_promised P (Commit c ts) of = tt
 one_promised P (Abort c ts) of = tt
-one_promised P (End c) of = tt
+one_promised P (End c rep) of = tt
+one_promised P (Cleared c) of = tt
 
 all_both : (P : Case → Type 0) (cs ds : List Case) → EachCase P cs → EachCase P ds → EachCase P (cs ++ ds)
 unfolding EachCase
@@ -150,7 +151,8 @@ foreign_none x (Collecting c ts) h = absurd (cc)
 foreign_none x (Prepare c ts) h = absurd (cc)
 foreign_none x (Commit c ts) h = absurd (cc)
 foreign_none x (Abort c ts) h = absurd (cc)
-foreign_none x (End c) h = absurd (cc)
+foreign_none x (End c rep) h = absurd (cc)
+foreign_none x (Cleared c) h = absurd (cc)
 
 foreign_of : (P : Case → Type 0) (k : Kind) (up q : Option ProcessId) (d : Case) (r : Record) → IsRecordAt k r
     → EachOf P (foreign_to (role_by k up) q d r)

@@ -27,7 +27,7 @@ kind_of (message.No c) = kind.No
 kind_of (message.Read c) = kind.Read
 kind_of (message.Commit c) = kind.Commit
 kind_of (message.Abort c) = kind.Abort
-kind_of (message.Ack c o) = kind.Ack
+kind_of (message.Ack c o fs) = kind.Ack
 kind_of (message.Inquire c) = kind.Inquire
 
 -- a message is of this kind

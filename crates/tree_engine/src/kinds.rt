@@ -36,7 +36,7 @@ impl MessageKind {
             Message::Read(_) => MessageKind::Read,
             Message::Commit(_) => MessageKind::Commit,
             Message::Abort(_) => MessageKind::Abort,
-            Message::Ack(_, _) => MessageKind::Ack,
+            Message::Ack(_, _, _) => MessageKind::Ack,
             Message::Inquire(_) => MessageKind::Inquire,
         }
     }

@@ -86,7 +86,7 @@ joined_here tree q ls f g d t e =
     by_message l (Read c) here goes e = absurd (cc)
     by_message l (Commit c) here goes e = absurd (cc)
     by_message l (Abort c) here goes e = absurd (cc)
-    by_message l (Ack c o) here goes e = absurd (cc)
+    by_message l (Ack c o fs) here goes e = absurd (cc)
     by_message l (Inquire c) here goes e = absurd (cc)
 
 -- it votes for its own cases
@@ -107,7 +107,7 @@ yes_here tree q ls f g d e =
     by_message l (Read c) here goes e = absurd (cc)
     by_message l (Commit c) here goes e = absurd (cc)
     by_message l (Abort c) here goes e = absurd (cc)
-    by_message l (Ack c o) here goes e = absurd (cc)
+    by_message l (Ack c o fs) here goes e = absurd (cc)
     by_message l (Inquire c) here goes e = absurd (cc)
 
 pub read_here : (tree : List TreeEntry) (q : ProcessId) (ls : List Envelope) → AllSentBy q ls → AllGo tree ls
@@ -127,7 +127,7 @@ read_here tree q ls f g d e =
     by_message l (No c) here goes e = absurd (cc)
     by_message l (Commit c) here goes e = absurd (cc)
     by_message l (Abort c) here goes e = absurd (cc)
-    by_message l (Ack c o) here goes e = absurd (cc)
+    by_message l (Ack c o fs) here goes e = absurd (cc)
     by_message l (Inquire c) here goes e = absurd (cc)
 
 -- Other processes keep what they have.

@@ -40,6 +40,7 @@ use Rattle.tree_nodes.proofs.Tickets.{active_is_own}
 use Rattle.tree_nodes.proofs.Worlds.{has_other}
 use Rattle.tree_steps.specs.cascades.Messages.{AllSentBy}
 use Rattle.tree_headline.proofs.Grows.{sent_still, sent_then}
+use Rattle.tree_model.specs.declared.messages.Finding.{Finding}
 
 pub goes_at : (tree : List TreeEntry) (net : List Envelope) (k : ℕ) (l : Envelope) → AllGo tree net
     → slice_get net k ≡ Some l → GoesBy tree l l.message
@@ -60,7 +61,7 @@ module _ (tree : List TreeEntry) (me p : ProcessId) (leaf : role_of tree me
   Fits (Yes d) = Own d
   Fits (No d) = Own d
   Fits (Read d) = Own d
-  Fits (Ack d o) = Own d
+  Fits (Ack d o fs) = Own d
   Fits (Inquire d) = Own d
   Fits (Join d) = ⊥
   Fits (Work d i op) = ⊥
@@ -96,7 +97,7 @@ module _ (tree : List TreeEntry) (me p : ProcessId) (leaf : role_of tree me
   goes_so l (Yes d) e f g = (g.0 ∙ sym e, child_of l.from l.to e f)
   goes_so l (No d) e f g = (g.0 ∙ sym e, child_of l.from l.to e f)
   goes_so l (Read d) e f g = (g.0 ∙ sym e, child_of l.from l.to e f)
-  goes_so l (Ack d o) e f g = (g.0 ∙ sym e, child_of l.from l.to e f)
+  goes_so l (Ack d o fs) e f g = (g.0 ∙ sym e, child_of l.from l.to e f)
   goes_so l (Inquire d) e f g = (g.0 ∙ sym e, child_of l.from l.to e f)
   goes_so l (Join d) e f g = absurd (g)
   goes_so l (Work d i op) e f g = absurd (g)
@@ -115,7 +116,7 @@ module _ (tree : List TreeEntry) (me p : ProcessId) (leaf : role_of tree me
   about_own d (Yes e) f g = of_own e d f g
   about_own d (No e) f g = of_own e d f g
   about_own d (Read e) f g = of_own e d f g
-  about_own d (Ack e o) f g = of_own e d f g
+  about_own d (Ack e o fs) f g = of_own e d f g
   about_own d (Inquire e) f g = of_own e d f g
   about_own d (Joined e t) f g = absurd (cc)
   about_own d (Join e) f g = absurd (f)
@@ -198,14 +199,14 @@ module _ (tree : List TreeEntry) (me p : ProcessId) (leaf : role_of tree me
           ∙ leaf) g.1.1.1.1.1 in
           (g.1.1.1.0 ∙ sym up, g.1.1.1.1.0)
 
-      acknowledged : (d : Case) (o : Outcome) (b : Bool) → Own d
-          → AllFit (if b then record { from = me; to = p; message = Ack d o } ∷ [] else [])
-      acknowledged d o true e = ((refl, (refl, e)), tt)
-      acknowledged d o false e = tt
+      acknowledged : (d : Case) (o : Outcome) (fs : List Finding) (b : Bool) → Own d
+          → AllFit (if b then record { from = me; to = p; message = Ack d o fs } ∷ [] else [])
+      acknowledged d o fs true e = ((refl, (refl, e)), tt)
+      acknowledged d o fs false e = tt
 
-      answers : (d : Case) (o : Outcome) → Hears h (tells_outcome o d)
-          → AllFit (acknowledgement (leaf_of place p d) o)
-      answers d o i = acknowledged d o (is_acknowledged d.txn.presumption o) (told d o i)
+      answers : (d : Case) (o : Outcome) (fs : List Finding) → Hears h (tells_outcome o d)
+          → AllFit (acknowledgement (leaf_of place p d) o fs)
+      answers d o fs i = acknowledged d o fs (is_acknowledged d.txn.presumption o) (told d o i)
 
       waits_open : (x : Mark) → Waits x → is_open x ≡ true
       waits_open _ promised = refl
@@ -220,11 +221,11 @@ module _ (tree : List TreeEntry) (me p : ProcessId) (leaf : role_of tree me
       turn_fits _ (votes_no d k i a) = ((refl, (refl, prepared d k i)), tt)
       turn_fits _ (repeats_yes d k i a) = ((refl, (refl, prepared d k i)), tt)
       turn_fits _ (refuses d k i a) = ((refl, (refl, prepared d k i)), tt)
-      turn_fits _ (obeys d o i e) = answers d o i
-      turn_fits _ (notes d o i e) = answers d o i
-      turn_fits _ (acknowledges_told d o i e) = answers d o i
-      turn_fits _ (acknowledges d o i e) = answers d o i
-      turn_fits _ (drops d i a) = answers d AbortedOutcome i
+      turn_fits _ (obeys d o i e) = answers d o _ i
+      turn_fits _ (notes d o i e) = answers d o _ i
+      turn_fits _ (acknowledges_told d o i e) = answers d o _ i
+      turn_fits _ (acknowledges d o i e) = answers d o _ i
+      turn_fits _ (drops d i a) = answers d AbortedOutcome _ i
       turn_fits _ (asks d i k) =
           ((refl, (refl, recorded d (open_has_record d (kept n) (waits_open (mark_at n d) k)))), tt)
       turn_fits _ (decides d o i e) = tt

@@ -99,7 +99,7 @@ module _ (tree : List TreeEntry) (me : ProcessId) (ls : List Envelope) (here : A
   message_quiet l (Abort e) f g = rw (down_none l e f g) refl
   message_quiet l (Yes e) f g = rw (up_none l e f g) refl
   message_quiet l (No e) f g = rw (up_none l e f g) refl
-  message_quiet l (Ack e o) f g = rw (up_none l e f g) refl
+  message_quiet l (Ack e o fs) f g = rw (up_none l e f g) refl
   message_quiet l (Inquire e) f g = rw (up_none l e f g) refl
   message_quiet l (Read e) f g = rw (parent_none l e f g, up_none l e f g) refl
 

@@ -9,14 +9,15 @@ use Rattle.tree_model.specs.declared.names.Ticket.{Ticket}
 use Rattle.tree_model.specs.declared.names.Outcome.{Outcome}
 use Rattle.tree_model.specs.declared.names.Outcome.TheVariants.{Committed as CommittedOutcome, Aborted as AbortedOutcome}
 use Rattle.tree_model.specs.declared.names.Presumption.{Presumption}
+use Rattle.tree_model.specs.declared.messages.Finding.{Finding}
 use Rattle.tree_model.specs.declared.records.Record.{Record}
 use Rattle.tree_model.specs.declared.standings.Standing.TheVariants.{Unknown, Prepared, Committing, Aborting}
 use Rattle.tree_model.specs.Names.{same_ticket, same_outcome}
 use Rattle.tree_model.specs.NameLaws.{same_ticket_tells}
 use Rattle.tree_model.specs.Records.{in_list, none_of, owing_by}
 use Rattle.tree_model.specs.Nodes.{First, entries_written}
-use Rattle.tree_model.specs.Memory.{Memory, Phase, Idle, Open, Asked, Over, has_acked}
-use Rattle.tree_model.specs.Standings.{unknown_view, view_at, still_owed}
+use Rattle.tree_model.specs.Memory.{Memory, Phase, Idle, Open, Asked, Over, has_acked, first_found}
+use Rattle.tree_model.specs.Standings.{unknown_view, view_at, still_owed, other_outcome}
 use Rattle.tree_model.specs.CoordinatorRows.{Seat, decided_ack, other_tickets}
 use Rattle.tree_model.proofs.TicketLaws.{other_false, pushed}
 use Rattle.tree_model.proofs.StandingLaws.{standing_with}
@@ -102,50 +103,46 @@ not_there t [] h = refl
 not_there t (u ∷ us) h = none_taken t u us (same_ticket u t) refl h
     (not_there t us (other_false (same_ticket u t) (in_list us t) h))
 
-abbrev pub acked : Memory → Ticket → Outcome → Memory
-acked m t o = record m { acks = m.acks ++ (t, o) ∷ [] }
+abbrev pub acked : Memory → Ticket → Outcome → List Finding → Memory
+acked m t o fs = record m { acks = m.acks ++ (t, o) ∷ []; found = m.found ++ first_found m t o fs }
 
 abbrev pub root_at : ProcessId → Case → Seat
 root_at me c = record { me = me; parent = None; own = c }
 
 -- an acknowledgement that agrees with the decision
 pub acked_commit : (me : ProcessId) (c : Case) (p : Presumption) (t : Ticket) (rs : List Record) (m : Memory)
-    (b none : Bool)
+    (fs gs : List Finding) (b none : Bool)
     → standing_with p rs c m ≡ Committing
     → in_list (still_owed m.acks CommittedOutcome (owing_by c rs)) t ≡ b
     → none_of (other_tickets t (still_owed m.acks CommittedOutcome (owing_by c rs))) ≡ none
-    → let row = decided_ack First (root_at me c) CommittedOutcome t (view_at Committing rs c m) in
+    → let row = decided_ack First (root_at me c) CommittedOutcome t gs (view_at Committing rs c m) in
     let rs' = rs ++ entries_written row.written in
-    view_at (standing_with p rs' c (acked m t CommittedOutcome)) rs' c (acked m t CommittedOutcome) ≡ row.view
-acked_commit me c p t rs m true true h there last = simp (pushed, there, last) refl
-acked_commit me c p t rs m true false h there last = simp (append-nil, there, last, h, agreeing) refl
-acked_commit me c p t rs m false none h there last =
+    view_at (standing_with p rs' c (acked m t CommittedOutcome fs)) rs' c (acked m t CommittedOutcome fs) ≡ row.view
+acked_commit me c p t rs m fs gs true true h there last = simp (pushed, there, last) refl
+acked_commit me c p t rs m fs gs true false h there last = simp (append-nil, there, last, h, agreeing) refl
+acked_commit me c p t rs m fs gs false none h there last =
     let stays : other_tickets t (still_owed m.acks CommittedOutcome (owing_by c rs))
     ≡ still_owed m.acks CommittedOutcome (owing_by c rs) =
     not_there t (still_owed m.acks CommittedOutcome (owing_by c rs)) there in
     simp (append-nil, there, h, agreeing, stays) refl
 
 pub acked_abort : (me : ProcessId) (c : Case) (p : Presumption) (t : Ticket) (rs : List Record) (m : Memory)
-    (b none : Bool)
+    (fs gs : List Finding) (b none : Bool)
     → standing_with p rs c m ≡ Aborting
     → in_list (still_owed m.acks AbortedOutcome (owing_by c rs)) t ≡ b
     → none_of (other_tickets t (still_owed m.acks AbortedOutcome (owing_by c rs))) ≡ none
-    → let row = decided_ack First (root_at me c) AbortedOutcome t (view_at Aborting rs c m) in
+    → let row = decided_ack First (root_at me c) AbortedOutcome t gs (view_at Aborting rs c m) in
     let rs' = rs ++ entries_written row.written in
-    view_at (standing_with p rs' c (acked m t AbortedOutcome)) rs' c (acked m t AbortedOutcome) ≡ row.view
-acked_abort me c p t rs m true true h there last = simp (pushed, there, last) refl
-acked_abort me c p t rs m true false h there last = simp (append-nil, there, last, h, agreeing) refl
-acked_abort me c p t rs m false none h there last =
+    view_at (standing_with p rs' c (acked m t AbortedOutcome fs)) rs' c (acked m t AbortedOutcome fs) ≡ row.view
+acked_abort me c p t rs m fs gs true true h there last = simp (pushed, there, last) refl
+acked_abort me c p t rs m fs gs true false h there last = simp (append-nil, there, last, h, agreeing) refl
+acked_abort me c p t rs m fs gs false none h there last =
     let stays : other_tickets t (still_owed m.acks AbortedOutcome (owing_by c rs))
     ≡ still_owed m.acks AbortedOutcome (owing_by c rs) =
     not_there t (still_owed m.acks AbortedOutcome (owing_by c rs)) there in
     simp (append-nil, there, h, agreeing, stays) refl
 
 -- one that disagrees
-abbrev pub other_outcome : Outcome → Outcome
-other_outcome CommittedOutcome = AbortedOutcome
-other_outcome AbortedOutcome = CommittedOutcome
-
 pub apart : (o : Outcome) → same_outcome o (other_outcome o) ≡ false
 unfolding same_outcome
 apart CommittedOutcome = refl
@@ -155,21 +152,21 @@ pub owed_none : (acks : List (Ticket × Outcome)) (o : Outcome) → still_owed a
 unfolding still_owed
 owed_none acks o = refl
 
-pub refused_commit : (c : Case) (p : Presumption) (t : Ticket) (rs : List Record) (m : Memory)
+pub refused_commit : (c : Case) (p : Presumption) (t : Ticket) (rs : List Record) (m : Memory) (fs : List Finding)
     → standing_with p rs c m ≡ Committing
-    → view_at (standing_with p (rs ++ []) c (acked m t AbortedOutcome)) (rs ++ []) c
-    (acked m t AbortedOutcome) ≡ view_at Committing rs c m
-refused_commit c p t rs m h =
+    → view_at (standing_with p (rs ++ []) c (acked m t AbortedOutcome fs)) (rs ++ []) c
+    (acked m t AbortedOutcome fs) ≡ view_at Committing rs c m
+refused_commit c p t rs m fs h =
     let same : still_owed (m.acks ++ (t, AbortedOutcome) ∷ []) CommittedOutcome (owing_by c rs)
     ≡ still_owed m.acks CommittedOutcome (owing_by c rs) =
     disagreeing m.acks t AbortedOutcome CommittedOutcome (owing_by c rs) (apart AbortedOutcome) in
     simp (append-nil, h, same) refl
 
-pub refused_abort : (c : Case) (p : Presumption) (t : Ticket) (rs : List Record) (m : Memory)
+pub refused_abort : (c : Case) (p : Presumption) (t : Ticket) (rs : List Record) (m : Memory) (fs : List Finding)
     → standing_with p rs c m ≡ Aborting
-    → view_at (standing_with p (rs ++ []) c (acked m t CommittedOutcome)) (rs ++ []) c
-    (acked m t CommittedOutcome) ≡ view_at Aborting rs c m
-refused_abort c p t rs m h =
+    → view_at (standing_with p (rs ++ []) c (acked m t CommittedOutcome fs)) (rs ++ []) c
+    (acked m t CommittedOutcome fs) ≡ view_at Aborting rs c m
+refused_abort c p t rs m fs h =
     let same : still_owed (m.acks ++ (t, CommittedOutcome) ∷ []) AbortedOutcome (owing_by c rs)
     ≡ still_owed m.acks AbortedOutcome (owing_by c rs) =
     disagreeing m.acks t CommittedOutcome AbortedOutcome (owing_by c rs) (apart CommittedOutcome) in
@@ -177,12 +174,14 @@ refused_abort c p t rs m h =
 
 -- one at a case that was not decided
 pub unawaited : (c : Case) (p : Presumption) (t : Ticket) (o : Outcome) (rs : List Record) (m : Memory)
+    (fs : List Finding)
     → standing_with p rs c m ≡ Unknown
-    → view_at (standing_with p (rs ++ []) c (acked m t o)) (rs ++ []) c (acked m t o) ≡ unknown_view
-unawaited c p t o rs m h = simp (append-nil, h) refl
+    → view_at (standing_with p (rs ++ []) c (acked m t o fs)) (rs ++ []) c (acked m t o fs) ≡ unknown_view
+unawaited c p t o rs m fs h = simp (append-nil, h) refl
 
 pub promised_ack : (c : Case) (p : Presumption) (t : Ticket) (o : Outcome) (rs : List Record) (m : Memory)
+    (fs : List Finding)
     → standing_with p rs c m ≡ Prepared → owing_by c rs ≡ []
-    → view_at (standing_with p (rs ++ []) c (acked m t o)) (rs ++ []) c (acked m t o)
+    → view_at (standing_with p (rs ++ []) c (acked m t o fs)) (rs ++ []) c (acked m t o fs)
     ≡ view_at Prepared rs c m
-promised_ack c p t o rs m h owes = simp (append-nil, h) (simp (owes, owed_none) refl)
+promised_ack c p t o rs m fs h owes = simp (append-nil, h) (simp (owes, owed_none) refl)

@@ -8,6 +8,7 @@ use Rattle.tree_model.specs.declared.names.Ticket.{Ticket}
 use Rattle.tree_model.specs.declared.names.Outcome.{Outcome}
 use Rattle.tree_model.specs.declared.names.Presumption.{Presumption}
 use Rattle.tree_model.specs.declared.messages.Message.{Message}
+use Rattle.tree_model.specs.declared.messages.Finding.{Finding}
 use Rattle.tree_model.specs.declared.messages.Message.TheVariants.{Joined, Yes, No, Read, Ack}
 use Rattle.tree_model.specs.declared.standings.Vote.{Vote}
 use Rattle.tree_model.specs.declared.standings.Vote.TheVariants.{Yes as VoteYes, No as VoteNo, Read as VoteRead}
@@ -75,11 +76,12 @@ begun_takes m t w Open = refl
 begun_takes m t w Asked = begun_if (is_counted m.accepted m.votes t) m (with_vote m t w) refl
 begun_takes m t w Over = refl
 
-pub begun_acks : (m : Memory) (t : Ticket) (o : Outcome) (ph : Phase) → (takes_ack m t o ph).begun ≡ m.begun
-begun_acks m t o Idle = refl
-begun_acks m t o Open = refl
-begun_acks m t o Asked = refl
-begun_acks m t o Over = refl
+pub begun_acks : (m : Memory) (t : Ticket) (o : Outcome) (fs : List Finding) (ph : Phase)
+    → (takes_ack m t o fs ph).begun ≡ m.begun
+begun_acks m t o fs Idle = refl
+begun_acks m t o fs Open = refl
+begun_acks m t o fs Asked = refl
+begun_acks m t o fs Over = refl
 
 pub begun_ticket : (o : Option Ticket) (m : Memory) (f : Ticket → Memory)
     → ((t : Ticket) → (f t).begun ≡ m.begun) → (of_ticket o m f).begun ≡ m.begun
@@ -97,7 +99,7 @@ begun_hears c m (Joined d t) = begun_if (same_case d c) m (accepts_ticket m t m.
 begun_hears c m (Yes d) = begun_child c d m _ (λ t. begun_takes m t VoteYes m.phase)
 begun_hears c m (No d) = begun_child c d m _ (λ t. begun_takes m t VoteNo m.phase)
 begun_hears c m (Read d) = begun_child c d m _ (λ t. begun_takes m t VoteRead m.phase)
-begun_hears c m (Ack d o) = begun_child c d m _ (λ t. begun_acks m t o m.phase)
+begun_hears c m (Ack d o fs) = begun_child c d m _ (λ t. begun_acks m t o fs m.phase)
 begun_hears c m message = refl
 
 pub begun_step : (me : ProcessId) (boot : ℕ) (c : Case) (m : Memory) (i : Input)

@@ -10,6 +10,7 @@ use Rattle.tree_model.specs.declared.names.Outcome.{Outcome}
 use Rattle.tree_model.specs.declared.names.Outcome.TheVariants.{Committed as CommittedOutcome, Aborted as AbortedOutcome}
 use Rattle.tree_model.specs.declared.messages.Op.{Op}
 use Rattle.tree_model.specs.declared.messages.Message.{Message}
+use Rattle.tree_model.specs.declared.messages.Finding.{Finding}
 use Rattle.tree_model.specs.declared.messages.Message.TheVariants.{Join, Joined, Work, Prepare, Yes, No, Read, Commit, Abort, Ack, Inquire}
 use Rattle.tree_model.specs.declared.events.Act.TheVariants.{Ask, Decide, Forget}
 use Rattle.tree_model.specs.declared.events.Input.{Input}
@@ -23,9 +24,9 @@ use Rattle.tree_model.specs.declared.standings.Standing.TheVariants.{Unknown, Ac
 use Rattle.tree_model.specs.Names.{same_case, same_outcome, child_case}
 use Rattle.tree_model.specs.NameLaws.{same_case-refl}
 use Rattle.tree_model.specs.Records.{boot_of, boot_after, same_branch}
-use Rattle.tree_model.specs.Nodes.{Place, AtLeaf, Node, kept, Heard, Effect, entries_written, after, Holding, ReadsOnly, Holds, DataAnswer}
+use Rattle.tree_model.specs.Nodes.{Version, First, Place, AtLeaf, Node, kept, Heard, Effect, entries_written, after, Holding, ReadsOnly, Holds, DataAnswer}
 use Rattle.tree_model.specs.Memory.{Memory, Phase, Idle, Open, Asked, Over, fresh_memory, memory_of, remembers, manager_remembers, manager_hears, joins, gives, opens_case, next_ticket, active_ticket, without_ticket, works, closes, retires}
-use Rattle.tree_model.specs.Standings.{ManagerView, unknown_branch, manager_view, marked_branch, heard_branch, active_branch, Mark, Unmarked, Promised, Decided, ToldOf, Finished, mark_of, mark_after}
+use Rattle.tree_model.specs.Standings.{ManagerView, unknown_branch, decided_findings, manager_view, marked_branch, heard_branch, active_branch, Mark, Unmarked, Promised, Decided, ToldOf, Finished, mark_of, mark_after}
 use Rattle.tree_model.specs.ManagerRows.{Leaf, LeafRow, untold_ask, prepared_decide, heuristic_forget}
 use Rattle.tree_model.specs.ManagerRows as leaf
 use Rattle.tree_model.specs.Reactions.{leaf_effect, leaf_of, leaf_joins}
@@ -197,39 +198,40 @@ prepare_own l i holding v Aborting = quiet_own l _ refl
 prepare_own l i holding v Heuristic = quiet_own l _ refl
 
 -- an outcome at a branch that an operator decided
-told_again : (l : Leaf) (m : Memory) (o told : Outcome) (b : Bool)
+told_again : (l : Leaf) (m : Memory) (o told : Outcome) (fs : List Finding) (b : Bool)
     → let v = marked_branch m (ToldOf told) in
-    let row = if b then record { written = []; messages = leaf.acknowledgement l o; view = v }
+    let row = if b then record { written = []; messages = leaf.acknowledgement l o fs; view = v }
     else leaf.unmoved v in
     marked_branch m (marks_of l (ToldOf told) row) ≡ row.view
-told_again l m o told true = refl
-told_again l m o told false = refl
+told_again l m o told fs true = refl
+told_again l m o told fs false = refl
 
-commit_heard : (l : Leaf) (m : Memory) (phase : Phase) → m.phase ≡ phase
+commit_heard : (ver : Version) (rs : List Record) (l : Leaf) (m : Memory) (phase : Phase) → m.phase ≡ phase
     → let v = heard_branch m phase in
-    let row = leaf.on_commit l v v.standing in
+    let row = leaf.on_commit ver l rs v v.standing in
     heard_branch m phase ≡ row.view
-commit_heard l m Idle e = refl
-commit_heard l m Open e = refl
-commit_heard l m Asked e = refl
-commit_heard l m Over e = refl
+commit_heard ver rs l m Idle e = refl
+commit_heard ver rs l m Open e = refl
+commit_heard ver rs l m Asked e = refl
+commit_heard ver rs l m Over e = refl
 
-commit_writes : (l : Leaf) (m : Memory) (phase : Phase) → let v = heard_branch m phase in
-    (leaf.on_commit l v v.standing).written ≡ []
-commit_writes l m Idle = refl
-commit_writes l m Open = refl
-commit_writes l m Asked = refl
-commit_writes l m Over = refl
+commit_writes : (ver : Version) (rs : List Record) (l : Leaf) (m : Memory) (phase : Phase) → let v = heard_branch m phase in
+    (leaf.on_commit ver l rs v v.standing).written ≡ []
+commit_writes ver rs l m Idle = refl
+commit_writes ver rs l m Open = refl
+commit_writes ver rs l m Asked = refl
+commit_writes ver rs l m Over = refl
 
-commit_moves : (l : Leaf) (m : Memory) (mark : Mark)
+commit_moves : (ver : Version) (rs : List Record) (l : Leaf) (m : Memory) (mark : Mark)
     → let v = marked_branch m mark in
-    let row = leaf.on_commit l v v.standing in
+    let row = leaf.on_commit ver l rs v v.standing in
     marked_branch m (marks_of l mark row) ≡ row.view
-commit_moves l m Unmarked = rw (commit_writes l m m.phase) (commit_heard l m m.phase refl)
-commit_moves l m Promised = rw (same_branch-refl l.own) refl
-commit_moves l m Decided = rw (same_branch-refl l.own) refl
-commit_moves l m (ToldOf told) = told_again l m CommittedOutcome told (same_outcome told CommittedOutcome)
-commit_moves l m Finished = refl
+commit_moves ver rs l m Unmarked = rw (commit_writes ver rs l m m.phase) (commit_heard ver rs l m m.phase refl)
+commit_moves ver rs l m Promised = rw (same_branch-refl l.own) refl
+commit_moves ver rs l m Decided = rw (same_branch-refl l.own) refl
+commit_moves ver rs l m (ToldOf told) = told_again l m CommittedOutcome told
+    (decided_findings ver rs l.own CommittedOutcome) (same_outcome told CommittedOutcome)
+commit_moves ver rs l m Finished = refl
 
 outcome_own : (l : Leaf) (o : Outcome) → IsOwn l (leaf.prepared_outcome l o)
 outcome_own l CommittedOutcome = record {
@@ -241,49 +243,49 @@ outcome_own l AbortedOutcome = record {
   others = λ c mark q. rw (other_branch l.own c q) refl;
 }
 
-heuristic_own : (l : Leaf) (o : Outcome) (v : ManagerView) (told : Option Outcome)
-    → IsOwn l (leaf.heuristic_outcome l o v told)
-heuristic_own l o v None = record { boot = λ b. refl; others = λ c mark q. rw (other_branch l.own c q) refl }
-heuristic_own l o v (Some told) = choice_own l _ _ (same_outcome told o) (quiet_own l _ refl)
+heuristic_own : (l : Leaf) (o : Outcome) (fs : List Finding) (v : ManagerView) (told : Option Outcome)
+    → IsOwn l (leaf.heuristic_outcome l o fs v told)
+heuristic_own l o fs v None = record { boot = λ b. refl; others = λ c mark q. rw (other_branch l.own c q) refl }
+heuristic_own l o fs v (Some told) = choice_own l _ _ (same_outcome told o) (quiet_own l _ refl)
     (quiet_own l _ refl)
 
-pub commit_own : (l : Leaf) (v : ManagerView) (s : Standing) → IsOwn l (leaf.on_commit l v s)
-commit_own l v Prepared = outcome_own l CommittedOutcome
-commit_own l v Heuristic = heuristic_own l CommittedOutcome v v.told
-commit_own l v Unknown = quiet_own l _ refl
-commit_own l v Active = quiet_own l _ refl
-commit_own l v Collecting = quiet_own l _ refl
-commit_own l v Committing = quiet_own l _ refl
-commit_own l v Aborting = quiet_own l _ refl
+pub commit_own : (ver : Version) (rs : List Record) (l : Leaf) (v : ManagerView) (s : Standing) → IsOwn l (leaf.on_commit ver l rs v s)
+commit_own ver rs l v Prepared = outcome_own l CommittedOutcome
+commit_own ver rs l v Heuristic = heuristic_own l CommittedOutcome (decided_findings ver rs l.own CommittedOutcome) v v.told
+commit_own ver rs l v Unknown = quiet_own l _ refl
+commit_own ver rs l v Active = quiet_own l _ refl
+commit_own ver rs l v Collecting = quiet_own l _ refl
+commit_own ver rs l v Committing = quiet_own l _ refl
+commit_own ver rs l v Aborting = quiet_own l _ refl
 
-abort_heard : (l : Leaf) (m : Memory) (phase : Phase) → m.phase ≡ phase
+abort_heard : (ver : Version) (rs : List Record) (l : Leaf) (m : Memory) (phase : Phase) → m.phase ≡ phase
     → let v = heard_branch m phase in
-    let row = leaf.on_abort l v v.standing in
+    let row = leaf.on_abort ver l rs v v.standing in
     marked_branch (closes (retires m l.own) phase) (marks_of l Unmarked row) ≡ row.view
-abort_heard l m Idle e = rw e refl
-abort_heard l m Open e = refl
-abort_heard l m Asked e = refl
-abort_heard l m Over e = refl
+abort_heard ver rs l m Idle e = rw e refl
+abort_heard ver rs l m Open e = refl
+abort_heard ver rs l m Asked e = refl
+abort_heard ver rs l m Over e = refl
 
-abort_moves : (l : Leaf) (m : Memory) (mark : Mark)
+abort_moves : (ver : Version) (rs : List Record) (l : Leaf) (m : Memory) (mark : Mark)
     → let v = marked_branch m mark in
-    let row = leaf.on_abort l v v.standing in
+    let row = leaf.on_abort ver l rs v v.standing in
     marked_branch (closes (retires m l.own) m.phase) (marks_of l mark row) ≡ row.view
-abort_moves l m Unmarked = abort_heard l m m.phase refl
-abort_moves l m Promised = rw (same_branch-refl l.own) refl
-abort_moves l m Decided = rw (same_branch-refl l.own) refl
-abort_moves l m (ToldOf told) = told_again l (closes (retires m l.own) m.phase) AbortedOutcome told
-    (same_outcome told AbortedOutcome)
-abort_moves l m Finished = refl
+abort_moves ver rs l m Unmarked = abort_heard ver rs l m m.phase refl
+abort_moves ver rs l m Promised = rw (same_branch-refl l.own) refl
+abort_moves ver rs l m Decided = rw (same_branch-refl l.own) refl
+abort_moves ver rs l m (ToldOf told) = told_again l (closes (retires m l.own) m.phase) AbortedOutcome told
+    (decided_findings ver rs l.own AbortedOutcome) (same_outcome told AbortedOutcome)
+abort_moves ver rs l m Finished = refl
 
-pub abort_own : (l : Leaf) (v : ManagerView) (s : Standing) → IsOwn l (leaf.on_abort l v s)
-abort_own l v Prepared = outcome_own l AbortedOutcome
-abort_own l v Heuristic = heuristic_own l AbortedOutcome v v.told
-abort_own l v Unknown = quiet_own l _ refl
-abort_own l v Active = quiet_own l _ refl
-abort_own l v Collecting = quiet_own l _ refl
-abort_own l v Committing = quiet_own l _ refl
-abort_own l v Aborting = quiet_own l _ refl
+pub abort_own : (ver : Version) (rs : List Record) (l : Leaf) (v : ManagerView) (s : Standing) → IsOwn l (leaf.on_abort ver l rs v s)
+abort_own ver rs l v Prepared = outcome_own l AbortedOutcome
+abort_own ver rs l v Heuristic = heuristic_own l AbortedOutcome (decided_findings ver rs l.own AbortedOutcome) v v.told
+abort_own ver rs l v Unknown = quiet_own l _ refl
+abort_own ver rs l v Active = quiet_own l _ refl
+abort_own ver rs l v Collecting = quiet_own l _ refl
+abort_own ver rs l v Committing = quiet_own l _ refl
+abort_own ver rs l v Aborting = quiet_own l _ refl
 
 -- The whole of a row.
 
@@ -379,7 +381,7 @@ hears_gives me boot c m a (Yes d) = refl
 hears_gives me boot c m a (No d) = refl
 hears_gives me boot c m a (Read d) = refl
 hears_gives me boot c m a (Commit d) = refl
-hears_gives me boot c m a (Ack d o) = refl
+hears_gives me boot c m a (Ack d o fs) = refl
 hears_gives me boot c m a (Inquire d) = refl
 
 pub remembers_gives : (me p : ProcessId) (boot : ℕ) (c : Case) (m : Memory) (a : DataAnswer) (i : Input)
@@ -484,24 +486,25 @@ module _ (me p : ProcessId) (tree : List TreeEntry) (n : Node) (d : Case) where
       (rw (same_case-refl d) (prepare_moves own m i a.holding mark))
       (λ c w o. rw o (view_retires (memory_of place n c) d w))
 
-  pub commit_views : (k : ℕ) (a : DataAnswer) → let v = manager_view place n d in
-      MovesBranch place n (hears_message k (Commit d) a) d (leaf.on_commit own v v.standing)
+  pub commit_views : (k : ℕ) (a : DataAnswer) (rs : List Record) → let v = manager_view place n d in
+      MovesBranch place n (hears_message k (Commit d) a) d (leaf.on_commit First own rs v v.standing)
   unfolding manager_view
-  commit_views k a =
+  commit_views k a rs =
       let m = memory_of place n d in
       let mark = mark_of (CaseBranch d) (kept n) in
       let v = marked_branch m mark in
-      assembled place n _ own _ (commit_own own v v.standing) (commit_moves own m mark) (λ c w o. refl)
+      assembled place n _ own _ (commit_own First rs own v v.standing)
+      (commit_moves First rs own m mark) (λ c w o. refl)
 
-  pub abort_views : (k : ℕ) (a : DataAnswer) → let v = manager_view place n d in
-      MovesBranch place n (hears_message k (Abort d) a) d (leaf.on_abort own v v.standing)
+  pub abort_views : (k : ℕ) (a : DataAnswer) (rs : List Record) → let v = manager_view place n d in
+      MovesBranch place n (hears_message k (Abort d) a) d (leaf.on_abort First own rs v v.standing)
   unfolding manager_view
-  abort_views k a =
+  abort_views k a rs =
       let m = memory_of place n d in
       let mark = mark_of (CaseBranch d) (kept n) in
       let v = marked_branch m mark in
-      assembled place n _ own _ (abort_own own v v.standing)
-      (rw (same_case-refl d) (abort_moves own m mark))
+      assembled place n _ own _ (abort_own First rs own v v.standing)
+      (rw (same_case-refl d) (abort_moves First rs own m mark))
       (λ c w o. rw o (view_retires (memory_of place n c) d w))
 
   pub ask_views : (a : DataAnswer) → MovesBranch place n (hears_act (Ask d) a) d

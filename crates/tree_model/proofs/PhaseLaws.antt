@@ -6,6 +6,7 @@ use Rattle.tree_model.specs.declared.names.ProcessId.{ProcessId}
 use Rattle.tree_model.specs.declared.names.Ticket.{Ticket}
 use Rattle.tree_model.specs.declared.names.Outcome.{Outcome}
 use Rattle.tree_model.specs.declared.messages.Message.{Message}
+use Rattle.tree_model.specs.declared.messages.Finding.{Finding}
 use Rattle.tree_model.specs.declared.messages.Message.TheVariants.{Joined, Yes, No, Read, Ack}
 use Rattle.tree_model.specs.declared.standings.Vote.{Vote}
 use Rattle.tree_model.specs.declared.standings.Vote.TheVariants.{Yes as VoteYes, No as VoteNo, Read as VoteRead}
@@ -79,12 +80,12 @@ quiet_takes m t w Asked q e = quiet_if (is_counted m.accepted m.votes t) m (with
     (quiet_vote m t w q)
 quiet_takes m t w Over q e = rw e tt
 
-pub quiet_acks : (m : Memory) (t : Ticket) (o : Outcome) (ph : Phase) → QuietAt ph m.acks → m.phase ≡ ph
-    → Quiet (takes_ack m t o ph)
-quiet_acks m t o Idle q e = rw e tt
-quiet_acks m t o Open q e = rw e q
-quiet_acks m t o Asked q e = rw e q
-quiet_acks m t o Over q e = rw e tt
+pub quiet_acks : (m : Memory) (t : Ticket) (o : Outcome) (fs : List Finding) (ph : Phase) → QuietAt ph m.acks
+    → m.phase ≡ ph → Quiet (takes_ack m t o fs ph)
+quiet_acks m t o fs Idle q e = rw e tt
+quiet_acks m t o fs Open q e = rw e q
+quiet_acks m t o fs Asked q e = rw e q
+quiet_acks m t o fs Over q e = rw e tt
 
 pub quiet_ticket : (o : Option Ticket) (m : Memory) (f : Ticket → Memory) → Quiet m
     → ((t : Ticket) → Quiet (f t)) → Quiet (of_ticket o m f)
@@ -102,7 +103,7 @@ quiet_hears c m (Joined d t) q = quiet_if (same_case d c) m (accepts_ticket m t 
 quiet_hears c m (Yes d) q = quiet_child c d m _ q (λ t. quiet_takes m t VoteYes m.phase q refl)
 quiet_hears c m (No d) q = quiet_child c d m _ q (λ t. quiet_takes m t VoteNo m.phase q refl)
 quiet_hears c m (Read d) q = quiet_child c d m _ q (λ t. quiet_takes m t VoteRead m.phase q refl)
-quiet_hears c m (Ack d o) q = quiet_child c d m _ q (λ t. quiet_acks m t o m.phase q refl)
+quiet_hears c m (Ack d o fs) q = quiet_child c d m _ q (λ t. quiet_acks m t o fs m.phase q refl)
 quiet_hears c m message q = q
 
 pub quiet_step : (me : ProcessId) (boot : ℕ) (c : Case) (m : Memory) (i : Input) → Quiet m

@@ -1,5 +1,5 @@
 -- The root's new view is what the extended lists read as.
-use Rattle.std.proofs.Common.{◌≡◌, subst, ◌∙◌, ap, sym, ℕ, Bool, true, false, Some, None, List, [], ◌∷◌, ◌++◌, refl, if◌then◌else◌}
+use Rattle.std.proofs.Common.{◌≡◌, subst, ◌∙◌, ap, sym, ℕ, Bool, true, false, Some, None, List, [], ◌∷◌, ◌++◌, refl, if◌then◌else◌, Option}
 use Rattle.std.specs.Prelude.{fold}
 use Rattle.std.proofs.lemmas.List.{append-nil}
 use Rattle.tree_model.specs.declared.names.Case.{Case}
@@ -11,6 +11,7 @@ use Rattle.tree_model.specs.declared.names.Outcome.TheVariants.{Committed as Com
 use Rattle.tree_model.specs.declared.names.Presumption.{Presumption}
 use Rattle.tree_model.specs.declared.names.Presumption.TheVariants.{PresumeAbort, PresumeCommit}
 use Rattle.tree_model.specs.declared.messages.Op.{Op}
+use Rattle.tree_model.specs.declared.messages.Finding.{Finding}
 use Rattle.tree_model.specs.declared.messages.Message.TheVariants.{Join, Joined, Ack, Inquire}
 use Rattle.tree_model.specs.declared.standings.Vote.{Vote}
 use Rattle.tree_model.specs.declared.standings.Vote.TheVariants.{Yes as VoteYes, No as VoteNo, Read as VoteRead}
@@ -35,6 +36,7 @@ use Rattle.tree_model.proofs.StandingLaws.{ActiveFacts, active_facts, phase_acti
 use Rattle.tree_model.proofs.AckLaws.{acked, acked_commit, acked_abort, refused_commit, refused_abort, unawaited, promised_ack}
 use Rattle.tree_model.proofs.RootRowLaws.{commit_row, commit_pure, abort_pure, CollectingFacts, collecting_facts, collecting_abort_pure, same_pure, read_only_pure, root_commits_pure}
 use Rattle.tree_model.proofs.PhaseLaws.{memory_quiet, asked_quiet}
+use Rattle.tree_model.specs.declared.records.Reports.{Reports}
 
 -- What a message or an act of another transaction leaves: nothing moves.
 
@@ -51,9 +53,9 @@ pub record IsOf (c : Case) (row : Row) : Type 0 where
 pub quiet_of : (c : Case) (row : Row) → row.written ≡ [] → IsOf c row
 quiet_of c row h = record { boot = λ b. rw h refl; others = λ d rs m o. rw h (simp append-nil refl) }
 
-pub end_of : (c : Case) (row : Row) (b : Bool)
-    → row.written ≡ record { entry = EndRecord c; is_forced = b } ∷ [] → IsOf c row
-end_of c row b h = record { boot = λ b. rw h refl; others = λ d rs m o. rw h (simp (pushed, o) refl) }
+pub end_of : (c : Case) (rep : Option Reports) (row : Row) (b : Bool)
+    → row.written ≡ record { entry = EndRecord c rep; is_forced = b } ∷ [] → IsOf c row
+end_of c rep row b h = record { boot = λ b. rw h refl; others = λ d rs m o. rw h (simp (pushed, o) refl) }
 
 pub commit_of : (c : Case) (ts : List Ticket) (row : Row) (b : Bool)
     → row.written ≡ record { entry = CommitRecord c ts; is_forced = b } ∷ [] → IsOf c row
@@ -413,7 +415,7 @@ module _ (me : ProcessId) (tree : List TreeEntry) (n : Node) (x : Txn) where
 
   read_only_of : (p : Presumption) (row : Row) → row.written ≡ read_only_end seat p → IsOf c row
   read_only_of PresumeAbort row h = quiet_of c row h
-  read_only_of PresumeCommit row h = end_of c row false h
+  read_only_of PresumeCommit row h = end_of c None row false h
 
   commits_of : (v : CoordinatorView) (ys : List Ticket) (p : Presumption) → IsOf c (root_commits seat v ys p)
   commits_of v ys PresumeAbort = commit_of c ys _ true refl
@@ -529,28 +531,28 @@ module _ (me : ProcessId) (tree : List TreeEntry) (n : Node) (x : Txn) where
 
   -- acknowledgements
 
-  pub ack_memory : (k : ℕ) (t : Ticket) (o : Outcome)
-      → root_remembers me boot c m (MessageInput k (Ack (child_case x t) o)) ≡ takes_ack m t o m.phase
-  ack_memory k t o = rw (same_txn-refl x) refl
+  pub ack_memory : (k : ℕ) (t : Ticket) (o : Outcome) (fs : List Finding)
+      → root_remembers me boot c m (MessageInput k (Ack (child_case x t) o fs)) ≡ takes_ack m t o fs m.phase
+  ack_memory k t o fs = rw (same_txn-refl x) refl
 
-  pub ack_elsewhere : (k : ℕ) (t : Ticket) (o : Outcome) (y : Txn) → same_txn x y ≡ false
+  pub ack_elsewhere : (k : ℕ) (t : Ticket) (o : Outcome) (fs : List Finding) (y : Txn) → same_txn x y ≡ false
       → root_remembers me boot (root_case y) (memory_of place n (root_case y))
-      (MessageInput k (Ack (child_case x t) o)) ≡ memory_of place n (root_case y)
-  ack_elsewhere k t o y q = rw q refl
+      (MessageInput k (Ack (child_case x t) o fs)) ≡ memory_of place n (root_case y)
+  ack_elsewhere k t o fs y q = rw q refl
 
   -- a row of an acknowledgement that comes where no votes are taken
-  ack_noted : (k : ℕ) (a : DataAnswer) (t : Ticket) (o : Outcome) (row : Row)
-      → takes_ack m t o m.phase ≡ acked m t o → IsOf c row
-      → read_view (rs ++ entries_written row.written) c (acked m t o) ≡ row.view
-      → MovesTxn place n (hears_message k (Ack (child_case x t) o) a) x row
-  ack_noted k a t o row noted own moved =
-      assembled (hears_message k (Ack (child_case x t) o) a) row own
-      (ap (λ u. read_view (rs ++ entries_written row.written) c u) (ack_memory k t o ∙ noted) ∙ moved)
-      (λ y q. ack_elsewhere k t o y q)
+  ack_noted : (k : ℕ) (a : DataAnswer) (t : Ticket) (o : Outcome) (fs : List Finding) (row : Row)
+      → takes_ack m t o fs m.phase ≡ acked m t o fs → IsOf c row
+      → read_view (rs ++ entries_written row.written) c (acked m t o fs) ≡ row.view
+      → MovesTxn place n (hears_message k (Ack (child_case x t) o fs) a) x row
+  ack_noted k a t o fs row noted own moved =
+      assembled (hears_message k (Ack (child_case x t) o fs) a) row own
+      (ap (λ u. read_view (rs ++ entries_written row.written) c u) (ack_memory k t o fs ∙ noted) ∙ moved)
+      (λ y q. ack_elsewhere k t o fs y q)
 
   last_of : (t : Ticket) (v : CoordinatorView) (b none : Bool)
       → IsOf c (if b then (if none then record {
-        written = plain (EndRecord c);
+        written = plain (EndRecord c None);
         told = None;
         messages = [];
         accepts = [];
@@ -558,81 +560,83 @@ module _ (me : ProcessId) (tree : List TreeEntry) (n : Node) (x : Txn) where
         view = unknown_view;
       }
       else quiet (record v { owed = other_tickets t v.owed })) else quiet v)
-  last_of t v true true = end_of c _ false refl
+  last_of t v true true = end_of c None _ false refl
   last_of t v true false = quiet_of c _ refl
   last_of t v false none = quiet_of c _ refl
 
-  ack_by : (k : ℕ) (a : DataAnswer) (t : Ticket) (o : Outcome) (s : Standing)
+  ack_by : (k : ℕ) (a : DataAnswer) (t : Ticket) (o : Outcome) (fs gs : List Finding) (s : Standing)
       → standing_with x.presumption rs c m ≡ s
-      → (s ≡ Active → ⊥) → (s ≡ Collecting → ⊥) → takes_ack m t o m.phase ≡ acked m t o
-      → MovesTxn place n (hears_message k (Ack (child_case x t) o) a) x (on_ack First seat t o (view_at s rs c m) s)
-  ack_by k a t CommittedOutcome Committing h na nc noted =
+      → (s ≡ Active → ⊥) → (s ≡ Collecting → ⊥) → takes_ack m t o fs m.phase ≡ acked m t o fs
+      → MovesTxn place n (hears_message k (Ack (child_case x t) o fs) a) x (on_ack First seat t o gs (view_at s rs c m) s)
+  ack_by k a t CommittedOutcome fs gs Committing h na nc noted =
       let v = view_at Committing rs c m in
-      ack_noted k a t CommittedOutcome (decided_ack First seat CommittedOutcome t v) noted
+      ack_noted k a t CommittedOutcome fs (decided_ack First seat CommittedOutcome t gs v) noted
       (last_of t v (in_list v.owed t) (none_of (other_tickets t v.owed)))
-      (acked_commit me c x.presumption t rs m (in_list v.owed t)
+      (acked_commit me c x.presumption t rs m fs gs (in_list v.owed t)
       (none_of (other_tickets t v.owed)) h refl refl)
-  ack_by k a t AbortedOutcome Committing h na nc noted =
-      ack_noted k a t AbortedOutcome (quiet (view_at Committing rs c m)) noted (quiet_of c _ refl)
-      (refused_commit c x.presumption t rs m h)
-  ack_by k a t AbortedOutcome Aborting h na nc noted =
+  ack_by k a t AbortedOutcome fs gs Committing h na nc noted =
+      ack_noted k a t AbortedOutcome fs (quiet (view_at Committing rs c m)) noted (quiet_of c _ refl)
+      (refused_commit c x.presumption t rs m fs h)
+  ack_by k a t AbortedOutcome fs gs Aborting h na nc noted =
       let v = view_at Aborting rs c m in
-      ack_noted k a t AbortedOutcome (decided_ack First seat AbortedOutcome t v) noted
+      ack_noted k a t AbortedOutcome fs (decided_ack First seat AbortedOutcome t gs v) noted
       (last_of t v (in_list v.owed t) (none_of (other_tickets t v.owed)))
-      (acked_abort me c x.presumption t rs m (in_list v.owed t)
+      (acked_abort me c x.presumption t rs m fs gs (in_list v.owed t)
       (none_of (other_tickets t v.owed)) h refl refl)
-  ack_by k a t CommittedOutcome Aborting h na nc noted =
-      ack_noted k a t CommittedOutcome (quiet (view_at Aborting rs c m)) noted (quiet_of c _ refl)
-      (refused_abort c x.presumption t rs m h)
-  ack_by k a t CommittedOutcome Unknown h na nc noted =
-      ack_noted k a t CommittedOutcome (quiet unknown_view) noted (quiet_of c _ refl)
-      (unawaited c x.presumption t CommittedOutcome rs m h)
-  ack_by k a t AbortedOutcome Unknown h na nc noted =
-      ack_noted k a t AbortedOutcome (quiet unknown_view) noted (quiet_of c _ refl)
-      (unawaited c x.presumption t AbortedOutcome rs m h)
-  ack_by k a t CommittedOutcome Prepared h na nc noted =
+  ack_by k a t CommittedOutcome fs gs Aborting h na nc noted =
+      ack_noted k a t CommittedOutcome fs (quiet (view_at Aborting rs c m)) noted (quiet_of c _ refl)
+      (refused_abort c x.presumption t rs m fs h)
+  ack_by k a t CommittedOutcome fs gs Unknown h na nc noted =
+      ack_noted k a t CommittedOutcome fs (quiet unknown_view) noted (quiet_of c _ refl)
+      (unawaited c x.presumption t CommittedOutcome rs m fs h)
+  ack_by k a t AbortedOutcome fs gs Unknown h na nc noted =
+      ack_noted k a t AbortedOutcome fs (quiet unknown_view) noted (quiet_of c _ refl)
+      (unawaited c x.presumption t AbortedOutcome rs m fs h)
+  ack_by k a t CommittedOutcome fs gs Prepared h na nc noted =
       let f = prepared_facts _ _ _ _ _ _ _ (phase_unprepared x.presumption m.phase) h in
-      ack_noted k a t CommittedOutcome (quiet (view_at Prepared rs c m)) noted (quiet_of c _ refl)
-      (promised_ack c x.presumption t CommittedOutcome rs m h (undecided_owes c rs f.0 f.1))
-  ack_by k a t AbortedOutcome Prepared h na nc noted =
+      ack_noted k a t CommittedOutcome fs (quiet (view_at Prepared rs c m)) noted (quiet_of c _ refl)
+      (promised_ack c x.presumption t CommittedOutcome rs m fs h (undecided_owes c rs f.0 f.1))
+  ack_by k a t AbortedOutcome fs gs Prepared h na nc noted =
       let f = prepared_facts _ _ _ _ _ _ _ (phase_unprepared x.presumption m.phase) h in
-      ack_noted k a t AbortedOutcome (quiet (view_at Prepared rs c m)) noted (quiet_of c _ refl)
-      (promised_ack c x.presumption t AbortedOutcome rs m h (undecided_owes c rs f.0 f.1))
-  ack_by k a t o Active h na nc noted = absurd (na refl)
-  ack_by k a t o Collecting h na nc noted = absurd (nc refl)
-  ack_by k a t o Heuristic h na nc noted = absurd
+      ack_noted k a t AbortedOutcome fs (quiet (view_at Prepared rs c m)) noted (quiet_of c _ refl)
+      (promised_ack c x.presumption t AbortedOutcome rs m fs h (undecided_owes c rs f.0 f.1))
+  ack_by k a t o fs gs Active h na nc noted = absurd (na refl)
+  ack_by k a t o fs gs Collecting h na nc noted = absurd (nc refl)
+  ack_by k a t o fs gs Heuristic h na nc noted = absurd
       (never_heuristic _ _ _ _ _ _ _ (phase_standing_known x.presumption m.phase) h)
 
   -- while children or votes can come, it does nothing
-  ack_unheard : (k : ℕ) (a : DataAnswer) (t : Ticket) (o : Outcome) (row : Row) → takes_ack m t o m.phase ≡ m
+  ack_unheard : (k : ℕ) (a : DataAnswer) (t : Ticket) (o : Outcome) (fs : List Finding) (row : Row) → takes_ack m t o fs m.phase ≡ m
       → row ≡ quiet (coordinator_view place n c)
-      → MovesTxn place n (hears_message k (Ack (child_case x t) o) a) x row
-  ack_unheard k a t o row unheard e =
-      quiet_views (hears_message k (Ack (child_case x t) o) a) row (ap (λ (r : Row). r.written) e)
+      → MovesTxn place n (hears_message k (Ack (child_case x t) o fs) a) x row
+  ack_unheard k a t o fs row unheard e =
+      quiet_views (hears_message k (Ack (child_case x t) o fs) a) row (ap (λ (r : Row). r.written) e)
       (ap (λ (r : Row). r.view) e)
-      (ack_memory k t o ∙ unheard)
-      (λ y q. ack_elsewhere k t o y q)
+      (ack_memory k t o fs ∙ unheard)
+      (λ y q. ack_elsewhere k t o fs y q)
 
-  on_ack_open : (t : Ticket) (o : Outcome) (v : CoordinatorView) → on_ack First seat t o v Active ≡ quiet v
-  on_ack_open t CommittedOutcome v = refl
-  on_ack_open t AbortedOutcome v = refl
+  on_ack_open : (t : Ticket) (o : Outcome) (gs : List Finding) (v : CoordinatorView)
+      → on_ack First seat t o gs v Active ≡ quiet v
+  on_ack_open t CommittedOutcome gs v = refl
+  on_ack_open t AbortedOutcome gs v = refl
 
-  on_ack_asked : (t : Ticket) (o : Outcome) (v : CoordinatorView) → on_ack First seat t o v Collecting ≡ quiet v
-  on_ack_asked t CommittedOutcome v = refl
-  on_ack_asked t AbortedOutcome v = refl
+  on_ack_asked : (t : Ticket) (o : Outcome) (gs : List Finding) (v : CoordinatorView)
+      → on_ack First seat t o gs v Collecting ≡ quiet v
+  on_ack_asked t CommittedOutcome gs v = refl
+  on_ack_asked t AbortedOutcome gs v = refl
 
-  ack_closed : (k : ℕ) (a : DataAnswer) (t : Ticket) (o : Outcome) → IsOpenAlike place n c → (s : Standing)
+  ack_closed : (k : ℕ) (a : DataAnswer) (t : Ticket) (o : Outcome) (fs gs : List Finding) → IsOpenAlike place n c → (s : Standing)
       → standing_with x.presumption rs c m ≡ s
-      → (m.phase ≡ Open → ⊥) → (m.phase ≡ Asked → ⊥) → takes_ack m t o m.phase ≡ acked m t o
-      → MovesTxn place n (hears_message k (Ack (child_case x t) o) a) x
-      (on_ack First seat t o (coordinator_view place n c) s)
-  ack_closed k a t o alike s h closed decided noted =
+      → (m.phase ≡ Open → ⊥) → (m.phase ≡ Asked → ⊥) → takes_ack m t o fs m.phase ≡ acked m t o fs
+      → MovesTxn place n (hears_message k (Ack (child_case x t) o fs) a) x
+      (on_ack First seat t o gs (coordinator_view place n c) s)
+  ack_closed k a t o fs gs alike s h closed decided noted =
       let not_active : s ≡ Active → ⊥ = λ e. closed
       (phase_active x.presumption m.phase (active_facts _ _ _ _ _ _ _ (h ∙ e)).heard) in
       let not_collecting : s ≡ Collecting → ⊥ = λ e. decided (asked_of alike (h ∙ e)) in
-      let P : CoordinatorView → Type 0 = λ v. MovesTxn place n (hears_message k (Ack (child_case x t) o) a) x
-      (on_ack First seat t o v s) in
-      subst P (sym (seen_as s h)) (ack_by k a t o s h not_active not_collecting noted)
+      let P : CoordinatorView → Type 0 = λ v. MovesTxn place n (hears_message k (Ack (child_case x t) o fs) a) x
+      (on_ack First seat t o gs v s) in
+      subst P (sym (seen_as s h)) (ack_by k a t o fs gs s h not_active not_collecting noted)
 
   now_active : IsOpenAlike place n c → (s : Standing) → standing_with x.presumption rs c m ≡ s
       → m.phase ≡ Open → s ≡ Active
@@ -646,28 +650,28 @@ module _ (me : ProcessId) (tree : List TreeEntry) (n : Node) (x : Txn) where
   now_collecting alike s h e = sym h ∙ (sym (view_standing (coordinator_standing rs c m) rs c m)
       ∙ alike.asked_is_collecting e)
 
-  ack_phase : (k : ℕ) (a : DataAnswer) (t : Ticket) (o : Outcome) → IsOpenAlike place n c → (ph : Phase)
+  ack_phase : (k : ℕ) (a : DataAnswer) (t : Ticket) (o : Outcome) (fs gs : List Finding) → IsOpenAlike place n c → (ph : Phase)
       → m.phase ≡ ph → (s : Standing) → standing_with x.presumption rs c m ≡ s
-      → MovesTxn place n (hears_message k (Ack (child_case x t) o) a) x
-      (on_ack First seat t o (coordinator_view place n c) s)
-  ack_phase k a t o alike Open e s h =
+      → MovesTxn place n (hears_message k (Ack (child_case x t) o fs) a) x
+      (on_ack First seat t o gs (coordinator_view place n c) s)
+  ack_phase k a t o fs gs alike Open e s h =
       let v = coordinator_view place n c in
-      ack_unheard k a t o _ (ap (λ ph. takes_ack m t o ph) e)
-      (ap (λ q. on_ack First seat t o v q) (now_active alike s h e) ∙ on_ack_open t o v)
-  ack_phase k a t o alike Asked e s h =
+      ack_unheard k a t o fs _ (ap (λ ph. takes_ack m t o fs ph) e)
+      (ap (λ q. on_ack First seat t o gs v q) (now_active alike s h e) ∙ on_ack_open t o gs v)
+  ack_phase k a t o fs gs alike Asked e s h =
       let v = coordinator_view place n c in
-      ack_unheard k a t o _ (ap (λ ph. takes_ack m t o ph) e)
-      (ap (λ q. on_ack First seat t o v q) (now_collecting alike s h e) ∙ on_ack_asked t o v)
-  ack_phase k a t o alike Idle e s h = ack_closed k a t o alike s h (λ q. not_idle (sym e ∙ q))
-      (λ q. not_idle_asked (sym e ∙ q)) (ap (λ ph. takes_ack m t o ph) e)
+      ack_unheard k a t o fs _ (ap (λ ph. takes_ack m t o fs ph) e)
+      (ap (λ q. on_ack First seat t o gs v q) (now_collecting alike s h e) ∙ on_ack_asked t o gs v)
+  ack_phase k a t o fs gs alike Idle e s h = ack_closed k a t o fs gs alike s h (λ q. not_idle (sym e ∙ q))
+      (λ q. not_idle_asked (sym e ∙ q)) (ap (λ ph. takes_ack m t o fs ph) e)
     where
       not_idle : Idle ≡ Open → ⊥
       not_idle q = cc
 
       not_idle_asked : Idle ≡ Asked → ⊥
       not_idle_asked q = cc
-  ack_phase k a t o alike Over e s h = ack_closed k a t o alike s h (λ q. not_over (sym e ∙ q))
-      (λ q. not_over_asked (sym e ∙ q)) (ap (λ ph. takes_ack m t o ph) e)
+  ack_phase k a t o fs gs alike Over e s h = ack_closed k a t o fs gs alike s h (λ q. not_over (sym e ∙ q))
+      (λ q. not_over_asked (sym e ∙ q)) (ap (λ ph. takes_ack m t o fs ph) e)
     where
       not_over : Over ≡ Open → ⊥
       not_over q = cc
@@ -675,10 +679,10 @@ module _ (me : ProcessId) (tree : List TreeEntry) (n : Node) (x : Txn) where
       not_over_asked : Over ≡ Asked → ⊥
       not_over_asked q = cc
 
-  pub ack_views : (k : ℕ) (a : DataAnswer) (t : Ticket) (o : Outcome) → let v = coordinator_view place n c in
-      IsOpenAlike place n c → MovesTxn place n (hears_message k (Ack (child_case x t) o) a) x
-      (on_ack First seat t o v v.standing)
-  ack_views k a t o alike = ack_phase k a t o alike m.phase refl (coordinator_view place n c).standing
+  pub ack_views : (k : ℕ) (a : DataAnswer) (t : Ticket) (o : Outcome) (fs gs : List Finding) → let v = coordinator_view place n c in
+      IsOpenAlike place n c → MovesTxn place n (hears_message k (Ack (child_case x t) o fs) a) x
+      (on_ack First seat t o gs v v.standing)
+  ack_views k a t o fs gs alike = ack_phase k a t o fs gs alike m.phase refl (coordinator_view place n c).standing
       (stands_as (coordinator_view place n c).standing refl)
 
   pub root_views : RootViews me tree n x

@@ -1,6 +1,6 @@
 -- The reaction table of coordinators (R*): for each standing and input of a case what is written, told and
 -- sent, and the new view. One row, one definition, named by standing and input.
-use Rattle.std.specs.Prelude.{◌+◌, true, false, if◌then◌else◌, Option, Some, None, List, [], ◌∷◌, ◌++◌, map, filter, not}
+use Rattle.std.specs.Prelude.{◌+◌, true, false, if◌then◌else◌, Option, Some, None, List, [], ◌∷◌, ◌++◌, map, filter, not, is_some}
 use Rattle.tree_model.specs.declared.names.Case.{Case}
 use Rattle.tree_model.specs.declared.names.ProcessId.{ProcessId}
 use Rattle.tree_model.specs.declared.names.Ticket.{Ticket}
@@ -9,10 +9,12 @@ use Rattle.tree_model.specs.declared.names.Outcome.TheVariants.{Committed as Com
 use Rattle.tree_model.specs.declared.names.Presumption.{Presumption}
 use Rattle.tree_model.specs.declared.names.Presumption.TheVariants.{PresumeAbort, PresumeCommit}
 use Rattle.tree_model.specs.declared.messages.Op.{Op}
+use Rattle.tree_model.specs.declared.messages.Finding.{Finding}
 use Rattle.tree_model.specs.declared.messages.Message.{Message}
 use Rattle.tree_model.specs.declared.messages.Message.TheVariants.{Join, Work, Prepare, Yes, No, Read, Commit, Abort, Ack, Inquire}
 use Rattle.tree_model.specs.declared.messages.Envelope.{Envelope}
 use Rattle.tree_model.specs.declared.records.Record.{Record}
+use Rattle.tree_model.specs.declared.records.Reports.{Reports}
 use Rattle.tree_model.specs.declared.records.Record.TheVariants.{Collecting as CollectingRecord, Prepare as PrepareRecord, Commit as CommitRecord, Abort as AbortRecord, End as EndRecord}
 use Rattle.tree_model.specs.declared.standings.Standing.{Standing}
 use Rattle.tree_model.specs.declared.standings.Standing.TheVariants.{Unknown, Active, Collecting, Prepared, Committing, Aborting}
@@ -21,10 +23,10 @@ use Rattle.tree_model.specs.declared.standings.Vote.TheVariants.{No as VoteNo}
 use Rattle.tree_model.specs.declared.events.Conclusion.{Conclusion}
 use Rattle.tree_model.specs.declared.events.Conclusion.TheVariants.{Committed as ConcludedCommitted, Aborted as ConcludedAborted, ReadOnly}
 use Rattle.tree_model.specs.Names.{same_ticket, child_case, presumed}
-use Rattle.tree_model.specs.Records.{in_list, none_of}
+use Rattle.tree_model.specs.Records.{in_list, none_of, mixed_of, unreported_of}
 use Rattle.tree_model.specs.Nodes.{Written, Version, First, Second}
 use Rattle.tree_model.specs.Memory.{has_child, is_counted, all_voted, yes_of, undecided_of, works_of}
-use Rattle.tree_model.specs.Standings.{CoordinatorView, unknown_view}
+use Rattle.tree_model.specs.Standings.{CoordinatorView, unknown_view, unknown_findings}
 
 -- a coordinator in one of its cases; the root has no parent
 pub record Seat : Type 0 where
@@ -95,6 +97,10 @@ abbrev pub awaits : Standing → List Ticket → CoordinatorView → Coordinator
 awaits s ts v =
     if none_of ts then unknown_view else record v { standing = s; named = v.named ++ ts; owed = ts }
 
+-- what an End of the root has of what was found: the mixed tickets, and the unreported ones
+abbrev pub reports_of : List Finding → Reports
+reports_of fs = record { mixed = mixed_of fs; unreported = unreported_of fs }
+
 -- Active.
 
 -- the join act: JOIN to the child, unless a ticket of it is accepted already
@@ -157,7 +163,7 @@ active_commit s v =
 -- an abort under Presumed Commit is acknowledged
 abbrev pub acknowledges_abort : Seat → Presumption → List Envelope
 acknowledges_abort s PresumeAbort = []
-acknowledges_abort s PresumeCommit = up s (Ack s.own AbortedOutcome)
+acknowledges_abort s PresumeCommit = up s (Ack s.own AbortedOutcome [])
 
 -- the abort act, or ABORT
 abbrev pub active_abort : Seat → CoordinatorView → Row
@@ -218,7 +224,7 @@ collecting_abort s why v = collecting_abort_by s why v (undecided_of v.accepted 
 -- the record of a case in which all read only: under Presumed Commit an unforced End, else none
 abbrev pub read_only_end : Seat → Presumption → List Written
 read_only_end s PresumeAbort = []
-read_only_end s PresumeCommit = plain (EndRecord s.own)
+read_only_end s PresumeCommit = plain (EndRecord s.own None)
 
 -- the last vote, where all read only
 abbrev pub collecting_read_only : Seat → Row
@@ -292,7 +298,7 @@ collecting_vote s t w v =
 
 -- by the first version a decision of the parent is acknowledged as it is obeyed
 abbrev pub acknowledges_at_once : Version → Seat → Outcome → List Envelope
-acknowledges_at_once First s o = up s (Ack s.own o)
+acknowledges_at_once First s o = up s (Ack s.own o [])
 acknowledges_at_once Second s o = []
 
 -- COMMIT to the promised; under Presumed Abort it is forced, and each of them owes
@@ -357,12 +363,12 @@ prepared_ask s v = sends (up s (Inquire s.own)) v
 
 -- COMMIT again: by the first version it is acknowledged again
 abbrev pub committing_commit : Version → Seat → CoordinatorView → Row
-committing_commit First s v = sends (up s (Ack s.own CommittedOutcome)) v
+committing_commit First s v = sends (up s (Ack s.own CommittedOutcome [])) v
 committing_commit Second s v = quiet v
 
 -- ABORT of a case that was aborted: likewise
 abbrev pub aborting_abort : Version → Seat → CoordinatorView → Row
-aborting_abort First s v = sends (up s (Ack s.own AbortedOutcome)) v
+aborting_abort First s v = sends (up s (Ack s.own AbortedOutcome [])) v
 aborting_abort Second s v = quiet v
 
 -- PREPARE of a case that was aborted: NO
@@ -373,28 +379,42 @@ aborting_prepare s v = sends (up s (No s.own)) v
 unfoldable pub other_tickets : Ticket → List Ticket → List Ticket
 other_tickets t ts = filter (λ u. not (same_ticket t u)) ts
 
--- by the second version a decision is acknowledged behind the last acknowledgement of it
-abbrev pub acknowledges_at_last : Version → Seat → Outcome → List Envelope
-acknowledges_at_last First s o = []
-acknowledges_at_last Second s o = up s (Ack s.own o)
+-- by the second version a decision is acknowledged behind the last acknowledgement of it, with what was found below
+abbrev pub acknowledges_at_last : Version → Seat → Outcome → List Finding → List Envelope
+acknowledges_at_last First s o fs = []
+acknowledges_at_last Second s o fs = up s (Ack s.own o fs)
 
--- these still owe an acknowledgement; where there are none, an unforced End record ends the case
-abbrev pub decided_ack_by : Version → Seat → Outcome → List Ticket → CoordinatorView → Row
-decided_ack_by ver s o left v =
+-- what an End reports: by the second version the root, which has nobody above it, writes down what was found
+abbrev pub end_reports : Version → Option ProcessId → List Finding → Option Reports
+end_reports First p fs = None
+end_reports Second (Some p) fs = None
+end_reports Second None [] = None
+end_reports Second None (f ∷ fs) = Some (reports_of (f ∷ fs))
+
+-- the End behind the last acknowledgement: it is unforced, but a report is forced
+abbrev pub ends_with : Version → Seat → List Finding → List Written
+ends_with ver s fs =
+    let reports = end_reports ver s.parent fs in
+    record { entry = EndRecord s.own reports; is_forced = is_some reports } ∷ []
+
+-- these still owe an acknowledgement; where there are none, an End record ends the case
+abbrev pub decided_ack_by : Version → Seat → Outcome → List Ticket → List Finding → CoordinatorView → Row
+decided_ack_by ver s o left fs v =
     if none_of left
     then record {
-      written = plain (EndRecord s.own);
+      written = ends_with ver s fs;
       told = None;
-      messages = acknowledges_at_last ver s o;
+      messages = acknowledges_at_last ver s o fs;
       accepts = [];
       counts = [];
       view = unknown_view;
     }
     else quiet (record v { owed = left })
 
--- an acknowledgement that agrees with the decision; the last one that is owed ends the case
-abbrev pub decided_ack : Version → Seat → Outcome → Ticket → CoordinatorView → Row
-decided_ack ver s o t v = if in_list v.owed t then decided_ack_by ver s o (other_tickets t v.owed) v else quiet v
+-- an acknowledgement that agrees with the decision; the last one that is owed ends the case, with all that was found
+abbrev pub decided_ack : Version → Seat → Outcome → Ticket → List Finding → CoordinatorView → Row
+decided_ack ver s o t fs v =
+    if in_list v.owed t then decided_ack_by ver s o (other_tickets t v.owed) fs v else quiet v
 
 -- the message that tells an outcome
 abbrev pub tells_outcome : Outcome → Case → Message
@@ -412,17 +432,22 @@ abbrev pub unknown_prepare : Seat → CoordinatorView → Row
 unknown_prepare s v = sends (up s (No s.own)) v
 
 -- COMMIT of a case of which nothing is known: acknowledged under Presumed Abort, else nothing
-abbrev pub unknown_commit_by : Seat → CoordinatorView → Presumption → Row
-unknown_commit_by s v PresumeAbort = sends (up s (Ack s.own CommittedOutcome)) v
-unknown_commit_by s v PresumeCommit = quiet v
+abbrev pub unknown_commit_by : Version → Seat → CoordinatorView → Presumption → Row
+unknown_commit_by ver s v PresumeAbort = sends (up s (Ack s.own CommittedOutcome (unknown_findings ver s.own))) v
+unknown_commit_by ver s v PresumeCommit = quiet v
 
 -- COMMIT of a case of which nothing is known, by the presumption of the transaction
-abbrev pub unknown_commit : Seat → CoordinatorView → Row
-unknown_commit s v = unknown_commit_by s v s.own.txn.presumption
+abbrev pub unknown_commit : Version → Seat → CoordinatorView → Row
+unknown_commit ver s v = unknown_commit_by ver s v s.own.txn.presumption
 
 -- ABORT of a case of which nothing is known: acknowledged under Presumed Commit, else nothing
-abbrev pub unknown_abort : Seat → CoordinatorView → Row
-unknown_abort s v = sends (acknowledges_abort s s.own.txn.presumption) v
+abbrev pub unknown_abort_by : Version → Seat → CoordinatorView → Presumption → Row
+unknown_abort_by ver s v PresumeAbort = quiet v
+unknown_abort_by ver s v PresumeCommit = sends (up s (Ack s.own AbortedOutcome (unknown_findings ver s.own))) v
+
+-- ABORT of a case of which nothing is known, by the presumption of the transaction
+abbrev pub unknown_abort : Version → Seat → CoordinatorView → Row
+unknown_abort ver s v = unknown_abort_by ver s v s.own.txn.presumption
 
 -- an inquiry without information gets what is presumed
 abbrev pub unknown_inquiry : Seat → Ticket → CoordinatorView → Row
@@ -435,11 +460,11 @@ abbrev pub on_vote : Seat → Ticket → Vote → CoordinatorView → Standing �
 on_vote s t w v Collecting = collecting_vote s t w v
 on_vote s t w v _ = quiet v
 
--- an acknowledgement of a child; it does something only where it agrees with the decision
-abbrev pub on_ack : Version → Seat → Ticket → Outcome → CoordinatorView → Standing → Row
-on_ack ver s t CommittedOutcome v Committing = decided_ack ver s CommittedOutcome t v
-on_ack ver s t AbortedOutcome v Aborting = decided_ack ver s AbortedOutcome t v
-on_ack ver s t _ v _ = quiet v
+-- an acknowledgement of a child, with what was found by then; it does something only where it agrees with the decision
+abbrev pub on_ack : Version → Seat → Ticket → Outcome → List Finding → CoordinatorView → Standing → Row
+on_ack ver s t CommittedOutcome fs v Committing = decided_ack ver s CommittedOutcome t fs v
+on_ack ver s t AbortedOutcome fs v Aborting = decided_ack ver s AbortedOutcome t fs v
+on_ack ver s t _ fs v _ = quiet v
 
 -- an inquiry of a child that belongs to the case
 abbrev pub on_inquiry : Seat → Ticket → CoordinatorView → Standing → Row
@@ -465,7 +490,7 @@ on_prepare s v _ = quiet v
 abbrev pub on_commit : Version → Seat → CoordinatorView → Standing → Row
 on_commit ver s v Prepared = prepared_commit ver s v
 on_commit ver s v Committing = committing_commit ver s v
-on_commit ver s v Unknown = unknown_commit s v
+on_commit ver s v Unknown = unknown_commit ver s v
 on_commit ver s v _ = quiet v
 
 -- ABORT of the parent
@@ -474,5 +499,5 @@ on_abort ver s v Active = active_abort s v
 on_abort ver s v Collecting = collecting_abort s (ByAbort ver) v
 on_abort ver s v Prepared = prepared_abort ver s v
 on_abort ver s v Aborting = aborting_abort ver s v
-on_abort ver s v Unknown = unknown_abort s v
+on_abort ver s v Unknown = unknown_abort ver s v
 on_abort ver s v _ = quiet v

@@ -64,7 +64,7 @@ hears_yes s w t = walks w (on_vote s t VoteYes w.view w.view.standing)
 
 -- the acknowledgement of a child comes
 abbrev pub hears_ack : Seat → Walked → Ticket → Walked
-hears_ack s w t = walks w (on_ack First s t Committed w.view w.view.standing)
+hears_ack s w t = walks w (on_ack First s t Committed [] w.view w.view.standing)
 
 -- the children that acknowledge a commit: under Presumed Commit none does
 abbrev pub acknowledging : Presumption → List Ticket → List Ticket
@@ -82,7 +82,7 @@ root_walk s v votes acks =
 abbrev pub manager_cost : Leaf → ℕ → List Write → ManagerView → Cost
 manager_cost l n ws v =
     let promise = leaf.on_prepare l n (Holds ws) v v.standing in
-    let outcome = leaf.on_commit l promise.view promise.view.standing in
+    let outcome = leaf.on_commit First l [] promise.view promise.view.standing in
     together (leaf_cost promise) (leaf_cost outcome)
 
 -- a list has no ticket twice

@@ -7,6 +7,7 @@ use Rattle.tree_model.specs.declared.names.Outcome.{Outcome}
 use Rattle.tree_model.specs.declared.names.Outcome.TheVariants.{Committed as CommittedOutcome, Aborted as AbortedOutcome}
 use Rattle.tree_model.specs.declared.names.Presumption.{Presumption}
 use Rattle.tree_model.specs.declared.names.Presumption.TheVariants.{PresumeAbort, PresumeCommit}
+use Rattle.tree_model.specs.declared.messages.Finding.{Finding}
 use Rattle.tree_model.specs.declared.messages.Message.{Message}
 use Rattle.tree_model.specs.declared.messages.Message.TheVariants.{Yes, No, Read, Ack, Inquire}
 use Rattle.tree_model.specs.declared.messages.Envelope.{Envelope}
@@ -17,8 +18,8 @@ use Rattle.tree_model.specs.declared.records.Record.TheVariants.{Prepared as Pre
 use Rattle.tree_model.specs.declared.standings.Standing.{Standing}
 use Rattle.tree_model.specs.declared.standings.Standing.TheVariants.{Unknown, Active, Prepared, Heuristic}
 use Rattle.tree_model.specs.Names.{same_outcome}
-use Rattle.tree_model.specs.Nodes.{Written, Holding, ReadsOnly, Holds}
-use Rattle.tree_model.specs.Standings.{ManagerView, unknown_branch, standing_branch}
+use Rattle.tree_model.specs.Nodes.{Version, Written, Holding, ReadsOnly, Holds}
+use Rattle.tree_model.specs.Standings.{ManagerView, unknown_branch, standing_branch, unknown_findings, decided_findings}
 use Rattle.tree_model.specs.CoordinatorRows.{forced, post}
 
 -- a manager in one of its branches
@@ -62,10 +63,10 @@ abbrev pub is_told_forced : Branch → Outcome → Bool
 is_told_forced (CaseBranch c) o = is_acknowledged c.txn.presumption o
 is_told_forced (Foreign x) o = true
 
--- ACK of the outcome to the parent, unless the presumption covers the outcome
-abbrev pub acknowledgement : Leaf → Outcome → List Envelope
-acknowledgement l o =
-    if is_acknowledged l.own.txn.presumption o then post l.me l.parent (Ack l.own o) ∷ [] else []
+-- ACK of the outcome to the parent, with what was found, unless the presumption covers the outcome
+abbrev pub acknowledgement : Leaf → Outcome → List Finding → List Envelope
+acknowledgement l o fs =
+    if is_acknowledged l.own.txn.presumption o then post l.me l.parent (Ack l.own o fs) ∷ [] else []
 
 -- the record, forced unless the presumption covers the outcome
 abbrev pub written_as : Leaf → Outcome → Record → List Written
@@ -98,7 +99,7 @@ active_prepare l n holding v =
 
 -- ABORT: the branch is forgotten without a record; under Presumed Commit it is acknowledged
 abbrev pub active_abort : Leaf → LeafRow
-active_abort l = record { written = []; messages = acknowledgement l AbortedOutcome; view = unknown_branch }
+active_abort l = record { written = []; messages = acknowledgement l AbortedOutcome []; view = unknown_branch }
 
 -- Prepared.
 
@@ -111,7 +112,7 @@ ends_record l AbortedOutcome = RolledBack (own_branch l)
 abbrev pub prepared_outcome : Leaf → Outcome → LeafRow
 prepared_outcome l o = record {
   written = written_as l o (ends_record l o);
-  messages = acknowledgement l o;
+  messages = acknowledgement l o [];
   view = unknown_branch;
 }
 
@@ -140,16 +141,16 @@ prepared_decide l o = record {
 
 -- Heuristic.
 
--- the outcome comes: the first one is noted, the same again is acknowledged again
-abbrev pub heuristic_outcome : Leaf → Outcome → ManagerView → Option Outcome → LeafRow
-heuristic_outcome l o v None =
+-- the outcome comes: the first one is noted, the same again is acknowledged again, each time with what was found
+abbrev pub heuristic_outcome : Leaf → Outcome → List Finding → ManagerView → Option Outcome → LeafRow
+heuristic_outcome l o fs v None =
     record {
       written = written_as l o (Told (own_branch l) o);
-      messages = acknowledgement l o;
+      messages = acknowledgement l o fs;
       view = standing_branch Heuristic (Some o);
     }
-heuristic_outcome l o v (Some told) =
-    if same_outcome told o then record { written = []; messages = acknowledgement l o; view = v }
+heuristic_outcome l o fs v (Some told) =
+    if same_outcome told o then record { written = []; messages = acknowledgement l o fs; view = v }
     else unmoved v
 
 -- an operator forgets the branch, forced
@@ -163,8 +164,9 @@ abbrev pub unknown_prepare : Leaf → ManagerView → LeafRow
 unknown_prepare l v = replies l (No l.own) v
 
 -- an outcome of a branch of which nothing is known: acknowledged, unless the presumption covers it
-abbrev pub unknown_outcome : Leaf → Outcome → ManagerView → LeafRow
-unknown_outcome l o v = record { written = []; messages = acknowledgement l o; view = v }
+abbrev pub unknown_outcome : Version → Leaf → Outcome → ManagerView → LeafRow
+unknown_outcome ver l o v =
+    record { written = []; messages = acknowledgement l o (unknown_findings ver l.own); view = v }
 
 -- The table by messages.
 
@@ -181,17 +183,19 @@ on_prepare l n holding v Heuristic = promised_prepare l v
 on_prepare l n holding v Unknown = unknown_prepare l v
 on_prepare l n holding v _ = unmoved v
 
--- COMMIT of the parent
-abbrev pub on_commit : Leaf → ManagerView → Standing → LeafRow
-on_commit l v Prepared = prepared_outcome l CommittedOutcome
-on_commit l v Heuristic = heuristic_outcome l CommittedOutcome v v.told
-on_commit l v Unknown = unknown_outcome l CommittedOutcome v
-on_commit l v _ = unmoved v
+-- COMMIT of the parent; the kept records tell what an operator decided
+abbrev pub on_commit : Version → Leaf → List Record → ManagerView → Standing → LeafRow
+on_commit ver l rs v Prepared = prepared_outcome l CommittedOutcome
+on_commit ver l rs v Heuristic =
+    heuristic_outcome l CommittedOutcome (decided_findings ver rs l.own CommittedOutcome) v v.told
+on_commit ver l rs v Unknown = unknown_outcome ver l CommittedOutcome v
+on_commit ver l rs v _ = unmoved v
 
--- ABORT of the parent
-abbrev pub on_abort : Leaf → ManagerView → Standing → LeafRow
-on_abort l v Active = active_abort l
-on_abort l v Prepared = prepared_outcome l AbortedOutcome
-on_abort l v Heuristic = heuristic_outcome l AbortedOutcome v v.told
-on_abort l v Unknown = unknown_outcome l AbortedOutcome v
-on_abort l v _ = unmoved v
+-- ABORT of the parent; likewise
+abbrev pub on_abort : Version → Leaf → List Record → ManagerView → Standing → LeafRow
+on_abort ver l rs v Active = active_abort l
+on_abort ver l rs v Prepared = prepared_outcome l AbortedOutcome
+on_abort ver l rs v Heuristic =
+    heuristic_outcome l AbortedOutcome (decided_findings ver rs l.own AbortedOutcome) v v.told
+on_abort ver l rs v Unknown = unknown_outcome ver l AbortedOutcome v
+on_abort ver l rs v _ = unmoved v

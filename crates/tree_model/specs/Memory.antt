@@ -1,12 +1,13 @@
 -- What a process remembers of a case: read off the inputs that it has handled since its last restart.
 use Rattle.std.specs.Prelude.{◌+◌, ℕ, Bool, true, false, not, ◌==◌, ◌&&◌, if◌then◌else◌, Option, Some, None, List, [], ◌∷◌, ◌++◌, filter, find, fold, count_by}
-use Rattle.std.specs.List.{list_any, list_all}
+use Rattle.std.specs.List.{list_any, list_all, flat_map}
 use Rattle.tree_model.specs.declared.names.Case.{Case}
 use Rattle.tree_model.specs.declared.names.ProcessId.{ProcessId}
 use Rattle.tree_model.specs.declared.names.Ticket.{Ticket}
 use Rattle.tree_model.specs.declared.names.Txn.{Txn}
 use Rattle.tree_model.specs.declared.names.Outcome.{Outcome}
 use Rattle.tree_model.specs.declared.names.Presumption.{Presumption}
+use Rattle.tree_model.specs.declared.messages.Finding.{Finding}
 use Rattle.tree_model.specs.declared.messages.Message.{Message}
 use Rattle.tree_model.specs.declared.messages.Message.TheVariants.{Join, Joined, Work, Prepare, Yes, No, Read, Abort, Ack}
 use Rattle.tree_model.specs.declared.standings.Vote.{Vote}
@@ -63,6 +64,10 @@ works_of ws t = count_by (λ u. same_ticket u t) ws
 unfoldable pub has_acked : List (Ticket × Outcome) → Outcome → Ticket → Bool
 has_acked acks o t = list_any (λ a. same_outcome a.1 o && same_ticket a.0 t) acks
 
+-- what the acknowledgements of this outcome by these tickets found, in the order in which they came
+unfoldable pub found_of : List (Ticket × (Outcome × List Finding)) → Outcome → List Ticket → List Finding
+found_of found o ts = flat_map (λ a. if same_outcome a.1.0 o && in_list ts a.0 then a.1.1 else []) found
+
 -- Memory.
 
 -- how far a case has come since it was begun or joined
@@ -78,8 +83,8 @@ pub data Phase : Type 0 where
 
 -- Of the process: how many transactions it began and how many tickets it gave in this boot, the cases of
 -- those tickets, and each parent's case with the active ticket given to it. Of the case: its phase, the
--- accepted tickets, their first votes, a ticket for each work sent, the acknowledgements; at a manager how
--- many works are done, and whether one was refused.
+-- accepted tickets, their first votes, a ticket for each work sent, the acknowledgements, and what the first of each
+-- ticket and outcome found; at a manager how many works are done, and whether one was refused.
 pub record Memory : Type 0 where
   pub begun : ℕ
   pub given : ℕ
@@ -90,6 +95,7 @@ pub record Memory : Type 0 where
   pub votes : List (Ticket × Vote)
   pub works : List Ticket
   pub acks : List (Ticket × Outcome)
+  pub found : List (Ticket × (Outcome × List Finding))
   pub done : ℕ
   pub spoiled : Bool
 
@@ -105,6 +111,7 @@ fresh_memory = record {
   votes = [];
   works = [];
   acks = [];
+  found = [];
   done = 0;
   spoiled = false;
 }
@@ -117,6 +124,7 @@ opens_case m = record m {
   votes = [];
   works = [];
   acks = [];
+  found = [];
   done = 0;
   spoiled = false;
 }
@@ -200,11 +208,15 @@ abbrev pub takes_vote : Memory → Ticket → Vote → Phase → Memory
 takes_vote m t w Asked = if is_counted m.accepted m.votes t then with_vote m t w else m
 takes_vote m t w _ = m
 
+-- what is noted of an acknowledgement: of each ticket and outcome the first counts
+abbrev pub first_found : Memory → Ticket → Outcome → List Finding → List (Ticket × (Outcome × List Finding))
+first_found m t o fs = if has_acked m.acks o t then [] else (t, (o, fs)) ∷ []
+
 -- Acknowledgements: those that come while votes can still come are none.
-abbrev pub takes_ack : Memory → Ticket → Outcome → Phase → Memory
-takes_ack m t o Open = m
-takes_ack m t o Asked = m
-takes_ack m t o _ = record m { acks = m.acks ++ (t, o) ∷ [] }
+abbrev pub takes_ack : Memory → Ticket → Outcome → List Finding → Phase → Memory
+takes_ack m t o fs Open = m
+takes_ack m t o fs Asked = m
+takes_ack m t o fs _ = record m { acks = m.acks ++ (t, o) ∷ []; found = m.found ++ first_found m t o fs }
 
 -- The inputs.
 
@@ -237,7 +249,7 @@ hears_child c m (Joined d t) = if_same d c m (accepts_ticket m t m.phase)
 hears_child c m (Yes d) = of_child c d m (λ t. takes_vote m t VoteYes m.phase)
 hears_child c m (No d) = of_child c d m (λ t. takes_vote m t VoteNo m.phase)
 hears_child c m (Read d) = of_child c d m (λ t. takes_vote m t VoteRead m.phase)
-hears_child c m (Ack d o) = of_child c d m (λ t. takes_ack m t o m.phase)
+hears_child c m (Ack d o fs) = of_child c d m (λ t. takes_ack m t o fs m.phase)
 hears_child c m _ = m
 
 -- an input at the root

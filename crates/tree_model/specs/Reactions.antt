@@ -9,6 +9,7 @@ use Rattle.tree_model.specs.declared.names.Txn.{Txn}
 use Rattle.tree_model.specs.declared.names.Outcome.{Outcome}
 use Rattle.tree_model.specs.declared.names.Presumption.{Presumption}
 use Rattle.tree_model.specs.declared.messages.Op.{Op}
+use Rattle.tree_model.specs.declared.messages.Finding.{Finding}
 use Rattle.tree_model.specs.declared.messages.Message.{Message}
 use Rattle.tree_model.specs.declared.messages.Message.TheVariants.{Join, Joined, Work, Prepare, Yes, No, Read, Commit, Abort, Ack, Inquire}
 use Rattle.tree_model.specs.declared.messages.Envelope.{Envelope}
@@ -29,7 +30,7 @@ use Rattle.tree_model.specs.Names.{child_case, root_case, presumed}
 use Rattle.tree_model.specs.Records.{boot_of}
 use Rattle.tree_model.specs.Nodes.{Version, Role, AtRoot, Below, AtLeaf, Place, is_listed, is_child, is_leaf, role_of, DataAnswer, Heard, Node, kept, Effect, no_effect}
 use Rattle.tree_model.specs.Memory.{Memory, memory_of, next_txn, next_ticket, active_ticket, ticket_of_child, of_ticket}
-use Rattle.tree_model.specs.Standings.{CoordinatorView, ManagerView, coordinator_view, manager_view, some_case, case_of_child}
+use Rattle.tree_model.specs.Standings.{CoordinatorView, ManagerView, coordinator_view, manager_view, some_case, case_of_child, found_below}
 use Rattle.tree_model.specs.CoordinatorRows.{Seat, Row, post, active_join, active_work, active_commit, active_abort, collecting_abort, ByAct, prepared_ask, tells_outcome, on_vote, on_ack, on_inquiry, on_joined, on_prepare, on_commit, on_abort}
 use Rattle.tree_model.specs.ManagerRows.{Leaf, LeafRow, prepared_decide, heuristic_forget, untold_ask}
 use Rattle.tree_model.specs.ManagerRows as leaf
@@ -186,10 +187,11 @@ vote_for place parent n t w (Some c) =
     let v = coordinator_view place n c in row_effect c (on_vote (seat_of place parent c) t w v v.standing)
 
 -- a ticket's acknowledgement in the case to which it belongs; where there is none, nothing is done
-abbrev pub ack_for : Version → Place → Option ProcessId → Node → Ticket → Outcome → Option Case → Effect
-ack_for ver place parent n t o None = no_effect
-ack_for ver place parent n t o (Some c) =
-    let v = coordinator_view place n c in row_effect c (on_ack ver (seat_of place parent c) t o v v.standing)
+abbrev pub ack_for : Version → Place → Option ProcessId → Node → Ticket → Outcome → List Finding → Option Case → Effect
+ack_for ver place parent n t o fs None = no_effect
+ack_for ver place parent n t o fs (Some c) =
+    let v = coordinator_view place n c in
+    row_effect c (on_ack ver (seat_of place parent c) t o (found_below place n c o fs) v v.standing)
 
 -- where the child belongs to no case, it gets what is presumed
 abbrev pub inquiry_for : Place → Option ProcessId → Node → Txn → Ticket → Option Case → Effect
@@ -212,8 +214,8 @@ hears_from_child ver place parent n (No d) = child_says d
     (λ t. vote_for place parent n t VoteNo (case_of_child place n d.txn t))
 hears_from_child ver place parent n (Read d) = child_says d
     (λ t. vote_for place parent n t VoteRead (case_of_child place n d.txn t))
-hears_from_child ver place parent n (Ack d o) = child_says d
-    (λ t. ack_for ver place parent n t o (case_of_child place n d.txn t))
+hears_from_child ver place parent n (Ack d o fs) = child_says d
+    (λ t. ack_for ver place parent n t o fs (case_of_child place n d.txn t))
 hears_from_child ver place parent n (Inquire d) =
     child_says d (λ t. inquiry_for place parent n d.txn t (case_of_child place n d.txn t))
 hears_from_child ver place parent n _ = no_effect
@@ -293,19 +295,21 @@ leaf_joins place p n d m true None = joins_with place p n d m None
 leaf_joins place p n d m false None = no_effect
 
 -- the messages at a manager, with what its data answer; any other does nothing
-abbrev pub manager_hears : Place → ProcessId → Node → DataAnswer → Message → Effect
-manager_hears place p n a (Join d) =
+abbrev pub manager_hears : Version → Place → ProcessId → Node → DataAnswer → Message → Effect
+manager_hears ver place p n a (Join d) =
     let m = memory_of place n d in leaf_joins place p n d m a.starts (active_ticket m.active d)
-manager_hears place p n a (Work d i op) =
+manager_hears ver place p n a (Work d i op) =
     let v = manager_view place n d in leaf_effect (leaf.on_work i a.does v v.standing)
-manager_hears place p n a (Prepare d k) =
+manager_hears ver place p n a (Prepare d k) =
     let v = manager_view place n d in leaf_effect
     (leaf.on_prepare (leaf_of place p d) k a.holding v v.standing)
-manager_hears place p n a (Commit d) =
-    let v = manager_view place n d in leaf_effect (leaf.on_commit (leaf_of place p d) v v.standing)
-manager_hears place p n a (Abort d) =
-    let v = manager_view place n d in leaf_effect (leaf.on_abort (leaf_of place p d) v v.standing)
-manager_hears place p n a _ = no_effect
+manager_hears ver place p n a (Commit d) =
+    let v = manager_view place n d in
+    leaf_effect (leaf.on_commit ver (leaf_of place p d) (kept n) v v.standing)
+manager_hears ver place p n a (Abort d) =
+    let v = manager_view place n d in
+    leaf_effect (leaf.on_abort ver (leaf_of place p d) (kept n) v v.standing)
+manager_hears ver place p n a _ = no_effect
 
 -- Any process.
 
@@ -319,7 +323,7 @@ acts (AtLeaf p) place n a = manager_acts place p n a
 abbrev pub hears : Role → Version → Place → Node → DataAnswer → Message → Effect
 hears AtRoot ver place n a m = hears_from_child ver place None n m
 hears (Below p) ver place n a m = cascaded_hears ver place p n m
-hears (AtLeaf p) ver place n a m = manager_hears place p n a m
+hears (AtLeaf p) ver place n a m = manager_hears ver place p n a m
 
 -- the child that an act names is listed; an act without one names none
 abbrev pub names_listed : List TreeEntry → Act → Bool
@@ -334,7 +338,7 @@ is_prepared_case place n (Some c) = is_prepared_standing (coordinator_view place
 
 -- an acknowledgement that comes while its case is Prepared
 abbrev pub is_early_ack : Place → Node → Message → Bool
-is_early_ack place n (Ack d o) = of_ticket d.ticket false
+is_early_ack place n (Ack d o fs) = of_ticket d.ticket false
     (λ t. is_prepared_case place n (case_of_child place n d.txn t))
 is_early_ack place n _ = false
 

@@ -6,13 +6,15 @@ use Rattle.xa_xid.specs.Xids.{XidParts}
 use Rattle.tree_model.specs.declared.names.Case.{Case}
 use Rattle.tree_model.specs.declared.names.Ticket.{Ticket}
 use Rattle.tree_model.specs.declared.names.Outcome.{Outcome}
+use Rattle.tree_model.specs.declared.messages.Finding.{Finding}
+use Rattle.tree_model.specs.declared.messages.Finding.TheVariants.{Mixed, Unreported}
 use Rattle.tree_model.specs.declared.names.Outcome.TheVariants.{Committed as CommittedOutcome, Aborted as AbortedOutcome}
 use Rattle.tree_model.specs.declared.records.Branch.{Branch}
 use Rattle.tree_model.specs.declared.records.Branch.TheVariants.{Case as CaseBranch, Foreign}
 use Rattle.tree_model.specs.declared.records.Record.{Record}
-use Rattle.tree_model.specs.declared.records.Record.TheVariants.{Opened, Collecting, Prepare, Commit, Abort, End, Prepared, Committed, RolledBack, Direct, HeurCommit, HeurRollback, Told, Forgot, Base, Pair}
+use Rattle.tree_model.specs.declared.records.Record.TheVariants.{Opened, Collecting, Prepare, Commit, Abort, End, Cleared, Prepared, Committed, RolledBack, Direct, HeurCommit, HeurRollback, Told, Forgot, Base, Pair}
 use Rattle.tree_model.specs.declared.records.RecordKind.{RecordKind}
-use Rattle.tree_model.specs.declared.records.RecordKind.TheVariants.{Opened as OpenedKind, Collecting as CollectingKind, Prepare as PrepareKind, Commit as CommitKind, Abort as AbortKind, End as EndKind, Prepared as PreparedKind, Committed as CommittedKind, RolledBack as RolledBackKind, Direct as DirectKind, HeurCommit as HeurCommitKind, HeurRollback as HeurRollbackKind, Told as ToldKind, Forgot as ForgotKind, Base as BaseKind, Pair as PairKind}
+use Rattle.tree_model.specs.declared.records.RecordKind.TheVariants.{Opened as OpenedKind, Collecting as CollectingKind, Prepare as PrepareKind, Commit as CommitKind, Abort as AbortKind, End as EndKind, EndMixed as EndMixedKind, Cleared as ClearedKind, Prepared as PreparedKind, Committed as CommittedKind, RolledBack as RolledBackKind, Direct as DirectKind, HeurCommit as HeurCommitKind, HeurRollback as HeurRollbackKind, Told as ToldKind, Forgot as ForgotKind, Base as BaseKind, Pair as PairKind}
 use Rattle.tree_model.specs.declared.records.Subject.{Subject}
 use Rattle.tree_model.specs.declared.records.Subject.TheVariants.{Boot, Case as OfCase, Other}
 use Rattle.tree_model.specs.Names.{same_case, same_ticket}
@@ -78,9 +80,9 @@ abbrev pub is_abort : Case → Record → Bool
 is_abort c (Abort d ts) = same_case d c
 is_abort c _ = false
 
--- an End record of the case
+-- an End record of the case, with what was found or without
 abbrev pub is_end : Case → Record → Bool
-is_end c (End d) = same_case d c
+is_end c (End d r) = same_case d c
 is_end c _ = false
 
 -- a manager's Prepared record of the case
@@ -174,7 +176,8 @@ record_case (Collecting c ts) = Some c
 record_case (Prepare c ts) = Some c
 record_case (Commit c ts) = Some c
 record_case (Abort c ts) = Some c
-record_case (End c) = Some c
+record_case (End c r) = Some c
+record_case (Cleared c) = Some c
 record_case (Prepared b ws) = branch_case b
 record_case (Committed b) = branch_case b
 record_case (RolledBack b) = branch_case b
@@ -221,6 +224,20 @@ with_record cs r = with_case cs (record_case r)
 unfoldable pub cases_in : List Record → List Case
 cases_in rs = fold with_record [] rs
 
+-- What acknowledgements found.
+
+-- the tickets that findings report as mixed, in their order
+unfoldable pub mixed_of : List Finding → List Ticket
+mixed_of [] = []
+mixed_of (Mixed t ∷ fs) = t ∷ mixed_of fs
+mixed_of (Unreported t ∷ fs) = mixed_of fs
+
+-- the tickets that they report as unreported, in their order
+unfoldable pub unreported_of : List Finding → List Ticket
+unreported_of [] = []
+unreported_of (Mixed t ∷ fs) = unreported_of fs
+unreported_of (Unreported t ∷ fs) = t ∷ unreported_of fs
+
 -- How a trace names records.
 
 -- the kind of a record
@@ -230,7 +247,9 @@ kind_of (Collecting c ts) = CollectingKind
 kind_of (Prepare c ts) = PrepareKind
 kind_of (Commit c ts) = CommitKind
 kind_of (Abort c ts) = AbortKind
-kind_of (End c) = EndKind
+kind_of (End c None) = EndKind
+kind_of (End c (Some r)) = EndMixedKind
+kind_of (Cleared c) = ClearedKind
 kind_of (Prepared b ws) = PreparedKind
 kind_of (Committed b) = CommittedKind
 kind_of (RolledBack b) = RolledBackKind

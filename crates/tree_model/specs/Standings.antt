@@ -8,6 +8,8 @@ use Rattle.tree_model.specs.declared.names.Outcome.{Outcome}
 use Rattle.tree_model.specs.declared.names.Outcome.TheVariants.{Committed as CommittedOutcome, Aborted as AbortedOutcome}
 use Rattle.tree_model.specs.declared.names.Presumption.{Presumption}
 use Rattle.tree_model.specs.declared.names.Presumption.TheVariants.{PresumeAbort}
+use Rattle.tree_model.specs.declared.messages.Finding.{Finding}
+use Rattle.tree_model.specs.declared.messages.Finding.TheVariants.{Mixed, Unreported}
 use Rattle.tree_model.specs.declared.records.Branch.{Branch}
 use Rattle.tree_model.specs.declared.records.Branch.TheVariants.{Case as CaseBranch, Foreign}
 use Rattle.tree_model.specs.declared.records.Record.{Record}
@@ -16,9 +18,9 @@ use Rattle.tree_model.specs.declared.standings.Standing.{Standing}
 use Rattle.tree_model.specs.declared.standings.Standing.TheVariants.{Unknown, Active, Collecting, Prepared, Committing, Aborting, Heuristic}
 use Rattle.tree_model.specs.declared.standings.Vote.{Vote}
 use Rattle.tree_model.specs.Names.{same_txn, root_case}
-use Rattle.tree_model.specs.Records.{has, in_list, none_of, same_branch, is_collecting, is_prepare, is_commit, is_abort, is_end, named_by, promised_by, owing_by, cases_in}
-use Rattle.tree_model.specs.Nodes.{Place, Role, AtRoot, AtLeaf, Node, kept}
-use Rattle.tree_model.specs.Memory.{Memory, Phase, Open, Asked, memory_of, has_acked}
+use Rattle.tree_model.specs.Records.{has, in_list, none_of, same_branch, is_collecting, is_prepare, is_commit, is_abort, is_end, is_decided, named_by, promised_by, owing_by, cases_in}
+use Rattle.tree_model.specs.Nodes.{Version, First, Second, Place, Role, AtRoot, AtLeaf, Node, kept}
+use Rattle.tree_model.specs.Memory.{Memory, Phase, Open, Asked, memory_of, has_acked, found_of}
 use Rattle.tree_model.specs.declared.records.LogRecord.{LogRecord}
 use Rattle.tree_model.specs.LogNames.{by_xid}
 use Rattle.xa_xid.specs.declared.xid.Xid.{Xid}
@@ -107,6 +109,33 @@ unfoldable pub coordinator_view : Place → Node → Case → CoordinatorView
 coordinator_view place n c =
     let m = memory_of place n c in
     view_at (coordinator_standing (kept n) c m) (kept n) c m
+
+-- What is found.
+
+-- what was found below a case that was decided so, as an acknowledgement that is owed brings these findings
+unfoldable pub found_below : Place → Node → Case → Outcome → List Finding → List Finding
+found_below place n c o fs = found_of (memory_of place n c).found o (owing_by c (kept n)) ++ fs
+
+-- the finding of a case's own ticket; the root's case has none
+abbrev pub own_finding : (Ticket → Finding) → Option Ticket → List Finding
+own_finding f None = []
+own_finding f (Some t) = f t ∷ []
+
+-- by the second version a case below the root of which nothing is known is unreported
+abbrev pub unknown_findings : Version → Case → List Finding
+unknown_findings First c = []
+unknown_findings Second c = own_finding Unreported c.ticket
+
+-- the other outcome
+abbrev pub other_outcome : Outcome → Outcome
+other_outcome CommittedOutcome = AbortedOutcome
+other_outcome AbortedOutcome = CommittedOutcome
+
+-- by the second version a branch is mixed that an operator decided against the outcome that it is told
+abbrev pub decided_findings : Version → List Record → Case → Outcome → List Finding
+decided_findings First rs c o = []
+decided_findings Second rs c o =
+    if has (is_decided c (other_outcome o)) rs then own_finding Mixed c.ticket else []
 
 -- Whose case a child is of.
 

@@ -1,6 +1,7 @@
 -- The spelling of names, messages and records in scripts and traces.
-use Rattle.std.specs.Prelude.{◌≡◌, ◌<◌, ◌^◌, ℕ, ◌+◌, Bool, true, false, List, [], ◌∷◌, ◌++◌, codes, Option, Some, None}
+use Rattle.std.specs.Prelude.{◌≡◌, ◌<◌, ◌^◌, ℕ, ◌+◌, Bool, true, false, List, [], ◌∷◌, ◌++◌, codes, Option, Some, None, if◌then◌else◌}
 use Rattle.std.specs.Fmt.{decimal}
+use Rattle.std.specs.List.{flat_map, list_any}
 use Rattle.tree_model.specs.declared.names.Case.{Case}
 use Rattle.tree_model.specs.declared.names.Ticket.{Ticket}
 use Rattle.tree_model.specs.declared.names.Txn.{Txn}
@@ -10,11 +11,13 @@ use Rattle.tree_model.specs.declared.names.Presumption.{Presumption}
 use Rattle.tree_model.specs.declared.names.Presumption.TheVariants.{PresumeAbort, PresumeCommit}
 use Rattle.tree_model.specs.declared.messages.Op.{Op}
 use Rattle.tree_model.specs.declared.messages.Op.TheVariants.{Put, Get, Delete}
+use Rattle.tree_model.specs.declared.messages.Finding.{Finding}
+use Rattle.tree_model.specs.declared.messages.Finding.TheVariants.{Mixed, Unreported}
 use Rattle.tree_model.specs.declared.messages.Message.{Message}
 use Rattle.tree_model.specs.declared.messages.Message.TheVariants.{Join, Joined, Work, Prepare, Yes, No, Read, Commit, Abort, Ack, Inquire}
 use Rattle.tree_model.specs.declared.messages.Envelope.{Envelope}
 use Rattle.tree_model.specs.declared.records.RecordKind.{RecordKind}
-use Rattle.tree_model.specs.declared.records.RecordKind.TheVariants.{Opened as OpenedKind, Collecting as CollectingKind, Prepare as PrepareKind, Commit as CommitKind, Abort as AbortKind, End as EndKind, Prepared as PreparedKind, Committed as CommittedKind, RolledBack as RolledBackKind, Direct as DirectKind, HeurCommit as HeurCommitKind, HeurRollback as HeurRollbackKind, Told as ToldKind, Forgot as ForgotKind, Base as BaseKind, Pair as PairKind}
+use Rattle.tree_model.specs.declared.records.RecordKind.TheVariants.{Opened as OpenedKind, Collecting as CollectingKind, Prepare as PrepareKind, Commit as CommitKind, Abort as AbortKind, End as EndKind, EndMixed as EndMixedKind, Cleared as ClearedKind, Prepared as PreparedKind, Committed as CommittedKind, RolledBack as RolledBackKind, Direct as DirectKind, HeurCommit as HeurCommitKind, HeurRollback as HeurRollbackKind, Told as ToldKind, Forgot as ForgotKind, Base as BaseKind, Pair as PairKind}
 use Rattle.tree_model.specs.declared.records.Subject.{Subject}
 use Rattle.tree_model.specs.declared.records.Subject.TheVariants.{Boot, Case as OfCase, Other}
 use Rattle.tree_model.specs.declared.records.Logged.{Logged}
@@ -60,6 +63,33 @@ abbrev pub outcome_word : Outcome → List ℕ
 outcome_word CommittedOutcome = codes "commit"
 outcome_word AbortedOutcome = codes "abort"
 
+-- a finding says that its ticket is mixed
+abbrev pub is_mixed : Finding → Bool
+is_mixed (Mixed t) = true
+is_mixed (Unreported t) = false
+
+-- or that it is unreported
+abbrev pub is_unreported : Finding → Bool
+is_unreported (Mixed t) = false
+is_unreported (Unreported t) = true
+
+-- the ticket of a finding that says that it is mixed, behind a space; nothing of another
+abbrev pub mixed_word : Finding → List ℕ
+mixed_word (Mixed t) = codes " " ++ ticket_text t
+mixed_word (Unreported t) = []
+
+-- the ticket of one that says that it is unreported, behind a space
+abbrev pub unreported_word : Finding → List ℕ
+unreported_word (Mixed t) = []
+unreported_word (Unreported t) = codes " " ++ ticket_text t
+
+-- what an acknowledgement found: ` mixed` and the mixed tickets, then ` unreported` and the unreported ones, each only
+-- where there are some
+unfoldable pub findings_text : List Finding → List ℕ
+findings_text fs =
+    (if list_any is_mixed fs then codes " mixed" else []) ++ (flat_map mixed_word fs
+    ++ ((if list_any is_unreported fs then codes " unreported" else []) ++ flat_map unreported_word fs))
+
 -- a message: its word, its case, and what else it carries
 abbrev pub message_text : Message → List ℕ
 message_text (Join c) = codes "JOIN " ++ case_text c
@@ -71,7 +101,7 @@ message_text (No c) = codes "NO " ++ case_text c
 message_text (Read c) = codes "READ " ++ case_text c
 message_text (Commit c) = codes "COMMIT " ++ case_text c
 message_text (Abort c) = codes "ABORT " ++ case_text c
-message_text (Ack c o) = codes "ACK " ++ case_text c ++ codes " " ++ outcome_word o
+message_text (Ack c o fs) = codes "ACK " ++ case_text c ++ codes " " ++ outcome_word o ++ findings_text fs
 message_text (Inquire c) = codes "INQUIRE " ++ case_text c
 
 -- a message with its number, its sender and its receiver
@@ -89,6 +119,8 @@ kind_word PrepareKind = codes "Prepare"
 kind_word CommitKind = codes "Commit"
 kind_word AbortKind = codes "Abort"
 kind_word EndKind = codes "End"
+kind_word EndMixedKind = codes "EndMixed"
+kind_word ClearedKind = codes "Cleared"
 kind_word PreparedKind = codes "Prepared"
 kind_word CommittedKind = codes "Committed"
 kind_word RolledBackKind = codes "RolledBack"

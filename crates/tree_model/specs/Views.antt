@@ -9,6 +9,7 @@ use Rattle.tree_model.specs.declared.names.Presumption.{Presumption}
 use Rattle.tree_model.specs.declared.names.Presumption.TheVariants.{PresumeAbort}
 use Rattle.tree_model.specs.declared.records.Record.{Record}
 use Rattle.tree_model.specs.declared.messages.Op.{Op}
+use Rattle.tree_model.specs.declared.messages.Finding.{Finding}
 use Rattle.tree_model.specs.declared.messages.Message.{Message}
 use Rattle.tree_model.specs.declared.messages.Message.TheVariants.{Join, Joined, Work, Prepare, Yes, No, Read, Commit, Abort, Ack, Inquire}
 use Rattle.tree_model.specs.declared.records.Branch.TheVariants.{Case as CaseBranch}
@@ -82,11 +83,12 @@ pub record ManagerViews (me p : ProcessId) (tree : List TreeEntry) (n : Node) (d
       manager_view place n d in
       MovesBranch place n (hears_message k (Prepare d i) a) d
       (leaf.on_prepare (leaf_of place p d) i a.holding v v.standing)
-  pub commit : (k : ℕ) (a : DataAnswer) → let place = leaf_place me p tree in let v =
+  pub commit : (k : ℕ) (a : DataAnswer) (rs : List Record) → let place = leaf_place me p tree in let v =
       manager_view place n d in
-      MovesBranch place n (hears_message k (Commit d) a) d (leaf.on_commit (leaf_of place p d) v v.standing)
-  pub abort : (k : ℕ) (a : DataAnswer) → let place = leaf_place me p tree in let v = manager_view place n d in
-      MovesBranch place n (hears_message k (Abort d) a) d (leaf.on_abort (leaf_of place p d) v v.standing)
+      MovesBranch place n (hears_message k (Commit d) a) d (leaf.on_commit First (leaf_of place p d) rs v v.standing)
+  pub abort : (k : ℕ) (a : DataAnswer) (rs : List Record) → let place = leaf_place me p tree in let v =
+      manager_view place n d in
+      MovesBranch place n (hears_message k (Abort d) a) d (leaf.on_abort First (leaf_of place p d) rs v v.standing)
   pub join : (k : ℕ) (a : DataAnswer) → JoinsBranch (leaf_place me p tree) p n
       (hears_message k (Join d) a) d a.starts
   pub ask : (a : DataAnswer) → let place = leaf_place me p tree in let v = manager_view place n d in
@@ -205,10 +207,10 @@ pub record RootViews (me : ProcessId) (tree : List TreeEntry) (n : Node) (x : Tx
       root_case x in let v = coordinator_view place n c in
       IsOpenAlike place n c → MovesTxn place n (hears_message k (vote_message w (child_case x t)) a) x
       (on_vote (root_seat me c) t w v v.standing)
-  pub acknowledgement : (k : ℕ) (a : DataAnswer) (t : Ticket) (o : Outcome) → let place =
+  pub acknowledgement : (k : ℕ) (a : DataAnswer) (t : Ticket) (o : Outcome) (fs gs : List Finding) → let place =
       root_place me tree in let c = root_case x in let v = coordinator_view place n c in
-      IsOpenAlike place n c → MovesTxn place n (hears_message k (Ack (child_case x t) o) a) x
-      (on_ack First (root_seat me c) t o v v.standing)
+      IsOpenAlike place n c → MovesTxn place n (hears_message k (Ack (child_case x t) o fs) a) x
+      (on_ack First (root_seat me c) t o gs v v.standing)
   pub inquiry : (k : ℕ) (a : DataAnswer) (t : Ticket) → let place = root_place me tree in let c =
       root_case x in let v = coordinator_view place n c in
       MovesTxn place n (hears_message k (Inquire (child_case x t)) a) x

@@ -15,9 +15,9 @@ pub use events::{
     Act, Conclusion, Entry, Event, Fault, Happening, Input, Reaction, Step, StepError, Told,
 };
 pub use lists::Sequence;
-pub use messages::{Envelope, Envelopes, Message, Op};
+pub use messages::{Envelope, Envelopes, Finding, Findings, Message, Op};
 pub use names::{Case, Kind, Outcome, Presumption, ProcessId, Ticket, Tickets, Txn};
-pub use records::{Branch, LogRecord, Logged, Record, RecordKind, Subject, Write, Writes};
+pub use records::{Branch, LogRecord, Logged, Record, RecordKind, Reports, Subject, Write, Writes};
 pub use short_bytes::Bytes;
 pub use standings::{Standing, Vote};
 pub use trees::{MOST_LEVELS, MOST_PROCESSES, Tree, TreeEntry, TreeError};

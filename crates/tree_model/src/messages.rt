@@ -28,6 +28,18 @@ impl Op {
     }
 }
 
+/// What an acknowledgement tells of a ticket at or below the one that acknowledges.
+#[derive(Clone, Copy, PartialEq, Eq)]
+pub enum Finding {
+    /// The operator of its manager decided against the outcome.
+    Mixed(Ticket),
+    /// What became of it is not known any more.
+    Unreported(Ticket),
+}
+
+/// What an acknowledgement found, in the order in which it came together.
+pub type Findings = Sequence<Finding>;
+
 /// A message between a parent and its child (R*). JOIN and JOINED name the parent's case, the others the
 /// child's.
 #[derive(Drop)]
@@ -46,7 +58,8 @@ pub enum Message {
     Read(Case),
     Commit(Case),
     Abort(Case),
-    Ack(Case, Outcome),
+    /// The outcome is obeyed, with what was found at and below the child.
+    Ack(Case, Outcome, Findings),
     /// A child in doubt asks for the outcome.
     Inquire(Case),
 }
@@ -66,7 +79,9 @@ impl Message {
             Message::Read(case) => Message::Read(*case),
             Message::Commit(case) => Message::Commit(*case),
             Message::Abort(case) => Message::Abort(*case),
-            Message::Ack(case, outcome) => Message::Ack(*case, *outcome),
+            Message::Ack(case, outcome, findings) => {
+                Message::Ack(*case, *outcome, findings.copied(alloc)?)
+            }
             Message::Inquire(case) => Message::Inquire(*case),
         })
     }

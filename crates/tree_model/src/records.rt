@@ -53,7 +53,27 @@ fn copied_writes(writes: &[Write], alloc: Global) -> Result<Writes, AllocError>
 /// The writes of a branch in order of each key's first write, each key once.
 pub type Writes = Sequence<Write>;
 
-/// A record of a log: Opened at each process, Collecting to End at coordinators, Prepared to Pair at
+/// What the root's case found as the last acknowledgement came: the tickets whose operators decided against
+/// the outcome, and those of which nothing is known.
+#[derive(Drop)]
+pub struct Reports {
+    pub mixed: Tickets,
+    pub unreported: Tickets,
+}
+
+impl Reports {
+    /// The same reports again.
+    pub fn copied(&self, alloc: Global) -> Result<Reports, AllocError>
+        ensures { IfOk result (λ copy. copy ≡ self.now) }
+    {
+        Ok(Reports {
+            mixed: self.mixed.copied(alloc)?,
+            unreported: self.unreported.copied(alloc)?,
+        })
+    }
+}
+
+/// A record of a log: Opened at each process, Collecting to Cleared at coordinators, Prepared to Pair at
 /// managers.
 #[derive(Drop)]
 pub enum Record {
@@ -67,8 +87,10 @@ pub enum Record {
     Commit(Case, Tickets),
     /// The case aborts; these children owe an acknowledgement.
     Abort(Case, Tickets),
-    /// Nobody owes an acknowledgement any more.
-    End(Case),
+    /// Nobody owes an acknowledgement any more. The root writes down what was found, if anything was.
+    End(Case, Option<Reports>),
+    /// What the root's case found was seen to.
+    Cleared(Case),
     /// A branch promised, with its writes.
     Prepared(Branch, Writes),
     Committed(Branch),
@@ -130,7 +152,14 @@ impl Record {
             Record::Prepare(case, tickets) => Record::Prepare(*case, tickets.copied(alloc)?),
             Record::Commit(case, tickets) => Record::Commit(*case, tickets.copied(alloc)?),
             Record::Abort(case, tickets) => Record::Abort(*case, tickets.copied(alloc)?),
-            Record::End(case) => Record::End(*case),
+            Record::End(case, reports) => Record::End(
+                *case,
+                match reports {
+                    None => None,
+                    Some(reports) => Some(reports.copied(alloc)?),
+                },
+            ),
+            Record::Cleared(case) => Record::Cleared(*case),
             Record::Prepared(branch, writes) => {
                 Record::Prepared(*branch, copied_writes(writes.as_slice(), alloc)?)
             }
@@ -157,7 +186,8 @@ impl Record {
             | Record::Prepare(case, _)
             | Record::Commit(case, _)
             | Record::Abort(case, _)
-            | Record::End(case) => Some(*case),
+            | Record::End(case, _)
+            | Record::Cleared(case) => Some(*case),
             Record::Prepared(branch, _)
             | Record::Committed(branch)
             | Record::RolledBack(branch)
@@ -190,7 +220,9 @@ impl Record {
             Record::Prepare(..) => RecordKind::Prepare,
             Record::Commit(..) => RecordKind::Commit,
             Record::Abort(..) => RecordKind::Abort,
-            Record::End(_) => RecordKind::End,
+            Record::End(_, None) => RecordKind::End,
+            Record::End(_, Some(_)) => RecordKind::EndMixed,
+            Record::Cleared(_) => RecordKind::Cleared,
             Record::Prepared(..) => RecordKind::Prepared,
             Record::Committed(_) => RecordKind::Committed,
             Record::RolledBack(_) => RecordKind::RolledBack,
@@ -214,7 +246,8 @@ impl Record {
             | Record::Prepare(case, _)
             | Record::Commit(case, _)
             | Record::Abort(case, _)
-            | Record::End(case) => Subject::Case(*case),
+            | Record::End(case, _)
+            | Record::Cleared(case) => Subject::Case(*case),
             Record::Prepared(branch, _)
             | Record::Committed(branch)
             | Record::RolledBack(branch)
@@ -237,6 +270,9 @@ pub enum RecordKind {
     Commit,
     Abort,
     End,
+    /// An End with what was found.
+    EndMixed,
+    Cleared,
     Prepared,
     Committed,
     RolledBack,

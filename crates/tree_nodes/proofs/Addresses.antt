@@ -29,6 +29,7 @@ use Rattle.tree_nodes.specs.Owns.{is_own_case, GoesToOwner, AllGoToOwners}
 use Rattle.tree_nodes.proofs.Tests.{either}
 use Rattle.tree_nodes.proofs.Memories.{same_self}
 use Rattle.tree_nodes.proofs.Owning.{goes_both}
+use Rattle.tree_model.specs.declared.messages.Finding.{Finding}
 
 -- Addresses.
 
@@ -44,14 +45,14 @@ goes_down c t (Joined d u) e = tt
 goes_down c t (Yes d) e = tt
 goes_down c t (No d) e = tt
 goes_down c t (Read d) e = tt
-goes_down c t (Ack d o) e = tt
+goes_down c t (Ack d o fs) e = tt
 goes_down c t (Inquire d) e = tt
 
 goes_up : (c : Case) (p : ProcessId) (m : Message) → IsFromCase c m → GoesToOwner p m
 goes_up c p (Yes d) e = tt
 goes_up c p (No d) e = tt
 goes_up c p (Read d) e = tt
-goes_up c p (Ack d o) e = tt
+goes_up c p (Ack d o fs) e = tt
 goes_up c p (Inquire d) e = tt
 goes_up c p (Join d) e = tt
 goes_up c p (Joined d u) e = tt
@@ -86,10 +87,10 @@ written_goes place parent n i ws ls (presumes x t o e f) =
     subst AllGoToOwners (sym f) (told_goes (record { txn = x; ticket = None }) t o, tt)
 written_goes place parent n i ws ls (gives p d t e f k j a) = subst AllGoToOwners (sym f) (tt, tt)
 
-acknowledged : (l : Leaf) (o : Outcome) (b : Bool)
-    → AllGoToOwners (if b then post l.me l.parent (Ack l.own o) ∷ [] else [])
-acknowledged l o true = (tt, tt)
-acknowledged l o false = tt
+acknowledged : (l : Leaf) (o : Outcome) (fs : List Finding) (b : Bool)
+    → AllGoToOwners (if b then post l.me l.parent (Ack l.own o fs) ∷ [] else [])
+acknowledged l o fs true = (tt, tt)
+acknowledged l o fs false = tt
 
 pub leaf_goes : (place : Place) (p : ProcessId) (n : Node) (h : Heard) (e : Effect)
     → LeafTurn place p n h e → AllGoToOwners e.messages
@@ -101,15 +102,15 @@ leaf_goes place p n h _ (votes_read d k i a) = (tt, tt)
 leaf_goes place p n h _ (votes_no d k i a) = (tt, tt)
 leaf_goes place p n h _ (repeats_yes d k i a) = (tt, tt)
 leaf_goes place p n h _ (refuses d k i a) = (tt, tt)
-leaf_goes place p n h _ (obeys d o i k) = acknowledged (leaf_of place p d) o
+leaf_goes place p n h _ (obeys d o i k) = acknowledged (leaf_of place p d) o _
     (is_acknowledged d.txn.presumption o)
-leaf_goes place p n h _ (notes d o i k) = acknowledged (leaf_of place p d) o
+leaf_goes place p n h _ (notes d o i k) = acknowledged (leaf_of place p d) o _
     (is_acknowledged d.txn.presumption o)
-leaf_goes place p n h _ (acknowledges_told d o i k) = acknowledged (leaf_of place p d) o
+leaf_goes place p n h _ (acknowledges_told d o i k) = acknowledged (leaf_of place p d) o _
     (is_acknowledged d.txn.presumption o)
-leaf_goes place p n h _ (acknowledges d o i k) = acknowledged (leaf_of place p d) o
+leaf_goes place p n h _ (acknowledges d o i k) = acknowledged (leaf_of place p d) o _
     (is_acknowledged d.txn.presumption o)
-leaf_goes place p n h _ (drops d i a) = acknowledged (leaf_of place p d) AbortedOutcome
+leaf_goes place p n h _ (drops d i a) = acknowledged (leaf_of place p d) AbortedOutcome _
     (is_acknowledged d.txn.presumption AbortedOutcome)
 leaf_goes place p n h _ (asks d i k) = (tt, tt)
 leaf_goes place p n h _ (decides d o i k) = tt
@@ -184,7 +185,7 @@ yes_is c (Yes a) d f e = sym f ∙ is_same a c e
     is_same a b f = elim (same_case_tells a b) [ inl t ↦ t.1 | inr g ↦ absurd (let k = g.0 in cc) ]
 yes_is c (No a) d f e = absurd (cc)
 yes_is c (Read a) d f e = absurd (cc)
-yes_is c (Ack a o) d f e = absurd (cc)
+yes_is c (Ack a o fs) d f e = absurd (cc)
 yes_is c (Inquire a) d f e = absurd (cc)
 yes_is c (Join a) d f e = absurd (cc)
 yes_is c (Joined a t) d f e = absurd (cc)
@@ -197,7 +198,7 @@ down_is_no_yes : (c d : Case) (m : Message) → IsForCase d m → is_yes_message
 down_is_no_yes c d (Yes a) f = absurd f
 down_is_no_yes c d (No a) f = refl
 down_is_no_yes c d (Read a) f = refl
-down_is_no_yes c d (Ack a o) f = refl
+down_is_no_yes c d (Ack a o fs) f = refl
 down_is_no_yes c d (Inquire a) f = refl
 down_is_no_yes c d (Join a) f = refl
 down_is_no_yes c d (Joined a t) f = refl

@@ -47,7 +47,7 @@ hears_more me boot s (Yes d) c e = e
 hears_more me boot s (No d) c e = e
 hears_more me boot s (Read d) c e = e
 hears_more me boot s (Commit d) c e = e
-hears_more me boot s (Ack d o) c e = e
+hears_more me boot s (Ack d o fs) c e = e
 hears_more me boot s (Inquire d) c e = e
 
 issued_more : (me : ProcessId) (boot : ℕ) (s : Self) (i : Input) (c : Case) → has_case s.issued c ≡ true

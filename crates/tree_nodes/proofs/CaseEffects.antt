@@ -31,9 +31,9 @@ use Rattle.tree_nodes.proofs.VoteInputs.{is_vote_input, vote_case}
 spoken : (says : Case → Message) → ChildSays says → (j k : ℕ) (d e : Case) (w : Vote)
     → MessageInput j (says d) ≡ MessageInput k (vote_message w e) → d ≡ e
 spoken _ (votes v) j k d e w f = vote_case j k v w d e f
-spoken _ (acknowledged o) j k d e VoteYes f = absurd (cc)
-spoken _ (acknowledged o) j k d e VoteNo f = absurd (cc)
-spoken _ (acknowledged o) j k d e VoteRead f = absurd (cc)
+spoken _ (acknowledged o fs) j k d e VoteYes f = absurd (cc)
+spoken _ (acknowledged o fs) j k d e VoteNo f = absurd (cc)
+spoken _ (acknowledged o fs) j k d e VoteRead f = absurd (cc)
 spoken _ inquires j k d e VoteYes f = absurd (cc)
 spoken _ inquires j k d e VoteNo f = absurd (cc)
 spoken _ inquires j k d e VoteRead f = absurd (cc)

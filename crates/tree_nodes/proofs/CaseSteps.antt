@@ -84,7 +84,7 @@ module _ (place : Place) (parent : Option ProcessId) (n : Node) (h : Heard) (d :
   rests_concern (invited_already q i) = by_name (ap named_case i)
   rests_concern (takes_nobody t i f) = by_name (ap named_case i.1)
   rests_concern (counts_nothing t w i f) = of_child _ (votes w) t i
-  rests_concern (owes_nothing t o i f) = of_child _ (acknowledged o) t i
+  rests_concern (owes_nothing t o fs i f) = of_child _ (acknowledged o fs) t i
   rests_concern (knows_nothing t i) = of_child _ inquires t i
   rests_concern (prepares_nothing k i f) = of_parent _ i (λ j. refl)
   rests_concern (commits_nothing i) = of_parent _ i (λ j. refl)
@@ -110,9 +110,9 @@ module _ (place : Place) (parent : Option ProcessId) (n : Node) (h : Heard) (d :
   turn_concerns _ (repeats_yes k i e) = of_parent _ i (λ j. refl)
   turn_concerns _ (asks_parent i e) = by_name (ap named_case i)
   turn_concerns _ (refuses k i e) = of_parent _ i (λ j. refl)
-  turn_concerns _ (acknowledges o i e) = of_parent _ i (told_case o)
-  turn_concerns _ (waits_for_acks t o i e f a) = of_child _ (acknowledged o) t i
-  turn_concerns _ (ends t o i e f a) = of_child _ (acknowledged o) t i
+  turn_concerns _ (acknowledges o fs i e) = of_parent _ i (told_case o)
+  turn_concerns _ (waits_for_acks t o fs i e f a) = of_child _ (acknowledged o fs) t i
+  turn_concerns _ (ends t o fs i e f a) = of_child _ (acknowledged o fs) t i
   turn_concerns _ (answers t o i e) = of_child _ inquires t i
 
   -- and it writes of its case alone
@@ -147,9 +147,9 @@ module _ (place : Place) (parent : Option ProcessId) (n : Node) (h : Heard) (d :
   row_record c _ (repeats_yes j i e) g = absurd (cc)
   row_record c _ (asks_parent i e) g = absurd (cc)
   row_record c _ (refuses j i e) g = absurd (cc)
-  row_record c _ (acknowledges o i e) g = absurd (cc)
-  row_record c _ (waits_for_acks t o i e f a) g = absurd (cc)
-  row_record c _ (ends t o i e f a) g = or_nothing _ g
+  row_record c _ (acknowledges o fs i e) g = absurd (cc)
+  row_record c _ (waits_for_acks t o fs i e f a) g = absurd (cc)
+  row_record c _ (ends t o fs i e f a) g = or_nothing _ g
   row_record c _ (answers t o i e) g = absurd (cc)
 
 -- Silence.
@@ -208,7 +208,7 @@ pub says_unnamed : (says : Case → Message) → ChildSays says → (j : ℕ) (d
 says_unnamed _ (votes VoteYes) j d = refl
 says_unnamed _ (votes VoteNo) j d = refl
 says_unnamed _ (votes VoteRead) j d = refl
-says_unnamed _ (acknowledged o) j d = refl
+says_unnamed _ (acknowledged o fs) j d = refl
 says_unnamed _ inquires j d = refl
 
 -- an input that names no case, and is no vote that counts, leaves the case or begins it

@@ -110,7 +110,7 @@ module _ (me : ProcessId) (c : Case) (other : is_own_case me c ≡ false) where
   ]
 
   of_end : (r : Record) → is_end c r ≡ true → is_foreign me r ≡ true
-  of_end (EndRecord d) e = of_case d e
+  of_end (EndRecord d rep) e = of_case d e
   of_end r e = absurd (cc)
 
   of_commit : (r : Record) → is_commit c r ≡ true → is_foreign me r ≡ true

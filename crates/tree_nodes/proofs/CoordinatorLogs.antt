@@ -144,7 +144,7 @@ module _ (place : Place) (parent : Option ProcessId) (n : Node) (h : Heard) (c :
       ((abort_anybody (coordinator_view place n c).promised f, promised_undecided e), tt)
   fits_turn a _ (reads_only t w ys PresumeAbort i e f) = tt
   fits_turn a _ (reads_only t w ys PresumeCommit i e f) = (tt, tt)
-  fits_turn a _ (ends t o i e f g) = (tt, tt)
+  fits_turn a _ (ends t o fs i e f g) = (tt, tt)
   fits_turn a _ (rests r) = tt
   fits_turn a _ (invites q i e f g) = tt
   fits_turn a _ (accepts t i e f) = tt
@@ -156,8 +156,8 @@ module _ (place : Place) (parent : Option ProcessId) (n : Node) (h : Heard) (c :
   fits_turn a _ (repeats_yes j i e) = tt
   fits_turn a _ (asks i e) = tt
   fits_turn a _ (refuses j i e) = tt
-  fits_turn a _ (acknowledges o i e) = tt
-  fits_turn a _ (waits_for_acks t o i e f g) = tt
+  fits_turn a _ (acknowledges o fs i e) = tt
+  fits_turn a _ (waits_for_acks t o fs i e f g) = tt
   fits_turn a _ (answers t o i e) = tt
 
 pub fits_effect : (place : Place) (parent : Option ProcessId) (n : Node) (h : Heard) (e : Effect)

@@ -28,6 +28,7 @@ use Rattle.tree_nodes.proofs.Cases.{viewed}
 use Rattle.tree_nodes.proofs.OwnCases.{child_txn}
 use Rattle.tree_nodes.proofs.Phases.{standing_at}
 use Rattle.tree_nodes.proofs.Remembering.{coordinator_place, remembers_at}
+use Rattle.tree_model.specs.declared.messages.Finding.{Finding}
 
 -- Phases that stay.
 
@@ -55,11 +56,12 @@ works_phase m None Idle = refl
 works_phase m None Asked = refl
 works_phase m None Over = refl
 
-acks_phase : (m : Memory) (t : Ticket) (o : Outcome) (ph : Phase) → (takes_ack m t o ph).phase ≡ m.phase
-acks_phase m t o Open = refl
-acks_phase m t o Idle = refl
-acks_phase m t o Asked = refl
-acks_phase m t o Over = refl
+acks_phase : (m : Memory) (t : Ticket) (o : Outcome) (fs : List Finding) (ph : Phase)
+    → (takes_ack m t o fs ph).phase ≡ m.phase
+acks_phase m t o fs Open = refl
+acks_phase m t o fs Idle = refl
+acks_phase m t o fs Asked = refl
+acks_phase m t o fs Over = refl
 
 uncounted_phase : (m : Memory) (t : Ticket) (w : Vote) (ph : Phase)
     → (ph ≡ Asked → is_counted m.accepted m.votes t ≡ false) → (takes_vote m t w ph).phase ≡ m.phase
@@ -136,11 +138,11 @@ module _ (me : ProcessId) (boot : ℕ) (c : Case) (m : Memory) where
   at_joined None k d t = refl
   at_joined (Some p) k d t = refl
 
-  at_ack : (parent : Option ProcessId) (k : ℕ) (y : Txn) (t : Ticket) (o : Outcome)
-      → After parent (MessageInput k (Ack (child_case y t) o))
-      ≡ (if same_txn y c.txn then takes_ack m t o m.phase else m)
-  at_ack None k y t o = refl
-  at_ack (Some p) k y t o = refl
+  at_ack : (parent : Option ProcessId) (k : ℕ) (y : Txn) (t : Ticket) (o : Outcome) (fs : List Finding)
+      → After parent (MessageInput k (Ack (child_case y t) o fs))
+      ≡ (if same_txn y c.txn then takes_ack m t o fs m.phase else m)
+  at_ack None k y t o fs = refl
+  at_ack (Some p) k y t o fs = refl
 
   at_vote : (parent : Option ProcessId) (k : ℕ) (y : Txn) (t : Ticket) (w : Vote)
       → After parent (MessageInput k (vote_message w (child_case y t)))
@@ -297,12 +299,12 @@ module _ (me : ProcessId) (parent : Option ProcessId) (tree : List TreeEntry) (n
       by_input _ _ i.hears.hears.1 (at_vote me (boot_of (kept n)) c m parent i.hears.hears.0 y t w)
       ∙ rw same (counts_next m t w m.phase o counted)
 
-  pub ack_left : (t : Ticket) (o : Outcome) (y : Txn) (k : ℕ) → h.input
-      ≡ MessageInput k (Ack (child_case y t) o)
+  pub ack_left : (t : Ticket) (o : Outcome) (fs : List Finding) (y : Txn) (k : ℕ) → h.input
+      ≡ MessageInput k (Ack (child_case y t) o fs)
       → now ≡ m.phase
-  ack_left t o y k i =
-      by_input _ _ i (at_ack me (boot_of (kept n)) c m parent k y t o)
-      ∙ if_phase (same_txn y c.txn) m (takes_ack m t o m.phase) (acks_phase m t o m.phase)
+  ack_left t o fs y k i =
+      by_input _ _ i (at_ack me (boot_of (kept n)) c m parent k y t o fs)
+      ∙ if_phase (same_txn y c.txn) m (takes_ack m t o fs m.phase) (acks_phase m t o fs m.phase)
 
   pub joined_left : (d : Case) (t : Ticket) (k : ℕ) → h.input ≡ MessageInput k (Joined d t) → now ≡ m.phase
   joined_left d t k i =

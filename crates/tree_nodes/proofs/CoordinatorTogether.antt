@@ -28,6 +28,7 @@ use Rattle.tree_nodes.proofs.Cases.{viewed}
 use Rattle.tree_nodes.proofs.Phases.{standing_at, Together, open_ends, open_asks, asked_ends, open_collects, Closed, ends_together, commits_together, aborts_together, prepares_together}
 use Rattle.tree_nodes.proofs.CoordinatorPhases.{then_remembers, stands, active_accepted, collecting_accepted, collecting_votes, commit_phase, abort_phase, prepare_left, abort_left, commit_left, uncounted, vote_phase, ack_left, joined_left, inquiry_left, join_left, ask_left, work_left}
 use Rattle.tree_nodes.proofs.Remembering.{coordinator_place}
+use Rattle.tree_model.specs.declared.messages.Finding.{Finding}
 
 over_closed : (Over ≡ Open → ⊥) × (Over ≡ Asked → ⊥)
 over_closed = (λ e. cc, λ e. cc)
@@ -149,14 +150,14 @@ module _ (me : ProcessId) (parent : Option ProcessId) (tree : List TreeEntry) (n
       abort_comes_late : HearsParent parent h (Abort c) → Closed (kept n) c m.phase → now ≡ m.phase
       abort_comes_late i f = abort_left me parent tree n h c i.from i.is_parent i.hears.0 i.hears.1 f.0 f.1
 
-      acknowledged_left : (x : Version) (o : Outcome) (q : Presumption) (s : Standing) → v.standing ≡ s
-          → Acknowledges x o q s
+      acknowledged_left : (x : Version) (o : Outcome) (q : Presumption) (s : Standing) (fs : List Finding)
+          → v.standing ≡ s → Acknowledges x c o q s fs
           → HearsParent parent h (tells_outcome o c) → now ≡ m.phase
-      acknowledged_left _ _ _ _ e (commit_presumed_abort x) i = commit_comes i
-      acknowledged_left _ _ _ _ e (commit_again q) i = commit_comes i
-      acknowledged_left _ _ _ _ e (abort_presumed_commit x) i =
+      acknowledged_left _ _ _ _ _ e (commit_presumed_abort x _) i = commit_comes i
+      acknowledged_left _ _ _ _ _ e (commit_again _ q) i = commit_comes i
+      acknowledged_left _ _ _ _ _ e (abort_presumed_commit x _) i =
           abort_comes_late i (closed_at Unknown e (λ f. cc) (λ f. cc))
-      acknowledged_left _ _ _ _ e (abort_again q) i =
+      acknowledged_left _ _ _ _ _ e (abort_again _ q) i =
           abort_comes_late i (closed_at Aborting e (λ f. cc) (λ f. cc))
 
       rested : Rests place parent n h c → Together (kept n ++ []) c now
@@ -172,7 +173,7 @@ module _ (me : ProcessId) (parent : Option ProcessId) (tree : List TreeEntry) (n
               let e : v.standing ≡ Collecting = viewed place n c ∙ s in
               ap (λ ts. is_counted ts m.votes t) (sym (collecting_accepted me parent tree n h c e))
               ∙ (ap (λ vs. is_counted v.accepted vs t) (sym (collecting_votes me parent tree n h c e)) ∙ f e)
-      rested (owes_nothing t o i f) = left (ack_left me parent tree n h c t o i.txn i.hears.0 i.hears.1)
+      rested (owes_nothing t o fs i f) = left (ack_left me parent tree n h c t o fs i.txn i.hears.0 i.hears.1)
       rested (knows_nothing t i) = left (inquiry_left me parent tree n h c t i.txn i.hears.0 i.hears.1)
       rested (prepares_nothing k i f) =
           left (prepare_comes_late k i (λ o. absurd (f (viewed place n c ∙ old.open_is_active o))))
@@ -205,8 +206,8 @@ module _ (me : ProcessId) (parent : Option ProcessId) (tree : List TreeEntry) (n
           moved Over (counts_phase t w i.vote i.consents true i.all)
           (asked_ends (kept n) c f (unrecorded f) (at_asked i.vote.stands))
       own_together _ (reads_only t w ys PresumeCommit i e f) =
-          wrote (EndRecord c) Over (counts_phase t w i.vote i.consents true i.all)
-          (ends_together (kept n) c Over over_closed)
+          wrote (EndRecord c None) Over (counts_phase t w i.vote i.consents true i.all)
+          (ends_together (kept n) c None Over over_closed)
       own_together _ (commits t w ys PresumeAbort i e f g) =
           wrote (CommitRecord c ys) Over (counts_phase t w i.vote i.consents true i.all)
           (commits_together (kept n) c ys Over over_closed)
@@ -246,10 +247,10 @@ module _ (me : ProcessId) (parent : Option ProcessId) (tree : List TreeEntry) (n
           left (prepare_comes_late j i (closed_at Prepared e (λ k. cc) (λ k. cc)).0)
       own_together _ (asks i e) = left (ask_left me parent tree n h c c i)
       own_together _ (refuses j i e) = left (prepare_comes_late j i (refuses_closed v.standing e refl).0)
-      own_together _ (acknowledges o i e) = left (acknowledged_left h.version o c.txn.presumption v.standing refl e i)
-      own_together _ (waits_for_acks t o i e f g) =
-          left (ack_left me parent tree n h c t o i.txn i.hears.0 i.hears.1)
-      own_together _ (ends t o i e f g) =
-          wrote (EndRecord c) m.phase (ack_left me parent tree n h c t o i.txn i.hears.0 i.hears.1)
-          (ends_together (kept n) c m.phase (decided_closed o v.standing e refl))
+      own_together _ (acknowledges o fs i e) = left (acknowledged_left h.version o c.txn.presumption v.standing fs refl e i)
+      own_together _ (waits_for_acks t o fs i e f g) =
+          left (ack_left me parent tree n h c t o fs i.txn i.hears.0 i.hears.1)
+      own_together _ (ends t o fs i e f g) =
+          wrote (EndRecord c _) m.phase (ack_left me parent tree n h c t o fs i.txn i.hears.0 i.hears.1)
+          (ends_together (kept n) c _ m.phase (decided_closed o v.standing e refl))
       own_together _ (answers t o i e) = left (inquiry_left me parent tree n h c t i.txn i.hears.0 i.hears.1)

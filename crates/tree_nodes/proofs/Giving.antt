@@ -67,5 +67,5 @@ never_given x (l ∷ ls) e =
     not_by (Read d) f = cc
     not_by (Commit d) f = cc
     not_by (Abort d) f = cc
-    not_by (Ack d o) f = cc
+    not_by (Ack d o fs) f = cc
     not_by (Inquire d) f = cc

@@ -65,7 +65,7 @@ module _ (me : ProcessId) (boot : ℕ) (c : Case) (m : Memory) (a : DataAnswer) 
   message_left j (No o) r = inl refl
   message_left j (Read o) r = inl refl
   message_left j (Commit o) r = inl refl
-  message_left j (Ack o u) r = inl refl
+  message_left j (Ack o u fs) r = inl refl
   message_left j (Inquire o) r = inl refl
 
   abbrev Woken : ℕ → Case → Type 0
@@ -112,7 +112,7 @@ module _ (me : ProcessId) (boot : ℕ) (c : Case) (m : Memory) (a : DataAnswer) 
   by_message j (No o) = inl refl
   by_message j (Read o) = inl refl
   by_message j (Commit o) = inl refl
-  by_message j (Ack o u) = inl refl
+  by_message j (Ack o u fs) = inl refl
   by_message j (Inquire o) = inl refl
 
   -- what an input makes of the phase

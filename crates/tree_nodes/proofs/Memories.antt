@@ -18,6 +18,7 @@ use Rattle.tree_model.specs.Records.{boot_of}
 use Rattle.tree_model.specs.Nodes.{Place, Role, Below, Node, Heard, kept}
 use Rattle.tree_model.specs.Memory.{Memory, Phase, Idle, Open, Asked, Over, fresh_memory, memory_of, remembers, cascaded_remembers, cascaded_hears, opens_case, gives, joins, next_ticket, active_ticket, asks_votes, closes, retires, accepts_ticket, has_child, sends_work, ticket_of_child, takes_vote, is_counted, with_vote, takes_ack, of_child, of_ticket}
 use Rattle.tree_nodes.specs.Owns.{is_own_case, AllOwn}
+use Rattle.tree_model.specs.declared.messages.Finding.{Finding}
 
 pub own_both : (me : ProcessId) (xs ys : List Case) → AllOwn me xs → AllOwn me ys → AllOwn me (xs ++ ys)
 own_both me [] ys a b = b
@@ -89,11 +90,12 @@ module _ (me : ProcessId) (boot : ℕ) (c : Case) where
   voted m t w o Open e = o
   voted m t w o Over e = o
 
-  acked : (m : Memory) (t : Ticket) (u : Outcome) → O m → (ph : Phase) → O (takes_ack m t u ph)
-  acked m t u o Open = o
-  acked m t u o Asked = o
-  acked m t u o Idle = left m _ o refl refl
-  acked m t u o Over = left m _ o refl refl
+  acked : (m : Memory) (t : Ticket) (u : Outcome) (fs : List Finding) → O m → (ph : Phase)
+      → O (takes_ack m t u fs ph)
+  acked m t u fs o Open = o
+  acked m t u fs o Asked = o
+  acked m t u fs o Idle = left m _ o refl refl
+  acked m t u fs o Over = left m _ o refl refl
 
   if_of : (b : Bool) (m k : Memory) → O m → O k → O (if b then k else m)
   if_of true m k o p = p
@@ -145,7 +147,7 @@ module _ (me : ProcessId) (boot : ℕ) (c : Case) where
   heard m o (Yes d) = of_children m d _ o (λ t. voted m t VoteYes o m.phase refl)
   heard m o (No d) = of_children m d _ o (λ t. voted m t VoteNo o m.phase refl)
   heard m o (Read d) = of_children m d _ o (λ t. voted m t VoteRead o m.phase refl)
-  heard m o (Ack d u) = of_children m d _ o (λ t. acked m t u o m.phase)
+  heard m o (Ack d u fs) = of_children m d _ o (λ t. acked m t u fs o m.phase)
   heard m o (Work d k op) = o
   heard m o (Commit d) = o
   heard m o (Inquire d) = o

@@ -202,9 +202,9 @@ module _ (me : ProcessId) (parent : Option ProcessId) (tree : List TreeEntry) (n
     row_names d _ (repeats_yes j i e) k = absurd (cc)
     row_names d _ (asks i e) k = absurd (cc)
     row_names d _ (refuses j i e) k = absurd (cc)
-    row_names d _ (acknowledges o i e) k = absurd (cc)
-    row_names d _ (waits_for_acks u o i e f g) k = absurd (cc)
-    row_names d _ (ends u o i e f g) k = absurd (cc)
+    row_names d _ (acknowledges o fs i e) k = absurd (cc)
+    row_names d _ (waits_for_acks u o fs i e f g) k = absurd (cc)
+    row_names d _ (ends u o fs i e f g) k = absurd (cc)
     row_names d _ (answers u o i e) k = absurd (cc)
 
     pub effect_names : (e : Effect) → CoordinatorTurn (coordinator_place me parent tree) parent n h e

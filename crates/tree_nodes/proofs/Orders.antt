@@ -8,7 +8,7 @@ use Rattle.tree_model.specs.declared.names.Outcome.TheVariants.{Committed as Com
 use Rattle.tree_model.specs.declared.records.Branch.{Branch}
 use Rattle.tree_model.specs.declared.records.Branch.TheVariants.{Case as CaseBranch, Foreign}
 use Rattle.tree_model.specs.declared.records.Record.{Record}
-use Rattle.tree_model.specs.declared.records.Record.TheVariants.{Opened, Collecting, Prepare, Commit, Abort, End, Prepared, Committed, RolledBack, Direct, HeurCommit, HeurRollback, Told, Forgot, Base, Pair}
+use Rattle.tree_model.specs.declared.records.Record.TheVariants.{Opened, Collecting, Prepare, Commit, Abort, End, Prepared, Committed, RolledBack, Direct, HeurCommit, HeurRollback, Told, Forgot, Base, Pair, Cleared}
 use Rattle.tree_model.specs.declared.records.Write.{Write}
 use Rattle.tree_model.specs.NameLaws.{same_case_tells}
 use Rattle.tree_model.specs.Records.{has, same_branch, is_branch, is_decided, is_forgot, prepares_branch}
@@ -56,7 +56,8 @@ other_leaves d m (Collecting c ts) e = refl
 other_leaves d m (Prepare c ts) e = refl
 other_leaves d m (Commit c ts) e = refl
 other_leaves d m (Abort c ts) e = refl
-other_leaves d m (End c) e = refl
+other_leaves d m (End c rep) e = refl
+other_leaves d m (Cleared c) e = refl
 other_leaves d m (Base n) e = refl
 other_leaves d m (Pair k v) e = refl
 
@@ -147,7 +148,8 @@ marks d m (Collecting c ts) e = absurd (cc)
 marks d m (Prepare c ts) e = absurd (cc)
 marks d m (Commit c ts) e = absurd (cc)
 marks d m (Abort c ts) e = absurd (cc)
-marks d m (End c) e = absurd (cc)
+marks d m (End c rep) e = absurd (cc)
+marks d m (Cleared c) e = absurd (cc)
 marks d m (Base n) e = absurd (cc)
 marks d m (Pair k v) e = absurd (cc)
 
@@ -188,7 +190,8 @@ not_promised d m (Collecting c ts) k e = refl
 not_promised d m (Prepare c ts) k e = refl
 not_promised d m (Commit c ts) k e = refl
 not_promised d m (Abort c ts) k e = refl
-not_promised d m (End c) k e = refl
+not_promised d m (End c rep) k e = refl
+not_promised d m (Cleared c) k e = refl
 not_promised d m (Base n) k e = refl
 not_promised d m (Pair j v) k e = refl
 

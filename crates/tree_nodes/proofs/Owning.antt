@@ -46,7 +46,7 @@ of_parent q c (Joined d t) e f = absurd e
 of_parent q c (Yes d) e f = absurd e
 of_parent q c (No d) e f = absurd e
 of_parent q c (Read d) e f = absurd e
-of_parent q c (Ack d o) e f = absurd e
+of_parent q c (Ack d o fs) e f = absurd e
 of_parent q c (Inquire d) e f = absurd e
 
 -- a message that was delivered goes to its case's owner

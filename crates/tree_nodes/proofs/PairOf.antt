@@ -79,7 +79,7 @@ given_now (No d) x t ls l same e = absurd (cc)
 given_now (Read d) x t ls l same e = absurd (cc)
 given_now (Commit d) x t ls l same e = absurd (cc)
 given_now (Abort d) x t ls l same e = absurd (cc)
-given_now (Ack d o) x t ls l same e = absurd (cc)
+given_now (Ack d o fs) x t ls l same e = absurd (cc)
 given_now (Inquire d) x t ls l same e = absurd (cc)
 
 pub given : (net : List Envelope) (x : Txn) (t : Ticket) → sent (gives_case (child_case x t)) net ≡ true
@@ -118,7 +118,7 @@ pair_now tree l (No d) c t g e = absurd (cc)
 pair_now tree l (Read d) c t g e = absurd (cc)
 pair_now tree l (Commit d) c t g e = absurd (cc)
 pair_now tree l (Abort d) c t g e = absurd (cc)
-pair_now tree l (Ack d o) c t g e = absurd (cc)
+pair_now tree l (Ack d o fs) c t g e = absurd (cc)
 pair_now tree l (Inquire d) c t g e = absurd (cc)
 
 pub is_pair : (tree : List TreeEntry) (net : List Envelope) (c : Case) (t : Ticket) → AllGo tree net
@@ -175,7 +175,7 @@ is_free net (l ∷ ls) c t sub once e =
     free_now (Read d) m = refl
     free_now (Commit d) m = refl
     free_now (Abort d) m = refl
-    free_now (Ack d o) m = refl
+    free_now (Ack d o fs) m = refl
     free_now (Inquire d) m = refl
 
 -- So the pair has the invariant.

@@ -1,5 +1,5 @@
 -- A case's phase in memory and its standing, as its records change.
-use Rattle.std.proofs.Common.{◌≡◌, ◌∙◌, ◌||◌, Bool, true, false, List, [], ◌∷◌, ◌++◌, refl, sym, ap, arith}
+use Rattle.std.proofs.Common.{◌≡◌, ◌∙◌, ◌||◌, Bool, true, false, List, [], ◌∷◌, ◌++◌, refl, sym, ap, arith, Option}
 use Rattle.tree_model.specs.declared.names.Case.{Case}
 use Rattle.tree_model.specs.declared.names.Ticket.{Ticket}
 use Rattle.tree_model.specs.declared.names.Presumption.{Presumption}
@@ -15,6 +15,7 @@ use Rattle.tree_model.specs.Standings.{standing_by, phase_standing}
 use Rattle.tree_model.proofs.StandingLaws.{NoRecords, active_facts}
 use Rattle.tree_model.proofs.RootRowLaws.{collecting_facts}
 use Rattle.tree_nodes.proofs.Tests.{not_both, has-append}
+use Rattle.tree_model.specs.declared.records.Reports.{Reports}
 
 -- where the case stands, by its records and its phase
 abbrev pub standing_at : List Record → Case → Phase → Standing
@@ -165,12 +166,12 @@ module _ (rs : List Record) (c : Case) where
   abbrev pub Closed : Phase → Type 0
   Closed ph = (ph ≡ Open → ⊥) × (ph ≡ Asked → ⊥)
 
-  pub ends_together : (ph : Phase) → Closed ph → Together (rs ++ EndRecord c ∷ []) c ph
-  ends_together ph k =
-      over_together ph (standing_at (rs ++ EndRecord c ∷ []) c ph) k.0 k.1
-      (λ e. not_both (is_end c) (has (is_end c) (rs ++ EndRecord c ∷ []))
-      (found (is_end c) rs (EndRecord c) (same_case-refl c))
-      (collecting_undecided (rs ++ EndRecord c ∷ []) c ph e).no_end)
+  pub ends_together : (rep : Option Reports) (ph : Phase) → Closed ph → Together (rs ++ EndRecord c rep ∷ []) c ph
+  ends_together rep ph k =
+      over_together ph (standing_at (rs ++ EndRecord c rep ∷ []) c ph) k.0 k.1
+      (λ e. not_both (is_end c) (has (is_end c) (rs ++ EndRecord c rep ∷ []))
+      (found (is_end c) rs (EndRecord c rep) (same_case-refl c))
+      (collecting_undecided (rs ++ EndRecord c rep ∷ []) c ph e).no_end)
 
   pub commits_together : (ts : List Ticket) (ph : Phase) → Closed ph
       → Together (rs ++ CommitRecord c ts ∷ []) c ph

@@ -39,6 +39,7 @@ use Rattle.tree_nodes.proofs.Orders.{mark_behind, mark_is, other_leaves}
 use Rattle.tree_nodes.proofs.Cases.{known_is_own, child_of_own}
 use Rattle.tree_nodes.proofs.Owning.{delivered, of_parent}
 use Rattle.tree_nodes.proofs.Addresses.{SaysYes, any_yes, not_so}
+use Rattle.tree_model.specs.declared.messages.Finding.{Finding}
 
 -- An open branch has promised.
 
@@ -106,11 +107,11 @@ pub record PromisedYes (me : ProcessId) (n : Node) (c : Case) : Type 0 where
 same_yes : (d c : Case) → (same_case d c || false) ≡ true → d ≡ c
 same_yes d c e = elim (same_case_tells d c) [ inl t ↦ t.1 | inr g ↦ absurd (let k = g.0 in cc) ]
 
-acknowledges_no_yes : (l : Leaf) (o : Outcome) (c : Case) (b : Bool)
-    → sent (is_yes_message c) (if b then post l.me l.parent (Ack l.own o) ∷ [] else []) ≡ false
+acknowledges_no_yes : (l : Leaf) (o : Outcome) (fs : List Finding) (c : Case) (b : Bool)
+    → sent (is_yes_message c) (if b then post l.me l.parent (Ack l.own o fs) ∷ [] else []) ≡ false
 unfolding sent
-acknowledges_no_yes l o c true = refl
-acknowledges_no_yes l o c false = refl
+acknowledges_no_yes l o fs c true = refl
+acknowledges_no_yes l o fs c false = refl
 
 promise_new : (n : Node) (d : Case) (ws : List Write)
     → has (is_prepared d) (kept n ++ PreparedRecord (CaseBranch d) ws ∷ []) ≡ true
@@ -145,15 +146,15 @@ module _ (place : Place) (p : ProcessId) (n : Node) (h : Heard) (net : List Enve
               (promise_forced n m up d a);
         }
     leaf_yes _ (obeys d o i k) e = not_so _
-        (acknowledges_no_yes (leaf_of place p d) o c (is_acknowledged d.txn.presumption o)) e
+        (acknowledges_no_yes (leaf_of place p d) o _ c (is_acknowledged d.txn.presumption o)) e
     leaf_yes _ (notes d o i k) e = not_so _
-        (acknowledges_no_yes (leaf_of place p d) o c (is_acknowledged d.txn.presumption o)) e
+        (acknowledges_no_yes (leaf_of place p d) o _ c (is_acknowledged d.txn.presumption o)) e
     leaf_yes _ (acknowledges_told d o i k) e = not_so _
-        (acknowledges_no_yes (leaf_of place p d) o c (is_acknowledged d.txn.presumption o)) e
+        (acknowledges_no_yes (leaf_of place p d) o _ c (is_acknowledged d.txn.presumption o)) e
     leaf_yes _ (acknowledges d o i k) e = not_so _
-        (acknowledges_no_yes (leaf_of place p d) o c (is_acknowledged d.txn.presumption o)) e
+        (acknowledges_no_yes (leaf_of place p d) o _ c (is_acknowledged d.txn.presumption o)) e
     leaf_yes _ (drops d i a) e =
-        not_so _ (acknowledges_no_yes (leaf_of place p d) AbortedOutcome c
+        not_so _ (acknowledges_no_yes (leaf_of place p d) AbortedOutcome _ c
         (is_acknowledged d.txn.presumption AbortedOutcome)) e
     leaf_yes _ does_nothing e = absurd (cc)
     leaf_yes _ (gives_again d t i a) e = absurd (cc)

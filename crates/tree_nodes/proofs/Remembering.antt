@@ -21,6 +21,7 @@ use Rattle.tree_model.specs.Nodes.{Place, Role, AtRoot, Below}
 use Rattle.tree_model.specs.Memory.{Memory, Phase, Idle, Open, Asked, Over, root_remembers, cascaded_remembers, cascaded_hears, hears_child, opens_case, next_txn, next_ticket, active_ticket, gives, joins, retires, asks_votes, closes as closes_phase, accepts_ticket, has_child, sends_work, ticket_of_child, takes_vote, is_counted, with_vote, all_voted, phase_after, takes_ack, of_child, of_ticket}
 use Rattle.tree_model.specs.Views.{vote_message}
 use Rattle.tree_nodes.proofs.VoteInputs.{is_vote_input, vote_is_one, vote_case}
+use Rattle.tree_model.specs.declared.messages.Finding.{Finding}
 
 -- A coordinator with this parent.
 
@@ -116,12 +117,12 @@ module _ (parent : Option ProcessId) (me : ProcessId) (boot : ℕ) (c : Case) (m
 
   -- acknowledgements and works
 
-  acked : (i : Input) → is_vote_input i ≡ false → (t : Ticket) (o : Outcome) (ph : Phase)
-      → M i (takes_ack m t o ph)
-  acked i e t o Open = itself i e
-  acked i e t o Asked = itself i e
-  acked i e t o Idle = stays i e _ refl (record { accepted = refl; votes = refl })
-  acked i e t o Over = stays i e _ refl (record { accepted = refl; votes = refl })
+  acked : (i : Input) → is_vote_input i ≡ false → (t : Ticket) (o : Outcome) (fs : List Finding) (ph : Phase)
+      → M i (takes_ack m t o fs ph)
+  acked i e t o fs Open = itself i e
+  acked i e t o fs Asked = itself i e
+  acked i e t o fs Idle = stays i e _ refl (record { accepted = refl; votes = refl })
+  acked i e t o fs Over = stays i e _ refl (record { accepted = refl; votes = refl })
 
   worked : (i : Input) → is_vote_input i ≡ false → (t : Option Ticket) (ph : Phase) → M i (sends_work m t ph)
   worked i e (Some t) Open = stays i e _ refl (record { accepted = refl; votes = refl })
@@ -240,7 +241,7 @@ module _ (parent : Option ProcessId) (me : ProcessId) (boot : ℕ) (c : Case) (m
   child_moves k (Yes d) = voted k d VoteYes
   child_moves k (No d) = voted k d VoteNo
   child_moves k (Read d) = voted k d VoteRead
-  child_moves k (Ack d o) = of_children _ refl d _ (λ t. acked _ refl t o m.phase)
+  child_moves k (Ack d o fs) = of_children _ refl d _ (λ t. acked _ refl t o fs m.phase)
   child_moves k (Join d) = itself _ refl
   child_moves k (Work d l op) = itself _ refl
   child_moves k (Prepare d l) = itself _ refl
@@ -358,7 +359,7 @@ module _ (parent : Option ProcessId) (me : ProcessId) (boot : ℕ) (c : Case) (m
   hears_moves p below j (Yes d) = child_moves j (Yes d)
   hears_moves p below j (No d) = child_moves j (No d)
   hears_moves p below j (Read d) = child_moves j (Read d)
-  hears_moves p below j (Ack d o) = child_moves j (Ack d o)
+  hears_moves p below j (Ack d o fs) = child_moves j (Ack d o fs)
   hears_moves p below j (Work d k op) = itself _ refl
   hears_moves p below j (Commit d) = itself _ refl
   hears_moves p below j (Inquire d) = itself _ refl

@@ -96,9 +96,9 @@ module _ (place : Place) (n : Node) (h : Heard) where
   row_decides c _ (repeats_yes j i e) = absurd (let x = i.is_parent in cc)
   row_decides c _ (asks i e) = nothing (λ d. refl) (λ d. refl) (λ x. refl)
   row_decides c _ (refuses j i e) = absurd (let x = i.is_parent in cc)
-  row_decides c _ (acknowledges o i e) = absurd (let x = i.is_parent in cc)
-  row_decides c _ (waits_for_acks t o i e f a) = nothing (λ d. refl) (λ d. refl) (λ x. refl)
-  row_decides c _ (ends t o i e f a) = nothing (λ d. refl) (λ d. refl) (λ x. refl)
+  row_decides c _ (acknowledges o fs i e) = absurd (let x = i.is_parent in cc)
+  row_decides c _ (waits_for_acks t o fs i e f a) = nothing (λ d. refl) (λ d. refl) (λ x. refl)
+  row_decides c _ (ends t o fs i e f a) = nothing (λ d. refl) (λ d. refl) (λ x. refl)
   row_decides c _ (answers t o i e) = nothing (λ d. refl) (λ d. refl) (λ x. refl)
 
   -- What an input that does so found.

@@ -67,9 +67,9 @@ module _ (place : Place) (parent : Option ProcessId) (n : Node) (h : Heard) (c :
   row_accepts d _ (repeats_yes j i e) g = absurd (cc)
   row_accepts d _ (asks i e) g = absurd (cc)
   row_accepts d _ (refuses j i e) g = absurd (cc)
-  row_accepts d _ (acknowledges o i e) g = absurd (cc)
-  row_accepts d _ (waits_for_acks u o i e f a) g = absurd (cc)
-  row_accepts d _ (ends u o i e f a) g = absurd (cc)
+  row_accepts d _ (acknowledges o fs i e) g = absurd (cc)
+  row_accepts d _ (waits_for_acks u o fs i e f a) g = absurd (cc)
+  row_accepts d _ (ends u o fs i e f a) g = absurd (cc)
   row_accepts d _ (answers u o i e) g = absurd (cc)
 
   pub effect_accepts : (e : Effect) → CoordinatorTurn place parent n h e → took c t e.accepts ≡ true

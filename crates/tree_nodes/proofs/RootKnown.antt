@@ -179,9 +179,9 @@ module _ (place : Place) (n : Node) (h : Heard) (c : Case) (me : ProcessId) (b k
   turn_roots _ (repeats_yes j i e) = absurd (let g = i.is_parent in cc)
   turn_roots _ (asks i e) = tt
   turn_roots _ (refuses j i e) = absurd (let g = i.is_parent in cc)
-  turn_roots _ (acknowledges o i e) = absurd (let g = i.is_parent in cc)
-  turn_roots _ (waits_for_acks t o i e f g) = tt
-  turn_roots _ (ends t o i e f g) = (decided o s refl e, tt)
+  turn_roots _ (acknowledges o fs i e) = absurd (let g = i.is_parent in cc)
+  turn_roots _ (waits_for_acks t o fs i e f g) = tt
+  turn_roots _ (ends t o fs i e f g) = (decided o s refl e, tt)
   turn_roots _ (answers t o i e) = tt
 
 pub effect_roots : (place : Place) (n : Node) (h : Heard) (me : ProcessId) (b k : ℕ)

@@ -20,7 +20,8 @@ use Rattle.tree_model.specs.Names.{same_case, same_txn, root_case}
 use Rattle.tree_model.specs.NameLaws.{same_case_tells}
 use Rattle.tree_model.specs.Records.{boot_of}
 use Rattle.tree_model.specs.Nodes.{Place, Role, AtRoot, Node, Heard, kept}
-use Rattle.tree_model.specs.Memory.{Memory, Phase, Idle, Open, Asked, Over, fresh_memory, memory_of, remembers, root_remembers, hears_child, opens_case, next_txn, asks_votes, closes, accepts_ticket, has_child, sends_work, ticket_of_child, takes_vote, is_counted, with_vote, takes_ack, of_child, of_ticket}
+use Rattle.tree_model.specs.Memory.{Memory, Phase, Idle, Open, Asked, Over, fresh_memory, memory_of, remembers, root_remembers, hears_child, opens_case, next_txn, asks_votes, closes, accepts_ticket, has_child, sends_work, ticket_of_child, takes_vote, is_counted, with_vote, takes_ack, of_child, of_ticket, first_found}
+use Rattle.tree_model.specs.declared.messages.Finding.{Finding}
 
 -- the case is of a transaction begun in this boot, and one of so many
 pub record IsBegun (me : ProcessId) (boot count : ℕ) (c : Case) : Type 0 where
@@ -85,11 +86,14 @@ module _ (me : ProcessId) (boot : ℕ) (c : Case) where
   voted m t w o Open e = o
   voted m t w o Over e = o
 
-  acked : (m : Memory) (t : Ticket) (u : Outcome) → O m → (ph : Phase) → O (takes_ack m t u ph)
-  acked m t u o Open = o
-  acked m t u o Asked = o
-  acked m t u o Idle = left m (record m { acks = m.acks ++ (t, u) ∷ [] }) o refl refl
-  acked m t u o Over = left m (record m { acks = m.acks ++ (t, u) ∷ [] }) o refl refl
+  acked : (m : Memory) (t : Ticket) (u : Outcome) (fs : List Finding) → O m → (ph : Phase)
+      → O (takes_ack m t u fs ph)
+  acked m t u fs o Open = o
+  acked m t u fs o Asked = o
+  acked m t u fs o Idle =
+      left m (record m { acks = m.acks ++ (t, u) ∷ []; found = m.found ++ first_found m t u fs }) o refl refl
+  acked m t u fs o Over =
+      left m (record m { acks = m.acks ++ (t, u) ∷ []; found = m.found ++ first_found m t u fs }) o refl refl
 
   of_children : (m : Memory) (d : Case) (f : Ticket → Memory) → O m → ((t : Ticket) → O (f t))
       → O (of_child c d m f)
@@ -104,7 +108,7 @@ module _ (me : ProcessId) (boot : ℕ) (c : Case) where
   heard m o (Yes d) = of_children m d _ o (λ t. voted m t VoteYes o m.phase refl)
   heard m o (No d) = of_children m d _ o (λ t. voted m t VoteNo o m.phase refl)
   heard m o (Read d) = of_children m d _ o (λ t. voted m t VoteRead o m.phase refl)
-  heard m o (Ack d u) = of_children m d _ o (λ t. acked m t u o m.phase)
+  heard m o (Ack d u fs) = of_children m d _ o (λ t. acked m t u fs o m.phase)
   heard m o (Join d) = o
   heard m o (Prepare d k) = o
   heard m o (Abort d) = o

@@ -46,9 +46,9 @@ module _ (place : Place) (parent : Option ProcessId) (n : Node) (h : Heard) (c :
     row_counts d _ (repeats_yes j i k) f = absurd (cc)
     row_counts d _ (asks i k) f = absurd (cc)
     row_counts d _ (refuses j i k) f = absurd (cc)
-    row_counts d _ (acknowledges o i k) f = absurd (cc)
-    row_counts d _ (waits_for_acks u o i k a b) f = absurd (cc)
-    row_counts d _ (ends u o i k a b) f = absurd (cc)
+    row_counts d _ (acknowledges o fs i k) f = absurd (cc)
+    row_counts d _ (waits_for_acks u o fs i k a b) f = absurd (cc)
+    row_counts d _ (ends u o fs i k a b) f = absurd (cc)
     row_counts d _ (answers u o i k) f = absurd (cc)
 
     pub effect_counts : (e : Effect) → CoordinatorTurn place parent n h e → HeardSo c t q e.counts

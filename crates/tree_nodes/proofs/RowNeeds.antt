@@ -72,9 +72,9 @@ module _ (place : Place) (parent : Option ProcessId) (n : Node) (h : Heard) (c :
   turn_needs _ (repeats_yes j i e) = refl
   turn_needs _ (asks i e) = refl
   turn_needs _ (refuses j i e) = refl
-  turn_needs _ (acknowledges o i e) = refl
-  turn_needs _ (waits_for_acks t o i e f g) = refl
-  turn_needs _ (ends t o i e f g) = refl
+  turn_needs _ (acknowledges o fs i e) = refl
+  turn_needs _ (waits_for_acks t o fs i e f g) = refl
+  turn_needs _ (ends t o fs i e f g) = refl
   turn_needs _ (answers t o i e) = refl
 
 pub effect_needs : (place : Place) (parent : Option ProcessId) (n : Node) (h : Heard) (e : Effect)

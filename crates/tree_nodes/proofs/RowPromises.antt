@@ -56,9 +56,9 @@ module _ (place : Place) (parent : Option ProcessId) (n : Node) (h : Heard) wher
   row_collects c d _ (repeats_yes j i e) g = absurd (cc)
   row_collects c d _ (asks i e) g = absurd (cc)
   row_collects c d _ (refuses j i e) g = absurd (cc)
-  row_collects c d _ (acknowledges o i e) g = absurd (cc)
-  row_collects c d _ (waits_for_acks t o i e f a) g = absurd (cc)
-  row_collects c d _ (ends t o i e f a) g = absurd (cc)
+  row_collects c d _ (acknowledges o fs i e) g = absurd (cc)
+  row_collects c d _ (waits_for_acks t o fs i e f a) g = absurd (cc)
+  row_collects c d _ (ends t o fs i e f a) g = absurd (cc)
   row_collects c d _ (answers t o i e) g = absurd (cc)
 
   pub effect_collects : (e : Effect) → CoordinatorTurn place parent n h e → (d : Case)
@@ -104,9 +104,9 @@ module _ (place : Place) (parent : Option ProcessId) (n : Node) (h : Heard) wher
   row_promises c d _ (repeats_yes j i e) g = absurd (cc)
   row_promises c d _ (asks i e) g = absurd (cc)
   row_promises c d _ (refuses j i e) g = absurd (cc)
-  row_promises c d _ (acknowledges o i e) g = absurd (cc)
-  row_promises c d _ (waits_for_acks t o i e f a) g = absurd (cc)
-  row_promises c d _ (ends t o i e f a) g = absurd (cc)
+  row_promises c d _ (acknowledges o fs i e) g = absurd (cc)
+  row_promises c d _ (waits_for_acks t o fs i e f a) g = absurd (cc)
+  row_promises c d _ (ends t o fs i e f a) g = absurd (cc)
   row_promises c d _ (answers t o i e) g = absurd (cc)
 
   pub effect_promises : (e : Effect) → CoordinatorTurn place parent n h e → (d : Case)
@@ -151,9 +151,9 @@ module _ (place : Place) (parent : Option ProcessId) (n : Node) (h : Heard) wher
       row_takes d _ (repeats_yes j i e) g = absurd (cc)
       row_takes d _ (asks i e) g = absurd (cc)
       row_takes d _ (refuses j i e) g = absurd (cc)
-      row_takes d _ (acknowledges o i e) g = absurd (cc)
-      row_takes d _ (waits_for_acks u o i e f a) g = absurd (cc)
-      row_takes d _ (ends u o i e f a) g = absurd (cc)
+      row_takes d _ (acknowledges o fs i e) g = absurd (cc)
+      row_takes d _ (waits_for_acks u o fs i e f a) g = absurd (cc)
+      row_takes d _ (ends u o fs i e f a) g = absurd (cc)
       row_takes d _ (answers u o i e) g = absurd (cc)
 
       pub effect_takes : (e : Effect) → CoordinatorTurn place parent n h e → took c t e.accepts ≡ true → A

@@ -17,6 +17,7 @@ use Rattle.tree_model.specs.Names.{same_case, same_txn, child_case, root_case}
 use Rattle.tree_model.specs.Records.{boot_of}
 use Rattle.tree_model.specs.Nodes.{Place, Role, AtRoot, Below, AtLeaf, Node, Heard, DataAnswer, kept}
 use Rattle.tree_model.specs.Memory.{Memory, Phase, Idle, Open, Asked, Over, fresh_memory, memory_of, remembers, root_remembers, cascaded_remembers, cascaded_hears, manager_remembers, manager_hears, hears_child, next_txn, opens_case, gives, joins, next_ticket, active_ticket, without_ticket, asks_votes, closes, retires, accepts_ticket, has_child, sends_work, ticket_of_child, takes_vote, is_counted, with_vote, takes_ack, of_child, of_ticket, works}
+use Rattle.tree_model.specs.declared.messages.Finding.{Finding}
 
 pub record Self : Type 0 where
   pub begun : ℕ
@@ -127,11 +128,12 @@ module _ (me : ProcessId) (boot : ℕ) (c : Case) where
   voted m t w Open = refl
   voted m t w Over = refl
 
-  acked : (m : Memory) (t : Ticket) (u : Outcome) (ph : Phase) → self_of (takes_ack m t u ph) ≡ self_of m
-  acked m t u Open = refl
-  acked m t u Asked = refl
-  acked m t u Idle = refl
-  acked m t u Over = refl
+  acked : (m : Memory) (t : Ticket) (u : Outcome) (fs : List Finding) (ph : Phase)
+      → self_of (takes_ack m t u fs ph) ≡ self_of m
+  acked m t u fs Open = refl
+  acked m t u fs Asked = refl
+  acked m t u fs Idle = refl
+  acked m t u fs Over = refl
 
   of_children : (m : Memory) (d : Case) (f : Ticket → Memory) → ((t : Ticket) → self_of (f t) ≡ self_of m)
       → self_of (of_child c d m f) ≡ self_of m
@@ -155,7 +157,7 @@ module _ (me : ProcessId) (boot : ℕ) (c : Case) where
   cascaded_hear m (Yes d) = of_children m d _ (λ t. voted m t VoteYes m.phase)
   cascaded_hear m (No d) = of_children m d _ (λ t. voted m t VoteNo m.phase)
   cascaded_hear m (Read d) = of_children m d _ (λ t. voted m t VoteRead m.phase)
-  cascaded_hear m (Ack d u) = of_children m d _ (λ t. acked m t u m.phase)
+  cascaded_hear m (Ack d u fs) = of_children m d _ (λ t. acked m t u fs m.phase)
   cascaded_hear m (Work d k op) = refl
   cascaded_hear m (Commit d) = refl
   cascaded_hear m (Inquire d) = refl
@@ -166,7 +168,7 @@ module _ (me : ProcessId) (boot : ℕ) (c : Case) where
   root_hear m (Yes d) = of_children m d _ (λ t. voted m t VoteYes m.phase)
   root_hear m (No d) = of_children m d _ (λ t. voted m t VoteNo m.phase)
   root_hear m (Read d) = of_children m d _ (λ t. voted m t VoteRead m.phase)
-  root_hear m (Ack d u) = of_children m d _ (λ t. acked m t u m.phase)
+  root_hear m (Ack d u fs) = of_children m d _ (λ t. acked m t u fs m.phase)
   root_hear m (Join d) = refl
   root_hear m (Work d k op) = refl
   root_hear m (Prepare d k) = refl
@@ -198,7 +200,7 @@ module _ (me : ProcessId) (boot : ℕ) (c : Case) where
   manager_hear m a (No d) = refl
   manager_hear m a (Read d) = refl
   manager_hear m a (Commit d) = refl
-  manager_hear m a (Ack d u) = refl
+  manager_hear m a (Ack d u fs) = refl
   manager_hear m a (Inquire d) = refl
 
   -- acts

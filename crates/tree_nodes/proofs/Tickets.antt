@@ -29,6 +29,7 @@ use Rattle.tree_pairs.specs.turns.Steps.{TurnAt}
 use Rattle.tree_nodes.specs.Numbers.{IsIssuer}
 use Rattle.tree_nodes.proofs.Tests.{either}
 use Rattle.tree_nodes.proofs.Selves.{Self, self_of, self_is, next_of, joins_self, starts_for, hears_self, issuer_self, root_self, self_after}
+use Rattle.tree_model.specs.declared.messages.Finding.{Finding}
 
 -- Active tickets.
 
@@ -96,7 +97,7 @@ module _ (P : Case → Ticket → Type 0) where
     active_heard b s (No d) h f = h
     active_heard b s (Read d) h f = h
     active_heard b s (Commit d) h f = h
-    active_heard b s (Ack d o) h f = h
+    active_heard b s (Ack d o fs) h f = h
     active_heard b s (Inquire d) h f = h
 
     pub active_after : (b : Bool) (s : Self) (i : Input) → AllActive P s.active
@@ -134,7 +135,7 @@ given_grows me boot b s (MessageInput j (Yes d)) = le_refl s.given
 given_grows me boot b s (MessageInput j (No d)) = le_refl s.given
 given_grows me boot b s (MessageInput j (Read d)) = le_refl s.given
 given_grows me boot b s (MessageInput j (Commit d)) = le_refl s.given
-given_grows me boot b s (MessageInput j (Ack d o)) = le_refl s.given
+given_grows me boot b s (MessageInput j (Ack d o fs)) = le_refl s.given
 given_grows me boot b s (MessageInput j (Inquire d)) = le_refl s.given
 given_grows me boot b s (ActInput a) = le_refl s.given
 
@@ -216,14 +217,14 @@ module _ (place : Place) (n : Node) (h : Heard) (d : Case) (t : Ticket) where
   none_down c (Yes a) f = absurd f
   none_down c (No a) f = absurd f
   none_down c (Read a) f = absurd f
-  none_down c (Ack a o) f = absurd f
+  none_down c (Ack a o fs) f = absurd f
   none_down c (Inquire a) f = absurd f
 
   none_up : (c : Case) (m : Message) → IsFromCase c m → is_joined_message d t m ≡ false
   none_up c (Yes a) f = refl
   none_up c (No a) f = refl
   none_up c (Read a) f = refl
-  none_up c (Ack a o) f = refl
+  none_up c (Ack a o fs) f = refl
   none_up c (Inquire a) f = refl
   none_up c (Work a k op) f = absurd f
   none_up c (Prepare a k) f = absurd f
@@ -261,11 +262,11 @@ module _ (place : Place) (n : Node) (h : Heard) (d : Case) (t : Ticket) where
   none_told ls c q AbortedOutcome e f = let g : Says (post place.me q (Abort c) ∷ []) = subst Says e f in
       absurd (cc)
 
-  none_acknowledged : {A : Type 0} (l : Leaf) (o : Outcome) (b : Bool)
-      → Says (if b then post l.me l.parent (Ack l.own o) ∷ [] else []) → A
+  none_acknowledged : {A : Type 0} (l : Leaf) (o : Outcome) (fs : List Finding) (b : Bool)
+      → Says (if b then post l.me l.parent (Ack l.own o fs) ∷ [] else []) → A
   unfolding sent
-  none_acknowledged l o true e = absurd (cc)
-  none_acknowledged l o false e = absurd (cc)
+  none_acknowledged l o fs true e = absurd (cc)
+  none_acknowledged l o fs false e = absurd (cc)
 
   answered : (role : Role) (j : ℕ) (x : Case) (u : Ticket) → h.input ≡ MessageInput j (Join x)
       → (active_ticket (memory_of place n x).active x ≡ Some u) ⊎ IsNext role place n h x u
@@ -304,16 +305,16 @@ module _ (place : Place) (n : Node) (h : Heard) (d : Case) (t : Ticket) where
   of_leaf p _ (votes_no x k i a) g = absurd (cc)
   of_leaf p _ (repeats_yes x k i a) g = absurd (cc)
   of_leaf p _ (refuses x k i a) g = absurd (cc)
-  of_leaf p _ (obeys x o i k) g = none_acknowledged (leaf_of place p x) o
+  of_leaf p _ (obeys x o i k) g = none_acknowledged (leaf_of place p x) o _
       (is_acknowledged x.txn.presumption o) g
-  of_leaf p _ (notes x o i k) g = none_acknowledged (leaf_of place p x) o
+  of_leaf p _ (notes x o i k) g = none_acknowledged (leaf_of place p x) o _
       (is_acknowledged x.txn.presumption o) g
   of_leaf p _ (acknowledges_told x o i k) g =
-      none_acknowledged (leaf_of place p x) o (is_acknowledged x.txn.presumption o) g
+      none_acknowledged (leaf_of place p x) o _ (is_acknowledged x.txn.presumption o) g
   of_leaf p _ (acknowledges x o i k) g =
-      none_acknowledged (leaf_of place p x) o (is_acknowledged x.txn.presumption o) g
+      none_acknowledged (leaf_of place p x) o _ (is_acknowledged x.txn.presumption o) g
   of_leaf p _ (drops x i a) g =
-      none_acknowledged (leaf_of place p x) AbortedOutcome
+      none_acknowledged (leaf_of place p x) AbortedOutcome _
       (is_acknowledged x.txn.presumption AbortedOutcome) g
   of_leaf p _ (asks x i k) g = absurd (cc)
   of_leaf p _ (decides x o i k) g = absurd (cc)

@@ -296,7 +296,7 @@ GoesBy tree l (Abort d) = GoesDown tree l d
 GoesBy tree l (Yes d) = GoesUp tree l d
 GoesBy tree l (No d) = GoesUp tree l d
 GoesBy tree l (Read d) = GoesUp tree l d
-GoesBy tree l (Ack d o) = GoesUp tree l d
+GoesBy tree l (Ack d o fs) = GoesUp tree l d
 GoesBy tree l (Inquire d) = GoesUp tree l d
 
 -- each message of the net goes so
@@ -315,7 +315,7 @@ is_about d (No e) = same_case e d
 is_about d (Read e) = same_case e d
 is_about d (Commit e) = same_case e d
 is_about d (Abort e) = same_case e d
-is_about d (Ack e o) = same_case e d
+is_about d (Ack e o fs) = same_case e d
 is_about d (Inquire e) = same_case e d
 
 -- a ticket is given to one case

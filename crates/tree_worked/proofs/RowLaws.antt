@@ -3,7 +3,7 @@ use Rattle.std.specs.Prelude.{⊤}
 use Rattle.std.proofs.Common.{refl}
 use Rattle.std.specs.Fmt.{digits}
 use Rattle.tree_model.specs.CoordinatorRows.{other_tickets}
-use Rattle.tree_model.specs.Memory.{has_child, ticket_of_child, voted_so, has_voted, all_voted, yes_of, undecided_of, works_of, has_acked, active_ticket, without_ticket, memory_of}
+use Rattle.tree_model.specs.Memory.{has_child, ticket_of_child, voted_so, has_voted, all_voted, yes_of, undecided_of, works_of, has_acked, active_ticket, without_ticket, memory_of, found_of}
 use Rattle.tree_model.specs.Names.{same_process, same_presumption, same_outcome, same_txn, same_ticket, same_owner, same_case}
 use Rattle.tree_model.specs.Nodes.{is_listed, is_child, role_of}
 use Rattle.tree_model.specs.Outcomes.{sent, is_commit_outcome}
@@ -11,18 +11,19 @@ use Rattle.tree_model.specs.Plays.{writes_heard}
 use Rattle.tree_model.specs.Reactions.{reacts}
 use Rattle.tree_model.specs.Records.{has, in_list, none_of, same_bytes, same_xid, same_branch, named_by, promised_by, owing_by, boot_of, has_case, cases_in}
 use Rattle.tree_model.specs.Restarts.{recorded_view, recorded_branch, trimmed}
-use Rattle.tree_model.specs.Standings.{still_owed, coordinator_view, mark_of, manager_view}
+use Rattle.tree_model.specs.Standings.{still_owed, coordinator_view, mark_of, manager_view, found_below}
 use Rattle.tree_model.specs.Store.{key_below, with_pair, without_key, applied, writes_of, stored}
 use Rattle.tree_model.specs.World.{node_makes, world_makes, made_by, node_by, net_by, entries_of, journal_of}
 use Rattle.tree_model.specs.Rows.{Runs}
 use Rattle.tree_worked.specs.FlatRuns.{flat_pa_commit, flat_pc_commit, late_no_vote_pa, late_no_vote_pc, readonly_transactions, forgotten_ticket_votes_no, commit_again_after_end, commit_again_before_votes}
 use Rattle.tree_worked.specs.TreeRuns.{cascaded_abort_after_prepare_pc, cascaded_readonly_vote_end_lost_pc, cascaded_restart_pa, cascaded_pa_commit, cascaded_in_doubt_pa}
 use Rattle.tree_worked.specs.DoubtRuns.{root_restart_collecting_pc, late_inquiry_after_trim_pa, heuristic_rollback_mismatch, root_restart_committing_pa, heuristic_rollback_forgotten, heuristic_forgotten_before_vote, ask_before_prepare, ask_after_commit, trim_manager_twice, collecting_in_doubt_pc}
+use Rattle.tree_model.specs.Texts.{findings_text}
 
 -- what a run computes with
 unfoldable computing : ⊤
 unfolding digits other_tickets has_child ticket_of_child voted_so has_voted all_voted yes_of undecided_of
-    works_of has_acked active_ticket without_ticket memory_of same_process same_presumption same_outcome
+    works_of has_acked found_of found_below findings_text active_ticket without_ticket memory_of same_process same_presumption same_outcome
     same_txn same_ticket same_owner same_case is_listed is_child role_of sent is_commit_outcome
     writes_heard reacts has in_list none_of same_bytes same_xid same_branch named_by promised_by
     owing_by boot_of has_case cases_in recorded_view recorded_branch trimmed still_owed

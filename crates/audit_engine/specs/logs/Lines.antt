@@ -1,5 +1,5 @@
 -- What a record says behind its kind.
-use Rattle.std.specs.Prelude.{ℕ, List, ◌++◌, codes, Option, Some, None}
+use Rattle.std.specs.Prelude.{ℕ, List, ◌++◌, codes, Option, Some, None, if◌then◌else◌, []}
 use Rattle.std.specs.List.{flat_map}
 use Rattle.hex.specs.Hex.{encode_lower}
 use Rattle.xa_xid.specs.Text.{xid_text}
@@ -7,10 +7,12 @@ use Rattle.tree_model.specs.declared.names.Ticket.{Ticket}
 use Rattle.tree_model.specs.declared.records.Branch.{Branch}
 use Rattle.tree_model.specs.declared.records.Branch.TheVariants.{Case as CaseBranch, Foreign}
 use Rattle.tree_model.specs.declared.records.Record.{Record}
-use Rattle.tree_model.specs.declared.records.Record.TheVariants.{Opened, Collecting, Prepare, Commit, Abort, End, Prepared, Committed, RolledBack, Direct, HeurCommit, HeurRollback, Told, Forgot, Base, Pair}
+use Rattle.tree_model.specs.declared.records.Record.TheVariants.{Opened, Collecting, Prepare, Commit, Abort, End, Prepared, Committed, RolledBack, Direct, HeurCommit, HeurRollback, Told, Forgot, Base, Pair, Cleared}
 use Rattle.tree_model.specs.declared.records.Write.{Write}
 use Rattle.tree_model.specs.Texts.{ticket_text, outcome_word}
 use Rattle.trace_lines.specs.Trace.{case_word, number_word}
+use Rattle.tree_model.specs.declared.records.Reports.{Reports}
+use Rattle.tree_model.specs.Records.{none_of}
 
 -- Words, each behind a space.
 
@@ -40,6 +42,14 @@ write_words w = left_words w.key w.value
 abbrev pub writes_words : List Write → List ℕ
 writes_words ws = flat_map write_words ws
 
+-- a word, and each of the tickets behind a space; nothing where there is none
+abbrev pub listed_words : List ℕ → List Ticket → List ℕ
+listed_words word ts = if none_of ts then [] else word ++ ticket_words ts
+
+-- what the root found
+abbrev pub reports_words : Reports → List ℕ
+reports_words r = listed_words (codes " mixed") r.mixed ++ listed_words (codes " unreported") r.unreported
+
 -- the name of a record, and what it carries: tickets, writes, a number, an outcome, or a key and its value
 abbrev pub record_words : Record → List ℕ
 record_words (Opened n) = number_word n
@@ -47,7 +57,9 @@ record_words (Collecting c ts) = case_word c ++ ticket_words ts
 record_words (Prepare c ts) = case_word c ++ ticket_words ts
 record_words (Commit c ts) = case_word c ++ ticket_words ts
 record_words (Abort c ts) = case_word c ++ ticket_words ts
-record_words (End c) = case_word c
+record_words (End c None) = case_word c
+record_words (End c (Some r)) = case_word c ++ reports_words r
+record_words (Cleared c) = case_word c
 record_words (Prepared b ws) = branch_word b ++ writes_words ws
 record_words (Committed b) = branch_word b
 record_words (RolledBack b) = branch_word b

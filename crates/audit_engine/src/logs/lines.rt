@@ -1,12 +1,12 @@
 //! The line of a record.
 
 ghost use Rattle.std.specs.Prelude.{◌≡◌, ◌++◌, OnOk};
-ghost use Rattle.audit_engine.specs.logs.Lines.{branch_word, record_words, ticket_words, write_words, writes_words, bytes_word};
+ghost use Rattle.audit_engine.specs.logs.Lines.{branch_word, listed_words, record_words, reports_words, ticket_words, write_words, writes_words, bytes_word};
 
 use spellings::hexadecimal::Hexadecimal;
 use std::alloc::{AllocError, Global};
 use trace_lines::{kind_word, outcome_word, push, push_case_word, push_number_word, push_ticket};
-use tree_model::{Branch, Case, Record, Ticket, Write};
+use tree_model::{Branch, Case, Record, Reports, Ticket, Write};
 
 /// A space and bytes in hexadecimal.
 fn push_bytes_word(alloc: Global, out: &mut Vec<u8>, bytes: &[u8]) -> Result<(), AllocError>
@@ -39,6 +39,28 @@ fn push_tickets(out: &mut Vec<u8>, tickets: &[Ticket]) -> Result<(), AllocError>
         push_ticket(out, ticket)?;
     }
     Ok(())
+}
+
+/// A word, and the tickets behind it; nothing where there are none.
+#[tactic(auto, unfolding(tree_model::specs::Records::none_of))]
+fn push_listed(out: &mut Vec<u8>, word: &str, tickets: &[Ticket]) -> Result<(), AllocError>
+    ensures { OnOk result (out.new.items ≡ out.old.items ++ listed_words word.now tickets.now) }
+{
+    match tickets {
+        [] => Ok(()),
+        _ => {
+            push(out, word)?;
+            push_tickets(out, tickets)
+        }
+    }
+}
+
+/// What the root found.
+fn push_reports(out: &mut Vec<u8>, reports: &Reports) -> Result<(), AllocError>
+    ensures { OnOk result (out.new.items ≡ out.old.items ++ reports_words reports.now) }
+{
+    push_listed(out, " mixed", reports.mixed.as_slice())?;
+    push_listed(out, " unreported", reports.unreported.as_slice())
 }
 
 fn push_write(alloc: Global, out: &mut Vec<u8>, write: &Write) -> Result<(), AllocError>
@@ -79,7 +101,11 @@ pub fn push_words(alloc: Global, out: &mut Vec<u8>, entry: &Record) -> Result<()
             push_case_word(out, case)?;
             push_tickets(out, tickets.as_slice())
         }
-        Record::End(case) => push_case_word(out, case),
+        Record::End(case, None) | Record::Cleared(case) => push_case_word(out, case),
+        Record::End(case, Some(reports)) => {
+            push_case_word(out, case)?;
+            push_reports(out, reports)
+        }
         Record::Prepared(branch, writes) | Record::Direct(branch, writes) => {
             push_branch_word(alloc, out, branch)?;
             push_writes(alloc, out, writes.as_slice())

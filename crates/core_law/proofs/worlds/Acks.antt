@@ -1,5 +1,5 @@
 -- What an input makes of the acknowledgements that a coordinator below the root has heard of a case.
-use Rattle.std.proofs.Common.{◌≡◌, ◌∙◌, ℕ, Bool, true, false, if◌then◌else◌, Option, None, Some, [], ◌∷◌, ◌++◌, refl, sym}
+use Rattle.std.proofs.Common.{◌≡◌, ◌∙◌, ℕ, Bool, true, false, if◌then◌else◌, Option, None, Some, [], ◌∷◌, ◌++◌, refl, sym, List}
 use Rattle.tree_model.specs.declared.names.Case.{Case}
 use Rattle.tree_model.specs.declared.names.Outcome.{Outcome}
 use Rattle.tree_model.specs.declared.names.ProcessId.{ProcessId}
@@ -14,11 +14,13 @@ use Rattle.tree_model.specs.declared.events.Input.{Input}
 use Rattle.tree_model.specs.declared.events.Input.TheVariants.{Act as ActInput, Message as MessageInput}
 use Rattle.tree_model.specs.Names.{child_case, same_case, same_txn}
 use Rattle.tree_model.specs.Memory.{Asked, Idle, Memory, Open, Over, Phase, accepts_ticket, active_ticket, asks_votes, cascaded_remembers, closes, gives, has_child, is_counted, joins, next_ticket, of_ticket, opens_case, retires, sends_work, takes_ack, takes_vote, ticket_of_child, with_vote}
+use Rattle.tree_model.specs.declared.messages.Finding.{Finding}
 
 pub data AcksMove (c : Case) (m : Memory) (i : Input) (k : Memory) : Type 0 where
   keeps : k.acks ≡ m.acks → AcksMove c m i k
   starts : k.acks ≡ [] → AcksMove c m i k
-  notes : (j : ℕ) (x : Txn) (t : Ticket) (o : Outcome) → i ≡ MessageInput j (Ack (child_case x t) o)
+  notes : (j : ℕ) (x : Txn) (t : Ticket) (o : Outcome) (fs : List Finding)
+      → i ≡ MessageInput j (Ack (child_case x t) o fs)
       → same_txn x c.txn ≡ true
       → (m.phase ≡ Asked → ⊥) → k.acks ≡ m.acks ++ (t, o) ∷ [] → AcksMove c m i k
 
@@ -86,22 +88,22 @@ module _ (me : ProcessId) (boot : ℕ) (c : Case) (m : Memory) where
   voted d w = kept_if (same_txn d.txn c.txn) m _ m
       (kept_ticket d.ticket m (λ t. takes_vote m t w m.phase) (λ t. kept_takes m t w m.phase)) refl
 
-  acked : (j : ℕ) (x : Txn) (u : Option Ticket) (o : Outcome)
+  acked : (j : ℕ) (x : Txn) (u : Option Ticket) (o : Outcome) (fs : List Finding)
       → let d : Case = record { txn = x; ticket = u } in
-      AcksMove c m (MessageInput j (Ack d o))
-      (if same_txn x c.txn then of_ticket u m (λ t. takes_ack m t o m.phase) else m)
-  acked j x None o = keeps (kept_if (same_txn x c.txn) m m m refl refl)
-  acked j x (Some t) o = by_txn (same_txn x c.txn) refl
+      AcksMove c m (MessageInput j (Ack d o fs))
+      (if same_txn x c.txn then of_ticket u m (λ t. takes_ack m t o fs m.phase) else m)
+  acked j x None o fs = keeps (kept_if (same_txn x c.txn) m m m refl refl)
+  acked j x (Some t) o fs = by_txn (same_txn x c.txn) refl
     where
       by_phase : same_txn x c.txn ≡ true → (ph : Phase) → m.phase ≡ ph
-          → AcksMove c m (MessageInput j (Ack (child_case x t) o)) (takes_ack m t o ph)
+          → AcksMove c m (MessageInput j (Ack (child_case x t) o fs)) (takes_ack m t o fs ph)
       by_phase of Open is = keeps refl
       by_phase of Asked is = keeps refl
-      by_phase of Idle is = notes j x t o refl of (λ e. (let g : Idle ≡ Asked = sym is ∙ e in cc)) refl
-      by_phase of Over is = notes j x t o refl of (λ e. (let g : Over ≡ Asked = sym is ∙ e in cc)) refl
+      by_phase of Idle is = notes j x t o fs refl of (λ e. (let g : Idle ≡ Asked = sym is ∙ e in cc)) refl
+      by_phase of Over is = notes j x t o fs refl of (λ e. (let g : Over ≡ Asked = sym is ∙ e in cc)) refl
 
       by_txn : (b : Bool) → same_txn x c.txn ≡ b
-          → AcksMove c m (MessageInput j (Ack (child_case x t) o)) (if b then takes_ack m t o m.phase else m)
+          → AcksMove c m (MessageInput j (Ack (child_case x t) o fs)) (if b then takes_ack m t o fs m.phase else m)
       by_txn false of = keeps refl
       by_txn true of = by_phase of m.phase refl
 
@@ -115,7 +117,7 @@ module _ (me : ProcessId) (boot : ℕ) (c : Case) (m : Memory) where
   hears j (Yes d) = keeps (voted d VoteYes)
   hears j (No d) = keeps (voted d VoteNo)
   hears j (Read d) = keeps (voted d VoteRead)
-  hears j (Ack d o) = acked j d.txn d.ticket o
+  hears j (Ack d o fs) = acked j d.txn d.ticket o fs
   hears j (Work d k op) = keeps refl
   hears j (Commit d) = keeps refl
   hears j (Inquire d) = keeps refl

@@ -44,6 +44,7 @@ use Rattle.core_law.proofs.CascadeQuiet.{cascaded_place, cascaded_quiet}
 use Rattle.core_law.proofs.Children.{found_case}
 use Rattle.core_law.proofs.worlds.Acks.{AcksMove, acks_move, keeps, notes, starts}
 use Rattle.core_law.proofs.worlds.Cascades.{cascade_children, coordinates}
+use Rattle.tree_model.specs.declared.messages.Finding.{Finding}
 
 -- Whom a Prepare record names.
 
@@ -148,11 +149,11 @@ module _ (me p : ProcessId) (tree : List TreeEntry) where
         viewed place n c ∙ rw (undecided.no_end, undecided.no_commit, undecided.no_abort, prepared) refl
 
     -- an acknowledgement of the child is passed over
-    early : (c : Case) (t : Ticket) (o : Outcome) (j : ℕ) (x : Txn)
+    early : (c : Case) (t : Ticket) (o : Outcome) (fs : List Finding) (j : ℕ) (x : Txn)
         → has (is_prepare_naming c t) (kept n) ≡ true
         → Undecided c (kept n)
-        → same_txn x c.txn ≡ true → is_passed_over place n (MessageInput j (Ack (child_case x t) o)) ≡ true
-    early c t o j x named undecided of =
+        → same_txn x c.txn ≡ true → is_passed_over place n (MessageInput j (Ack (child_case x t) o fs)) ≡ true
+    early c t o fs j x named undecided of =
         let stands = is_prepared c t named undecided in
         let one : x ≡ c.txn = (txn_tells x c.txn).0 of in
         let listed : has_case (own_cases (Below p) place n x) c ≡ true =
@@ -175,14 +176,14 @@ module _ (me p : ProcessId) (tree : List TreeEntry) where
           boot_append (kept n) new ∙ others_boot (boot_of (kept n)) new
           (turn_none (Below p) place n h e turn.turn)
 
-      not_early : {A : Type 0} (c : Case) (t : Ticket) (o : Outcome) (j : ℕ) (x : Txn) (u : Ticket)
-          → h.input ≡ MessageInput j (Ack (child_case x u) o)
+      not_early : {A : Type 0} (c : Case) (t : Ticket) (o : Outcome) (fs : List Finding) (j : ℕ) (x : Txn) (u : Ticket)
+          → h.input ≡ MessageInput j (Ack (child_case x u) o fs)
           → same_txn x c.txn ≡ true → has (is_prepare_naming c t) (kept n) ≡ true
           → Undecided c (kept n) → u ≡ t → A
-      not_early c t o j x u is of named undecided same =
+      not_early c t o fs j x u is of named undecided same =
           let over : is_passed_over place n h.input ≡ true =
-          ap (is_passed_over place n) (is ∙ ap (λ v. MessageInput j (Ack (child_case x v) o)) same)
-          ∙ early c t o j x named undecided of in
+          ap (is_passed_over place n) (is ∙ ap (λ v. MessageInput j (Ack (child_case x v) o fs)) same)
+          ∙ early c t o fs j x named undecided of in
           absurd (let clash : true ≡ false = sym over ∙ heard in cc)
 
       not_acked : (a b x y : Bool) → a ≡ (b || (x && y)) → b ≡ false → y ≡ false → a ≡ false
@@ -195,12 +196,12 @@ module _ (me p : ProcessId) (tree : List TreeEntry) where
       before c t o named undecided k (keeps same) =
           ap (λ as'. has_acked as' o t) same ∙ old c t o named undecided
       before c t o named undecided k (starts none) = ap (λ as'. has_acked as' o t) none ∙ none_acked o t
-      before c t o named undecided k (notes j x u a is of late more) =
+      before c t o named undecided k (notes j x u a fs is of late more) =
           ap (λ as'. has_acked as' o t) more ∙ by_ticket (same_ticket u t) refl
         where
           by_ticket : (b : Bool) → same_ticket u t ≡ b
               → has_acked ((memory c).acks ++ (u, a) ∷ []) o t ≡ false
-          by_ticket true same = not_early c t a j x u is of named undecided ((ticket_tells u t).0 same)
+          by_ticket true same = not_early c t a fs j x u is of named undecided ((ticket_tells u t).0 same)
           by_ticket false apart = not_acked _ (has_acked (memory c).acks o t)
               (same_outcome a o) (same_ticket u t)
               (has_acked-push (memory c).acks u t a o) (old c t o named undecided) apart
@@ -212,7 +213,7 @@ module _ (me p : ProcessId) (tree : List TreeEntry) where
           ap (λ as'. has_acked as' o t) (same ∙ asked_quiet (memory c) (cascaded_quiet me p tree n c) asked)
           ∙ none_acked o t
       asked_now c t o asked k (starts none) = ap (λ as'. has_acked as' o t) none ∙ none_acked o t
-      asked_now c t o asked k (notes j x u a is of late more) = absurd (late asked)
+      asked_now c t o asked k (notes j x u a fs is of late more) = absurd (late asked)
 
       undecided_before : (c : Case) → Undecided c (kept n ++ new) → Undecided c (kept n)
       undecided_before c undecided =

@@ -24,7 +24,7 @@ use Rattle.tree_model.specs.declared.events.StepError.TheVariants.{Failed}
 use Rattle.tree_model.specs.declared.trees.TreeEntry.{TreeEntry}
 use Rattle.tree_model.specs.Nodes.{AtLeaf, AtRoot, Below, DataAnswer, Effect, Heard, Node, Place, Role, entries_written, fails_in, is_listed, no_effect, place_of}
 use Rattle.tree_model.specs.Memory.{of_ticket}
-use Rattle.tree_model.specs.Standings.{CoordinatorView, case_of_child, coordinator_view}
+use Rattle.tree_model.specs.Standings.{CoordinatorView, case_of_child, coordinator_view, found_below}
 use Rattle.tree_model.specs.CoordinatorRows.{on_ack, prepared_ask}
 use Rattle.tree_model.specs.Reactions.{Does, Reacts, Refused, ack_for, acts, ask_by, hears, is_early_ack, is_passed_over, is_prepared_case, is_prepared_standing, passes_at, reacts, row_effect, seat_of}
 use Rattle.tree_model.specs.Restarts.{restart_effect, trim_effect}
@@ -48,6 +48,7 @@ use Rattle.core_law.proofs.worlds.Fitting.{runs_fit}
 use Rattle.core_law.specs.worlds.Worlds.{DeviceFails, MovesNode, RestartFails, TrimFails, WorldState}
 use Rattle.core_law.specs.worlds.Ties.{FollowsBy, GoesOnBy}
 use Rattle.core_law.proofs.worlds.Steps.{HidesFaults, in_full, listed_at, made_at, move_goes_on, move_with, world_after}
+use Rattle.tree_model.specs.declared.messages.Finding.{Finding}
 
 -- Nothing is sent in a move in which a device fails.
 
@@ -110,34 +111,34 @@ module _ (me p : ProcessId) (tree : List TreeEntry) (n : Node) (a : DataAnswer) 
     pub prepared : (view own).standing ≡ standing.Prepared
     pub unwritten : e.written ≡ []
 
-  ack_quiet : (t : Ticket) (o : Outcome) (c : Option Case) → is_prepared_case place n c ≡ true
-      → Quiet (ack_for this_version place (Some p) n t o c)
-  ack_quiet t o None h = absurd (cc)
-  ack_quiet t o (Some c) h = record {
+  ack_quiet : (t : Ticket) (o : Outcome) (fs : List Finding) (c : Option Case) → is_prepared_case place n c ≡ true
+      → Quiet (ack_for this_version place (Some p) n t o fs c)
+  ack_quiet t o fs None h = absurd (cc)
+  ack_quiet t o fs (Some c) h = record {
     own = c;
     prepared = prepared_is (view c).standing h;
     unwritten =
-        ap (λ st. (row_effect c (on_ack this_version (seat_of place (Some p) c) t o (view c) st)).written)
+        ap (λ st. (row_effect c (on_ack this_version (seat_of place (Some p) c) t o (found_below place n c o fs) (view c) st)).written)
         (prepared_is (view c).standing h)
         ∙ by_outcome o;
   }
     where
       by_outcome : (o : Outcome)
-          → (row_effect c (on_ack this_version (seat_of place (Some p) c) t o (view c) standing.Prepared)).written
+          → (row_effect c (on_ack this_version (seat_of place (Some p) c) t o (found_below place n c o fs) (view c) standing.Prepared)).written
           ≡ []
       by_outcome Committed = refl
       by_outcome Aborted = refl
 
-  ticket_quiet : (x : Txn) (t : Option Ticket) (o : Outcome)
+  ticket_quiet : (x : Txn) (t : Option Ticket) (o : Outcome) (fs : List Finding)
       → of_ticket t false (λ t. is_prepared_case place n (case_of_child place n x t)) ≡ true
       → Quiet (of_ticket t no_effect
-      (λ t. ack_for this_version place (Some p) n t o (case_of_child place n x t)))
-  ticket_quiet x None o h = absurd (cc)
-  ticket_quiet x (Some t) o h = ack_quiet t o (case_of_child place n x t) h
+      (λ t. ack_for this_version place (Some p) n t o fs (case_of_child place n x t)))
+  ticket_quiet x None o fs h = absurd (cc)
+  ticket_quiet x (Some t) o fs h = ack_quiet t o fs (case_of_child place n x t) h
 
   message_quiet : (m : Message) → is_early_ack place n m ≡ true
       → Quiet (hears (Below p) this_version place n a m)
-  message_quiet (Ack d o) h = ticket_quiet d.txn d.ticket o h
+  message_quiet (Ack d o fs) h = ticket_quiet d.txn d.ticket o fs h
   message_quiet (Join d) h = absurd (cc)
   message_quiet (Joined d t) h = absurd (cc)
   message_quiet (Work d j op) h = absurd (cc)

@@ -99,7 +99,7 @@ module _ (me : ProcessId) (boot : ℕ) (c : Case) where
   kept_hears m a (No d) old = old
   kept_hears m a (Read d) old = old
   kept_hears m a (Commit d) old = old
-  kept_hears m a (Ack d o) old = old
+  kept_hears m a (Ack d o fs) old = old
   kept_hears m a (Inquire d) old = old
 
   kept_heard : (m : Memory) (a : DataAnswer) (i : Input) → Kept c m

@@ -10,7 +10,7 @@ use Rattle.tree_model.specs.declared.records.Branch.{Branch}
 use Rattle.tree_model.specs.declared.records.Branch.TheVariants.{Case as CaseBranch, Foreign}
 use Rattle.tree_model.specs.declared.records.LogRecord.{LogRecord}
 use Rattle.tree_model.specs.declared.records.Record.{Record}
-use Rattle.tree_model.specs.declared.records.Record.TheVariants.{Opened, Collecting, Prepare, Commit, Abort, End, Prepared, Committed, RolledBack, Direct, HeurCommit, HeurRollback, Told, Forgot, Base, Pair}
+use Rattle.tree_model.specs.declared.records.Record.TheVariants.{Opened, Collecting, Prepare, Commit, Abort, End, Prepared, Committed, RolledBack, Direct, HeurCommit, HeurRollback, Told, Forgot, Base, Pair, Cleared}
 use Rattle.tree_model.specs.declared.records.Write.{Write}
 use Rattle.tree_model.specs.LogNames.{foreign_to, is_own, name_by, name_xid, own_by, own_records, parent_of, renamed, same_parent}
 use Rattle.tree_model.specs.NameLaws.{same_case-refl, same_case_tells, same_process_tells}
@@ -259,7 +259,8 @@ module _ (place : Place) (s : ProcessId) (role : place.role
   record_read (Prepare d ts) q h = absurd h.1
   record_read (Commit d ts) q h = absurd h.1
   record_read (Abort d ts) q h = absurd h.1
-  record_read (End d) q h = absurd h.1
+  record_read (End d rep) q h = absurd h.1
+  record_read (Cleared d) q h = absurd h.1
 
   -- Whole logs.
 

@@ -1,5 +1,5 @@
 -- What a log says of a coordinator's own case, by its whole name and as the process reads it.
-use Rattle.std.proofs.Common.{◌≡◌, Bool, true, false, not, ◌&&◌, ◌||◌, if◌then◌else◌, List, [], ◌∷◌, ◌++◌, Option, fold, refl, sym, ap, subst, ◌∙◌}
+use Rattle.std.proofs.Common.{◌≡◌, Bool, true, false, not, ◌&&◌, ◌||◌, if◌then◌else◌, List, [], ◌∷◌, ◌++◌, Option, fold, refl, sym, ap, subst, ◌∙◌, Some, None}
 use Rattle.std.proofs.lemmas.List.Folds.{list_any-append}
 use Rattle.std.specs.List.{AllByRecursion}
 use Rattle.xa_xid.specs.declared.xid.Xid.{Xid}
@@ -10,7 +10,7 @@ use Rattle.tree_model.specs.declared.names.Ticket.{Ticket}
 use Rattle.tree_model.specs.declared.records.Branch.TheVariants.{Case as CaseBranch}
 use Rattle.tree_model.specs.declared.records.LogRecord.{LogRecord}
 use Rattle.tree_model.specs.declared.records.Record.{Record}
-use Rattle.tree_model.specs.declared.records.Record.TheVariants.{Opened, Collecting, Prepare, Commit, Abort, End, Prepared, Committed, RolledBack, Direct, HeurCommit, HeurRollback, Told, Forgot, Base, Pair}
+use Rattle.tree_model.specs.declared.records.Record.TheVariants.{Opened, Collecting, Prepare, Commit, Abort, End, Prepared, Committed, RolledBack, Direct, HeurCommit, HeurRollback, Told, Forgot, Base, Pair, Cleared}
 use Rattle.tree_model.specs.LogNames.{foreign_to, is_own, name_xid, own_by, own_records}
 use Rattle.tree_model.specs.Names.{same_case}
 use Rattle.tree_model.specs.Nodes.{AtLeaf, AtRoot, Below, Place, Role, IsCoordinator}
@@ -139,7 +139,7 @@ says_abort c d ts t e = record {
   of_case = λ is. tt;
 }
 
-says_end : (c d : Case) (t : Bool) → t ≡ same_case d c → RecordSays c t (End d) (End d ∷ [])
+says_end : (c d : Case) (t : Bool) → t ≡ same_case d c → RecordSays c t (End d None) (End d None ∷ [])
 unfolding has none_of
 says_end c d t e = record {
   ended = yes t (same_case d c) e;
@@ -188,7 +188,9 @@ module _ (place : Place) (p : Option ProcessId) (c : Case) (coordinates : IsCoor
           (is_own place q d) refl
       by_entry (Commit d ts) q h = by_own q d (Commit d ts) h.0 (says_commit c d ts _) (is_own place q d) refl
       by_entry (Abort d ts) q h = by_own q d (Abort d ts) h.0 (says_abort c d ts _) (is_own place q d) refl
-      by_entry (End d) q h = by_own q d (End d) h (says_end c d _) (is_own place q d) refl
+      by_entry (End d None) q h = by_own q d (End d None) h (says_end c d _) (is_own place q d) refl
+      by_entry (End d (Some r)) q h = absurd h.1
+      by_entry (Cleared d) q h = absurd h.1
       by_entry (Prepared b ws) q h = absurd h.1
       by_entry (Committed b) q h = absurd h.1
       by_entry (RolledBack b) q h = absurd h.1

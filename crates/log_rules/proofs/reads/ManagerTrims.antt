@@ -8,7 +8,7 @@ use Rattle.tree_model.specs.declared.records.Branch.{Branch}
 use Rattle.tree_model.specs.declared.records.Branch.TheVariants.{Case as CaseBranch, Foreign}
 use Rattle.tree_model.specs.declared.records.LogRecord.{LogRecord}
 use Rattle.tree_model.specs.declared.records.Record.{Record}
-use Rattle.tree_model.specs.declared.records.Record.TheVariants.{Opened, Collecting, Prepare, Commit, Abort, End, Prepared, Committed, RolledBack, Direct, HeurCommit, HeurRollback, Told, Forgot, Base, Pair}
+use Rattle.tree_model.specs.declared.records.Record.TheVariants.{Opened, Collecting, Prepare, Commit, Abort, End, Prepared, Committed, RolledBack, Direct, HeurCommit, HeurRollback, Told, Forgot, Base, Pair, Cleared}
 use Rattle.tree_model.specs.LogNames.{name_by, name_xid, own_by, own_records, renamed}
 use Rattle.tree_model.specs.Nodes.{AtLeaf, Place, Role}
 use Rattle.tree_model.specs.Records.{boot_after, boot_of, branch_case, is_opened, record_branch, record_case}
@@ -128,7 +128,8 @@ module _ (place : Place) (s : ProcessId) (role : place.role
   record_stays (Prepare d ts) q rest k h behind = absurd k.1
   record_stays (Commit d ts) q rest k h behind = absurd k.1
   record_stays (Abort d ts) q rest k h behind = absurd k.1
-  record_stays (End d) q rest k h behind = absurd k.1
+  record_stays (End d rep) q rest k h behind = absurd k.1
+  record_stays (Cleared d) q rest k h behind = absurd k.1
 
   pub staying_alike : (rest : List LogRecord) → AllByRecursion (IsSound Manager) rest
       → own_records place (staying ls rest) ≡ model_staying place.role read (own_records place rest)
@@ -165,7 +166,8 @@ module _ (place : Place) (s : ProcessId) (role : place.role ≡ AtLeaf s) where
   boot_read (Prepare d ts) q k = absurd k.1
   boot_read (Commit d ts) q k = absurd k.1
   boot_read (Abort d ts) q k = absurd k.1
-  boot_read (End d) q k = absurd k.1
+  boot_read (End d rep) q k = absurd k.1
+  boot_read (Cleared d) q k = absurd k.1
 
   boots_read : (ls : List LogRecord) → AllByRecursion (IsSound Manager) ls
       → AllByRecursion (ReadsBoot place) ls

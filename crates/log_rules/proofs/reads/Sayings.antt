@@ -1,7 +1,7 @@
 -- What the records of a coordinator's case say of it, in any order of the tests.
 use Rattle.std.proofs.Common.{◌≡◌, Bool, true, false, not, ◌||◌, cond, if◌then◌else◌, refl}
 use Rattle.tree_model.specs.declared.records.Record.{Record}
-use Rattle.tree_model.specs.declared.records.Record.TheVariants.{Opened, Collecting, Prepare, Commit, Abort, End, Prepared, Committed, RolledBack, Direct, HeurCommit, HeurRollback, Told, Forgot, Base, Pair}
+use Rattle.tree_model.specs.declared.records.Record.TheVariants.{Opened, Collecting, Prepare, Commit, Abort, End, Prepared, Committed, RolledBack, Direct, HeurCommit, HeurRollback, Told, Forgot, Base, Pair, Cleared}
 use Rattle.tree_model.specs.declared.standings.Standing.TheVariants.{Unknown}
 use Rattle.tree_model.specs.Records.{none_of}
 use Rattle.tree_model.specs.Restarts.{is_known}
@@ -22,7 +22,7 @@ behind Nothing e o d b =
 
 -- the tests of one record, whatever its case
 abbrev pub ends : Record → Bool
-ends (End c) = true
+ends (End c rep) = true
 ends _ = false
 
 abbrev pub owes : Record → Bool
@@ -46,7 +46,7 @@ IsOfCase (Collecting c ts) = Unit {0}
 IsOfCase (Prepare c ts) = Unit {0}
 IsOfCase (Commit c ts) = Unit {0}
 IsOfCase (Abort c ts) = Unit {0}
-IsOfCase (End c) = Unit {0}
+IsOfCase (End c rep) = Unit {0}
 IsOfCase _ = ⊥
 
 decided_one : (s : Said) (n e o d b : Bool)
@@ -91,11 +91,12 @@ said_one Owes (Abort c ts) e o d b h = refl
 said_one Settled (Abort c ts) e o d b h = decided_one Settled (none_of ts) e o d b
 said_one Waits (Abort c ts) e o d b h = decided_waits (none_of ts) e o d b
 said_one Nothing (Abort c ts) e o d b h = decided_nothing (none_of ts) e o d b
-said_one Over (End c) e o d b h = refl
-said_one Owes (End c) e o d b h = refl
-said_one Settled (End c) e o d b h = refl
-said_one Waits (End c) e o d b h = refl
-said_one Nothing (End c) e o d b h = refl
+said_one Over (End c rep) e o d b h = refl
+said_one Owes (End c rep) e o d b h = refl
+said_one Settled (End c rep) e o d b h = refl
+said_one Waits (End c rep) e o d b h = refl
+said_one Nothing (End c rep) e o d b h = refl
+said_one s (Cleared c) e o d b h = absurd h
 said_one s (Opened n) e o d b h = absurd h
 said_one s (Prepared c ts) e o d b h = absurd h
 said_one s (Committed c) e o d b h = absurd h

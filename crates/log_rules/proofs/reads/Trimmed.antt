@@ -1,5 +1,5 @@
 -- What a coordinator reads of its log once it was trimmed.
-use Rattle.std.proofs.Common.{◌≡◌, Bool, true, false, not, ◌&&◌, ◌||◌, if◌then◌else◌, ℕ, List, [], ◌∷◌, ◌++◌, Option, Some, fold, refl, sym, ap, ◌∙◌, arith, append-nil}
+use Rattle.std.proofs.Common.{◌≡◌, Bool, true, false, not, ◌&&◌, ◌||◌, if◌then◌else◌, ℕ, List, [], ◌∷◌, ◌++◌, Option, Some, fold, refl, sym, ap, ◌∙◌, arith, append-nil, None}
 use Rattle.std.proofs.lemmas.Grind.{common_steps}
 use Rattle.std.specs.List.{AllByRecursion, list_any}
 use Rattle.xa_xid.specs.declared.xid.Xid.{Xid}
@@ -12,7 +12,7 @@ use Rattle.tree_model.specs.declared.names.Ticket.{Ticket}
 use Rattle.tree_model.specs.declared.records.Branch.TheVariants.{Case as CaseBranch}
 use Rattle.tree_model.specs.declared.records.LogRecord.{LogRecord}
 use Rattle.tree_model.specs.declared.records.Record.{Record}
-use Rattle.tree_model.specs.declared.records.Record.TheVariants.{Opened, Collecting, Prepare, Commit, Abort, End, Prepared, Committed, RolledBack, Direct, HeurCommit, HeurRollback, Told, Forgot, Base, Pair}
+use Rattle.tree_model.specs.declared.records.Record.TheVariants.{Opened, Collecting, Prepare, Commit, Abort, End, Prepared, Committed, RolledBack, Direct, HeurCommit, HeurRollback, Told, Forgot, Base, Pair, Cleared}
 use Rattle.tree_model.specs.declared.standings.Standing.{Standing}
 use Rattle.tree_model.specs.declared.standings.Standing.TheVariants.{Unknown, Active, Collecting as CollectingStanding, Prepared as PreparedStanding, Committing, Aborting, Heuristic}
 use Rattle.tree_model.specs.LogNames.{foreign_to, is_own, name_xid, own_by, own_records}
@@ -73,7 +73,8 @@ owed_decides c (Abort d ts) h = by_case (same_case d c) refl h
 owed_decides c (Opened n) h = h
 owed_decides c (Collecting d ts) h = h
 owed_decides c (Prepare d ts) h = h
-owed_decides c (End d) h = h
+owed_decides c (End d rep) h = h
+owed_decides c (Cleared d) h = h
 owed_decides c (Prepared b ws) h = h
 owed_decides c (Committed b) h = h
 owed_decides c (RolledBack b) h = h
@@ -167,7 +168,8 @@ none_prepared x (l ∷ ls) h = ap (λ b. b || list_any (prepares x) ls) (not_pre
         by_entry (Prepare d ts) q h = and_false _
         by_entry (Commit d ts) q h = and_false _
         by_entry (Abort d ts) q h = and_false _
-        by_entry (End d) q h = and_false _
+        by_entry (End d rep) q h = and_false _
+        by_entry (Cleared d) q h = and_false _
         by_entry (Prepared b ws) q h = absurd h.1
         by_entry (Committed b) q h = absurd h.1
         by_entry (RolledBack b) q h = absurd h.1
@@ -281,8 +283,10 @@ module _ (place : Place) (ls : List LogRecord) (coordinates : IsCoordinator plac
       behind (is_own place q d) refl
   record_stays (Abort d ts) q rest s h behind = case_stays_alike q d (Abort d ts) rest refl refl s.0 h behind
       (is_own place q d) refl
-  record_stays (End d) q rest s h behind = case_stays_alike q d (End d) rest refl refl s h behind (is_own
-      place q d) refl
+  record_stays (End d None) q rest s h behind = case_stays_alike q d (End d None) rest refl refl s h behind
+      (is_own place q d) refl
+  record_stays (End d (Some r)) q rest s h behind = absurd s.1
+  record_stays (Cleared d) q rest s h behind = absurd s.1
   record_stays (Prepared b ws) q rest s h behind = absurd s.1
   record_stays (Committed b) q rest s h behind = absurd s.1
   record_stays (RolledBack b) q rest s h behind = absurd s.1
@@ -324,7 +328,8 @@ boot_read place (Collecting d ts) q c s = case_boot place q d (Collecting d ts) 
 boot_read place (Prepare d ts) q c s = case_boot place q d (Prepare d ts) c refl refl (λ b. refl)
 boot_read place (Commit d ts) q c s = case_boot place q d (Commit d ts) c refl refl (λ b. refl)
 boot_read place (Abort d ts) q c s = case_boot place q d (Abort d ts) c refl refl (λ b. refl)
-boot_read place (End d) q c s = case_boot place q d (End d) c refl refl (λ b. refl)
+boot_read place (End d rep) q c s = case_boot place q d (End d rep) c refl refl (λ b. refl)
+boot_read place (Cleared d) q c s = case_boot place q d (Cleared d) c refl refl (λ b. refl)
 boot_read place (Prepared k ws) q c s = absurd s.1
 boot_read place (Committed k) q c s = absurd s.1
 boot_read place (RolledBack k) q c s = absurd s.1

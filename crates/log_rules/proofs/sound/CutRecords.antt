@@ -105,7 +105,7 @@ case_cut kind xs p c rest l h w e = by_kind (kind == 6) (length rest == 0)
     (nat_le 2 kind && nat_le kind 5) refl refl refl e
   where
     by_kind : (a b d : Bool) → (kind == 6) ≡ a → (length rest == 0) ≡ b → (nat_le 2 kind && nat_le kind 5) ≡ d
-        → cond a (cond b (Some (named p (End c))) None)
+        → cond a (cond b (Some (named p (End c None))) None)
         (cond d (option_map (λ ts. named p (listing kind c ts)) (tickets_of rest)) None) ≡ Some l
         → IsWrittenAs l kind xs
     by_kind true true d six none r f =

@@ -283,7 +283,7 @@ case_sound : (kind : ℕ) (p : Option ProcessId) (c : Case) (rest : List ℕ) (l
 case_sound kind p c rest l h n e = by_kind (kind == 6) (length rest == 0) (nat_le 2 kind && nat_le kind 5) e
   where
     by_kind : (a b d : Bool)
-        → cond a (cond b (Some (named p (End c))) None)
+        → cond a (cond b (Some (named p (End c None))) None)
         (cond d (option_map (λ ts. named p (listing kind c ts)) (tickets_of rest)) None) ≡ Some l
         → IsSound Coordinator l
     by_kind true true d f = subst (IsSound Coordinator) (some_is _ l f) n

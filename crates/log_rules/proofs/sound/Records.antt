@@ -10,7 +10,7 @@ use Rattle.tree_model.specs.declared.records.Branch.{Branch}
 use Rattle.tree_model.specs.declared.records.Branch.TheVariants.{Case as CaseBranch}
 use Rattle.tree_model.specs.declared.records.LogRecord.{LogRecord}
 use Rattle.tree_model.specs.declared.records.Record.{Record}
-use Rattle.tree_model.specs.declared.records.Record.TheVariants.{Opened, Collecting, Prepare, Commit, Abort, End, Prepared, Committed, RolledBack, Direct, HeurCommit, HeurRollback, Told, Forgot, Base, Pair}
+use Rattle.tree_model.specs.declared.records.Record.TheVariants.{Opened, Collecting, Prepare, Commit, Abort, End, Prepared, Committed, RolledBack, Direct, HeurCommit, HeurRollback, Told, Forgot, Base, Pair, Cleared}
 use Rattle.log_text.specs.Parts.{name_at, value_at}
 use Rattle.log_text.specs.Payloads.{kind_byte, name_text, payload_text, tickets_text, value_text, writes_text}
 use Rattle.log_text.specs.Reading.{below, coordinator_record, listing, manager_record, named, of_branch, of_name, pair_by, pair_of, read_record, writing}
@@ -68,7 +68,9 @@ record_back Coordinator p (Commit c ts) h =
 record_back Coordinator p (Abort c ts) h =
     case_back 5 p (CaseBranch c) (tickets_text ts) _ h.0 refl
     ∙ ap (option_map (λ us. named p (listing 5 c us))) (tickets_back ts h.1)
-record_back Coordinator p (End c) h = case_back 6 p (CaseBranch c) [] _ h (bare_name p (CaseBranch c))
+record_back Coordinator p (End c None) h = case_back 6 p (CaseBranch c) [] _ h (bare_name p (CaseBranch c))
+record_back Coordinator p (End c (Some r)) h = absurd h.1
+record_back Coordinator p (Cleared c) h = absurd h.1
 record_back Manager p (Prepared b ws) h =
     branch_back 17 p b (writes_text ws) _ h.0 refl
     ∙ ap (λ o. option_map (named p) (option_map (writing 17 b) o)) (writes_back ws h.1)
@@ -102,7 +104,8 @@ record_back Manager p (Collecting c ts) h = absurd h.1
 record_back Manager p (Prepare c ts) h = absurd h.1
 record_back Manager p (Commit c ts) h = absurd h.1
 record_back Manager p (Abort c ts) h = absurd h.1
-record_back Manager p (End c) h = absurd h.1
+record_back Manager p (End c rep) h = absurd h.1
+record_back Manager p (Cleared c) h = absurd h.1
 
 pub records_read_back : RecordsReadBack
 records_read_back k l h = record_back k l.parent l.entry h

@@ -14,7 +14,7 @@ use Rattle.tree_model.specs.declared.names.Ticket.{Ticket}
 use Rattle.tree_model.specs.declared.records.Branch.{Branch}
 use Rattle.tree_model.specs.declared.records.Branch.TheVariants.{Case as CaseBranch}
 use Rattle.tree_model.specs.declared.records.Record.{Record}
-use Rattle.tree_model.specs.declared.records.Record.TheVariants.{Opened, Collecting, Prepare, Commit, Abort, End, Prepared, Committed, RolledBack, Direct, HeurCommit, HeurRollback, Told, Forgot, Base, Pair}
+use Rattle.tree_model.specs.declared.records.Record.TheVariants.{Opened, Collecting, Prepare, Commit, Abort, End, Prepared, Committed, RolledBack, Direct, HeurCommit, HeurRollback, Told, Forgot, Base, Pair, Cleared}
 use Rattle.tree_model.specs.declared.records.Write.{Write}
 use Rattle.tree_model.specs.LogNames.{name_xid}
 use Rattle.log_text.specs.Payloads.{IsSized, SizedValue, SizedWrite, key_text, left_text, name_text, outcome_byte, payload_text, ticket_text, tickets_text, value_text, write_text, writes_text}
@@ -109,7 +109,10 @@ sized Manager p (Prepared b ws) h = (omega (arith, h.1.few), sized_writes ws h.1
 sized Manager p (Direct b ws) h = (omega (arith, h.1.few), sized_writes ws h.1.each)
 sized Manager p (Pair k v) h = (omega (arith, h.1.0.short), omega (arith, h.1.1))
 sized k p (Opened n) h = tt
-sized k p (End c) h = tt
+sized k p (End c None) h = tt
+sized Coordinator p (End c (Some r)) h = absurd h.1
+sized Manager p (End c (Some r)) h = absurd h.1
+sized k p (Cleared c) h = tt
 sized k p (Committed b) h = tt
 sized k p (RolledBack b) h = tt
 sized k p (HeurCommit b) h = tt
@@ -145,7 +148,9 @@ short Coordinator p (Commit c ts) h = with_tickets (name_text p (CaseBranch c)) 
     (short_name p (CaseBranch c) h.0) h.1
 short Coordinator p (Abort c ts) h = with_tickets (name_text p (CaseBranch c)) ts
     (short_name p (CaseBranch c) h.0) h.1
-short Coordinator p (End c) h = omega (arith, short_name p (CaseBranch c) h)
+short Coordinator p (End c None) h = omega (arith, short_name p (CaseBranch c) h)
+short Coordinator p (End c (Some r)) h = absurd h.1
+short Coordinator p (Cleared c) h = absurd h.1
 short Manager p (Prepared b ws) h = with_writes (name_text p b) ws (short_name p b h.0) h.1
 short Manager p (Direct b ws) h = with_writes (name_text p b) ws (short_name p b h.0) h.1
 short Manager p (Committed b) h = omega (arith, short_name p b h)
@@ -180,7 +185,8 @@ short Manager p (Collecting c ts) h = absurd h.1
 short Manager p (Prepare c ts) h = absurd h.1
 short Manager p (Commit c ts) h = absurd h.1
 short Manager p (Abort c ts) h = absurd h.1
-short Manager p (End c) h = absurd h.1
+short Manager p (End c rep) h = absurd h.1
+short Manager p (Cleared c) h = absurd h.1
 
 pub records_fit_frames : RecordsFitFrames
 records_fit_frames k l h = record { sized = sized k l.parent l.entry h; short = short k l.parent l.entry h }

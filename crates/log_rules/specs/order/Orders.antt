@@ -8,7 +8,7 @@ use Rattle.tree_model.specs.declared.names.ProcessId.{ProcessId}
 use Rattle.tree_model.specs.declared.records.Branch.TheVariants.{Case as CaseBranch}
 use Rattle.tree_model.specs.declared.records.LogRecord.{LogRecord}
 use Rattle.tree_model.specs.declared.records.Record.{Record}
-use Rattle.tree_model.specs.declared.records.Record.TheVariants.{Opened, Collecting, Prepare, Commit, Abort, End, Prepared, Committed, RolledBack, Direct, HeurCommit, HeurRollback, Told as ToldRecord, Forgot, Base as BaseRecord, Pair as PairRecord}
+use Rattle.tree_model.specs.declared.records.Record.TheVariants.{Opened, Collecting, Prepare, Commit, Abort, End, Prepared, Committed, RolledBack, Direct, HeurCommit, HeurRollback, Told as ToldRecord, Forgot, Base as BaseRecord, Pair as PairRecord, Cleared}
 use Rattle.tree_model.specs.declared.records.Write.{Write}
 use Rattle.tree_model.specs.LogNames.{name_xid}
 use Rattle.tree_model.specs.Records.{same_bytes, is_opened}
@@ -207,7 +207,8 @@ followed s p (Collecting c ts) = ranked s (name_xid p (CaseBranch c)) 1
 followed s p (Prepare c ts) = ranked s (name_xid p (CaseBranch c)) 2
 followed s p (Commit c ts) = ranked s (name_xid p (CaseBranch c)) 3
 followed s p (Abort c ts) = ranked s (name_xid p (CaseBranch c)) 3
-followed s p (End c) = ranked s (name_xid p (CaseBranch c)) 4
+followed s p (End c rep) = ranked s (name_xid p (CaseBranch c)) 4
+followed s p (Cleared c) = None
 followed s p (Prepared b ws) = prepared s (name_xid p b) ws
 followed s p (Committed b) = settled s (name_xid p b)
 followed s p (RolledBack b) = settled s (name_xid p b)

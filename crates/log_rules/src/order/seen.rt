@@ -455,7 +455,8 @@ impl Seen {
             Record::Commit(case, _) | Record::Abort(case, _) => {
                 self.ranked(name_xid(parent, Branch::Case(*case)), 3)
             }
-            Record::End(case) => self.ranked(name_xid(parent, Branch::Case(*case)), 4),
+            Record::End(case, _) => self.ranked(name_xid(parent, Branch::Case(*case)), 4),
+            Record::Cleared(_) => Err(ReadFault::Malformed),
             Record::Committed(branch) | Record::RolledBack(branch) => {
                 self.settled(name_xid(parent, *branch))
             }

@@ -58,7 +58,8 @@ fn log_name(entry: &LogRecord) -> Option<Xid>
         | Record::Prepare(case, _)
         | Record::Commit(case, _)
         | Record::Abort(case, _)
-        | Record::End(case) => Branch::Case(*case),
+        | Record::End(case, _)
+        | Record::Cleared(case) => Branch::Case(*case),
         Record::Prepared(branch, _)
         | Record::Committed(branch)
         | Record::RolledBack(branch)
@@ -102,12 +103,12 @@ impl Said {
             | Record::HeurCommit(_)
             | Record::HeurRollback(_)
             | Record::Told(..) => Said::Waits,
-            Record::End(_)
+            Record::End(..)
             | Record::Committed(_)
             | Record::RolledBack(_)
             | Record::Direct(..)
             | Record::Forgot(_) => Said::Over,
-            Record::Opened(_) | Record::Base(_) | Record::Pair(..) => self,
+            Record::Cleared(_) | Record::Opened(_) | Record::Base(_) | Record::Pair(..) => self,
         }
     }
 

@@ -6,7 +6,7 @@ use Rattle.tree_model.specs.declared.names.Outcome.TheVariants.{Committed as Com
 use Rattle.tree_model.specs.declared.records.Branch.{Branch}
 use Rattle.tree_model.specs.declared.records.Branch.TheVariants.{Case as CaseBranch}
 use Rattle.tree_model.specs.declared.records.Record.{Record}
-use Rattle.tree_model.specs.declared.records.Record.TheVariants.{Opened, Collecting, Prepare, Commit, Abort, End, Prepared, Committed, RolledBack, Direct, HeurCommit, HeurRollback, Told, Forgot, Base, Pair}
+use Rattle.tree_model.specs.declared.records.Record.TheVariants.{Opened, Collecting, Prepare, Commit, Abort, End, Prepared, Committed, RolledBack, Direct, HeurCommit, HeurRollback, Told, Forgot, Base, Pair, Cleared}
 use Rattle.tree_model.specs.declared.records.Write.{Write}
 use Rattle.tree_model.specs.Records.{has, is_branch, is_decided, is_forgot, is_heuristic}
 use Rattle.tree_model.specs.Standings.{Mark, Unmarked, Promised, Decided, ToldOf, Finished, mark_after}
@@ -72,7 +72,8 @@ decides_not d m (Collecting c ts) k e = refl
 decides_not d m (Prepare c ts) k e = refl
 decides_not d m (Commit c ts) k e = refl
 decides_not d m (Abort c ts) k e = refl
-decides_not d m (End c) k e = refl
+decides_not d m (End c rep) k e = refl
+decides_not d m (Cleared c) k e = refl
 decides_not d m (Base n) k e = refl
 decides_not d m (Pair j v) k e = refl
 
@@ -92,7 +93,8 @@ still_past d m (Collecting c ts) k e = k
 still_past d m (Prepare c ts) k e = k
 still_past d m (Commit c ts) k e = k
 still_past d m (Abort c ts) k e = k
-still_past d m (End c) k e = k
+still_past d m (End c rep) k e = k
+still_past d m (Cleared c) k e = k
 still_past d m (Base n) k e = k
 still_past d m (Pair j v) k e = k
 

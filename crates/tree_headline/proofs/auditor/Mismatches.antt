@@ -87,7 +87,7 @@ gives_none x (No d) = refl
 gives_none x (Read d) = refl
 gives_none x (Commit d) = refl
 gives_none x (Abort d) = refl
-gives_none x (Ack d o) = refl
+gives_none x (Ack d o fs) = refl
 gives_none x (Inquire d) = refl
 
 none_given : {A : Type 0} (x : Txn) (net : List Envelope) → sent (gives_case (root_case x)) net ≡ true → A

@@ -51,9 +51,9 @@ module _ (place : Place) (n : Node) (h : Heard) (d : Case) where
   row_forces c _ (repeats_yes j i e) g = absurd (let x = i.is_parent in cc)
   row_forces c _ (asks i e) g = refl
   row_forces c _ (refuses j i e) g = absurd (let x = i.is_parent in cc)
-  row_forces c _ (acknowledges o i e) g = absurd (let x = i.is_parent in cc)
-  row_forces c _ (waits_for_acks t o i e f a) g = refl
-  row_forces c _ (ends t o i e f a) g = refl
+  row_forces c _ (acknowledges o fs i e) g = absurd (let x = i.is_parent in cc)
+  row_forces c _ (waits_for_acks t o fs i e f a) g = refl
+  row_forces c _ (ends t o fs i e f a) g = refl
   row_forces c _ (answers t o i e) g = refl
 
   turn_forces : (e : Effect) → CoordinatorTurn place None n h e → is_any_forced e.written ≡ false

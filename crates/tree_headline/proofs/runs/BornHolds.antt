@@ -43,6 +43,7 @@ use Rattle.tree_headline.proofs.Grows.{sent_still, sent_then}
 use Rattle.tree_headline.proofs.runs.Born.{Known, KnownBy, child_known, given_known, is_join, standing_known}
 use Rattle.tree_headline.proofs.runs.NetsHold.{nets_hold}
 use Rattle.tree_headline.proofs.runs.JoinMessages.{about_it, all_answer_none, all_join, ends, first_case, none_at_all, one_alone, told_answers_none, told_joins_none}
+use Rattle.tree_model.specs.declared.messages.Finding.{Finding}
 
 abbrev JoinsKnown : World → List Envelope → Type 0
 JoinsKnown w ls = (c : Case) → sent (is_join c) ls ≡ true → Known w c
@@ -99,18 +100,18 @@ module _ (tree : List TreeEntry) (es : List Made) (w : World) (run : IsRun tree 
       heard_join d i = joins d (was_sent (is_join d) w.net me h.input i.0 (Join d) stands i.1
           (same_case-refl d))
 
-      quiet_ack : (q : Message → Bool) (d : Case) (o : Outcome)
-          → ((x : Case) (u : Outcome) → q (Ack x u) ≡ false)
-          → sent q (acknowledgement (leaf_of leaf_place p d) o) ≡ false
+      quiet_ack : (q : Message → Bool) (d : Case) (o : Outcome) (fs : List Finding)
+          → ((x : Case) (u : Outcome) → q (Ack x u fs) ≡ false)
+          → sent q (acknowledgement (leaf_of leaf_place p d) o fs) ≡ false
       unfolding sent
-      quiet_ack q d o f = by_test (is_acknowledged d.txn.presumption o)
+      quiet_ack q d o fs f = by_test (is_acknowledged d.txn.presumption o)
         where
           or_none : (a : Bool) → a ≡ false → (a || false) ≡ false
           or_none a e = grind arith
 
           by_test : (b : Bool) → list_any (λ (l : Envelope). q l.message)
-              (if b then record { from = me; to = p; message = Ack d o } ∷ [] else []) ≡ false
-          by_test true = or_none (q (Ack d o)) (f d o)
+              (if b then record { from = me; to = p; message = Ack d o fs } ∷ [] else []) ≡ false
+          by_test true = or_none (q (Ack d o fs)) (f d o)
           by_test false = refl
 
       leaf_answers : (c : Case) (t : Ticket) (e : Effect) → LeafTurn leaf_place p (w.at me) h e
@@ -131,15 +132,15 @@ module _ (tree : List TreeEntry) (es : List Made) (w : World) (run : IsRun tree 
       leaf_answers c t _ (leaf.refuses d k i a) g =
           ends _ (one_alone (is_joined_message c t) _ _ refl g) refl
       leaf_answers c t _ (leaf.obeys d o i e) g = ends _ g
-          (quiet_ack (is_joined_message c t) d o (λ x u. refl))
+          (quiet_ack (is_joined_message c t) d o _ (λ x u. refl))
       leaf_answers c t _ (leaf.notes d o i e) g = ends _ g
-          (quiet_ack (is_joined_message c t) d o (λ x u. refl))
+          (quiet_ack (is_joined_message c t) d o _ (λ x u. refl))
       leaf_answers c t _ (leaf.acknowledges_told d o i e) g =
-          ends _ g (quiet_ack (is_joined_message c t) d o (λ x u. refl))
+          ends _ g (quiet_ack (is_joined_message c t) d o _ (λ x u. refl))
       leaf_answers c t _ (leaf.acknowledges d o i e) g =
-          ends _ g (quiet_ack (is_joined_message c t) d o (λ x u. refl))
+          ends _ g (quiet_ack (is_joined_message c t) d o _ (λ x u. refl))
       leaf_answers c t _ (leaf.drops d i a) g =
-          ends _ g (quiet_ack (is_joined_message c t) d AbortedOutcome (λ x u. refl))
+          ends _ g (quiet_ack (is_joined_message c t) d AbortedOutcome _ (λ x u. refl))
       leaf_answers c t _ (leaf.asks d i k) g = ends _ (one_alone (is_joined_message c t) _ _ refl g) refl
       leaf_answers c t _ (leaf.decides d o i e) g = none_at_all (is_joined_message c t) [] refl g
       leaf_answers c t _ (leaf.forgets d i k) g = none_at_all (is_joined_message c t) [] refl g
@@ -154,11 +155,11 @@ module _ (tree : List TreeEntry) (es : List Made) (w : World) (run : IsRun tree 
       leaf_joins c _ (leaf.votes_no d k i a) g = ends _ (one_alone (is_join c) _ _ refl g) refl
       leaf_joins c _ (leaf.repeats_yes d k i a) g = ends _ (one_alone (is_join c) _ _ refl g) refl
       leaf_joins c _ (leaf.refuses d k i a) g = ends _ (one_alone (is_join c) _ _ refl g) refl
-      leaf_joins c _ (leaf.obeys d o i e) g = ends _ g (quiet_ack (is_join c) d o (λ x u. refl))
-      leaf_joins c _ (leaf.notes d o i e) g = ends _ g (quiet_ack (is_join c) d o (λ x u. refl))
-      leaf_joins c _ (leaf.acknowledges_told d o i e) g = ends _ g (quiet_ack (is_join c) d o (λ x u. refl))
-      leaf_joins c _ (leaf.acknowledges d o i e) g = ends _ g (quiet_ack (is_join c) d o (λ x u. refl))
-      leaf_joins c _ (leaf.drops d i a) g = ends _ g (quiet_ack (is_join c) d AbortedOutcome (λ x u. refl))
+      leaf_joins c _ (leaf.obeys d o i e) g = ends _ g (quiet_ack (is_join c) d o _ (λ x u. refl))
+      leaf_joins c _ (leaf.notes d o i e) g = ends _ g (quiet_ack (is_join c) d o _ (λ x u. refl))
+      leaf_joins c _ (leaf.acknowledges_told d o i e) g = ends _ g (quiet_ack (is_join c) d o _ (λ x u. refl))
+      leaf_joins c _ (leaf.acknowledges d o i e) g = ends _ g (quiet_ack (is_join c) d o _ (λ x u. refl))
+      leaf_joins c _ (leaf.drops d i a) g = ends _ g (quiet_ack (is_join c) d AbortedOutcome _ (λ x u. refl))
       leaf_joins c _ (leaf.asks d i k) g = ends _ (one_alone (is_join c) _ _ refl g) refl
       leaf_joins c _ (leaf.decides d o i e) g = none_at_all (is_join c) [] refl g
       leaf_joins c _ (leaf.forgets d i k) g = none_at_all (is_join c) [] refl g

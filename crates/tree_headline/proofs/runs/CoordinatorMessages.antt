@@ -21,6 +21,7 @@ use Rattle.tree_nodes.proofs.GivenCases.{joined_gives, same_of, sent_other}
 use Rattle.tree_nodes.proofs.PairOf.{is_pair}
 use Rattle.tree_nodes.proofs.Tests.{either}
 use Rattle.tree_headline.proofs.Grows.{sent_still, sent_then}
+use Rattle.tree_model.specs.declared.messages.Finding.{Finding}
 
 module _ (tree : List TreeEntry) (me : ProcessId) (net : List Envelope) where
   -- a message goes where it belongs, and is of a case that was given
@@ -152,8 +153,8 @@ module _ (tree : List TreeEntry) (me : ProcessId) (net : List Envelope) where
       pub up_read : Well (post me p (Read c)) (Read c)
       up_read = record { goes = (own.own, parent); given = λ e f. of_same c e own.given f }
 
-      pub up_ack : (o : Outcome) → Well (post me p (Ack c o)) (Ack c o)
-      up_ack o = record { goes = (own.own, parent); given = λ e f. of_same c e own.given f }
+      pub up_ack : (o : Outcome) (fs : List Finding) → Well (post me p (Ack c o fs)) (Ack c o fs)
+      up_ack o fs = record { goes = (own.own, parent); given = λ e f. of_same c e own.given f }
 
       pub up_inquire : Well (post me p (Inquire c)) (Inquire c)
       up_inquire = record { goes = (own.own, parent); given = λ e f. of_same c e own.given f }

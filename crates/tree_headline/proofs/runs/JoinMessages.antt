@@ -32,7 +32,7 @@ down_joins_none c d (No e) i f = absurd i
 down_joins_none c d (Read e) i f = absurd i
 down_joins_none c d (Commit e) i f = absurd (cc)
 down_joins_none c d (Abort e) i f = absurd (cc)
-down_joins_none c d (Ack e o) i f = absurd i
+down_joins_none c d (Ack e o fs) i f = absurd i
 down_joins_none c d (Inquire e) i f = absurd i
 
 pub up_joins_none : {A : Type 0} → (c : Case) → (d : Case) (m : Message) → IsFromCase d m → is_join c m ≡ true
@@ -46,7 +46,7 @@ up_joins_none c d (No e) i f = absurd (cc)
 up_joins_none c d (Read e) i f = absurd (cc)
 up_joins_none c d (Commit e) i f = absurd i
 up_joins_none c d (Abort e) i f = absurd i
-up_joins_none c d (Ack e o) i f = absurd (cc)
+up_joins_none c d (Ack e o fs) i f = absurd (cc)
 up_joins_none c d (Inquire e) i f = absurd (cc)
 
 pub down_answers_none : {A : Type 0} → (c : Case) (t : Ticket) → (d : Case) (m : Message) → IsForCase d m
@@ -60,7 +60,7 @@ down_answers_none c t d (No e) i f = absurd i
 down_answers_none c t d (Read e) i f = absurd i
 down_answers_none c t d (Commit e) i f = absurd (cc)
 down_answers_none c t d (Abort e) i f = absurd (cc)
-down_answers_none c t d (Ack e o) i f = absurd i
+down_answers_none c t d (Ack e o fs) i f = absurd i
 down_answers_none c t d (Inquire e) i f = absurd i
 
 pub up_answers_none : {A : Type 0} → (c : Case) (t : Ticket) → (d : Case) (m : Message) → IsFromCase d m
@@ -74,7 +74,7 @@ up_answers_none c t d (No e) i f = absurd (cc)
 up_answers_none c t d (Read e) i f = absurd (cc)
 up_answers_none c t d (Commit e) i f = absurd i
 up_answers_none c t d (Abort e) i f = absurd i
-up_answers_none c t d (Ack e o) i f = absurd (cc)
+up_answers_none c t d (Ack e o fs) i f = absurd (cc)
 up_answers_none c t d (Inquire e) i f = absurd (cc)
 
 pub joins_own : (c : Case) (s : Seat) (l : Envelope) → Sends s l → is_join c l.message ≡ true → s.own ≡ c
@@ -144,7 +144,7 @@ about_it c (Joined d t) i = absurd i
 about_it c (Yes d) i = absurd i
 about_it c (No d) i = absurd i
 about_it c (Read d) i = absurd i
-about_it c (Ack d o) i = absurd i
+about_it c (Ack d o fs) i = absurd i
 about_it c (Inquire d) i = absurd i
 
 -- What was sent before, and what is sent now.

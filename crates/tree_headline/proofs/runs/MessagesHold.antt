@@ -48,7 +48,7 @@ none_gives_now x (No d) e = cc
 none_gives_now x (Read d) e = cc
 none_gives_now x (Commit d) e = cc
 none_gives_now x (Abort d) e = cc
-none_gives_now x (Ack d o) e = cc
+none_gives_now x (Ack d o fs) e = cc
 none_gives_now x (Inquire d) e = cc
 
 pub none_gives : (x : Txn) (net : List Envelope)

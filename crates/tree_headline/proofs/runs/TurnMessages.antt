@@ -24,7 +24,7 @@ use Rattle.tree_model.specs.Records.{has, in_list, is_abort, is_collecting, is_c
 use Rattle.tree_model.specs.Nodes.{Version, First, Second, Effect, Heard, Node, Place, AtRoot, is_listed, kept, role_of}
 use Rattle.tree_model.specs.Memory.{Idle, Open, Asked, fresh_memory, memory_of, undecided_of, works_of, yes_of}
 use Rattle.tree_model.specs.Outcomes.{has_accepted, sent}
-use Rattle.tree_model.specs.Standings.{case_of_child, coordinator_standing, coordinator_view, decided_outcome, still_owed, view_at}
+use Rattle.tree_model.specs.Standings.{case_of_child, coordinator_standing, coordinator_view, decided_outcome, still_owed, view_at, found_below}
 use Rattle.tree_model.specs.CoordinatorRows.{Reason, ByVote, ByAct, ByAbort, Row, abort_heard_above, acknowledges_abort, acknowledges_at_last, acknowledges_at_once, each, post, posted_up, tells_outcome}
 use Rattle.tree_model.specs.Reactions.{seat_of}
 use Rattle.tree_model.specs.Restarts.{coordinator_reopens, coordinator_resumes, left_of, recorded_view, resumes_by}
@@ -51,6 +51,7 @@ use Rattle.tree_headline.proofs.ManagerMessages.{goes_at}
 use Rattle.tree_headline.proofs.runs.CoordinatorMessages as coordinators
 use Rattle.tree_headline.proofs.runs.CoordinatorMessages.{AllWell, Mine, Own, Well}
 use Rattle.tree_headline.proofs.runs.TreeChildren.{found_child, is_child_role, nobody_listed, promised_kept}
+use Rattle.tree_model.specs.declared.messages.Finding.{Finding}
 
 module _ (me : ProcessId) (parent : Option ProcessId) (tree : List TreeEntry) (n : Node) (net : List Envelope)
     (role : role_of tree me ≡ role_below parent) (listed : is_listed tree me ≡ true)
@@ -200,10 +201,10 @@ module _ (me : ProcessId) (parent : Option ProcessId) (tree : List TreeEntry) (n
       read_up f = up_well parent (Read c)
           (λ p e. coordinators.up_read tree me net goes p (child_role p e) c (f p e))
 
-      ack_up : (o : Outcome) → ((p : ProcessId) → parent ≡ Some p → Own tree me net goes c)
-          → Sent (posted_up me parent (Ack c o))
-      ack_up o f = up_well parent (Ack c o)
-          (λ p e. coordinators.up_ack tree me net goes p (child_role p e) c (f p e) o)
+      ack_up : (o : Outcome) (fs : List Finding) → ((p : ProcessId) → parent ≡ Some p → Own tree me net goes c)
+          → Sent (posted_up me parent (Ack c o fs))
+      ack_up o fs f = up_well parent (Ack c o fs)
+          (λ p e. coordinators.up_ack tree me net goes p (child_role p e) c (f p e) o fs)
 
       inquire_up : ((p : ProcessId) → parent ≡ Some p → Own tree me net goes c)
           → Sent (posted_up me parent (Inquire c))
@@ -236,13 +237,13 @@ module _ (me : ProcessId) (parent : Option ProcessId) (tree : List TreeEntry) (n
 
       at_once : (ver : Version) (o : Outcome) → (coordinator_view place n c).standing ≡ Prepared
           → Sent (acknowledges_at_once ver (seat_of place parent c) o)
-      at_once First o k = ack_up o (λ p e. own_prepared p e k)
+      at_once First o k = ack_up o [] (λ p e. own_prepared p e k)
       at_once Second o k = tt
 
-      at_last : (ver : Version) (o : Outcome) → Decided o (coordinator_view place n c).standing
-          → Sent (acknowledges_at_last ver (seat_of place parent c) o)
-      at_last First o k = tt
-      at_last Second o k = ack_up o (λ p e. own_decided p e o (coordinator_view place n c).standing refl k)
+      at_last : (ver : Version) (o : Outcome) (fs : List Finding) → Decided o (coordinator_view place n c).standing
+          → Sent (acknowledges_at_last ver (seat_of place parent c) o fs)
+      at_last First o fs k = tt
+      at_last Second o fs k = ack_up o fs (λ p e. own_decided p e o (coordinator_view place n c).standing refl k)
 
       abort_above : (why : Reason) (us : List Ticket)
           → (coordinator_view place n c).standing ≡ Active
@@ -254,7 +255,7 @@ module _ (me : ProcessId) (parent : Option ProcessId) (tree : List TreeEntry) (n
         where
           acknowledged : (q : Presumption) → Sent (acknowledges_abort (seat_of place parent c) q)
           acknowledged PresumeAbort = tt
-          acknowledged PresumeCommit = ack_up AbortedOutcome (λ p e. own_live p e k)
+          acknowledged PresumeCommit = ack_up AbortedOutcome [] (λ p e. own_live p e k)
 
           by_test : (b : Bool)
               → Sent (if b then acknowledges_abort (seat_of place parent c) c.txn.presumption else [])
@@ -268,7 +269,7 @@ module _ (me : ProcessId) (parent : Option ProcessId) (tree : List TreeEntry) (n
       abort_acknowledged : (q : Presumption) → (coordinator_view place n c).standing ≡ Active
           → Sent (acknowledges_abort (seat_of place parent c) q)
       abort_acknowledged PresumeAbort k = tt
-      abort_acknowledged PresumeCommit k = ack_up AbortedOutcome (λ p e. own_live p e (inl k))
+      abort_acknowledged PresumeCommit k = ack_up AbortedOutcome [] (λ p e. own_live p e (inl k))
 
     -- What is delivered.
 
@@ -362,9 +363,9 @@ module _ (me : ProcessId) (parent : Option ProcessId) (tree : List TreeEntry) (n
       turn_sends c _ (repeats_yes k i e) = yes_up up c (λ q g. own_prepared up c q g e)
       turn_sends c _ (asks i e) = inquire_up up c (λ q g. own_prepared up c q g e)
       turn_sends c _ (refuses k i e) = no_up up c (λ q g. asked_own c k i.hears)
-      turn_sends c _ (acknowledges o i e) = ack_up up c o (λ q g. told_own o c i.hears)
-      turn_sends c _ (waits_for_acks t o i e f a) = tt
-      turn_sends c _ (ends t o i e f a) = at_last up c h.version o e
+      turn_sends c _ (acknowledges o fs i e) = ack_up up c o fs (λ q g. told_own o c i.hears)
+      turn_sends c _ (waits_for_acks t o fs i e f a) = tt
+      turn_sends c _ (ends t o fs i e f a) = at_last up c h.version o (found_below place n c o fs) e
       turn_sends c _ (answers t o i e) =
           (coordinators.down_told tree me net goes c t (belongs_is i.txn t c i.belongs) o, tt)
 

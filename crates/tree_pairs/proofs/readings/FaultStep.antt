@@ -159,7 +159,7 @@ manager_fails tree w w' above c t p i n a ws f e pair inv ready made =
     (λ (r : Role). IsReady (manager_view (record { me = t.child; role = r; tree = tree }) k d) n a ws)
     pair.leaf ready in
     let both = failed_as tree w t.child (AtLeaf p) i (Prepare d n) a f e w' pair.leaf made refl in
-    let made' = manager_hears place p k a (Prepare d n) in
+    let made' = manager_hears First place p k a (Prepare d n) in
     let same : made' ≡ leaf_effect (active_prepare_holding (leaf_of place p d) (Holds ws)) = effect_yes
     place p k a d n ws ready' in
     subst (λ (x : World). reading_of tree x above c t ≡ crash.hardens_failed_child

@@ -8,7 +8,7 @@ use Rattle.tree_model.specs.declared.messages.Message.{Message}
 use Rattle.tree_model.specs.declared.messages.Message.TheVariants.{Inquire}
 use Rattle.tree_model.specs.declared.messages.Envelope.{Envelope}
 use Rattle.tree_model.specs.declared.records.Record.{Record}
-use Rattle.tree_model.specs.declared.records.Record.TheVariants.{Opened, Collecting, Prepare, Commit, Abort, End, Prepared, Committed, RolledBack, Direct, HeurCommit, HeurRollback, Told, Forgot, Base, Pair}
+use Rattle.tree_model.specs.declared.records.Record.TheVariants.{Opened, Collecting, Prepare, Commit, Abort, End, Prepared, Committed, RolledBack, Direct, HeurCommit, HeurRollback, Told, Forgot, Base, Pair, Cleared}
 use Rattle.tree_model.specs.declared.records.Branch.TheVariants.{Case as CaseBranch, Foreign}
 use Rattle.tree_model.specs.Names.{same_case}
 use Rattle.tree_model.specs.NameLaws.{names}
@@ -55,7 +55,8 @@ promise_adds cs (Opened n) d e = absurd (cc)
 promise_adds cs (Collecting c ts) d e = absurd (cc)
 promise_adds cs (Commit c ts) d e = absurd (cc)
 promise_adds cs (Abort c ts) d e = absurd (cc)
-promise_adds cs (End c) d e = absurd (cc)
+promise_adds cs (End c r) d e = absurd (cc)
+promise_adds cs (Cleared c) d e = absurd (cc)
 promise_adds cs (Committed b) d e = absurd (cc)
 promise_adds cs (RolledBack b) d e = absurd (cc)
 promise_adds cs (Direct b ws) d e = absurd (cc)

@@ -7,7 +7,7 @@ use Rattle.tree_model.specs.declared.names.Ticket.{Ticket}
 use Rattle.tree_model.specs.declared.messages.Message.{Message}
 use Rattle.tree_model.specs.declared.messages.Message.TheVariants.{Commit, Abort}
 use Rattle.tree_model.specs.declared.records.Record.{Record}
-use Rattle.tree_model.specs.declared.records.Record.TheVariants.{Opened, Collecting, Prepare, Commit as CommitRecord, Abort as AbortRecord, End, Prepared, Committed, RolledBack, Direct, HeurCommit, HeurRollback, Told, Forgot, Base, Pair}
+use Rattle.tree_model.specs.declared.records.Record.TheVariants.{Opened, Collecting, Prepare, Commit as CommitRecord, Abort as AbortRecord, End, Prepared, Committed, RolledBack, Direct, HeurCommit, HeurRollback, Told, Forgot, Base, Pair, Cleared}
 use Rattle.tree_model.specs.declared.standings.Vote.{Vote}
 use Rattle.tree_model.specs.declared.standings.Vote.TheVariants.{Yes as VoteYes}
 use Rattle.tree_model.specs.Memory.{yes_of, voted_so}
@@ -39,7 +39,8 @@ promised_in-naming c t (Opened n) = in_list-none t
 promised_in-naming c t (Collecting d ts) = in_list-none t
 promised_in-naming c t (CommitRecord d ts) = in_list-none t
 promised_in-naming c t (AbortRecord d ts) = in_list-none t
-promised_in-naming c t (End d) = in_list-none t
+promised_in-naming c t (End d r) = in_list-none t
+promised_in-naming c t (Cleared d) = in_list-none t
 promised_in-naming c t (Prepared b ws) = in_list-none t
 promised_in-naming c t (Committed b) = in_list-none t
 promised_in-naming c t (RolledBack b) = in_list-none t

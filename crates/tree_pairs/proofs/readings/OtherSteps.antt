@@ -181,7 +181,7 @@ manager_votes_elsewhere tree w w' above c t p o i n a ws e pair other ready made
     let ready' : IsReady (manager_view place k o) n a ws = subst
     (λ (r : Role). IsReady (manager_view (record { me = t.child; role = r; tree = tree }) k o) n a ws)
     pair.leaf ready in
-    let done = manager_hears place p k a (Prepare o n) in
+    let done = manager_hears First place p k a (Prepare o n) in
     let same : done ≡ leaf_effect (active_prepare_holding (leaf_of place p o) (Holds ws)) = effect_yes
     place p k a o n ws ready' in
     ap (λ (x : World). reading_of tree x above c t) both.1

@@ -28,7 +28,7 @@ use Rattle.tree_pairs.proofs.readings.CoordinatorHalves.{standing-by_records}
 
 pub effect_yes : (place : Place) (p : ProcessId) (k : Node) (a : DataAnswer) (d : Case) (n : ℕ)
     (ws : List Write) → IsReady (manager_view place k d) n a ws
-    → manager_hears place p k a (Prepare d n) ≡ leaf_effect
+    → manager_hears First place p k a (Prepare d n) ≡ leaf_effect
     (active_prepare_holding (leaf_of place p d) (Holds ws))
 effect_yes place p k a d n ws r =
     let v = manager_view place k d in
@@ -48,10 +48,10 @@ manager_votes_yes tree w w' above c t p i n a ws e pair ready made =
     let ready' : IsReady (manager_view place k d) n a ws = subst
     (λ (r : Role). IsReady (manager_view (record { me = t.child; role = r; tree = tree }) k d) n a ws)
     pair.leaf ready in
-    let same : manager_hears place p k a (Prepare d n) ≡ leaf_effect
+    let same : manager_hears First place p k a (Prepare d n) ≡ leaf_effect
     (active_prepare_holding (leaf_of place p d) (Holds ws)) = effect_yes place p k a d n ws ready' in
     ap (λ (x : World). reading_of tree x above c t) both.1
-    ∙ row_yes tree w above c t p pair h (manager_hears place p k a (Prepare d n)) ws
+    ∙ row_yes tree w above c t p pair h (manager_hears First place p k a (Prepare d n)) ws
     (ap (λ (x : Effect). x.written) same) (ap (λ (x : Effect). x.messages) same) both.0 ready'.active
 
 -- The view of a Prepared case names whom its Prepare names.

@@ -27,10 +27,11 @@ use Rattle.tree_model.specs.Names.{root_case, child_case, presumed}
 use Rattle.tree_model.specs.Records.{in_list, none_of}
 use Rattle.tree_model.specs.Nodes.{Version, First, Second, Place, Node, Effect, is_child, is_leaf, role_of}
 use Rattle.tree_model.specs.Memory.{has_child, is_counted, all_voted, yes_of, works_of, memory_of, active_ticket, ticket_of_child}
-use Rattle.tree_model.specs.Standings.{CoordinatorView, unknown_view, coordinator_view, case_of_child}
-use Rattle.tree_model.specs.CoordinatorRows.{Seat, Row, quiet, sends, post, posted_up, plain, up, each, prepares, tells_outcome, active_work, active_commit, active_commit_alone, active_commit_with, acknowledges_abort, active_abort, prepared_ask, abort_heard_above, collecting_abort_by, collecting_abort, Reason, ByVote, ByAct, ByAbort, collecting_read_only, read_only_end, decides, root_commits, collecting_full, collecting_after, prepared_commit_by, prepared_abort_by, unknown_commit_by, decided_ack_by, acknowledges_at_once, acknowledges_at_last, abort_answered, committing_commit, aborting_abort, other_tickets, on_vote, on_ack, on_inquiry, on_joined, on_prepare, on_commit, on_abort}
+use Rattle.tree_model.specs.Standings.{CoordinatorView, unknown_view, coordinator_view, case_of_child, unknown_findings, found_below}
+use Rattle.tree_model.specs.CoordinatorRows.{Seat, Row, quiet, sends, post, posted_up, plain, up, each, prepares, tells_outcome, active_work, active_commit, active_commit_alone, active_commit_with, acknowledges_abort, active_abort, prepared_ask, abort_heard_above, collecting_abort_by, collecting_abort, Reason, ByVote, ByAct, ByAbort, collecting_read_only, read_only_end, decides, root_commits, collecting_full, collecting_after, prepared_commit_by, prepared_abort_by, unknown_commit_by, decided_ack_by, acknowledges_at_once, acknowledges_at_last, abort_answered, committing_commit, aborting_abort, other_tickets, on_vote, on_ack, on_inquiry, on_joined, on_prepare, on_commit, on_abort, ends_with, unknown_abort_by, end_reports}
 use Rattle.tree_model.specs.Reactions.{Reacts, Refused, Does, row_effect, seat_of, coordinator_acts, begins_at, join_by, work_by, work_for, commit_by, abort_by, ask_by, live_by, vote_for, ack_for, inquiry_for, hears_from_child, cascaded_hears, joins_with, child_says}
 use Rattle.tree_pairs.specs.turns.Written.{AtMostOne, wrote_none, wrote_one, IsForCase, IsFromCase, down, upward, invites, AllSent, is_active, is_next, Writes, writes_nothing, for_act, for_child, for_parent, presumes, gives}
+use Rattle.tree_model.specs.declared.messages.Finding.{Finding}
 
 -- Messages.
 
@@ -71,7 +72,7 @@ module _ (s : Seat) where
 
   abort_up : (p : Presumption) → Sent (acknowledges_abort s p)
   abort_up PresumeAbort = tt
-  abort_up PresumeCommit = sent_up (Ack s.own AbortedOutcome) refl
+  abort_up PresumeCommit = sent_up (Ack s.own AbortedOutcome []) refl
 
   none_or : (b : Bool) (ls : List Envelope) → Sent ls → Sent (if b then ls else [])
   none_or true ls f = f
@@ -87,12 +88,12 @@ module _ (s : Seat) where
   heard_above (ByAbort x) us = answered x us
 
   at_once : (x : Version) (o : Outcome) → Sent (acknowledges_at_once x s o)
-  at_once First o = sent_up (Ack s.own o) refl
+  at_once First o = sent_up (Ack s.own o []) refl
   at_once Second o = tt
 
-  at_last : (x : Version) (o : Outcome) → Sent (acknowledges_at_last x s o)
-  at_last First o = tt
-  at_last Second o = sent_up (Ack s.own o) refl
+  at_last : (x : Version) (o : Outcome) (fs : List Finding) → Sent (acknowledges_at_last x s o fs)
+  at_last First o fs = tt
+  at_last Second o fs = sent_up (Ack s.own o fs) refl
 
   -- Rows.
 
@@ -135,7 +136,7 @@ module _ (s : Seat) where
 
   reads_only : (p : Presumption) → AtMostOne s.own (read_only_end s p)
   reads_only PresumeAbort = wrote_none
-  reads_only PresumeCommit = wrote_one (EndRecord s.own) false refl refl
+  reads_only PresumeCommit = wrote_one (EndRecord s.own None) false refl refl
 
   roots : (v : CoordinatorView) (ys : List Ticket) (p : Presumption) → One (root_commits s v ys p)
   roots v ys PresumeAbort = (wrote_one (CommitRecord s.own ys) true refl refl, commits_down ys)
@@ -190,42 +191,43 @@ module _ (s : Seat) where
         (at_once x AbortedOutcome) (aborts_down v.promised),
   )
 
-  ends_by : (x : Version) (o : Outcome) (left : List Ticket) (v : CoordinatorView) (b : Bool)
+  ends_by : (x : Version) (o : Outcome) (left : List Ticket) (fs : List Finding) (v : CoordinatorView) (b : Bool)
       → One (if b
       then record {
-        written = plain (EndRecord s.own);
+        written = ends_with x s fs;
         told = None;
-        messages = acknowledges_at_last x s o;
+        messages = acknowledges_at_last x s o fs;
         accepts = [];
         counts =
             [];
         view = unknown_view;
       }
       else quiet (record v { owed = left }))
-  ends_by x o left v true = (wrote_one (EndRecord s.own) false refl refl, at_last x o)
-  ends_by x o left v false = (wrote_none, tt)
+  ends_by x o left fs v true =
+      (wrote_one (EndRecord s.own (end_reports x s.parent fs)) _ refl refl, at_last x o fs)
+  ends_by x o left fs v false = (wrote_none, tt)
 
-  acked_by : (x : Version) (o : Outcome) (t : Ticket) (v : CoordinatorView) (b : Bool)
-      → One (if b then decided_ack_by x s o (other_tickets t v.owed) v else quiet v)
-  acked_by x o t v true = ends_by x o (other_tickets t v.owed) v (none_of (other_tickets t v.owed))
-  acked_by x o t v false = (wrote_none, tt)
+  acked_by : (x : Version) (o : Outcome) (t : Ticket) (fs : List Finding) (v : CoordinatorView) (b : Bool)
+      → One (if b then decided_ack_by x s o (other_tickets t v.owed) fs v else quiet v)
+  acked_by x o t fs v true = ends_by x o (other_tickets t v.owed) fs v (none_of (other_tickets t v.owed))
+  acked_by x o t fs v false = (wrote_none, tt)
 
-  acked : (x : Version) (t : Ticket) (o : Outcome) (v : CoordinatorView) (st : Standing)
-      → One (on_ack x s t o v st)
-  acked x t CommittedOutcome v Committing = acked_by x CommittedOutcome t v (in_list v.owed t)
-  acked x t AbortedOutcome v Aborting = acked_by x AbortedOutcome t v (in_list v.owed t)
-  acked x t CommittedOutcome v Unknown = (wrote_none, tt)
-  acked x t CommittedOutcome v Active = (wrote_none, tt)
-  acked x t CommittedOutcome v Collecting = (wrote_none, tt)
-  acked x t CommittedOutcome v Prepared = (wrote_none, tt)
-  acked x t CommittedOutcome v Aborting = (wrote_none, tt)
-  acked x t CommittedOutcome v Heuristic = (wrote_none, tt)
-  acked x t AbortedOutcome v Unknown = (wrote_none, tt)
-  acked x t AbortedOutcome v Active = (wrote_none, tt)
-  acked x t AbortedOutcome v Collecting = (wrote_none, tt)
-  acked x t AbortedOutcome v Prepared = (wrote_none, tt)
-  acked x t AbortedOutcome v Committing = (wrote_none, tt)
-  acked x t AbortedOutcome v Heuristic = (wrote_none, tt)
+  acked : (x : Version) (t : Ticket) (o : Outcome) (fs : List Finding) (v : CoordinatorView) (st : Standing)
+      → One (on_ack x s t o fs v st)
+  acked x t CommittedOutcome fs v Committing = acked_by x CommittedOutcome t fs v (in_list v.owed t)
+  acked x t AbortedOutcome fs v Aborting = acked_by x AbortedOutcome t fs v (in_list v.owed t)
+  acked x t CommittedOutcome fs v Unknown = (wrote_none, tt)
+  acked x t CommittedOutcome fs v Active = (wrote_none, tt)
+  acked x t CommittedOutcome fs v Collecting = (wrote_none, tt)
+  acked x t CommittedOutcome fs v Prepared = (wrote_none, tt)
+  acked x t CommittedOutcome fs v Aborting = (wrote_none, tt)
+  acked x t CommittedOutcome fs v Heuristic = (wrote_none, tt)
+  acked x t AbortedOutcome fs v Unknown = (wrote_none, tt)
+  acked x t AbortedOutcome fs v Active = (wrote_none, tt)
+  acked x t AbortedOutcome fs v Collecting = (wrote_none, tt)
+  acked x t AbortedOutcome fs v Prepared = (wrote_none, tt)
+  acked x t AbortedOutcome fs v Committing = (wrote_none, tt)
+  acked x t AbortedOutcome fs v Heuristic = (wrote_none, tt)
 
   on_prepares : (v : CoordinatorView) (st : Standing) → One (on_prepare s v st)
   on_prepares v Active = committed v
@@ -236,20 +238,26 @@ module _ (s : Seat) where
   on_prepares v Aborting = (wrote_none, sent_up (No s.own) refl)
   on_prepares v Heuristic = (wrote_none, tt)
 
-  unknown_commits : (v : CoordinatorView) (p : Presumption) → One (unknown_commit_by s v p)
-  unknown_commits v PresumeAbort = (wrote_none, sent_up (Ack s.own CommittedOutcome) refl)
-  unknown_commits v PresumeCommit = (wrote_none, tt)
+  unknown_commits : (x : Version) (v : CoordinatorView) (p : Presumption) → One (unknown_commit_by x s v p)
+  unknown_commits x v PresumeAbort =
+      (wrote_none, sent_up (Ack s.own CommittedOutcome (unknown_findings x s.own)) refl)
+  unknown_commits x v PresumeCommit = (wrote_none, tt)
+
+  unknown_aborts : (x : Version) (v : CoordinatorView) (p : Presumption) → One (unknown_abort_by x s v p)
+  unknown_aborts x v PresumeAbort = (wrote_none, tt)
+  unknown_aborts x v PresumeCommit =
+      (wrote_none, sent_up (Ack s.own AbortedOutcome (unknown_findings x s.own)) refl)
 
   again : (x : Version) (v : CoordinatorView) → One (committing_commit x s v) × One (aborting_abort x s v)
   again First v = (
-    (wrote_none, sent_up (Ack s.own CommittedOutcome) refl),
-    (wrote_none, sent_up (Ack s.own AbortedOutcome) refl),
+    (wrote_none, sent_up (Ack s.own CommittedOutcome []) refl),
+    (wrote_none, sent_up (Ack s.own AbortedOutcome []) refl),
   )
   again Second v = ((wrote_none, tt), (wrote_none, tt))
 
   on_commits : (x : Version) (v : CoordinatorView) (st : Standing) → One (on_commit x s v st)
   on_commits x v Prepared = passes_commit x v s.own.txn.presumption
-  on_commits x v Unknown = unknown_commits v s.own.txn.presumption
+  on_commits x v Unknown = unknown_commits x v s.own.txn.presumption
   on_commits x v Committing = (again x v).0
   on_commits x v Active = (wrote_none, tt)
   on_commits x v Collecting = (wrote_none, tt)
@@ -261,7 +269,7 @@ module _ (s : Seat) where
   on_aborts x v Collecting = aborted (ByAbort x) v
   on_aborts x v Prepared = passes_abort x v s.own.txn.presumption
   on_aborts x v Aborting = (again x v).1
-  on_aborts x v Unknown = (wrote_none, abort_up s.own.txn.presumption)
+  on_aborts x v Unknown = unknown_aborts x v s.own.txn.presumption
   on_aborts x v Committing = (wrote_none, tt)
   on_aborts x v Heuristic = (wrote_none, tt)
 
@@ -434,14 +442,14 @@ module _ (place : Place) (parent : Option ProcessId) (n : Node) where
       child_row i c x t e (on_vote (seat_of place parent c) t w v v.standing)
       (voted (seat_of place parent c) t w v v.standing)
 
-  acknowledges : (ver : Version) (i : Input) (x : Txn) (t : Ticket) (o : Outcome) (d : Option Case)
-      → case_of_child place n x t ≡ d
-      → W i (Does (ack_for ver place parent n t o d))
-  acknowledges ver i x t o None e = writes_nothing refl refl
-  acknowledges ver i x t o (Some c) e =
+  acknowledges : (ver : Version) (i : Input) (x : Txn) (t : Ticket) (o : Outcome) (fs : List Finding)
+      (d : Option Case) → case_of_child place n x t ≡ d
+      → W i (Does (ack_for ver place parent n t o fs d))
+  acknowledges ver i x t o fs None e = writes_nothing refl refl
+  acknowledges ver i x t o fs (Some c) e =
       let v = coordinator_view place n c in
-      child_row i c x t e (on_ack ver (seat_of place parent c) t o v v.standing)
-      (acked (seat_of place parent c) ver t o v v.standing)
+      child_row i c x t e (on_ack ver (seat_of place parent c) t o (found_below place n c o fs) v v.standing)
+      (acked (seat_of place parent c) ver t o (found_below place n c o fs) v v.standing)
 
   inquires : (i : Input) (x : Txn) (t : Ticket) (o : Option Case) → case_of_child place n x t ≡ o
       → W i (Does (inquiry_for place parent n x t o))
@@ -470,8 +478,8 @@ module _ (place : Place) (parent : Option ProcessId) (n : Node) where
       (λ t. votes (MessageInput j (No d)) d.txn t VoteNo (case_of_child place n d.txn t) refl)
   child_writes ver j (Read d) = says (MessageInput j (Read d)) d.txn d.ticket _
       (λ t. votes (MessageInput j (Read d)) d.txn t VoteRead (case_of_child place n d.txn t) refl)
-  child_writes ver j (Ack d o) = says (MessageInput j (Ack d o)) d.txn d.ticket _
-      (λ t. acknowledges ver (MessageInput j (Ack d o)) d.txn t o (case_of_child place n d.txn t) refl)
+  child_writes ver j (Ack d o fs) = says (MessageInput j (Ack d o fs)) d.txn d.ticket _
+      (λ t. acknowledges ver (MessageInput j (Ack d o fs)) d.txn t o fs (case_of_child place n d.txn t) refl)
   child_writes ver j (Inquire d) = says (MessageInput j (Inquire d)) d.txn d.ticket _
       (λ t. inquires (MessageInput j (Inquire d)) d.txn t (case_of_child place n d.txn t) refl)
   child_writes ver j (Join d) = writes_nothing refl refl
@@ -515,5 +523,5 @@ module _ (place : Place) (p : ProcessId) (n : Node) where
   cascaded_writes ver j (Yes d) = child_writes place (Some p) n ver j (Yes d)
   cascaded_writes ver j (No d) = child_writes place (Some p) n ver j (No d)
   cascaded_writes ver j (Read d) = child_writes place (Some p) n ver j (Read d)
-  cascaded_writes ver j (Ack d o) = child_writes place (Some p) n ver j (Ack d o)
+  cascaded_writes ver j (Ack d o fs) = child_writes place (Some p) n ver j (Ack d o fs)
   cascaded_writes ver j (Inquire d) = child_writes place (Some p) n ver j (Inquire d)

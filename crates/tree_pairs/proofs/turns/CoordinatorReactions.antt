@@ -1,5 +1,5 @@
 -- Every input of a coordinator is one of its turns.
-use Rattle.std.proofs.Common.{◌≡◌, ℕ, Bool, true, false, Option, Some, None, [], ◌∷◌, refl, subst, if◌then◌else◌}
+use Rattle.std.proofs.Common.{◌≡◌, ℕ, Bool, true, false, Option, Some, None, [], ◌∷◌, refl, subst, if◌then◌else◌, List}
 use Rattle.tree_model.specs.declared.names.Case.{Case}
 use Rattle.tree_model.specs.declared.names.ProcessId.{ProcessId}
 use Rattle.tree_model.specs.declared.names.Ticket.{Ticket}
@@ -29,6 +29,7 @@ use Rattle.tree_model.specs.Views.{vote_message}
 use Rattle.tree_pairs.specs.turns.LeafTurns.{Hears}
 use Rattle.tree_pairs.specs.turns.CoordinatorTurns.{commit_act, IsToAbort, abort_act, HearsParent, rests, invited_already, ChildSays, votes, acknowledged, inquires, IsNotTaken, unticketed, belongs_nowhere, not_taken, invites, sends_work, asks, CoordinatorTurn, does_nothing, of_case, begins, gives_again, gives_fresh, presumes}
 use Rattle.tree_pairs.proofs.turns.CoordinatorRows.{commits_active, aborts_active, aborts_collecting, vote_turn, ack_turn, inquiry_turn, joined_turn, prepare_turn, commit_turn, abort_turn}
+use Rattle.tree_model.specs.declared.messages.Finding.{Finding}
 
 -- what an input leads to is a turn, unless it is refused
 abbrev TurnsAs : Place → Option ProcessId → Node → Heard → Reacts → Type 0
@@ -162,11 +163,11 @@ module _ (place : Place) (parent : Option ProcessId) (n : Node) (h : Heard) wher
   vote_effect x t w i (Some c) e =
       of_case c _ (vote_turn place parent n h c t w (record { txn = x; hears = i; belongs = e }) _ refl)
 
-  ack_effect : (x : Txn) (t : Ticket) (u : Outcome) → Hears h (Ack (child_case x t) u)
-      → (o : Option Case) → case_of_child place n x t ≡ o → E (ack_for h.version place parent n t u o)
-  ack_effect x t u i None e = does_nothing (belongs_nowhere (λ d. Ack d u) x t (acknowledged u) i e)
-  ack_effect x t u i (Some c) e =
-      of_case c _ (ack_turn place parent n h c t u (record { txn = x; hears = i; belongs = e }) _ refl)
+  ack_effect : (x : Txn) (t : Ticket) (u : Outcome) (fs : List Finding) → Hears h (Ack (child_case x t) u fs)
+      → (o : Option Case) → case_of_child place n x t ≡ o → E (ack_for h.version place parent n t u fs o)
+  ack_effect x t u fs i None e = does_nothing (belongs_nowhere (λ d. Ack d u fs) x t (acknowledged u fs) i e)
+  ack_effect x t u fs i (Some c) e =
+      of_case c _ (ack_turn place parent n h c t u fs (record { txn = x; hears = i; belongs = e }) _ refl)
 
   inquiry_effect : (x : Txn) (t : Ticket) → Hears h (Inquire (child_case x t))
       → (o : Option Case) → case_of_child place n x t ≡ o → E (inquiry_for place parent n x t o)
@@ -203,8 +204,8 @@ module _ (place : Place) (parent : Option ProcessId) (n : Node) (h : Heard) wher
       (λ t k. vote_effect d.txn t VoteNo k (case_of_child place n d.txn t) refl)
   child_turn j (Read d) i k = says Read (votes VoteRead) d.txn d.ticket (j, i) _
       (λ t k. vote_effect d.txn t VoteRead k (case_of_child place n d.txn t) refl)
-  child_turn j (Ack d o) i k = says (λ e. Ack e o) (acknowledged o) d.txn d.ticket (j, i) _
-      (λ t k. ack_effect d.txn t o k (case_of_child place n d.txn t) refl)
+  child_turn j (Ack d o fs) i k = says (λ e. Ack e o fs) (acknowledged o fs) d.txn d.ticket (j, i) _
+      (λ t k. ack_effect d.txn t o fs k (case_of_child place n d.txn t) refl)
   child_turn j (Inquire d) i k = says Inquire inquires d.txn d.ticket (j, i) _
       (λ t k. inquiry_effect d.txn t k (case_of_child place n d.txn t) refl)
   child_turn j (Join d) i u = does_nothing (not_taken (Join d) (j, i) (u tt))
@@ -239,7 +240,7 @@ module _ (place : Place) (p : ProcessId) (n : Node) (h : Heard) where
   cascaded_turn j (Yes d) i = child_turn place (Some p) n h j (Yes d) i (λ f. absurd f)
   cascaded_turn j (No d) i = child_turn place (Some p) n h j (No d) i (λ f. absurd f)
   cascaded_turn j (Read d) i = child_turn place (Some p) n h j (Read d) i (λ f. absurd f)
-  cascaded_turn j (Ack d o) i = child_turn place (Some p) n h j (Ack d o) i (λ f. absurd f)
+  cascaded_turn j (Ack d o fs) i = child_turn place (Some p) n h j (Ack d o fs) i (λ f. absurd f)
   cascaded_turn j (Inquire d) i = child_turn place (Some p) n h j (Inquire d) i (λ f. absurd f)
 
 root_message_turn : (place : Place) (n : Node) (h : Heard) (j : ℕ) (m : Message) → h.input ≡ MessageInput j m
@@ -256,7 +257,7 @@ root_message_turn place n h j m i = child_turn place None n h j m i (untaken m)
     untaken (Yes d) f = absurd f
     untaken (No d) f = absurd f
     untaken (Read d) f = absurd f
-    untaken (Ack d o) f = absurd f
+    untaken (Ack d o fs) f = absurd f
     untaken (Inquire d) f = absurd f
 
 -- Every input that a coordinator does not refuse.

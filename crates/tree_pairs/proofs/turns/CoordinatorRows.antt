@@ -8,7 +8,6 @@ use Rattle.tree_model.specs.declared.names.Outcome.TheVariants.{Committed as Com
 use Rattle.tree_model.specs.declared.names.Presumption.{Presumption}
 use Rattle.tree_model.specs.declared.names.Presumption.TheVariants.{PresumeAbort, PresumeCommit}
 use Rattle.tree_model.specs.declared.messages.Message.TheVariants.{Joined, Prepare, Commit, Abort, Ack, Inquire}
-use Rattle.tree_model.specs.declared.records.Record.TheVariants.{End as EndRecord}
 use Rattle.tree_model.specs.declared.standings.Standing.{Standing}
 use Rattle.tree_model.specs.declared.standings.Standing.TheVariants.{Unknown, Active, Collecting, Prepared, Committing, Aborting, Heuristic}
 use Rattle.tree_model.specs.declared.standings.Vote.{Vote}
@@ -17,12 +16,13 @@ use Rattle.tree_model.specs.Names.{presumed}
 use Rattle.tree_model.specs.Records.{in_list, none_of}
 use Rattle.tree_model.specs.Nodes.{Version, First, Second, Place, Node, Heard}
 use Rattle.tree_model.specs.Memory.{has_child, is_counted, all_voted, yes_of}
-use Rattle.tree_model.specs.Standings.{CoordinatorView, unknown_view, coordinator_view}
-use Rattle.tree_model.specs.CoordinatorRows.{Seat, Row, quiet, sends, tells_outcome, up, plain, Reason, ByAbort, active_commit, active_commit_alone, active_commit_with, active_abort, acknowledges_abort, collecting_abort, collecting_read_only, decides, collecting_full, collecting_after, unknown_commit_by, decided_ack_by, acknowledges_at_last, committing_commit, aborting_abort, other_tickets, on_vote, on_ack, on_inquiry, on_joined, on_prepare, on_commit, on_abort}
+use Rattle.tree_model.specs.Standings.{CoordinatorView, unknown_view, coordinator_view, unknown_findings, found_below}
+use Rattle.tree_model.specs.CoordinatorRows.{Seat, Row, quiet, sends, tells_outcome, up, Reason, ByAbort, active_commit, active_commit_alone, active_commit_with, active_abort, collecting_abort, collecting_read_only, decides, collecting_full, collecting_after, unknown_commit_by, decided_ack_by, acknowledges_at_last, committing_commit, aborting_abort, other_tickets, on_vote, on_ack, on_inquiry, on_joined, on_prepare, on_commit, on_abort, ends_with, unknown_abort_by}
 use Rattle.tree_model.specs.Reactions.{seat_of}
 use Rattle.tree_model.specs.Views.{vote_message}
 use Rattle.tree_pairs.specs.turns.LeafTurns.{Hears}
 use Rattle.tree_pairs.specs.turns.CoordinatorTurns.{IsToCommit, prepare_comes, IsToAbort, abort_comes, HearsChild, HearsParent, Acknowledges, commit_presumed_abort, commit_again, abort_presumed_commit, abort_again, Refuses, unknown_refuses, aborting_refuses, Decided, by_commit, by_abort, Answers, by_decision, by_presumption, voted, counting, Consents, votes_yes, votes_read, CountsVote, CountsLast, takes_nobody, counts_nothing, owes_nothing, knows_nothing, prepares_nothing, commits_nothing, aborts_nothing, CaseTurn, rests, accepts, finds_nobody, asks_for_votes, gives_up, counts_vote, reads_only, commits, promises, hears_no, aborts, passes_commit, passes_abort, repeats_yes, refuses, acknowledges, waits_for_acks, ends, answers}
+use Rattle.tree_model.specs.declared.messages.Finding.{Finding}
 
 module _ (place : Place) (parent : Option ProcessId) (n : Node) (h : Heard) (c : Case) where
   abbrev s : Seat
@@ -108,21 +108,23 @@ module _ (place : Place) (parent : Option ProcessId) (n : Node) (h : Heard) (c :
 
   -- Acknowledgements.
 
-  ends_if : (t : Ticket) (o : Outcome) → HearsChild place n h c t (λ d. Ack d o) → Decided o v.standing
+  ends_if : (t : Ticket) (o : Outcome) (fs : List Finding) → HearsChild place n h c t (λ d. Ack d o fs)
+      → Decided o v.standing
       → in_list v.owed t ≡ true → (b : Bool) → none_of (other_tickets t v.owed) ≡ b
       → T (if b then record (quiet unknown_view) {
-        written = plain (EndRecord c);
-        messages = acknowledges_at_last h.version s o;
+        written = ends_with h.version s (found_below place n c o fs);
+        messages = acknowledges_at_last h.version s o (found_below place n c o fs);
       }
       else quiet (record v { owed = other_tickets t v.owed }))
-  ends_if t o i d e true f = ends t o i d e f
-  ends_if t o i d e false f = waits_for_acks t o i d e f
+  ends_if t o fs i d e true f = ends t o fs i d e f
+  ends_if t o fs i d e false f = waits_for_acks t o fs i d e f
 
-  owed_if : (t : Ticket) (o : Outcome) → HearsChild place n h c t (λ d. Ack d o) → Decided o v.standing
-      → (b : Bool) → in_list v.owed t ≡ b
-      → T (if b then decided_ack_by h.version s o (other_tickets t v.owed) v else quiet v)
-  owed_if t o i d true e = ends_if t o i d e (none_of (other_tickets t v.owed)) refl
-  owed_if t o i d false e = rests (owes_nothing t o i (λ g. e))
+  owed_if : (t : Ticket) (o : Outcome) (fs : List Finding) → HearsChild place n h c t (λ d. Ack d o fs)
+      → Decided o v.standing → (b : Bool) → in_list v.owed t ≡ b
+      → T (if b then decided_ack_by h.version s o (other_tickets t v.owed) (found_below place n c o fs) v
+      else quiet v)
+  owed_if t o fs i d true e = ends_if t o fs i d e (none_of (other_tickets t v.owed)) refl
+  owed_if t o fs i d false e = rests (owes_nothing t o fs i (λ g. e))
 
   not_committing : (st : Standing) → (st ≡ Committing → ⊥) → Decided CommittedOutcome st → ⊥
   not_committing _ f by_commit = f refl
@@ -130,38 +132,38 @@ module _ (place : Place) (parent : Option ProcessId) (n : Node) (h : Heard) (c :
   not_aborting : (st : Standing) → (st ≡ Aborting → ⊥) → Decided AbortedOutcome st → ⊥
   not_aborting _ f by_abort = f refl
 
-  unowed : (t : Ticket) (o : Outcome) → HearsChild place n h c t (λ d. Ack d o) → (st : Standing)
+  unowed : (t : Ticket) (o : Outcome) (fs : List Finding) → HearsChild place n h c t (λ d. Ack d o fs) → (st : Standing)
       → v.standing ≡ st → (Decided o st → ⊥) → T (quiet v)
-  unowed t o i st e f = rests (owes_nothing t o i (λ g. absurd (f (subst (λ x. Decided o x) e g))))
+  unowed t o fs i st e f = rests (owes_nothing t o fs i (λ g. absurd (f (subst (λ x. Decided o x) e g))))
 
-  pub ack_turn : (t : Ticket) (o : Outcome) → HearsChild place n h c t (λ d. Ack d o) → (st : Standing)
-      → v.standing ≡ st → T (on_ack h.version s t o v st)
-  ack_turn t CommittedOutcome i Committing e =
-      owed_if t CommittedOutcome i (subst (λ x. Decided CommittedOutcome x) (sym e) by_commit) _ refl
-  ack_turn t AbortedOutcome i Aborting e =
-      owed_if t AbortedOutcome i (subst (λ x. Decided AbortedOutcome x) (sym e) by_abort) _ refl
-  ack_turn t CommittedOutcome i Unknown e =
-      unowed t CommittedOutcome i Unknown e (not_committing Unknown (λ f. cc))
-  ack_turn t CommittedOutcome i Active e =
-      unowed t CommittedOutcome i Active e (not_committing Active (λ f. cc))
-  ack_turn t CommittedOutcome i Collecting e =
-      unowed t CommittedOutcome i Collecting e (not_committing Collecting (λ f. cc))
-  ack_turn t CommittedOutcome i Prepared e =
-      unowed t CommittedOutcome i Prepared e (not_committing Prepared (λ f. cc))
-  ack_turn t CommittedOutcome i Aborting e =
-      unowed t CommittedOutcome i Aborting e (not_committing Aborting (λ f. cc))
-  ack_turn t CommittedOutcome i Heuristic e =
-      unowed t CommittedOutcome i Heuristic e (not_committing Heuristic (λ f. cc))
-  ack_turn t AbortedOutcome i Unknown e = unowed t AbortedOutcome i Unknown e (not_aborting Unknown (λ f. cc))
-  ack_turn t AbortedOutcome i Active e = unowed t AbortedOutcome i Active e (not_aborting Active (λ f. cc))
-  ack_turn t AbortedOutcome i Collecting e =
-      unowed t AbortedOutcome i Collecting e (not_aborting Collecting (λ f. cc))
-  ack_turn t AbortedOutcome i Prepared e =
-      unowed t AbortedOutcome i Prepared e (not_aborting Prepared (λ f. cc))
-  ack_turn t AbortedOutcome i Committing e =
-      unowed t AbortedOutcome i Committing e (not_aborting Committing (λ f. cc))
-  ack_turn t AbortedOutcome i Heuristic e =
-      unowed t AbortedOutcome i Heuristic e (not_aborting Heuristic (λ f. cc))
+  pub ack_turn : (t : Ticket) (o : Outcome) (fs : List Finding) → HearsChild place n h c t (λ d. Ack d o fs)
+      → (st : Standing) → v.standing ≡ st → T (on_ack h.version s t o (found_below place n c o fs) v st)
+  ack_turn t CommittedOutcome fs i Committing e =
+      owed_if t CommittedOutcome fs i (subst (λ x. Decided CommittedOutcome x) (sym e) by_commit) _ refl
+  ack_turn t AbortedOutcome fs i Aborting e =
+      owed_if t AbortedOutcome fs i (subst (λ x. Decided AbortedOutcome x) (sym e) by_abort) _ refl
+  ack_turn t CommittedOutcome fs i Unknown e =
+      unowed t CommittedOutcome fs i Unknown e (not_committing Unknown (λ f. cc))
+  ack_turn t CommittedOutcome fs i Active e =
+      unowed t CommittedOutcome fs i Active e (not_committing Active (λ f. cc))
+  ack_turn t CommittedOutcome fs i Collecting e =
+      unowed t CommittedOutcome fs i Collecting e (not_committing Collecting (λ f. cc))
+  ack_turn t CommittedOutcome fs i Prepared e =
+      unowed t CommittedOutcome fs i Prepared e (not_committing Prepared (λ f. cc))
+  ack_turn t CommittedOutcome fs i Aborting e =
+      unowed t CommittedOutcome fs i Aborting e (not_committing Aborting (λ f. cc))
+  ack_turn t CommittedOutcome fs i Heuristic e =
+      unowed t CommittedOutcome fs i Heuristic e (not_committing Heuristic (λ f. cc))
+  ack_turn t AbortedOutcome fs i Unknown e = unowed t AbortedOutcome fs i Unknown e (not_aborting Unknown (λ f. cc))
+  ack_turn t AbortedOutcome fs i Active e = unowed t AbortedOutcome fs i Active e (not_aborting Active (λ f. cc))
+  ack_turn t AbortedOutcome fs i Collecting e =
+      unowed t AbortedOutcome fs i Collecting e (not_aborting Collecting (λ f. cc))
+  ack_turn t AbortedOutcome fs i Prepared e =
+      unowed t AbortedOutcome fs i Prepared e (not_aborting Prepared (λ f. cc))
+  ack_turn t AbortedOutcome fs i Committing e =
+      unowed t AbortedOutcome fs i Committing e (not_aborting Committing (λ f. cc))
+  ack_turn t AbortedOutcome fs i Heuristic e =
+      unowed t AbortedOutcome fs i Heuristic e (not_aborting Heuristic (λ f. cc))
 
   -- Inquiries.
 
@@ -216,33 +218,36 @@ module _ (place : Place) (parent : Option ProcessId) (n : Node) (h : Heard) (c :
   prepare_turn k i Heuristic e = rests (prepares_nothing k i (is_not Heuristic Active e (λ f. cc)))
 
   acknowledged : (o : Outcome) → HearsParent parent h (tells_outcome o c) → (st : Standing) → v.standing ≡ st
-      → Acknowledges h.version o c.txn.presumption st
-      → T (sends (up s (Ack c o)) v)
-  acknowledged o i st e a = acknowledges o i (subst (λ x. Acknowledges h.version o c.txn.presumption x) (sym e) a)
+      → (fs : List Finding) → Acknowledges h.version c o c.txn.presumption st fs
+      → T (sends (up s (Ack c o fs)) v)
+  acknowledged o i st e fs a =
+      acknowledges o fs i (subst (λ x. Acknowledges h.version c o c.txn.presumption x fs) (sym e) a)
 
   unknown_commits : HearsParent parent h (Commit c) → v.standing ≡ Unknown → (p : Presumption)
-      → c.txn.presumption ≡ p → T (unknown_commit_by s v p)
-  unknown_commits i e PresumeAbort f = acknowledged CommittedOutcome i Unknown e
-      (subst (λ x. Acknowledges h.version CommittedOutcome x Unknown) (sym f) (commit_presumed_abort h.version))
+      → c.txn.presumption ≡ p → T (unknown_commit_by h.version s v p)
+  unknown_commits i e PresumeAbort f = acknowledged CommittedOutcome i Unknown e (unknown_findings h.version c)
+      (subst (λ x. Acknowledges h.version c CommittedOutcome x Unknown (unknown_findings h.version c)) (sym f)
+      (commit_presumed_abort h.version c))
   unknown_commits i e PresumeCommit f = rests (commits_nothing i)
 
   unknown_aborts : HearsParent parent h (Abort c) → v.standing ≡ Unknown → (p : Presumption)
-      → c.txn.presumption ≡ p → T (sends (acknowledges_abort s p) v)
-  unknown_aborts i e PresumeCommit f = acknowledged AbortedOutcome i Unknown e
-      (subst (λ x. Acknowledges h.version AbortedOutcome x Unknown) (sym f) (abort_presumed_commit h.version))
+      → c.txn.presumption ≡ p → T (unknown_abort_by h.version s v p)
+  unknown_aborts i e PresumeCommit f = acknowledged AbortedOutcome i Unknown e (unknown_findings h.version c)
+      (subst (λ x. Acknowledges h.version c AbortedOutcome x Unknown (unknown_findings h.version c)) (sym f)
+      (abort_presumed_commit h.version c))
   unknown_aborts i e PresumeAbort f =
       rests (aborts_nothing i (is_not Unknown Active e (λ g. cc)) (is_not Unknown Collecting e (λ g. cc)))
 
   committing_turn : HearsParent parent h (Commit c) → v.standing ≡ Committing → (x : Version) → h.version ≡ x
       → T (committing_commit x s v)
-  committing_turn i e First f = acknowledged CommittedOutcome i Committing e
-      (subst (λ y. Acknowledges y CommittedOutcome c.txn.presumption Committing) (sym f) (commit_again _))
+  committing_turn i e First f = acknowledged CommittedOutcome i Committing e []
+      (subst (λ y. Acknowledges y c CommittedOutcome c.txn.presumption Committing []) (sym f) (commit_again c _))
   committing_turn i e Second f = rests (commits_nothing i)
 
   aborting_turn : HearsParent parent h (Abort c) → v.standing ≡ Aborting → (x : Version) → h.version ≡ x
       → T (aborting_abort x s v)
-  aborting_turn i e First f = acknowledged AbortedOutcome i Aborting e
-      (subst (λ y. Acknowledges y AbortedOutcome c.txn.presumption Aborting) (sym f) (abort_again _))
+  aborting_turn i e First f = acknowledged AbortedOutcome i Aborting e []
+      (subst (λ y. Acknowledges y c AbortedOutcome c.txn.presumption Aborting []) (sym f) (abort_again c _))
   aborting_turn i e Second f =
       rests (aborts_nothing i (is_not Aborting Active e (λ g. cc)) (is_not Aborting Collecting e (λ g. cc)))
 

@@ -17,7 +17,7 @@ use Rattle.tree_model.specs.Names.{same_outcome}
 use Rattle.tree_model.specs.NameLaws.{same_outcome_tells}
 use Rattle.tree_model.specs.Nodes.{Place, Node, kept, Heard, Effect, Holding, ReadsOnly, Holds}
 use Rattle.tree_model.specs.Memory.{Memory, memory_of, active_ticket, Phase, Idle, Open, Asked, Over}
-use Rattle.tree_model.specs.Standings.{ManagerView, unknown_branch, manager_view, marked_branch, heard_branch, Mark, Unmarked, Promised, Decided, ToldOf, Finished, mark_of}
+use Rattle.tree_model.specs.Standings.{ManagerView, unknown_branch, manager_view, marked_branch, heard_branch, Mark, Unmarked, Promised, Decided, ToldOf, Finished, mark_of, decided_findings}
 use Rattle.tree_model.specs.CoordinatorRows.{tells_outcome}
 use Rattle.tree_model.specs.ManagerRows.{Leaf, LeafRow, on_work, on_prepare, on_commit, on_abort, active_prepare_holding, replies, acknowledgement}
 use Rattle.tree_model.specs.ManagerRows as leaf
@@ -97,7 +97,11 @@ module _ (place : Place) (p : ProcessId) (n : Node) (h : Heard) where
     heard_again : (o u : Outcome) → Hears h (tells_outcome o d) → mark_at n d ≡ ToldOf u → (b : Bool)
         → same_outcome u o ≡ b
         → T (leaf_effect (if b
-        then record { written = []; messages = acknowledgement here o; view = marked_branch m (ToldOf u) }
+        then record {
+          written = [];
+          messages = acknowledgement here o (decided_findings h.version (kept n) d o);
+          view = marked_branch m (ToldOf u);
+        }
         else leaf.unmoved (marked_branch m (ToldOf u))))
     heard_again o u i s true e =
         acknowledges_told d o i
@@ -105,14 +109,14 @@ module _ (place : Place) (p : ProcessId) (n : Node) (h : Heard) where
     heard_again o u i s false e = does_nothing
 
     committed_heard : Hears h (Commit d) → Seen Unmarked → (ph : Phase) → m.phase ≡ ph
-        → T (leaf_effect (on_commit here (heard_branch m ph) (heard_branch m ph).standing))
+        → T (leaf_effect (on_commit h.version here (kept n) (heard_branch m ph) (heard_branch m ph).standing))
     committed_heard i s Open e = does_nothing
     committed_heard i s Idle e = acknowledges d CommittedOutcome i (unheard Idle s e refl)
     committed_heard i s Asked e = acknowledges d CommittedOutcome i (unheard Asked s e refl)
     committed_heard i s Over e = acknowledges d CommittedOutcome i (unheard Over s e refl)
 
     committed_seen : Hears h (Commit d) → (k : Mark) → Seen k
-        → T (leaf_effect (on_commit here (marked_branch m k) (marked_branch m k).standing))
+        → T (leaf_effect (on_commit h.version here (kept n) (marked_branch m k) (marked_branch m k).standing))
     committed_seen i Unmarked s = committed_heard i s m.phase refl
     committed_seen i Promised s = obeys d CommittedOutcome i s.mark
     committed_seen i Decided s = notes d CommittedOutcome i s.mark
@@ -121,14 +125,14 @@ module _ (place : Place) (p : ProcessId) (n : Node) (h : Heard) where
     committed_seen i Finished s = acknowledges d CommittedOutcome i (unknown Finished s refl)
 
     aborted_heard : Hears h (Abort d) → Seen Unmarked → (ph : Phase) → m.phase ≡ ph
-        → T (leaf_effect (on_abort here (heard_branch m ph) (heard_branch m ph).standing))
+        → T (leaf_effect (on_abort h.version here (kept n) (heard_branch m ph) (heard_branch m ph).standing))
     aborted_heard i s Open e = drops d i (record { unmarked = s.mark; is_open = e })
     aborted_heard i s Idle e = acknowledges d AbortedOutcome i (unheard Idle s e refl)
     aborted_heard i s Asked e = acknowledges d AbortedOutcome i (unheard Asked s e refl)
     aborted_heard i s Over e = acknowledges d AbortedOutcome i (unheard Over s e refl)
 
     aborted_seen : Hears h (Abort d) → (k : Mark) → Seen k
-        → T (leaf_effect (on_abort here (marked_branch m k) (marked_branch m k).standing))
+        → T (leaf_effect (on_abort h.version here (kept n) (marked_branch m k) (marked_branch m k).standing))
     aborted_seen i Unmarked s = aborted_heard i s m.phase refl
     aborted_seen i Promised s = obeys d AbortedOutcome i s.mark
     aborted_seen i Decided s = notes d AbortedOutcome i s.mark
@@ -233,7 +237,7 @@ module _ (place : Place) (p : ProcessId) (n : Node) (h : Heard) where
       (sym (viewed place n d)) (forgot_seen d i (mark_at n d) (seen d (mark_at n d) refl))
 
   pub message_turn : (j : ℕ) (x : Message) → h.input ≡ MessageInput j x
-      → T (manager_hears place p n h.data_answer x)
+      → T (manager_hears h.version place p n h.data_answer x)
   message_turn j (Join d) i =
       joined d (j, i) h.data_answer.starts refl (active_ticket (memory_of place n d).active d) refl
   message_turn j (Work d k op) i =
@@ -244,14 +248,14 @@ module _ (place : Place) (p : ProcessId) (n : Node) (h : Heard) where
       (sym (viewed place n d))
       (prepared_seen d k h.data_answer.holding (j, i) (mark_at n d) (seen d (mark_at n d) refl))
   message_turn j (Commit d) i =
-      subst (λ (v : ManagerView). T (leaf_effect (on_commit (leaf_of place p d) v v.standing)))
+      subst (λ (v : ManagerView). T (leaf_effect (on_commit h.version (leaf_of place p d) (kept n) v v.standing)))
       (sym (viewed place n d)) (committed_seen d (j, i) (mark_at n d) (seen d (mark_at n d) refl))
   message_turn j (Abort d) i =
-      subst (λ (v : ManagerView). T (leaf_effect (on_abort (leaf_of place p d) v v.standing)))
+      subst (λ (v : ManagerView). T (leaf_effect (on_abort h.version (leaf_of place p d) (kept n) v v.standing)))
       (sym (viewed place n d)) (aborted_seen d (j, i) (mark_at n d) (seen d (mark_at n d) refl))
   message_turn j (Joined d t) i = does_nothing
   message_turn j (Yes d) i = does_nothing
   message_turn j (No d) i = does_nothing
   message_turn j (Read d) i = does_nothing
-  message_turn j (Ack d o) i = does_nothing
+  message_turn j (Ack d o fs) i = does_nothing
   message_turn j (Inquire d) i = does_nothing

@@ -83,7 +83,7 @@ is_no_message d _ = false
 
 -- an ACK of the case
 abbrev pub is_ack_message : Case → Message → Bool
-is_ack_message d (Ack e o) = same_case e d
+is_ack_message d (Ack e o fs) = same_case e d
 is_ack_message d _ = false
 
 -- INQUIRE of the case

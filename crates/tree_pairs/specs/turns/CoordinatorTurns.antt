@@ -12,7 +12,6 @@ use Rattle.tree_model.specs.declared.names.Presumption.TheVariants.{PresumeAbort
 use Rattle.tree_model.specs.declared.messages.Op.{Op}
 use Rattle.tree_model.specs.declared.messages.Message.{Message}
 use Rattle.tree_model.specs.declared.messages.Message.TheVariants.{Join, Joined, Work, Prepare, Yes, No, Commit, Abort, Ack, Inquire}
-use Rattle.tree_model.specs.declared.records.Record.TheVariants.{End as EndRecord}
 use Rattle.tree_model.specs.declared.standings.Standing.{Standing}
 use Rattle.tree_model.specs.declared.standings.Standing.TheVariants.{Unknown, Active, Collecting, Prepared, Committing, Aborting}
 use Rattle.tree_model.specs.declared.standings.Vote.{Vote}
@@ -23,11 +22,12 @@ use Rattle.tree_model.specs.Names.{root_case, child_case, presumed}
 use Rattle.tree_model.specs.Records.{boot_of, in_list, none_of}
 use Rattle.tree_model.specs.Nodes.{Version, First, Second, Place, Node, kept, Heard, Effect, no_effect, is_child, is_leaf, role_of}
 use Rattle.tree_model.specs.Memory.{has_child, is_counted, all_voted, yes_of, undecided_of, memory_of, active_ticket, next_ticket, ticket_of_child}
-use Rattle.tree_model.specs.Standings.{CoordinatorView, unknown_view, coordinator_view, case_of_child}
-use Rattle.tree_model.specs.CoordinatorRows.{Row, quiet, sends, post, plain, up, each, to_child, tells_outcome, Reason, ByVote, ByAct, ByAbort, active_work, active_commit_alone, active_commit_with, active_abort, acknowledges_abort, collecting_abort_by, collecting_read_only, read_only_end, root_commits, cascaded_prepares, prepared_commit_by, prepared_abort_by, acknowledges_at_last, other_tickets}
+use Rattle.tree_model.specs.Standings.{CoordinatorView, unknown_view, coordinator_view, case_of_child, unknown_findings, found_below}
+use Rattle.tree_model.specs.CoordinatorRows.{Row, quiet, sends, post, up, each, to_child, tells_outcome, Reason, ByVote, ByAct, ByAbort, active_work, active_commit_alone, active_commit_with, active_abort, acknowledges_abort, collecting_abort_by, collecting_read_only, read_only_end, root_commits, cascaded_prepares, prepared_commit_by, prepared_abort_by, acknowledges_at_last, other_tickets, ends_with}
 use Rattle.tree_model.specs.Reactions.{seat_of, row_effect, sends_only}
 use Rattle.tree_model.specs.Views.{begin_effect, next_begun, vote_message}
 use Rattle.tree_pairs.specs.turns.LeafTurns.{Hears}
+use Rattle.tree_model.specs.declared.messages.Finding.{Finding}
 
 -- the case is to collect its votes: by the commit act, or by PREPARE of its parent
 pub data IsToCommit (parent : Option ProcessId) (h : Heard) (c : Case) : Type 0 where
@@ -52,13 +52,15 @@ pub record HearsParent (parent : Option ProcessId) (h : Heard) (m : Message) : T
   pub is_parent : parent ≡ Some from
   pub hears : Hears h m
 
--- a case that stands so acknowledges the outcome: it is unknown, and the other is presumed; or, by the first version, it was
--- decided so
-pub data Acknowledges : Version → Outcome → Presumption → Standing → Type 0 where
-  commit_presumed_abort : (v : Version) → Acknowledges v CommittedOutcome PresumeAbort Unknown
-  commit_again : (p : Presumption) → Acknowledges First CommittedOutcome p Committing
-  abort_presumed_commit : (v : Version) → Acknowledges v AbortedOutcome PresumeCommit Unknown
-  abort_again : (p : Presumption) → Acknowledges First AbortedOutcome p Aborting
+-- a case that stands so acknowledges the outcome, with what it finds: it is unknown, and the other is presumed; or, by the
+-- first version, it was decided so
+pub data Acknowledges : Version → Case → Outcome → Presumption → Standing → List Finding → Type 0 where
+  commit_presumed_abort : (v : Version) (c : Case)
+      → Acknowledges v c CommittedOutcome PresumeAbort Unknown (unknown_findings v c)
+  commit_again : (c : Case) (p : Presumption) → Acknowledges First c CommittedOutcome p Committing []
+  abort_presumed_commit : (v : Version) (c : Case)
+      → Acknowledges v c AbortedOutcome PresumeCommit Unknown (unknown_findings v c)
+  abort_again : (c : Case) (p : Presumption) → Acknowledges First c AbortedOutcome p Aborting []
 
 -- a case that stands so promises nothing any more
 pub data Refuses : Standing → Type 0 where
@@ -115,7 +117,7 @@ pub data Rests (place : Place) (parent : Option ProcessId) (n : Node) (h : Heard
       → ((coordinator_view place n c).standing ≡ Collecting
       → is_counted (coordinator_view place n c).accepted (coordinator_view place n c).votes t ≡ false)
       → Rests place parent n h c
-  owes_nothing : (t : Ticket) (o : Outcome) → HearsChild place n h c t (λ d. Ack d o)
+  owes_nothing : (t : Ticket) (o : Outcome) (fs : List Finding) → HearsChild place n h c t (λ d. Ack d o fs)
       → (Decided o (coordinator_view place n c).standing
       → in_list (coordinator_view place n c).owed t ≡ false)
       → Rests place parent n h c
@@ -220,12 +222,12 @@ pub data CaseTurn (place : Place) (parent : Option ProcessId) (n : Node) (h : He
   refuses : (k : ℕ) → HearsParent parent h (Prepare c k) → Refuses (coordinator_view place n c).standing
       → CaseTurn place parent n h c
       (sends (up (seat_of place parent c) (No c)) (coordinator_view place n c))
-  acknowledges : (o : Outcome) → HearsParent parent h (tells_outcome o c)
-      → Acknowledges h.version o c.txn.presumption (coordinator_view place n c).standing
+  acknowledges : (o : Outcome) (fs : List Finding) → HearsParent parent h (tells_outcome o c)
+      → Acknowledges h.version c o c.txn.presumption (coordinator_view place n c).standing fs
       → CaseTurn place parent n h c
-      (sends (up (seat_of place parent c) (Ack c o)) (coordinator_view place n c))
+      (sends (up (seat_of place parent c) (Ack c o fs)) (coordinator_view place n c))
   -- an acknowledgement that is owed comes: others are still owed, or it ends the case
-  waits_for_acks : (t : Ticket) (o : Outcome) → HearsChild place n h c t (λ d. Ack d o)
+  waits_for_acks : (t : Ticket) (o : Outcome) (fs : List Finding) → HearsChild place n h c t (λ d. Ack d o fs)
       → Decided o (coordinator_view place n c).standing
       → in_list (coordinator_view place n c).owed t ≡ true
       → none_of (other_tickets t (coordinator_view place n c).owed) ≡ false
@@ -233,14 +235,15 @@ pub data CaseTurn (place : Place) (parent : Option ProcessId) (n : Node) (h : He
       (quiet (record (coordinator_view place n c) {
         owed = other_tickets t (coordinator_view place n c).owed;
       }))
-  ends : (t : Ticket) (o : Outcome) → HearsChild place n h c t (λ d. Ack d o)
+  ends : (t : Ticket) (o : Outcome) (fs : List Finding) → HearsChild place n h c t (λ d. Ack d o fs)
       → Decided o (coordinator_view place n c).standing
       → in_list (coordinator_view place n c).owed t ≡ true
       → none_of (other_tickets t (coordinator_view place n c).owed) ≡ true
       → CaseTurn place parent n h c
       (record (quiet unknown_view) {
-        written = plain (EndRecord c);
-        messages = acknowledges_at_last h.version (seat_of place parent c) o;
+        written = ends_with h.version (seat_of place parent c) (found_below place n c o fs);
+        messages =
+            acknowledges_at_last h.version (seat_of place parent c) o (found_below place n c o fs);
       })
   -- a child asks for the outcome
   answers : (t : Ticket) (o : Outcome) → HearsChild place n h c t Inquire
@@ -251,7 +254,7 @@ pub data CaseTurn (place : Place) (parent : Option ProcessId) (n : Node) (h : He
 -- what a child says of its case
 pub data ChildSays : (Case → Message) → Type 0 where
   votes : (w : Vote) → ChildSays (vote_message w)
-  acknowledged : (o : Outcome) → ChildSays (λ d. Ack d o)
+  acknowledged : (o : Outcome) (fs : List Finding) → ChildSays (λ d. Ack d o fs)
   inquires : ChildSays Inquire
 
 -- a message that no coordinator with this parent takes

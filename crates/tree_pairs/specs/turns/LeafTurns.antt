@@ -17,7 +17,7 @@ use Rattle.tree_model.specs.declared.events.Input.TheVariants.{Act as ActInput, 
 use Rattle.tree_model.specs.Records.{boot_of}
 use Rattle.tree_model.specs.Nodes.{Place, Node, kept, Heard, Effect, Written, no_effect}
 use Rattle.tree_model.specs.Memory.{memory_of, active_ticket, next_ticket, Open}
-use Rattle.tree_model.specs.Standings.{Mark, Unmarked, Promised, Decided, ToldOf, mark_of, manager_view}
+use Rattle.tree_model.specs.Standings.{Mark, Unmarked, Promised, Decided, ToldOf, mark_of, manager_view, unknown_findings, decided_findings}
 use Rattle.tree_model.specs.CoordinatorRows.{forced, post, tells_outcome}
 use Rattle.tree_model.specs.ManagerRows.{acknowledgement, written_as, ends_record, decides_record}
 use Rattle.tree_model.specs.Reactions.{leaf_of}
@@ -88,21 +88,23 @@ pub data LeafTurn (place : Place) (p : ProcessId) (n : Node) (h : Heard) : Effec
   obeys : (d : Case) (o : Outcome) → Hears h (tells_outcome o d) → mark_at n d ≡ Promised
       → LeafTurn place p n h
       (writes_and_sends (written_as (leaf_of place p d) o (ends_record (leaf_of place p d) o))
-      (acknowledgement (leaf_of place p d) o))
+      (acknowledgement (leaf_of place p d) o []))
   -- it finds an operator's decision, for the first time
   notes : (d : Case) (o : Outcome) → Hears h (tells_outcome o d) → mark_at n d ≡ Decided
       → LeafTurn place p n h
       (writes_and_sends (written_as (leaf_of place p d) o (ToldRecord (CaseBranch d) o))
-      (acknowledgement (leaf_of place p d) o))
+      (acknowledgement (leaf_of place p d) o (decided_findings h.version (kept n) d o)))
   -- or again
   acknowledges_told : (d : Case) (o : Outcome) → Hears h (tells_outcome o d) → mark_at n d ≡ ToldOf o
-      → LeafTurn place p n h (writes_and_sends [] (acknowledgement (leaf_of place p d) o))
+      → LeafTurn place p n h
+      (writes_and_sends [] (acknowledgement (leaf_of place p d) o (decided_findings h.version (kept n) d o)))
   -- it finds nothing
   acknowledges : (d : Case) (o : Outcome) → Hears h (tells_outcome o d) → IsUnknown place n d
-      → LeafTurn place p n h (writes_and_sends [] (acknowledgement (leaf_of place p d) o))
+      → LeafTurn place p n h
+      (writes_and_sends [] (acknowledgement (leaf_of place p d) o (unknown_findings h.version d)))
   -- ABORT finds the branch Active
   drops : (d : Case) → Hears h (Abort d) → IsActive place n d
-      → LeafTurn place p n h (writes_and_sends [] (acknowledgement (leaf_of place p d) AbortedOutcome))
+      → LeafTurn place p n h (writes_and_sends [] (acknowledgement (leaf_of place p d) AbortedOutcome []))
   -- operators
   asks : (d : Case) → h.input ≡ ActInput (Ask d) → Waits (mark_at n d)
       → LeafTurn place p n h (writes_and_sends [] (post place.me p (Inquire d) ∷ []))

@@ -9,7 +9,7 @@ use Rattle.tree_model.specs.declared.messages.Message.{Message}
 use Rattle.tree_model.specs.declared.messages.Message.TheVariants.{Join, Joined, Work, Prepare, Yes, No, Read, Commit, Abort, Ack, Inquire}
 use Rattle.tree_model.specs.declared.messages.Envelope.{Envelope}
 use Rattle.tree_model.specs.declared.records.Record.{Record}
-use Rattle.tree_model.specs.declared.records.Record.TheVariants.{Collecting, Prepare as PrepareRecord, Commit as CommitRecord, Abort as AbortRecord, End}
+use Rattle.tree_model.specs.declared.records.Record.TheVariants.{Collecting, Prepare as PrepareRecord, Commit as CommitRecord, Abort as AbortRecord, End, Cleared}
 use Rattle.tree_model.specs.declared.standings.Standing.TheVariants.{Unknown}
 use Rattle.tree_model.specs.declared.events.Act.{Act}
 use Rattle.tree_model.specs.declared.events.Input.{Input}
@@ -28,7 +28,8 @@ is_coordinators (Collecting c ts) = true
 is_coordinators (PrepareRecord c ts) = true
 is_coordinators (CommitRecord c ts) = true
 is_coordinators (AbortRecord c ts) = true
-is_coordinators (End c) = true
+is_coordinators (End c r) = true
+is_coordinators (Cleared c) = true
 is_coordinators _ = false
 
 -- at most one record, of the case
@@ -50,7 +51,7 @@ abbrev pub IsFromCase : Case → Message → Type 0
 IsFromCase c (Yes d) = d ≡ c
 IsFromCase c (No d) = d ≡ c
 IsFromCase c (Read d) = d ≡ c
-IsFromCase c (Ack d o) = d ≡ c
+IsFromCase c (Ack d o fs) = d ≡ c
 IsFromCase c (Inquire d) = d ≡ c
 IsFromCase c _ = ⊥
 

@@ -35,7 +35,7 @@ EndsDecided rs = (c : Case) → has (is_end c) rs ≡ true → has (is_prepare c
 
 -- this record ends a case that is decided, or that has not promised
 abbrev EndFits : List Record → Record → Type 0
-EndFits rs (EndRecord c) = IsDecided c rs ⊎ (has (is_prepare c) rs ≡ false)
+EndFits rs (EndRecord c rep) = IsDecided c rs ⊎ (has (is_prepare c) rs ≡ false)
 EndFits rs _ = Unit {0}
 
 decided_first : (c : Case) (xs ys : List Record) → IsDecided c xs → IsDecided c (xs ++ ys)
@@ -52,15 +52,15 @@ one_is q r e = only (q r) (sym (has-cons q r [] ∙ ap (λ b. q r || b) (has-nil
 module _ (rs : List Record) (old : EndsDecided rs) (c : Case) where
   ends_now : (r : Record) → EndFits rs r → is_end c r ≡ true → has (is_prepare c) (rs ++ r ∷ []) ≡ true
       → IsDecided c rs
-  ends_now (EndRecord d) f e g = by_fit (subst (λ (x : Case). IsDecided x rs
+  ends_now (EndRecord d rep) f e g = by_fit (subst (λ (x : Case). IsDecided x rs
       ⊎ (has (is_prepare x) rs ≡ false))
-      (same_of d c e) f) (in_either (is_prepare c) rs (EndRecord d ∷ []) g)
+      (same_of d c e) f) (in_either (is_prepare c) rs (EndRecord d rep ∷ []) g)
     where
       by_fit : IsDecided c rs ⊎ (has (is_prepare c) rs ≡ false)
-          → (has (is_prepare c) rs ≡ true) ⊎ (has (is_prepare c) (EndRecord d ∷ []) ≡ true) → IsDecided c rs
+          → (has (is_prepare c) rs ≡ true) ⊎ (has (is_prepare c) (EndRecord d rep ∷ []) ≡ true) → IsDecided c rs
       by_fit (inl x) y = x
       by_fit (inr x) (inl y) = not_both (is_prepare c) (has (is_prepare c) rs) y x
-      by_fit (inr x) (inr y) = absurd (let z = one_is (is_prepare c) (EndRecord d) y in cc)
+      by_fit (inr x) (inr y) = absurd (let z = one_is (is_prepare c) (EndRecord d rep) y in cc)
   ends_now r f e g = absurd (cc)
 
   promises_now : (r : Record) → Fits rs r → is_prepare c r ≡ true → has (is_end c) rs ≡ true → IsDecided c rs
@@ -118,7 +118,7 @@ module _ (place : Place) (parent : Option ProcessId) (n : Node) (h : Heard) (c :
     inr (collecting_undecided (kept n) c _ (sym (viewed place n c) ∙ i.vote.stands)).no_prepare,
     refl,
   )
-  row_ends r (ends t o i e f g) = (inl (decided_so o (coordinator_view place n c).standing refl e), refl)
+  row_ends r (ends t o fs i e f g) = (inl (decided_so o (coordinator_view place n c).standing refl e), refl)
   row_ends r (asks_for_votes PresumeAbort i e f g) = tt
   row_ends r (asks_for_votes PresumeCommit i e f g) = (tt, refl)
   row_ends r (commits t w ys PresumeAbort i e f g) = (tt, refl)
@@ -142,8 +142,8 @@ module _ (place : Place) (parent : Option ProcessId) (n : Node) (h : Heard) (c :
   row_ends r (repeats_yes j i e) = tt
   row_ends r (asks i e) = tt
   row_ends r (refuses j i e) = tt
-  row_ends r (acknowledges o i e) = tt
-  row_ends r (waits_for_acks t o i e f g) = tt
+  row_ends r (acknowledges o fs i e) = tt
+  row_ends r (waits_for_acks t o fs i e f g) = tt
   row_ends r (answers t o i e) = tt
 
 pub turn_ends : (place : Place) (parent : Option ProcessId) (n : Node) (h : Heard) (e : Effect)

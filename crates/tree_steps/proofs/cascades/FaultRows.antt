@@ -1,5 +1,5 @@
 -- Each turn of a cascaded coordinator in which its device fails: nothing or the one record was appended.
-use Rattle.std.proofs.Common.{◌≡◌, ◌∙◌, inl, inr, ℕ, zero, suc, Bool, true, false, Some, List, [], ◌∷◌, refl, sym, ap, subst}
+use Rattle.std.proofs.Common.{◌≡◌, ◌∙◌, inl, inr, ℕ, zero, suc, Bool, true, false, Some, List, [], ◌∷◌, refl, sym, ap, subst, None}
 use Rattle.tree_model.specs.declared.names.Case.{Case}
 use Rattle.tree_model.specs.declared.names.Presumption.{Presumption}
 use Rattle.tree_model.specs.declared.names.Presumption.TheVariants.{PresumeAbort, PresumeCommit}
@@ -16,7 +16,7 @@ use Rattle.tree_model.specs.CoordinatorRows.{Row}
 use Rattle.tree_model.specs.Memory.{memory_of}
 use Rattle.tree_model.specs.Nodes.{Effect, Heard, Node, Place, fails_in, kept}
 use Rattle.tree_model.specs.Reactions.{row_effect}
-use Rattle.tree_model.specs.Standings.{CoordinatorView, coordinator_view}
+use Rattle.tree_model.specs.Standings.{CoordinatorView, coordinator_view, found_below}
 use Rattle.tree_pairs.specs.ChildCrash as crash
 use Rattle.tree_pairs.specs.Reading.{Reading}
 use Rattle.tree_pairs.specs.readings.ReadingOf.{ParentHalf, Wire, reading_from}
@@ -33,7 +33,7 @@ use Rattle.tree_steps.proofs.cascades.Fails.{IsOld, OwnFront, as_front, failed_o
 use Rattle.tree_steps.proofs.cascades.Faults as faults
 use Rattle.tree_steps.proofs.cascades.Faults.{Unforced}
 use Rattle.tree_steps.proofs.cascades.Halves as halves
-use Rattle.tree_steps.proofs.cascades.Halves.{IsAside, OwnHalf, aborts_record, as_child, aside, commits_record, own_half_at, promises_record, wrote}
+use Rattle.tree_steps.proofs.cascades.Halves.{IsAside, OwnHalf, aborts_record, as_child, aside, commits_record, own_half_at, promises_record, wrote, plain_end}
 use Rattle.tree_steps.proofs.cascades.Turns.{R, Turn, d as own_case, opens, place as place_in, q as half_in, r0, v as wire_in}
 use Rattle.tree_steps.proofs.cascades.TurnsDecided.{commit_sent, doubt_at, prepared_closed}
 use Rattle.tree_steps.proofs.cascades.TurnsVoted.{asked_for, silent_at}
@@ -245,7 +245,7 @@ module _ (turn : Turn) where
   own_row r (counts_vote u w i e f) = silent_fails (row_effect d r) refl
   own_row r (reads_only u w ys PresumeAbort i e f) = silent_fails (row_effect d r) refl
   own_row r (reads_only u w ys PresumeCommit i e f) =
-      aside_fails (row_effect d r) (EndRecord d) false refl
+      aside_fails (row_effect d r) (EndRecord d None) false refl
       (record { no_prepare = refl; no_commit = refl; no_abort = refl })
   own_row r (commits u w ys x i e f g) = absurd (cc)
   own_row r (promises u w ys x i e f) = promise_fails (row_effect d r) ys true refl i.vote.stands
@@ -264,10 +264,10 @@ module _ (turn : Turn) where
   own_row r (repeats_yes j i e) = silent_fails (row_effect d r) refl
   own_row r (asks i e) = silent_fails (row_effect d r) refl
   own_row r (refuses j i e) = silent_fails (row_effect d r) refl
-  own_row r (acknowledges o i e) = silent_fails (row_effect d r) refl
-  own_row r (waits_for_acks u o i e f g) = silent_fails (row_effect d r) refl
-  own_row r (ends u o i e f g) =
-      aside_fails (row_effect d r) (EndRecord d) false refl
+  own_row r (acknowledges o fs i e) = silent_fails (row_effect d r) refl
+  own_row r (waits_for_acks u o fs i e f g) = silent_fails (row_effect d r) refl
+  own_row r (ends u o fs i e f g) =
+      aside_fails (row_effect d r) (EndRecord d None) false (plain_end t.child p d h.version (found_below place n d o fs))
       (record { no_prepare = refl; no_commit = refl; no_abort = refl })
   own_row r (answers u o i e) = silent_fails (row_effect d r) refl
 
@@ -292,7 +292,7 @@ module _ (turn : Turn) where
     other_row r (counts_vote u w i e f) = silent_fails (row_effect x r) refl
     other_row r (reads_only u w ys PresumeAbort i e f) = silent_fails (row_effect x r) refl
     other_row r (reads_only u w ys PresumeCommit i e f) =
-        aside_fails (row_effect x r) (EndRecord x) false refl
+        aside_fails (row_effect x r) (EndRecord x None) false refl
         (record { no_prepare = refl; no_commit = refl; no_abort = refl })
     other_row r (commits u w ys y i e f g) = absurd (cc)
     other_row r (promises u w ys y i e f) =
@@ -319,10 +319,11 @@ module _ (turn : Turn) where
     other_row r (repeats_yes j i e) = silent_fails (row_effect x r) refl
     other_row r (asks i e) = silent_fails (row_effect x r) refl
     other_row r (refuses j i e) = silent_fails (row_effect x r) refl
-    other_row r (acknowledges o i e) = silent_fails (row_effect x r) refl
-    other_row r (waits_for_acks u o i e f g) = silent_fails (row_effect x r) refl
-    other_row r (ends u o i e f g) =
-        aside_fails (row_effect x r) (EndRecord x) false refl
+    other_row r (acknowledges o fs i e) = silent_fails (row_effect x r) refl
+    other_row r (waits_for_acks u o fs i e f g) = silent_fails (row_effect x r) refl
+    other_row r (ends u o fs i e f g) =
+        aside_fails (row_effect x r) (EndRecord x None) false
+        (plain_end t.child p x h.version (found_below place n x o fs))
         (record { no_prepare = refl; no_commit = refl; no_abort = refl })
     other_row r (answers u o i e) = silent_fails (row_effect x r) refl
 

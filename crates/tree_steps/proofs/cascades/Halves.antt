@@ -1,20 +1,22 @@
 -- A cascaded coordinator's half as a child, by the records of its own case: what an event makes of it.
-use Rattle.std.proofs.Common.{◌≡◌, Bool, true, false, ◌||◌, ◌&&◌, List, [], refl, arith}
+use Rattle.std.proofs.Common.{◌≡◌, Bool, true, false, ◌||◌, ◌&&◌, List, [], refl, arith, Some, None}
 use Rattle.tree_model.specs.declared.names.Case.{Case}
 use Rattle.tree_model.specs.declared.names.Ticket.{Ticket}
 use Rattle.tree_model.specs.declared.records.Record.{Record}
-use Rattle.tree_model.specs.declared.records.Record.TheVariants.{Prepare as PrepareRecord, Commit as CommitRecord, Abort as AbortRecord}
+use Rattle.tree_model.specs.declared.records.Record.TheVariants.{Prepare as PrepareRecord, Commit as CommitRecord, Abort as AbortRecord, End as EndRecord}
 use Rattle.tree_model.specs.declared.standings.Standing.{Standing}
 use Rattle.tree_model.specs.NameLaws.{same_case-refl}
 use Rattle.tree_model.specs.Records.{has, is_commit, is_abort, is_prepare}
-use Rattle.tree_model.specs.Nodes.{Node, Heard, Effect, kept, after}
-use Rattle.tree_model.specs.CoordinatorRows.{forced, plain}
+use Rattle.tree_model.specs.Nodes.{Node, Heard, Effect, kept, after, Version, First, Second}
+use Rattle.tree_model.specs.CoordinatorRows.{forced, plain, ends_with}
 use Rattle.tree_model.specs.Memory.{fresh_memory}
 use Rattle.tree_model.specs.Outcomes.{follows}
 use Rattle.tree_pairs.specs.Reading.{is_live}
 use Rattle.tree_pairs.specs.readings.ReadingOf.{ChildHalf, child_half_at, phase_by}
 use Rattle.tree_pairs.proofs.readings.Lists.{has-push, has-push_behind, has-nil, has-nil_behind, has-cons, has-history}
 use Rattle.tree_nodes.proofs.ChildOf.{NoBranch, half_as_child}
+use Rattle.tree_model.specs.declared.messages.Finding.{Finding}
+use Rattle.tree_model.specs.declared.names.ProcessId.{ProcessId}
 
 -- What the process says of its own case: whether it is open, whether it aborted behind its promise or
 -- committed, and
@@ -127,6 +129,12 @@ pub record IsAside (d : Case) (r : Record) : Type 0 where
 
 pub aside : (d : Case) (r : Record) (promised : Bool) (q : OwnHalf) → IsAside d r → wrote r promised d q ≡ q
 aside d r promised q a = rw (a.no_prepare, a.no_commit, a.no_abort) refl
+
+-- below the root an End has nothing of what was found, and is unforced
+pub plain_end : (me p : ProcessId) (x : Case) (ver : Version) (fs : List Finding)
+    → ends_with ver (record { me = me; parent = Some p; own = x }) fs ≡ plain (EndRecord x None)
+plain_end me p x First fs = refl
+plain_end me p x Second fs = refl
 
 -- The records of the case itself.
 

@@ -30,6 +30,7 @@ use Rattle.tree_pairs.specs.readings.ReadingOf.{phase_by}
 use Rattle.tree_pairs.specs.turns.CoordinatorTurns.{Consents}
 use Rattle.tree_nodes.proofs.Cases.{viewed}
 use Rattle.tree_nodes.proofs.Phases.{standing_at, active_unrecorded, unrecorded_stands}
+use Rattle.tree_model.specs.declared.messages.Finding.{Finding}
 
 -- the phase lets the case still be decided
 abbrev pub live : Phase → Bool
@@ -128,7 +129,7 @@ message_is j (No d) = inr tt
 message_is j (Read d) = inr tt
 message_is j (Commit d) = inr tt
 message_is j (Abort d) = inr tt
-message_is j (Ack d o) = inr tt
+message_is j (Ack d o fs) = inr tt
 message_is j (Inquire d) = inr tt
 
 pub input_is : (i : Input) → IsJoin i ⊎ IsRow i
@@ -195,11 +196,11 @@ module _ (me : ProcessId) (boot : ℕ) (c : Case) (m : Memory) where
   voted t w Open e = inl refl
   voted t w Over e = inl refl
 
-  acked : (t : Ticket) (o : Outcome) (ph : Phase) → Falls m (takes_ack m t o ph)
-  acked t o Open = inl refl
-  acked t o Asked = inl refl
-  acked t o Idle = inl refl
-  acked t o Over = inl refl
+  acked : (t : Ticket) (o : Outcome) (fs : List Finding) (ph : Phase) → Falls m (takes_ack m t o fs ph)
+  acked t o fs Open = inl refl
+  acked t o fs Asked = inl refl
+  acked t o fs Idle = inl refl
+  acked t o fs Over = inl refl
 
   of_children : (d : Case) (f : Ticket → Memory) → ((t : Ticket) → Falls m (f t)) → Falls m (of_child c d m f)
   of_children d f g = if_falls (same_txn d.txn c.txn) _ m (by_ticket d.ticket) (inl refl)
@@ -216,7 +217,7 @@ module _ (me : ProcessId) (boot : ℕ) (c : Case) (m : Memory) where
   heard (Yes d) r = of_children d _ (λ t. voted t VoteYes m.phase refl)
   heard (No d) r = of_children d _ (λ t. voted t VoteNo m.phase refl)
   heard (Read d) r = of_children d _ (λ t. voted t VoteRead m.phase refl)
-  heard (Ack d o) r = of_children d _ (λ t. acked t o m.phase)
+  heard (Ack d o fs) r = of_children d _ (λ t. acked t o fs m.phase)
   heard (Work d k op) r = inl refl
   heard (Commit d) r = inl refl
   heard (Inquire d) r = inl refl

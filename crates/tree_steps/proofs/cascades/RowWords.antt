@@ -25,7 +25,7 @@ use Rattle.tree_model.specs.Memory.{Idle, cascaded_remembers, memory_of, works_o
 use Rattle.tree_model.specs.Nodes.{Version, First, Second, Below, Effect, Heard, Node, Place, entries_written, kept}
 use Rattle.tree_model.specs.Outcomes.{is_read_message, sent}
 use Rattle.tree_model.specs.Reactions.{row_effect, seat_of}
-use Rattle.tree_model.specs.Standings.{CoordinatorView, coordinator_view}
+use Rattle.tree_model.specs.Standings.{CoordinatorView, coordinator_view, found_below}
 use Rattle.tree_model.specs.Views.{IsOpenAlike}
 use Rattle.tree_pairs.specs.readings.ReadingOf.{gives_case}
 use Rattle.tree_pairs.specs.turns.CoordinatorTurns.{CaseTurn, CoordinatorTurn, CountsLast, IsToCommit, counting, voted, accepts, acknowledges, answers, asks, asks_for_votes, aborts, begins, commit_act, commits, counts_vote, does_nothing, ends, finds_nobody, gives_again, gives_fresh, gives_up, hears_no, invites, of_case, passes_abort, passes_commit, prepare_comes, presumes, promises, reads_only, refuses, repeats_yes, rests, sends_work, waits_for_acks}
@@ -33,6 +33,7 @@ use Rattle.tree_nodes.proofs.GivenCases.{same_of}
 use Rattle.tree_nodes.proofs.Tests.{either}
 use Rattle.tree_steps.proofs.cascades.Closings as closings
 use Rattle.tree_steps.proofs.cascades.Opens.{live}
+use Rattle.tree_model.specs.declared.messages.Finding.{Finding}
 
 module _ (c : Case) (e : Effect) where
   -- it does none of these
@@ -88,11 +89,11 @@ module _ (c : Case) where
   message_unread me q CommittedOutcome e = refl
   message_unread me q AbortedOutcome e = refl
 
-  ack_unread : (me q : ProcessId) (x : Case) (o : Outcome) (ls : List Envelope)
+  ack_unread : (me q : ProcessId) (x : Case) (o : Outcome) (fs : List Finding) (ls : List Envelope)
       → sent (is_read_message c) ls ≡ false
-      → sent (is_read_message c) (post me q (Ack x o) ∷ ls) ≡ false
+      → sent (is_read_message c) (post me q (Ack x o fs) ∷ ls) ≡ false
   unfolding sent
-  ack_unread me q x o ls e = e
+  ack_unread me q x o fs ls e = e
 
   no_unread : (me q : ProcessId) (x : Case) (ls : List Envelope) → sent (is_read_message c) ls ≡ false
       → sent (is_read_message c) (post me q (No x) ∷ ls) ≡ false
@@ -105,7 +106,7 @@ module _ (c : Case) where
   acknowledged me p x PresumeAbort us = each_unread
       (record { me = me; parent = Some p; own = x }) AbortedOutcome us
   acknowledged me p x PresumeCommit us =
-      ack_unread me p x AbortedOutcome _ (each_unread
+      ack_unread me p x AbortedOutcome [] _ (each_unread
       (record { me = me; parent = Some p; own = x }) AbortedOutcome us)
 
   heard_above : (me p : ProcessId) (x : Case) (why : Reason) (us : List Ticket)
@@ -128,14 +129,15 @@ module _ (c : Case) where
       → sent (is_read_message c) rest ≡ false
       → sent (is_read_message c)
       (acknowledges_at_once ver (record { me = me; parent = Some p; own = x }) o ++ rest) ≡ false
-  at_once me p x First o rest f = ack_unread me p x o rest f
+  at_once me p x First o rest f = ack_unread me p x o [] rest f
   at_once me p x Second o rest f = f
 
-  at_last : (me p : ProcessId) (x : Case) (ver : Version) (o : Outcome)
-      → sent (is_read_message c) (acknowledges_at_last ver (record { me = me; parent = Some p; own = x }) o) ≡ false
+  at_last : (me p : ProcessId) (x : Case) (ver : Version) (o : Outcome) (fs : List Finding)
+      → sent (is_read_message c) (acknowledges_at_last ver (record { me = me; parent = Some p; own = x }) o fs)
+      ≡ false
   unfolding sent has
-  at_last me p x First o = refl
-  at_last me p x Second o = refl
+  at_last me p x First o fs = refl
+  at_last me p x Second o fs = refl
 
 module _ (me p : ProcessId) (tree : List TreeEntry) (n : Node) (h : Heard) (net : List Envelope)
     (alike : (c : Case) → IsOpenAlike (record { me = me; role = Below p; tree = tree }) n c)
@@ -310,9 +312,9 @@ module _ (me p : ProcessId) (tree : List TreeEntry) (n : Node) (h : Heard) (net 
   row_words x r (repeats_yes j i e) = unread (row_effect x r) refl refl refl
   row_words x r (asks i e) = unread (row_effect x r) refl refl refl
   row_words x r (refuses j i e) = unread (row_effect x r) refl refl refl
-  row_words x r (acknowledges o i e) = unread (row_effect x r) refl refl refl
-  row_words x r (waits_for_acks u o i e f g) = unread (row_effect x r) refl refl refl
-  row_words x r (ends u o i e f g) = unread (row_effect x r) (at_last c me p x h.version o) refl refl
+  row_words x r (acknowledges o fs i e) = unread (row_effect x r) refl refl refl
+  row_words x r (waits_for_acks u o fs i e f g) = unread (row_effect x r) refl refl refl
+  row_words x r (ends u o fs i e f g) = unread (row_effect x r) (at_last c me p x h.version o (found_below place n x o fs)) refl refl
   row_words x r (answers u o i e) = unread (row_effect x r) (message_unread c me u.child o _) refl refl
 
   pub turn_words : (e : Effect) → CoordinatorTurn place (Some p) n h e → Says e

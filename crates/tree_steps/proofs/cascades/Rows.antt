@@ -1,5 +1,5 @@
 -- Every row of a cascaded coordinator, of the pair's case and of any other, keeps the pair's invariant.
-use Rattle.std.proofs.Common.{◌≡◌, ◌∙◌, inl, inr, ℕ, Bool, true, false, Some, List, [], ◌∷◌, ◌++◌, refl, sym, subst, if◌then◌else◌}
+use Rattle.std.proofs.Common.{◌≡◌, ◌∙◌, inl, inr, ℕ, Bool, true, false, Some, List, [], ◌∷◌, ◌++◌, refl, sym, subst, if◌then◌else◌, None}
 use Rattle.tree_model.specs.declared.names.Case.{Case}
 use Rattle.tree_model.specs.declared.names.Outcome.{Outcome}
 use Rattle.tree_model.specs.declared.names.Outcome.TheVariants.{Committed as CommittedOutcome, Aborted as AbortedOutcome}
@@ -18,9 +18,9 @@ use Rattle.tree_model.specs.CoordinatorRows.{abort_answered, acknowledges_at_onc
 use Rattle.tree_model.specs.Records.{none_of}
 use Rattle.tree_model.specs.Nodes.{Version, First, Second, Effect, Place}
 use Rattle.tree_model.specs.Reactions.{row_effect, seat_of}
-use Rattle.tree_model.specs.Standings.{CoordinatorView, coordinator_view}
+use Rattle.tree_model.specs.Standings.{CoordinatorView, coordinator_view, found_below}
 use Rattle.tree_pairs.specs.turns.CoordinatorTurns.{CaseTurn, CoordinatorTurn, abort_act, abort_comes, accepts, acknowledges, answers, asks, asks_for_votes, aborts, begins, commit_act, commits, counts_vote, does_nothing, ends, finds_nobody, gives_again, gives_fresh, gives_up, hears_no, invites, of_case, passes_abort, passes_commit, prepare_comes, presumes, promises, reads_only, refuses, repeats_yes, rests, sends_work, waits_for_acks}
-use Rattle.tree_steps.proofs.cascades.Halves.{IsAside}
+use Rattle.tree_steps.proofs.cascades.Halves.{IsAside, plain_end}
 use Rattle.tree_steps.proofs.cascades.Messages as words
 use Rattle.tree_steps.proofs.cascades.Messages.{IsSilent, nothing, said_by}
 use Rattle.tree_steps.proofs.cascades.Opens.{IsRow}
@@ -28,6 +28,7 @@ use Rattle.tree_steps.proofs.cascades.Turns.{Fine, Then, Turn, d as own_case, fo
 use Rattle.tree_steps.proofs.cascades.TurnsDecided.{acknowledges_own, asks_own, ends_own, passes_abort_own, passes_commit_own, refuses_own, repeats_yes_own}
 use Rattle.tree_steps.proofs.cascades.TurnsVoted.{aborts_own, gives_up_own, hears_no_own, promises_own, reads_only_own}
 use Rattle.tree_steps.proofs.cascades.TurnsVotes.{finds_nobody_own, no_root}
+use Rattle.tree_model.specs.declared.messages.Finding.{Finding}
 
 module _ (turn : Turn) where
   open turn use {c, t, p, tree, n, h, net, row}
@@ -86,9 +87,9 @@ module _ (turn : Turn) where
   own_row _ (repeats_yes j i e) k = repeats_yes_own turn i.hears.0 j i.hears.1 e k
   own_row _ (asks i e) k = asks_own turn e k
   own_row _ (refuses j i e) k = refuses_own turn i.hears.0 j i.hears.1 e k
-  own_row _ (acknowledges o i e) k = acknowledges_own turn i.hears.0 o i.hears.1 e k
-  own_row _ (waits_for_acks u o i e f g) k = quiet_turn turn _ k refl (words.none_silent c t)
-  own_row _ (ends u o i e f g) k = ends_own turn h.version o e k
+  own_row _ (acknowledges o fs i e) k = acknowledges_own turn i.hears.0 o fs i.hears.1 e k
+  own_row _ (waits_for_acks u o fs i e f g) k = quiet_turn turn _ k refl (words.none_silent c t)
+  own_row _ (ends u o fs i e f g) k = ends_own turn h.version o (found_below place n d o fs) e k
   own_row _ (answers u o i e) k = quiet_turn turn _ k refl (message_down o u.child _)
 
   -- Rows of another case.
@@ -106,8 +107,9 @@ module _ (turn : Turn) where
     up_read : Silent (post t.child p (Read x) ∷ [])
     up_read = words.said_first c t _ [] (words.none_silent c t) ∙ rw other refl
 
-    up_ack : (o : Outcome) (ls : List Envelope) → Silent ls → Silent (post t.child p (Ack x o) ∷ ls)
-    up_ack o ls s = words.said_first c t _ ls s ∙ rw other refl
+    up_ack : (o : Outcome) (fs : List Finding) (ls : List Envelope) → Silent ls
+        → Silent (post t.child p (Ack x o fs) ∷ ls)
+    up_ack o fs ls s = words.said_first c t _ ls s ∙ rw other refl
 
     up_inquire : Silent (post t.child p (Inquire x) ∷ [])
     up_inquire = words.said_first c t _ [] (words.none_silent c t) ∙ rw other refl
@@ -118,7 +120,7 @@ module _ (turn : Turn) where
     acknowledged : (q : Presumption) (us : List Ticket)
         → Silent (acknowledges_abort (seat x) q ++ each (seat x) Abort us)
     acknowledged PresumeAbort us = aborts_down us
-    acknowledged PresumeCommit us = up_ack AbortedOutcome (each (seat x) Abort us) (aborts_down us)
+    acknowledged PresumeCommit us = up_ack AbortedOutcome [] (each (seat x) Abort us) (aborts_down us)
 
     heard_above : (why : Reason) (us : List Ticket)
         → Silent (abort_heard_above (seat x) why us ++ each (seat x) Abort us)
@@ -134,12 +136,12 @@ module _ (turn : Turn) where
 
     at_once : (ver : Version) (o : Outcome) (ls : List Envelope) → Silent ls
         → Silent (acknowledges_at_once ver (seat x) o ++ ls)
-    at_once First o ls s = up_ack o ls s
+    at_once First o ls s = up_ack o [] ls s
     at_once Second o ls s = s
 
-    at_last : (ver : Version) (o : Outcome) → Silent (acknowledges_at_last ver (seat x) o)
-    at_last First o = words.none_silent c t
-    at_last Second o = up_ack o [] (words.none_silent c t)
+    at_last : (ver : Version) (o : Outcome) (fs : List Finding) → Silent (acknowledges_at_last ver (seat x) o fs)
+    at_last First o fs = words.none_silent c t
+    at_last Second o fs = up_ack o fs [] (words.none_silent c t)
 
     aside_promise : (ts : List Ticket) → IsAside (own_case turn) (PrepareRecord x ts)
     aside_promise ts = record { no_prepare = other; no_commit = refl; no_abort = refl }
@@ -167,7 +169,7 @@ module _ (turn : Turn) where
     other_row _ (counts_vote u w i e f) k = quiet_turn turn _ k refl (words.none_silent c t)
     other_row _ (reads_only u w ys PresumeAbort i e f) k = quiet_turn turn _ k refl up_read
     other_row _ (reads_only u w ys PresumeCommit i e f) k =
-        plain_aside turn _ k (EndRecord x) refl (λ y. refl)
+        plain_aside turn _ k (EndRecord x None) refl (λ y. refl)
         (record { no_prepare = refl; no_commit = refl; no_abort = refl }) up_read
     other_row _ (commits u w ys q i e f g) k = absurd (cc)
     other_row _ (promises u w ys q i e f) k =
@@ -197,11 +199,12 @@ module _ (turn : Turn) where
     other_row _ (repeats_yes j i e) k = quiet_turn turn _ k refl up_yes
     other_row _ (asks i e) k = quiet_turn turn _ k refl up_inquire
     other_row _ (refuses j i e) k = quiet_turn turn _ k refl (up_no [] (words.none_silent c t))
-    other_row _ (acknowledges o i e) k = quiet_turn turn _ k refl (up_ack o [] (words.none_silent c t))
-    other_row _ (waits_for_acks u o i e f g) k = quiet_turn turn _ k refl (words.none_silent c t)
-    other_row _ (ends u o i e f g) k =
-        plain_aside turn _ k (EndRecord x) refl (λ y. refl)
-        (record { no_prepare = refl; no_commit = refl; no_abort = refl }) (at_last h.version o)
+    other_row _ (acknowledges o fs i e) k = quiet_turn turn _ k refl (up_ack o fs [] (words.none_silent c t))
+    other_row _ (waits_for_acks u o fs i e f g) k = quiet_turn turn _ k refl (words.none_silent c t)
+    other_row _ (ends u o fs i e f g) k =
+        plain_aside turn _ k (EndRecord x None) (plain_end t.child p x h.version (found_below place n x o fs))
+        (λ y. refl) (record { no_prepare = refl; no_commit = refl; no_abort = refl })
+        (at_last h.version o (found_below place n x o fs))
     other_row _ (answers u o i e) k = quiet_turn turn _ k refl (message_down o u.child _)
 
   case_row : (x : Case) (r : Row) → CaseTurn place (Some p) n h x r → Then turn (row_effect x r)

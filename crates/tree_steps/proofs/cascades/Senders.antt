@@ -25,6 +25,7 @@ use Rattle.tree_pairs.specs.turns.LeafTurns.{LeafTurn, acknowledges, acknowledge
 use Rattle.tree_pairs.specs.turns.Written.{AllSent, Sends, Writes, down, for_act, for_child, for_parent, gives, invites, presumes, upward, writes_nothing}
 use Rattle.tree_pairs.proofs.turns.Steps.{turn_of}
 use Rattle.tree_steps.specs.cascades.Messages.{AllSentBy}
+use Rattle.tree_model.specs.declared.messages.Finding.{Finding}
 
 sent_by : (s : Seat) (l : Envelope) → Sends s l → l.from ≡ s.me
 sent_by s _ (down t m i) = refl
@@ -50,10 +51,10 @@ writes_sent place parent n i ws ls (gives q d t e f k g a) = one_sent_by place.m
 
 -- A manager.
 
-if_acknowledged : (me p : ProcessId) (d : Case) (o : Outcome) (b : Bool)
-    → AllSentBy me (if b then post me p (Ack d o) ∷ [] else [])
-if_acknowledged me p d o true = (refl, tt)
-if_acknowledged me p d o false = tt
+if_acknowledged : (me p : ProcessId) (d : Case) (o : Outcome) (fs : List Finding) (b : Bool)
+    → AllSentBy me (if b then post me p (Ack d o fs) ∷ [] else [])
+if_acknowledged me p d o fs true = (refl, tt)
+if_acknowledged me p d o fs false = tt
 
 leaf_sent : (place : Place) (p : ProcessId) (n : Node) (h : Heard) (e : Effect) → LeafTurn place p n h e
     → AllSentBy place.me e.messages
@@ -65,14 +66,14 @@ leaf_sent place p n h e (votes_read d k i a) = (refl, tt)
 leaf_sent place p n h e (votes_no d k i a) = (refl, tt)
 leaf_sent place p n h e (repeats_yes d k i a) = (refl, tt)
 leaf_sent place p n h e (refuses d k i a) = (refl, tt)
-leaf_sent place p n h e (obeys d o i a) = if_acknowledged place.me p d o (is_acknowledged d.txn.presumption o)
-leaf_sent place p n h e (notes d o i a) = if_acknowledged place.me p d o (is_acknowledged d.txn.presumption o)
+leaf_sent place p n h e (obeys d o i a) = if_acknowledged place.me p d o _ (is_acknowledged d.txn.presumption o)
+leaf_sent place p n h e (notes d o i a) = if_acknowledged place.me p d o _ (is_acknowledged d.txn.presumption o)
 leaf_sent place p n h e (acknowledges_told d o i a) =
-    if_acknowledged place.me p d o (is_acknowledged d.txn.presumption o)
-leaf_sent place p n h e (acknowledges d o i a) = if_acknowledged place.me p d o
+    if_acknowledged place.me p d o _ (is_acknowledged d.txn.presumption o)
+leaf_sent place p n h e (acknowledges d o i a) = if_acknowledged place.me p d o _
     (is_acknowledged d.txn.presumption o)
 leaf_sent place p n h e (drops d i a) =
-    if_acknowledged place.me p d AbortedOutcome (is_acknowledged d.txn.presumption AbortedOutcome)
+    if_acknowledged place.me p d AbortedOutcome _ (is_acknowledged d.txn.presumption AbortedOutcome)
 leaf_sent place p n h e (asks d i a) = (refl, tt)
 leaf_sent place p n h e (decides d o i a) = tt
 leaf_sent place p n h e (forgets d i a) = tt

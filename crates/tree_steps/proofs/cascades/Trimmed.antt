@@ -37,7 +37,7 @@ of_collecting c (CollectingRecord d ts) e = ap Some (same_of d c e)
 of_collecting c r e = absurd (cc)
 
 pub of_end : (c : Case) → IsOf c (is_end c)
-of_end c (EndRecord d) e = ap Some (same_of d c e)
+of_end c (EndRecord d rep) e = ap Some (same_of d c e)
 of_end c r e = absurd (cc)
 
 module _ (p : ProcessId) (c : Case) (q : Record → Bool) (of : IsOf c q) (whole : List Record) where

@@ -1,5 +1,5 @@
 -- The rows of the pair's case behind its promise, and of one that is over, keep the pair's invariant.
-use Rattle.std.proofs.Common.{◌≡◌, ◌∙◌, ◌⊎◌, inl, inr, ◌&&◌, ℕ, Bool, true, false, Some, List, [], ◌∷◌, refl, sym, ap, subst, arith}
+use Rattle.std.proofs.Common.{◌≡◌, ◌∙◌, ◌⊎◌, inl, inr, ◌&&◌, ℕ, Bool, true, false, Some, List, [], ◌∷◌, refl, sym, ap, subst, arith, None}
 use Rattle.tree_model.specs.declared.names.Case.{Case}
 use Rattle.tree_model.specs.declared.names.Outcome.{Outcome}
 use Rattle.tree_model.specs.declared.names.Outcome.TheVariants.{Committed as CommittedOutcome, Aborted as AbortedOutcome}
@@ -13,7 +13,7 @@ use Rattle.tree_model.specs.declared.standings.Standing.TheVariants.{Unknown, Pr
 use Rattle.tree_model.specs.declared.events.Input.TheVariants.{Message as MessageInput}
 use Rattle.tree_model.specs.NameLaws.{same_case-refl}
 use Rattle.tree_model.specs.Records.{has, is_abort, is_commit, is_end, is_prepare}
-use Rattle.tree_model.specs.CoordinatorRows.{Row, acknowledges_at_last, acknowledges_at_once, plain, quiet, Seat, each, post, prepared_abort_by, prepared_commit_by, sends, tells_outcome, up as up_message}
+use Rattle.tree_model.specs.CoordinatorRows.{Row, acknowledges_at_last, acknowledges_at_once, plain, quiet, Seat, each, post, prepared_abort_by, prepared_commit_by, sends, tells_outcome, up as up_message, ends_with}
 use Rattle.tree_model.specs.Nodes.{Version, First, Second, Effect, Place, kept}
 use Rattle.tree_model.specs.Outcomes.{is_outcome_message}
 use Rattle.tree_model.specs.Reactions.{row_effect, seat_of}
@@ -35,6 +35,7 @@ use Rattle.tree_steps.proofs.cascades.Readings as readings
 use Rattle.tree_steps.proofs.cascades.Standings.{IsOver, aborting_facts, committing_facts, prepared_facts, unknown_facts}
 use Rattle.tree_steps.proofs.cascades.Turns.{Fine, R, Remembered, Then, Turn, d as own_case, fallen, forced_fine, plain_aside, hard, onward, place as place_in, plain_fine, q as half_in, r0, silent_fine, v as wire_in}
 use Rattle.tree_steps.proofs.cascades.TurnsVotes.{abort_sent, prepare_sent}
+use Rattle.tree_model.specs.declared.messages.Finding.{Finding}
 
 closed_at : (f : Bool) (s u : Standing) → s ≡ u → is_live (phase_by false u) ≡ false
     → is_live (phase_by f s) ≡ false
@@ -157,10 +158,10 @@ module _ (turn : Turn) where
       (move.asks (r0 turn)) refl
       (moves.asks pr (r0 turn) inv (record { up = up; in_doubt = doubt_at e }))
 
-  ack_said : (o x : Outcome) (us : List Ticket)
-      → said_by c t (post t.child p (Ack (own_case turn) o) ∷ each seat (tells_outcome x) us)
+  ack_said : (o x : Outcome) (fs : List Finding) (us : List Ticket)
+      → said_by c t (post t.child p (Ack (own_case turn) o fs) ∷ each seat (tells_outcome x) us)
       ≡ record nothing { ack = true }
-  ack_said o x us = words.said_first c t (post t.child p (Ack d o)) (each seat (tells_outcome x) us)
+  ack_said o x fs us = words.said_first c t (post t.child p (Ack d o fs)) (each seat (tells_outcome x) us)
       (words.each_silent c t seat x us)
       ∙ rw (same_case-refl d) refl
 
@@ -175,7 +176,7 @@ module _ (turn : Turn) where
       let doubt = doubt_at e in
       forced_fine turn (row_effect d (prepared_commit_by First seat (coordinator_view place n d) PresumeAbort)) next
       (CommitRecord d ts) refl (λ x. refl) (record nothing { ack = true })
-      (ack_said CommittedOutcome CommittedOutcome ts)
+      (ack_said CommittedOutcome CommittedOutcome [] ts)
       (λ o g. subst (λ (z : Reading). Fits pr (r0 turn) z)
       (sym (ap (λ (x : OwnHalf). R turn (stands_so o (hardens x)) (record v { ack = true }))
       (commits_record d ts b q)
@@ -279,7 +280,7 @@ module _ (turn : Turn) where
       let doubt = doubt_at e in
       forced_fine turn (row_effect d (prepared_abort_by First seat (coordinator_view place n d) PresumeCommit)) next
       (AbortRecord d ts) refl (λ x. refl) (record nothing { ack = true })
-      (ack_said AbortedOutcome AbortedOutcome ts)
+      (ack_said AbortedOutcome AbortedOutcome [] ts)
       (λ o g. subst (λ (z : Reading). Fits pr (r0 turn) z)
       (sym (ap (λ (x : OwnHalf). R turn (stands_so o (hardens x)) (record v { ack = true }))
       (aborts_record d ts b q)
@@ -405,14 +406,14 @@ module _ (turn : Turn) where
 
   -- An outcome that it knows, or of which nothing is known, is acknowledged.
 
-  acks : (o : Outcome) → q.is_open ≡ false → Fits pr (r0 turn) (move.acknowledges (r0 turn))
-      → Then turn (row_effect d (sends (up_message seat (Ack d o)) (coordinator_view place n d)))
-      → Fine turn (row_effect d (sends (up_message seat (Ack d o)) (coordinator_view place n d)))
-  acks o closed fits next =
-      closed_says (row_effect d (sends (up_message seat (Ack d o))
+  acks : (o : Outcome) (fs : List Finding) → q.is_open ≡ false → Fits pr (r0 turn) (move.acknowledges (r0 turn))
+      → Then turn (row_effect d (sends (up_message seat (Ack d o fs)) (coordinator_view place n d)))
+      → Fine turn (row_effect d (sends (up_message seat (Ack d o fs)) (coordinator_view place n d)))
+  acks o fs closed fits next =
+      closed_says (row_effect d (sends (up_message seat (Ack d o fs))
       (coordinator_view place n d))) next refl closed
       (record nothing { ack = true })
-      (words.said_first c t (post t.child p (Ack d o)) [] (words.none_silent c t)
+      (words.said_first c t (post t.child p (Ack d o fs)) [] (words.none_silent c t)
       ∙ rw (same_case-refl d) refl)
       (move.acknowledges (r0 turn)) refl fits
 
@@ -432,11 +433,11 @@ module _ (turn : Turn) where
       absurd (let k = sym ((subst (λ (y : Presumption). NamesBy y d (kept n)) f order.names).1 g.0)
       ∙ g.1 in cc)
 
-  acknowledges_by : (ver : Version) (j : ℕ) (o : Outcome) → h.input ≡ MessageInput j (tells_outcome o d) → (x : Presumption)
+  acknowledges_by : (ver : Version) (j : ℕ) (o : Outcome) (fs : List Finding) → h.input ≡ MessageInput j (tells_outcome o d) → (x : Presumption)
       → d.txn.presumption ≡ x → (s : Standing) → (coordinator_view place n d).standing ≡ s
-      → Acknowledges ver o x s
+      → Acknowledges ver d o x s fs
       → (q.is_open ≡ false) × Fits pr (r0 turn) (move.acknowledges (r0 turn))
-  acknowledges_by _ j CommittedOutcome i _ f _ e (commit_presumed_abort w) =
+  acknowledges_by _ j CommittedOutcome _ i _ f _ e (commit_presumed_abort w _) =
       let closed = closed_by Unknown e refl in (
         closed,
         moves.acknowledges_commit pr (sym of ∙ f) (r0 turn) inv (record {
@@ -445,7 +446,7 @@ module _ (turn : Turn) where
           known = inl (forgotten closed (unknown_facts place n d e));
         }),
       )
-  acknowledges_by _ j CommittedOutcome i x f _ e (commit_again _) =
+  acknowledges_by _ j CommittedOutcome _ i x f _ e (commit_again _ _) =
       let closed = closed_by Committing e refl in (
         closed,
         moves.acknowledges_commit pr (sym of ∙ (f ∙ commits_by x f e)) (r0 turn) inv (record {
@@ -454,7 +455,7 @@ module _ (turn : Turn) where
           known = inr (committing_facts place n d e).0;
         }),
       )
-  acknowledges_by _ j AbortedOutcome i _ f _ e (abort_presumed_commit w) =
+  acknowledges_by _ j AbortedOutcome _ i _ f _ e (abort_presumed_commit w _) =
       let closed = closed_by Unknown e refl in (
         closed,
         moves.acknowledges_abort pr (sym of ∙ f) (r0 turn) inv (record {
@@ -463,7 +464,7 @@ module _ (turn : Turn) where
           known = inl (forgotten closed (unknown_facts place n d e));
         }),
       )
-  acknowledges_by _ j AbortedOutcome i x f _ e (abort_again _) =
+  acknowledges_by _ j AbortedOutcome _ i x f _ e (abort_again _ _) =
       let closed = closed_by Aborting e refl in (
         closed,
         moves.acknowledges_abort pr (sym of ∙ (f ∙ aborts_by x f e)) (r0 turn) inv (record {
@@ -473,13 +474,13 @@ module _ (turn : Turn) where
         }),
       )
 
-  pub acknowledges_own : (j : ℕ) (o : Outcome) → h.input ≡ MessageInput j (tells_outcome o d)
-      → Acknowledges h.version o d.txn.presumption (coordinator_view place n d).standing
-      → Then turn (row_effect d (sends (up_message seat (Ack d o)) (coordinator_view place n d)))
-      → Fine turn (row_effect d (sends (up_message seat (Ack d o)) (coordinator_view place n d)))
-  acknowledges_own j o i a next =
-      let f = acknowledges_by h.version j o i d.txn.presumption refl (coordinator_view place n d).standing refl a in
-      acks o f.0 f.1 next
+  pub acknowledges_own : (j : ℕ) (o : Outcome) (fs : List Finding) → h.input ≡ MessageInput j (tells_outcome o d)
+      → Acknowledges h.version d o d.txn.presumption (coordinator_view place n d).standing fs
+      → Then turn (row_effect d (sends (up_message seat (Ack d o fs)) (coordinator_view place n d)))
+      → Fine turn (row_effect d (sends (up_message seat (Ack d o fs)) (coordinator_view place n d)))
+  acknowledges_own j o fs i a next =
+      let f = acknowledges_by h.version j o fs i d.txn.presumption refl (coordinator_view place n d).standing refl a in
+      acks o fs f.0 f.1 next
 
   -- By the second version the last acknowledgement of its children is acknowledged.
 
@@ -515,13 +516,13 @@ module _ (turn : Turn) where
       promised_or_not i f true g =
           inr (inr (inl (i (both_true (has (is_abort d) (kept n)) (has (is_prepare d) (kept n)) f g) up)))
 
-  abbrev ends_row : Version → Outcome → Row
-  ends_row ver o = record (quiet unknown_view) {
-    written = plain (EndRecord d);
-    messages = acknowledges_at_last ver seat o;
+  abbrev ends_row : Version → Outcome → List Finding → Row
+  ends_row ver o fs = record (quiet unknown_view) {
+    written = ends_with ver seat fs;
+    messages = acknowledges_at_last ver seat o fs;
   }
 
-  aside_end : IsAside (own_case turn) (EndRecord (own_case turn))
+  aside_end : IsAside (own_case turn) (EndRecord (own_case turn) None)
   aside_end = record { no_prepare = refl; no_commit = refl; no_abort = refl }
 
   over_by : (o : Outcome) (s : Standing) → (coordinator_view place n d).standing ≡ s → Decided o s
@@ -529,17 +530,17 @@ module _ (turn : Turn) where
   over_by _ _ e by_commit = closed_by Committing e refl
   over_by _ _ e by_abort = closed_by Aborting e refl
 
-  pub ends_own : (ver : Version) (o : Outcome) → Decided o (coordinator_view place n d).standing
-      → Then turn (row_effect d (ends_row ver o)) → Fine turn (row_effect d (ends_row ver o))
-  ends_own First o i next =
-      plain_aside turn _ next (EndRecord d) refl (λ x. refl) aside_end (words.none_silent c t)
-  ends_own Second o i next =
+  pub ends_own : (ver : Version) (o : Outcome) (fs : List Finding) → Decided o (coordinator_view place n d).standing
+      → Then turn (row_effect d (ends_row ver o fs)) → Fine turn (row_effect d (ends_row ver o fs))
+  ends_own First o fs i next =
+      plain_aside turn _ next (EndRecord d None) refl (λ x. refl) aside_end (words.none_silent c t)
+  ends_own Second o fs i next =
       let closed = over_by o (coordinator_view place n d).standing refl i in
       let s : Said = record nothing { ack = true } in
-      plain_fine turn (row_effect d (ends_row Second o)) next (EndRecord d) refl (λ x. refl) s
-      (words.said_first c t (post t.child p (Ack d o)) [] (words.none_silent c t) ∙ rw (same_case-refl d) refl)
+      plain_fine turn (row_effect d (ends_row Second o fs)) next (EndRecord d None) refl (λ x. refl) s
+      (words.said_first c t (post t.child p (Ack d o fs)) [] (words.none_silent c t) ∙ rw (same_case-refl d) refl)
       (λ k f. subst (λ (z : Reading). Fits pr (r0 turn) z)
-      (sym (ap (λ (x : OwnHalf). R turn (stands_so k x) (hears s v)) (aside d (EndRecord d) b q aside_end)
+      (sym (ap (λ (x : OwnHalf). R turn (stands_so k x) (hears s v)) (aside d (EndRecord d None) b q aside_end)
       ∙ ap (λ x. R turn (stands_so x q) (hears s v)) (f ∙ (stays_closed closed ∙ sym closed))))
       (moves.acknowledges_settled pr (r0 turn) inv
       (record { up = up; settled = settled_by closed o (coordinator_view place n d).standing refl i })))

@@ -1,6 +1,6 @@
 -- The rows of the pair's case that end the collecting of votes, and ABORT before the promise, keep the pair's
 -- invariant.
-use Rattle.std.proofs.Common.{◌≡◌, ◌∙◌, inl, ℕ, Bool, true, false, Some, List, [], ◌∷◌, ◌++◌, refl, sym, ap, subst, if◌then◌else◌}
+use Rattle.std.proofs.Common.{◌≡◌, ◌∙◌, inl, ℕ, Bool, true, false, Some, List, [], ◌∷◌, ◌++◌, refl, sym, ap, subst, if◌then◌else◌, None}
 use Rattle.tree_model.specs.declared.names.Case.{Case}
 use Rattle.tree_model.specs.declared.names.Outcome.TheVariants.{Aborted as AbortedOutcome}
 use Rattle.tree_model.specs.declared.names.Presumption.{Presumption}
@@ -85,9 +85,9 @@ module _ (turn : Turn) where
       plain_fine turn
       (row_effect d (counting u w (record (collecting_read_only seat)
       { written = read_only_end seat PresumeCommit })))
-      next (EndRecord d) refl (λ x. refl) (said_read turn) (read_said turn)
+      next (EndRecord d None) refl (λ x. refl) (said_read turn) (read_said turn)
       (λ o f. subst (λ (z : OwnHalf). Fits pr (r0 turn) (R turn (stands_so o z) (record v { read = true })))
-      (sym (aside d (EndRecord d) b q (record { no_prepare = refl; no_commit = refl; no_abort = refl })))
+      (sym (aside d (EndRecord d None) b q (record { no_prepare = refl; no_commit = refl; no_abort = refl })))
       (read_moves turn (asked_for k.vote.stands) (at_collecting turn k.vote.stands) o
       (f ∙ last_closes t.child p tree n h d alike w u ys k)))
 
@@ -150,9 +150,9 @@ module _ (turn : Turn) where
       ∙ rw (same_case-refl d) refl
 
   ack_said : (us : List Ticket) → said_by c t (post t.child p
-      (Ack (own_case turn) AbortedOutcome) ∷ each seat Abort us)
+      (Ack (own_case turn) AbortedOutcome []) ∷ each seat Abort us)
       ≡ record nothing { ack = true }
-  ack_said us = words.said_first c t (post t.child p (Ack d AbortedOutcome)) (each seat Abort us)
+  ack_said us = words.said_first c t (post t.child p (Ack d AbortedOutcome [])) (each seat Abort us)
       (words.each_silent c t seat AbortedOutcome us)
       ∙ rw (same_case-refl d) refl
 

@@ -15,11 +15,12 @@ use Rattle.tree_model.specs.CoordinatorRows.{post, forced, tells_outcome}
 use Rattle.tree_model.specs.ManagerRows.{is_acknowledged, acknowledgement, written_as}
 use Rattle.tree_model.specs.Memory.{memory_of, next_ticket}
 use Rattle.tree_model.specs.Reactions.{leaf_of}
-use Rattle.tree_model.specs.Standings.{Promised, Decided}
+use Rattle.tree_model.specs.Standings.{Promised, Decided, decided_findings, unknown_findings}
 use Rattle.tree_pairs.specs.readings.ReadingOf.{ChildHalf, Wire}
 use Rattle.tree_pairs.specs.turns.LeafTurns.{LeafTurn, writes_and_sends, Hears, mark_at, IsActive, IsDecided, does_nothing, gives_again, gives_fresh, votes_yes, votes_read, votes_no, repeats_yes, refuses, obeys, notes, acknowledges_told, acknowledges, drops, asks, decides, forgets}
 use Rattle.tree_steps.proofs.children.FaultRecords.{Broken, d as branch, place as place_in, k as half_in, v as wire_in, Left, Ok, silent, fails_other, promises_own}
 use Rattle.tree_steps.proofs.children.FaultRows.{obeys_own, notes_own, forgets_own, decides_own}
+use Rattle.tree_model.specs.declared.messages.Finding.{Finding}
 
 module _ (turn : Broken) where
   open turn use {c, t, p, tree, n, h, net, up, nested, m, stands, pr, root, outcome, above, half, inv}
@@ -41,11 +42,11 @@ module _ (turn : Broken) where
   abbrev Fails : Effect → Type 0
   Fails e = (a f : ℕ) → Left turn e a f → Ok turn e a f
 
-  abbrev acked : Case → Outcome → List Envelope
-  acked x o = acknowledgement (leaf_of place p x) o
+  abbrev acked : Case → Outcome → List Finding → List Envelope
+  acked x o fs = acknowledgement (leaf_of place p x) o fs
 
-  abbrev Ends : Case → Outcome → Record → Effect
-  Ends x o r = writes_and_sends (written_as (leaf_of place p x) o r) (acked x o)
+  abbrev Ends : Case → Outcome → Record → List Finding → Effect
+  Ends x o r fs = writes_and_sends (written_as (leaf_of place p x) o r) (acked x o fs)
 
   abbrev Decides : Case → Record → Effect
   Decides x r = writes_and_sends (forced r) []
@@ -76,35 +77,37 @@ module _ (turn : Broken) where
   turn_fails _ (refuses x y i a) = silent turn (writes_and_sends [] (post t.child p (No x) ∷ [])) refl
   turn_fails _ (obeys x CommittedOutcome i a) = elim (same_case_tells x d) [
     | inl s ↦ subst (λ (z : Case). Hears h (Commit z) → mark_at n z ≡ Promised
-        → Fails (Ends z CommittedOutcome (Committed (CaseBranch z)))) (sym s.1)
-        (λ i' a'. (obeys_own turn) (Ends d CommittedOutcome (Committed (CaseBranch d)))
+        → Fails (Ends z CommittedOutcome (Committed (CaseBranch z)) [])) (sym s.1)
+        (λ i' a'. (obeys_own turn) (Ends d CommittedOutcome (Committed (CaseBranch d)) [])
         (is_acknowledged c.txn.presumption CommittedOutcome) CommittedOutcome i' a' refl) i a
-    | inr f ↦ fails_other turn (Ends x CommittedOutcome (Committed (CaseBranch x))) (Committed (CaseBranch x))
+    | inr f ↦ fails_other turn (Ends x CommittedOutcome (Committed (CaseBranch x)) []) (Committed (CaseBranch x))
         (is_acknowledged x.txn.presumption CommittedOutcome) refl
         (record { no_abort = refl; no_prepare = refl }) f.0 refl
   ]
   turn_fails _ (obeys x AbortedOutcome i a) = elim (same_case_tells x d) [
     | inl s ↦ subst (λ (z : Case). Hears h (Abort z) → mark_at n z ≡ Promised
-        → Fails (Ends z AbortedOutcome (RolledBack (CaseBranch z)))) (sym s.1)
-        (λ i' a'. (obeys_own turn) (Ends d AbortedOutcome (RolledBack (CaseBranch d)))
+        → Fails (Ends z AbortedOutcome (RolledBack (CaseBranch z)) [])) (sym s.1)
+        (λ i' a'. (obeys_own turn) (Ends d AbortedOutcome (RolledBack (CaseBranch d)) [])
         (is_acknowledged c.txn.presumption AbortedOutcome) AbortedOutcome i' a' refl) i a
-    | inr f ↦ fails_other turn (Ends x AbortedOutcome (RolledBack (CaseBranch x))) (RolledBack (CaseBranch x))
+    | inr f ↦ fails_other turn (Ends x AbortedOutcome (RolledBack (CaseBranch x)) []) (RolledBack (CaseBranch x))
         (is_acknowledged x.txn.presumption AbortedOutcome) refl
         (record { no_abort = refl; no_prepare = refl }) f.0 refl
   ]
   turn_fails _ (notes x o i a) = elim (same_case_tells x d) [
     | inl s ↦ subst (λ (z : Case). Hears h (tells_outcome o z) → mark_at n z ≡ Decided
-        → Fails (Ends z o (Told (CaseBranch z) o))) (sym s.1)
-        (λ i' a'. (notes_own turn) (Ends d o (Told (CaseBranch d) o))
+        → Fails (Ends z o (Told (CaseBranch z) o) (decided_findings h.version (kept n) z o))) (sym s.1)
+        (λ i' a'. (notes_own turn) (Ends d o (Told (CaseBranch d) o) (decided_findings h.version (kept n) d o))
         (is_acknowledged c.txn.presumption o) o i'
         a' refl) i a
-    | inr f ↦ fails_other turn (Ends x o (Told (CaseBranch x) o)) (Told (CaseBranch x) o)
+    | inr f ↦ fails_other turn (Ends x o (Told (CaseBranch x) o) (decided_findings h.version (kept n) x o)) (Told (CaseBranch x) o)
         (is_acknowledged x.txn.presumption o) refl
         (record { no_abort = refl; no_prepare = refl }) f.0 refl
   ]
-  turn_fails _ (acknowledges_told x o i a) = silent turn (writes_and_sends [] (acked x o)) refl
-  turn_fails _ (acknowledges x o i a) = silent turn (writes_and_sends [] (acked x o)) refl
-  turn_fails _ (drops x i a) = silent turn (writes_and_sends [] (acked x AbortedOutcome)) refl
+  turn_fails _ (acknowledges_told x o i a) =
+      silent turn (writes_and_sends [] (acked x o (decided_findings h.version (kept n) x o))) refl
+  turn_fails _ (acknowledges x o i a) =
+      silent turn (writes_and_sends [] (acked x o (unknown_findings h.version x))) refl
+  turn_fails _ (drops x i a) = silent turn (writes_and_sends [] (acked x AbortedOutcome [])) refl
   turn_fails _ (asks x i a) = silent turn (writes_and_sends [] (post t.child p (Inquire x) ∷ [])) refl
   turn_fails _ (decides x CommittedOutcome i a) = elim (same_case_tells x d) [
     | inl s ↦ subst (λ (z : Case). mark_at n z ≡ Promised → Fails (Decides z (HeurCommit (CaseBranch z))))

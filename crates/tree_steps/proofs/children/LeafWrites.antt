@@ -1,7 +1,7 @@
 -- What an event of a manager does to its half of a reading, by the record that it wrote.
 use Rattle.tree_nodes.specs.Marks.{is_branch_record}
 use Rattle.tree_pairs.specs.turns.Written.{is_coordinators}
-use Rattle.tree_model.specs.declared.records.Record.TheVariants.{Opened, Collecting, Prepare, Commit, Abort, End, Prepared, Committed, RolledBack, Direct, HeurCommit, HeurRollback, Told, Forgot, Base, Pair}
+use Rattle.tree_model.specs.declared.records.Record.TheVariants.{Opened, Collecting, Prepare, Commit, Abort, End, Prepared, Committed, RolledBack, Direct, HeurCommit, HeurRollback, Told, Forgot, Base, Pair, Cleared}
 use Rattle.std.proofs.Common.{◌≡◌, Bool, false, ◌||◌, [], refl, arith}
 use Rattle.tree_model.specs.declared.names.Case.{Case}
 use Rattle.tree_model.specs.declared.names.Outcome.TheVariants.{Committed as CommittedOutcome, Aborted as AbortedOutcome}
@@ -91,4 +91,5 @@ unrelated d (Collecting c ts) k e f = absurd (cc)
 unrelated d (Prepare c ts) k e f = absurd (cc)
 unrelated d (Commit c ts) k e f = absurd (cc)
 unrelated d (Abort c ts) k e f = absurd (cc)
-unrelated d (End c) k e f = absurd (cc)
+unrelated d (End c rep) k e f = absurd (cc)
+unrelated d (Cleared c) k e f = absurd (cc)

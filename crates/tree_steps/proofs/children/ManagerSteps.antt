@@ -81,7 +81,7 @@ message_is j (No d) = inr tt
 message_is j (Read d) = inr tt
 message_is j (Commit d) = inr tt
 message_is j (Abort d) = inr tt
-message_is j (Ack d o) = inr tt
+message_is j (Ack d o fs) = inr tt
 message_is j (Inquire d) = inr tt
 
 input_is : (i : Input) → IsJoin i ⊎ IsRow i

@@ -31,6 +31,7 @@ use Rattle.tree_nodes.proofs.Tests.{neither}
 use Rattle.tree_nodes.proofs.Owning.{delivered}
 use Rattle.tree_nodes.proofs.Yesses.{own_process}
 use Rattle.tree_nodes.proofs.Tickets.{active_is_own}
+use Rattle.tree_model.specs.declared.messages.Finding.{Finding}
 
 -- a message of the process's ticket, or of its case
 abbrev pub IsOwnMessage : ProcessId → Message → Type 0
@@ -38,7 +39,7 @@ IsOwnMessage me (Joined d t) = t.child ≡ me
 IsOwnMessage me (Yes d) = process_of d ≡ me
 IsOwnMessage me (No d) = process_of d ≡ me
 IsOwnMessage me (Read d) = process_of d ≡ me
-IsOwnMessage me (Ack d o) = process_of d ≡ me
+IsOwnMessage me (Ack d o fs) = process_of d ≡ me
 IsOwnMessage me (Inquire d) = process_of d ≡ me
 IsOwnMessage me _ = ⊥
 
@@ -86,13 +87,13 @@ module _ (me : ProcessId) (c : Case) (t : Ticket) (parent : process_of c ≡ me 
   -- a test that no own message passes
   none_own : (q : Message → Bool) → ((d : Case) (u : Ticket) → u.child ≡ me → q (Joined d u) ≡ false)
       → ((d : Case) → Own d → q (Yes d) ≡ false) → ((d : Case) → Own d → q (No d) ≡ false)
-      → ((d : Case) → Own d → q (Read d) ≡ false) → ((d : Case) (o : Outcome) → Own d → q (Ack d o) ≡ false)
+      → ((d : Case) → Own d → q (Read d) ≡ false) → ((d : Case) (o : Outcome) (fs : List Finding) → Own d → q (Ack d o fs) ≡ false)
       → ((d : Case) → Own d → q (Inquire d) ≡ false) → (m : Message) → IsOwnMessage me m → q m ≡ false
   none_own q j y n r a i (Joined d u) own = j d u own
   none_own q j y n r a i (Yes d) own = y d own
   none_own q j y n r a i (No d) own = n d own
   none_own q j y n r a i (Read d) own = r d own
-  none_own q j y n r a i (Ack d o) own = a d o own
+  none_own q j y n r a i (Ack d o fs) own = a d o fs own
   none_own q j y n r a i (Inquire d) own = i d own
   none_own q j y n r a i (Join d) own = absurd own
   none_own q j y n r a i (Work d k op) own = absurd own
@@ -112,39 +113,39 @@ module _ (me : ProcessId) (c : Case) (t : Ticket) (parent : process_of c ≡ me 
 
     quiet_by : (q : Message → Bool) → ((d : Case) (u : Ticket) → u.child ≡ me → q (Joined d u) ≡ false)
         → ((d : Case) → Own d → q (Yes d) ≡ false) → ((d : Case) → Own d → q (No d) ≡ false)
-        → ((d : Case) → Own d → q (Read d) ≡ false) → ((d : Case) (o : Outcome) → Own d → q (Ack d o) ≡ false)
+        → ((d : Case) → Own d → q (Read d) ≡ false) → ((d : Case) (o : Outcome) (fs : List Finding) → Own d → q (Ack d o fs) ≡ false)
         → ((d : Case) → Own d → q (Inquire d) ≡ false) → sent q ls ≡ false
     quiet_by q j y n r k i = none_sent q (none_own q j y n r k i) ls a
 
     pub quiet_messages : wire c t ls ≡ no_wire
     quiet_messages = rw (
       quiet_by (is_joined_message c t) (λ d u e. and-false _ _ (not_ticket u e)) (λ d e. refl) (λ d e. refl)
-          (λ d e. refl) (λ d o e. refl) (λ d e. refl),
+          (λ d e. refl) (λ d o fs e. refl) (λ d e. refl),
       quiet_by (gives_case c) (λ d u e. not_parents (child_case d.txn u) e) (λ d e. refl) (λ d e. refl)
           (λ d e. refl)
-          (λ d o e. refl) (λ d e. refl),
-      quiet_by (is_read_message c) (λ d u e. refl) (λ d e. refl) (λ d e. refl) not_parents (λ d o e. refl)
+          (λ d o fs e. refl) (λ d e. refl),
+      quiet_by (is_read_message c) (λ d u e. refl) (λ d e. refl) (λ d e. refl) not_parents (λ d o fs e. refl)
           (λ d e. refl),
       quiet_by (is_prepare_message d') (λ d u e. refl) (λ d e. refl) (λ d e. refl) (λ d e. refl)
-          (λ d o e. refl)
+          (λ d o fs e. refl)
           (λ d e. refl),
-      quiet_by (is_yes_message d') (λ d u e. refl) not_childs (λ d e. refl) (λ d e. refl) (λ d o e. refl)
+      quiet_by (is_yes_message d') (λ d u e. refl) not_childs (λ d e. refl) (λ d e. refl) (λ d o fs e. refl)
           (λ d e. refl),
-      quiet_by (is_no_message d') (λ d u e. refl) (λ d e. refl) not_childs (λ d e. refl) (λ d o e. refl)
+      quiet_by (is_no_message d') (λ d u e. refl) (λ d e. refl) not_childs (λ d e. refl) (λ d o fs e. refl)
           (λ d e. refl),
-      quiet_by (is_read_message d') (λ d u e. refl) (λ d e. refl) (λ d e. refl) not_childs (λ d o e. refl)
+      quiet_by (is_read_message d') (λ d u e. refl) (λ d e. refl) (λ d e. refl) not_childs (λ d o fs e. refl)
           (λ d e. refl),
       quiet_by (is_outcome_message CommittedOutcome d') (λ d u e. refl) (λ d e. refl) (λ d e. refl)
           (λ d e. refl)
-          (λ d o e. refl) (λ d e. refl),
+          (λ d o fs e. refl) (λ d e. refl),
       quiet_by (is_outcome_message AbortedOutcome d') (λ d u e. refl) (λ d e. refl) (λ d e. refl)
           (λ d e. refl)
-          (λ d o e. refl) (λ d e. refl),
+          (λ d o fs e. refl) (λ d e. refl),
       quiet_by (is_ack_message d') (λ d u e. refl) (λ d e. refl) (λ d e. refl) (λ d e. refl)
-          (λ d o e. not_childs d e)
+          (λ d o fs e. not_childs d e)
           (λ d e. refl),
       quiet_by (is_inquiry_message d') (λ d u e. refl) (λ d e. refl) (λ d e. refl) (λ d e. refl)
-          (λ d o e. refl) not_childs,
+          (λ d o fs e. refl) not_childs,
     ) refl
 
 -- A manager's messages are its own.
@@ -168,14 +169,14 @@ module _ (me p : ProcessId) (tree : List TreeEntry) (n : Node)
     prepared_own : (d : Case) (k : ℕ) → Hears h (Prepare d k) → process_of d ≡ me
     prepared_own d k i = own_case d (Prepare d k) i (λ e. e)
 
-    acknowledged : (l : Leaf) (o : Outcome) (b : Bool) → process_of l.own ≡ me
-        → AllOwnMessages me (if b then post l.me l.parent (Ack l.own o) ∷ [] else [])
-    acknowledged l o true e = (e, tt)
-    acknowledged l o false e = tt
+    acknowledged : (l : Leaf) (o : Outcome) (fs : List Finding) (b : Bool) → process_of l.own ≡ me
+        → AllOwnMessages me (if b then post l.me l.parent (Ack l.own o fs) ∷ [] else [])
+    acknowledged l o fs true e = (e, tt)
+    acknowledged l o fs false e = tt
 
-    answers : (d : Case) (o : Outcome) → Hears h (tells_outcome o d)
-        → AllOwnMessages me (acknowledgement (leaf_of place p d) o)
-    answers d o i = acknowledged (leaf_of place p d) o (is_acknowledged d.txn.presumption o) (told_own d o i)
+    answers : (d : Case) (o : Outcome) (fs : List Finding) → Hears h (tells_outcome o d)
+        → AllOwnMessages me (acknowledgement (leaf_of place p d) o fs)
+    answers d o fs i = acknowledged (leaf_of place p d) o fs (is_acknowledged d.txn.presumption o) (told_own d o i)
 
     waits_open : (x : Mark) → Waits x → is_open x ≡ true
     waits_open _ promised = refl
@@ -190,11 +191,11 @@ module _ (me p : ProcessId) (tree : List TreeEntry) (n : Node)
     turn_messages _ (votes_no d k i a) = (prepared_own d k i, tt)
     turn_messages _ (repeats_yes d k i a) = (prepared_own d k i, tt)
     turn_messages _ (refuses d k i a) = (prepared_own d k i, tt)
-    turn_messages _ (obeys d o i e) = answers d o i
-    turn_messages _ (notes d o i e) = answers d o i
-    turn_messages _ (acknowledges_told d o i e) = answers d o i
-    turn_messages _ (acknowledges d o i e) = answers d o i
-    turn_messages _ (drops d i a) = answers d AbortedOutcome i
+    turn_messages _ (obeys d o i e) = answers d o _ i
+    turn_messages _ (notes d o i e) = answers d o _ i
+    turn_messages _ (acknowledges_told d o i e) = answers d o _ i
+    turn_messages _ (acknowledges d o i e) = answers d o _ i
+    turn_messages _ (drops d i a) = answers d AbortedOutcome _ i
     turn_messages _ (asks d i k) = (known d (waits_open (mark_at n d) k), tt)
     turn_messages _ (decides d o i e) = tt
     turn_messages _ (forgets d i k) = tt

@@ -1,7 +1,7 @@
 -- Each turn of a manager keeps the invariant of its pairs.
 use Rattle.tree_model.specs.Reactions.{leaf_of}
 use Rattle.tree_model.specs.ManagerRows.{is_acknowledged, ends_record, acknowledgement, written_as}
-use Rattle.std.proofs.Common.{◌≡◌, inl, inr, ℕ, [], ◌∷◌, ◌++◌, refl, sym, subst, if◌then◌else◌}
+use Rattle.std.proofs.Common.{◌≡◌, inl, inr, ℕ, [], ◌∷◌, ◌++◌, refl, sym, subst, if◌then◌else◌, List}
 use Rattle.tree_model.specs.declared.names.Case.{Case}
 use Rattle.tree_model.specs.declared.names.Outcome.{Outcome}
 use Rattle.tree_model.specs.declared.names.Outcome.TheVariants.{Committed as CommittedOutcome, Aborted as AbortedOutcome}
@@ -11,9 +11,9 @@ use Rattle.tree_model.specs.declared.records.Branch.TheVariants.{Case as CaseBra
 use Rattle.tree_model.specs.declared.records.Record.TheVariants.{Prepared as PreparedRecord, Committed, RolledBack, HeurCommit, HeurRollback, Told, Forgot}
 use Rattle.tree_model.specs.declared.events.Input.TheVariants.{Message as MessageInput}
 use Rattle.tree_model.specs.NameLaws.{same_case_tells}
-use Rattle.tree_model.specs.Nodes.{Place, Effect, after}
+use Rattle.tree_model.specs.Nodes.{Place, Effect, after, kept}
 use Rattle.tree_model.specs.CoordinatorRows.{post, forced, tells_outcome}
-use Rattle.tree_model.specs.Standings.{Mark, Promised, Decided, ToldOf}
+use Rattle.tree_model.specs.Standings.{Mark, Promised, Decided, ToldOf, unknown_findings, decided_findings}
 use Rattle.tree_pairs.specs.readings.ReadingOf.{ChildHalf, Wire, child_half, wire}
 use Rattle.tree_pairs.specs.turns.LeafTurns.{LeafTurn, Hears, mark_at, IsActive, IsUnknown, IsOpenBranch, writes_and_sends, Waits, waits, by_operator, IsDecided, untold, told, does_nothing, gives_again, gives_fresh, votes_yes, votes_read, votes_no, repeats_yes, refuses, obeys, notes, acknowledges_told, acknowledges, drops, asks, decides, forgets}
 use Rattle.tree_nodes.proofs.Orders.{IsMarked}
@@ -27,6 +27,7 @@ use Rattle.tree_steps.proofs.children.TurnsOutcomes.{obeys_own, notes_own}
 use Rattle.tree_steps.proofs.children.TurnsOperators.{asks_own, forgets_own, decides_own}
 use Rattle.tree_steps.proofs.children.TurnsAcknowledged.{acks_unknown, acks_told, drops_own}
 use Rattle.tree_steps.proofs.children.TurnsOthers.{forced_other, written_other, acks_other}
+use Rattle.tree_model.specs.declared.messages.Finding.{Finding}
 
 module _ (turn : Turn) where
   open turn use {
@@ -74,24 +75,24 @@ module _ (turn : Turn) where
 
   own_obeys : (o : Outcome) → Hears h (tells_outcome o d) → mark_at n d ≡ Promised
       → Ok (writes_and_sends (written_as (leaf_of place p d) o (ends_record (leaf_of place p d) o))
-      (acknowledgement (leaf_of place p d) o))
+      (acknowledgement (leaf_of place p d) o []))
   own_obeys o i e =
       subst (λ (x : Presumption). (Fine turn)
       (record { entry = ends_record (leaf_of place p d) o; is_forced = is_acknowledged x o } ∷ [])
-      (if is_acknowledged x o then (ack turn) o else [])) (sym of) (obeys_own turn o i.0 i.1 e)
+      (if is_acknowledged x o then (ack turn) o [] else [])) (sym of) (obeys_own turn o [] i.0 i.1 e)
 
-  own_notes : (o : Outcome) → Hears h (tells_outcome o d) → mark_at n d ≡ Decided
+  own_notes : (o : Outcome) (fs : List Finding) → Hears h (tells_outcome o d) → mark_at n d ≡ Decided
       → Ok (writes_and_sends (written_as (leaf_of place p d) o (Told (CaseBranch d) o))
-      (acknowledgement (leaf_of place p d) o))
-  own_notes o i e =
+      (acknowledgement (leaf_of place p d) o fs))
+  own_notes o fs i e =
       subst (λ (x : Presumption). (Fine turn)
       (record { entry = Told (CaseBranch d) o; is_forced = is_acknowledged x o } ∷ [])
-      (if is_acknowledged x o then (ack turn) o else [])) (sym of) (notes_own turn o i.0 i.1 e)
+      (if is_acknowledged x o then (ack turn) o fs else [])) (sym of) (notes_own turn o fs i.0 i.1 e)
 
-  own_acks : (o : Outcome) → Fine turn [] (Acked turn o)
-      → Ok (writes_and_sends [] (acknowledgement (leaf_of place p d) o))
-  own_acks o f = subst (λ (x : Presumption). (Fine turn) []
-      (if is_acknowledged x o then (ack turn) o else [])) (sym of)
+  own_acks : (o : Outcome) (fs : List Finding) → Fine turn [] (Acked turn o fs)
+      → Ok (writes_and_sends [] (acknowledgement (leaf_of place p d) o fs))
+  own_acks o fs f = subst (λ (x : Presumption). (Fine turn) []
+      (if is_acknowledged x o then (ack turn) o fs else [])) (sym of)
       f
 
   open_marked : (x : Mark) → IsOpenBranch x → IsMarked x
@@ -140,47 +141,51 @@ module _ (turn : Turn) where
     | inl s ↦ subst (λ (z : Case). Hears h (Commit z) → mark_at n z ≡ Promised
         → Ok (writes_and_sends
         (written_as (leaf_of place p z) CommittedOutcome (Committed (CaseBranch z)))
-        (acknowledgement (leaf_of place p z) CommittedOutcome))) (sym s.1) (own_obeys CommittedOutcome) i
+        (acknowledgement (leaf_of place p z) CommittedOutcome []))) (sym s.1) (own_obeys CommittedOutcome) i
         a
     | inr f ↦ written_other turn (Committed (CaseBranch x))
         (record { no_abort = refl; no_prepare = refl }) f.0
         refl (λ b. refl) x
-        CommittedOutcome f.0 (is_acknowledged x.txn.presumption CommittedOutcome)
+        CommittedOutcome [] f.0 (is_acknowledged x.txn.presumption CommittedOutcome)
   ]
   turn_fits _ (obeys x AbortedOutcome i a) = elim (same_case_tells x d) [
     | inl s ↦ subst (λ (z : Case). Hears h (Abort z) → mark_at n z ≡ Promised
         → Ok (writes_and_sends (written_as (leaf_of place p z) AbortedOutcome (RolledBack (CaseBranch z)))
-        (acknowledgement (leaf_of place p z) AbortedOutcome))) (sym s.1) (own_obeys AbortedOutcome) i a
+        (acknowledgement (leaf_of place p z) AbortedOutcome []))) (sym s.1) (own_obeys AbortedOutcome) i a
     | inr f ↦ written_other turn (RolledBack (CaseBranch x)) (record { no_abort = refl; no_prepare = refl })
         f.0 refl (λ b. refl) x
-        AbortedOutcome f.0 (is_acknowledged x.txn.presumption AbortedOutcome)
+        AbortedOutcome [] f.0 (is_acknowledged x.txn.presumption AbortedOutcome)
   ]
   turn_fits _ (notes x o i a) = elim (same_case_tells x d) [
     | inl s ↦ subst (λ (z : Case). Hears h (tells_outcome o z) → mark_at n z ≡ Decided
         → Ok (writes_and_sends (written_as (leaf_of place p z) o (Told (CaseBranch z) o))
-        (acknowledgement (leaf_of place p z) o)))
-        (sym s.1) (own_notes o) i a
+        (acknowledgement (leaf_of place p z) o (decided_findings h.version (kept n) z o))))
+        (sym s.1) (own_notes o (decided_findings h.version (kept n) d o)) i a
     | inr f ↦ written_other turn (Told (CaseBranch x) o) (record { no_abort = refl; no_prepare = refl }) f.0
-        refl (λ b. refl) x o f.0
+        refl (λ b. refl) x o _ f.0
         (is_acknowledged x.txn.presumption o)
   ]
   turn_fits _ (acknowledges_told x o i a) = elim (same_case_tells x d) [
     | inl s ↦ subst (λ (z : Case). Hears h (tells_outcome o z) → mark_at n z ≡ ToldOf o
-        → Ok (writes_and_sends [] (acknowledgement (leaf_of place p z) o))) (sym s.1)
-        (λ i' a'. own_acks o (acks_told turn o i'.0 i'.1 a')) i a
-    | inr f ↦ acks_other turn x o f.0 (is_acknowledged x.txn.presumption o)
+        → Ok (writes_and_sends []
+        (acknowledgement (leaf_of place p z) o (decided_findings h.version (kept n) z o)))) (sym s.1)
+        (λ i' a'. own_acks o (decided_findings h.version (kept n) d o)
+        (acks_told turn o (decided_findings h.version (kept n) d o) i'.0 i'.1 a')) i a
+    | inr f ↦ acks_other turn x o _ f.0 (is_acknowledged x.txn.presumption o)
   ]
   turn_fits _ (acknowledges x o i a) = elim (same_case_tells x d) [
     | inl s ↦ subst (λ (z : Case). Hears h (tells_outcome o z) → IsUnknown place n z
-        → Ok (writes_and_sends [] (acknowledgement (leaf_of place p z) o))) (sym s.1)
-        (λ i' a'. own_acks o (acks_unknown turn o i'.0 i'.1 a')) i a
-    | inr f ↦ acks_other turn x o f.0 (is_acknowledged x.txn.presumption o)
+        → Ok (writes_and_sends []
+        (acknowledgement (leaf_of place p z) o (unknown_findings h.version z)))) (sym s.1)
+        (λ i' a'. own_acks o (unknown_findings h.version d)
+        (acks_unknown turn o (unknown_findings h.version d) i'.0 i'.1 a')) i a
+    | inr f ↦ acks_other turn x o _ f.0 (is_acknowledged x.txn.presumption o)
   ]
   turn_fits _ (drops x i a) = elim (same_case_tells x d) [
     | inl s ↦ subst (λ (z : Case). Hears h (Abort z) → IsActive place n z
-        → Ok (writes_and_sends [] (acknowledgement (leaf_of place p z) AbortedOutcome))) (sym s.1)
-        (λ i' a'. own_acks AbortedOutcome (drops_own turn i'.0 i'.1 a')) i a
-    | inr f ↦ acks_other turn x AbortedOutcome f.0 (is_acknowledged x.txn.presumption AbortedOutcome)
+        → Ok (writes_and_sends [] (acknowledgement (leaf_of place p z) AbortedOutcome []))) (sym s.1)
+        (λ i' a'. own_acks AbortedOutcome [] (drops_own turn [] i'.0 i'.1 a')) i a
+    | inr f ↦ acks_other turn x AbortedOutcome _ f.0 (is_acknowledged x.txn.presumption AbortedOutcome)
   ]
   turn_fits _ (asks x i a) = elim (same_case_tells x d) [
     | inl s ↦ subst (λ (z : Case). Waits (mark_at n z) → Fine turn [] (post t.child p (Inquire z) ∷ []))

@@ -23,6 +23,7 @@ use Rattle.tree_nodes.specs.Lasts.{logs_of, Nested, Manages}
 use Rattle.tree_nodes.specs.WorldHolds.{InvariantOf}
 use Rattle.tree_steps.proofs.children.Moves.{Fits}
 use Rattle.tree_steps.proofs.children.Opens.{IsRow, opens}
+use Rattle.tree_model.specs.declared.messages.Finding.{Finding}
 
 -- The pair's case and ticket, with the parent's half; the manager below its parent, what it was and heard,
 -- and the net
@@ -85,11 +86,11 @@ module _ (turn : Turn) where
       (R (child_half place (after n h e) d) (wire c t (net ++ ls)))
 
   -- what an outcome writes and sends, by the presumption
-  abbrev pub ack : Outcome → List Envelope
-  ack o = post t.child p (Ack d o) ∷ []
+  abbrev pub ack : Outcome → List Finding → List Envelope
+  ack o fs = post t.child p (Ack d o fs) ∷ []
 
   abbrev pub Written_as : Outcome → Record → List Written
   Written_as o r = record { entry = r; is_forced = is_acknowledged pr o } ∷ []
 
-  abbrev pub Acked : Outcome → List Envelope
-  Acked o = if is_acknowledged pr o then ack o else []
+  abbrev pub Acked : Outcome → List Finding → List Envelope
+  Acked o fs = if is_acknowledged pr o then ack o fs else []

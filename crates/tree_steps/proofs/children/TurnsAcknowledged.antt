@@ -28,6 +28,7 @@ use Rattle.tree_steps.proofs.children.Wires as wires
 use Rattle.tree_steps.proofs.children.Turns.{Turn, d as branch, place as place_in, k as half_in, v as wire_in, r0, O, Fine, ack, Acked}
 use Rattle.tree_steps.proofs.children.TurnsQuiet.{quiet, nothing_said, closed_says, forgets_it, active_open}
 use Rattle.tree_steps.proofs.children.TurnsWritten.{commit_sent, abort_sent}
+use Rattle.tree_model.specs.declared.messages.Finding.{Finding}
 
 module _ (turn : Turn) where
   open turn use {
@@ -67,65 +68,65 @@ module _ (turn : Turn) where
 
   -- An outcome finds nothing to do but to acknowledge.
 
-  acks_commit : (j : ℕ) → h.input ≡ MessageInput j (Commit d) → k.is_open ≡ false
+  acks_commit : (fs : List Finding) (j : ℕ) → h.input ≡ MessageInput j (Commit d) → k.is_open ≡ false
       → IsForgotten (r0 turn) ⊎ ((r0 turn).learnt_commit_kept ≡ true)
-      → Fine turn [] (Acked turn CommittedOutcome)
-  acks_commit j i closed known = by_presumption pr refl
+      → Fine turn [] (Acked turn CommittedOutcome fs)
+  acks_commit fs j i closed known = by_presumption pr refl
     where
       by_presumption : (q : Presumption) → q ≡ pr
-          → Fine turn [] (if is_acknowledged pr CommittedOutcome then (ack turn) CommittedOutcome else [])
+          → Fine turn [] (if is_acknowledged pr CommittedOutcome then (ack turn) CommittedOutcome fs else [])
       by_presumption PresumeAbort f =
           subst (λ (x : Presumption). (Fine turn) []
-          (if is_acknowledged x CommittedOutcome then (ack turn) CommittedOutcome else [])) f
-          (closed_says turn (ack turn CommittedOutcome) (record v { ack = true })
+          (if is_acknowledged x CommittedOutcome then (ack turn) CommittedOutcome fs else [])) f
+          (closed_says turn (ack turn CommittedOutcome fs) (record v { ack = true })
           (move.acknowledges (r0 turn)) closed
-          (wires.wire-ack c t t.child p net CommittedOutcome) refl
+          (wires.wire-ack c t t.child p net CommittedOutcome fs) refl
           (moves.acknowledges_commit pr (sym f) (r0 turn) inv
           (record { up = up; told = commit_sent turn j i; known = known })))
       by_presumption PresumeCommit f =
           subst (λ (x : Presumption). (Fine turn) []
-          (if is_acknowledged x CommittedOutcome then (ack turn) CommittedOutcome else [])) f
+          (if is_acknowledged x CommittedOutcome then (ack turn) CommittedOutcome fs else [])) f
           (nothing_said turn [] (wires.wire-none c t t.child p net))
 
-  acks_abort : (j : ℕ) → h.input ≡ MessageInput j (Abort d) → k.is_open ≡ false
+  acks_abort : (fs : List Finding) (j : ℕ) → h.input ≡ MessageInput j (Abort d) → k.is_open ≡ false
       → IsForgotten (r0 turn) ⊎ ((r0 turn).learnt_abort_kept ≡ true)
-      → Fine turn [] (Acked turn AbortedOutcome)
-  acks_abort j i closed known = by_presumption pr refl
+      → Fine turn [] (Acked turn AbortedOutcome fs)
+  acks_abort fs j i closed known = by_presumption pr refl
     where
       by_presumption : (q : Presumption) → q ≡ pr
-          → Fine turn [] (if is_acknowledged pr AbortedOutcome then (ack turn) AbortedOutcome else [])
+          → Fine turn [] (if is_acknowledged pr AbortedOutcome then (ack turn) AbortedOutcome fs else [])
       by_presumption PresumeCommit f =
           subst (λ (x : Presumption). (Fine turn) []
-          (if is_acknowledged x AbortedOutcome then (ack turn) AbortedOutcome else [])) f
-          (closed_says turn (ack turn AbortedOutcome) (record v { ack = true })
+          (if is_acknowledged x AbortedOutcome then (ack turn) AbortedOutcome fs else [])) f
+          (closed_says turn (ack turn AbortedOutcome fs) (record v { ack = true })
           (move.acknowledges (r0 turn)) closed
-          (wires.wire-ack c t t.child p net AbortedOutcome) refl
+          (wires.wire-ack c t t.child p net AbortedOutcome fs) refl
           (moves.acknowledges_abort pr (sym f) (r0 turn) inv
           (record { up = up; told = abort_sent turn j i; known = known })))
       by_presumption PresumeAbort f =
           subst (λ (x : Presumption). (Fine turn) []
-          (if is_acknowledged x AbortedOutcome then (ack turn) AbortedOutcome else [])) f
+          (if is_acknowledged x AbortedOutcome then (ack turn) AbortedOutcome fs else [])) f
           (nothing_said turn [] (wires.wire-none c t t.child p net))
 
-  pub acks_unknown : (o : Outcome) (j : ℕ) → h.input ≡ MessageInput j (tells_outcome o d)
-      → IsUnknown place n d → Fine turn [] (Acked turn o)
-  acks_unknown CommittedOutcome j i u = acks_commit j i (closed_where_unknown place n d u)
+  pub acks_unknown : (o : Outcome) (fs : List Finding) (j : ℕ) → h.input ≡ MessageInput j (tells_outcome o d)
+      → IsUnknown place n d → Fine turn [] (Acked turn o fs)
+  acks_unknown CommittedOutcome fs j i u = acks_commit fs j i (closed_where_unknown place n d u)
       (inl (forgets_it turn u))
-  acks_unknown AbortedOutcome j i u = acks_abort j i (closed_where_unknown place n d u)
+  acks_unknown AbortedOutcome fs j i u = acks_abort fs j i (closed_where_unknown place n d u)
       (inl (forgets_it turn u))
 
-  pub acks_told : (o : Outcome) (j : ℕ) → h.input ≡ MessageInput j (tells_outcome o d)
-      → mark_at n d ≡ ToldOf o → Fine turn [] (Acked turn o)
-  acks_told CommittedOutcome j i e =
-      acks_commit j i (closed_where_marked place n d (subst IsMarked (sym e) tt))
+  pub acks_told : (o : Outcome) (fs : List Finding) (j : ℕ) → h.input ≡ MessageInput j (tells_outcome o d)
+      → mark_at n d ≡ ToldOf o → Fine turn [] (Acked turn o fs)
+  acks_told CommittedOutcome fs j i e =
+      acks_commit fs j i (closed_where_marked place n d (subst IsMarked (sym e) tt))
       (inr (told_commit_so n nested m d e))
-  acks_told AbortedOutcome j i e =
-      acks_abort j i (closed_where_marked place n d (subst IsMarked (sym e) tt))
+  acks_told AbortedOutcome fs j i e =
+      acks_abort fs j i (closed_where_marked place n d (subst IsMarked (sym e) tt))
       (inr (told_abort_so n nested m d e))
 
-  pub drops_own : (j : ℕ) → h.input ≡ MessageInput j (Abort d) → IsActive place n d
-      → Fine turn [] (Acked turn AbortedOutcome)
-  drops_own j i a = by_presumption pr refl
+  pub drops_own : (fs : List Finding) (j : ℕ) → h.input ≡ MessageInput j (Abort d) → IsActive place n d
+      → Fine turn [] (Acked turn AbortedOutcome fs)
+  drops_own fs j i a = by_presumption pr refl
     where
       told_it : (r0 turn).sent_abort ≡ true
       told_it = abort_sent turn j i
@@ -142,14 +143,14 @@ module _ (turn : Turn) where
           closes_aborted t.child p tree n h e d (memory_of-nothing place n h e d refl) j i a.is_open
 
       by_presumption : (q : Presumption) → q ≡ pr
-          → Fine turn [] (if is_acknowledged pr AbortedOutcome then (ack turn) AbortedOutcome else [])
+          → Fine turn [] (if is_acknowledged pr AbortedOutcome then (ack turn) AbortedOutcome fs else [])
       by_presumption PresumeCommit f =
           let silent = (moves.common_of pr (r0 turn) inv).not_voted is_there in
           subst (λ (x : Presumption). (Fine turn) []
-          (if is_acknowledged x AbortedOutcome then (ack turn) AbortedOutcome else [])) f
-          (quiet turn (ack turn AbortedOutcome) (record v { ack = true }) false
-          (wires.wire-ack c t t.child p net AbortedOutcome)
-          (closes_so (ack turn AbortedOutcome))
+          (if is_acknowledged x AbortedOutcome then (ack turn) AbortedOutcome fs else [])) f
+          (quiet turn (ack turn AbortedOutcome fs) (record v { ack = true }) false
+          (wires.wire-ack c t t.child p net AbortedOutcome fs)
+          (closes_so (ack turn AbortedOutcome fs))
           (subst (λ (z : Reading). Fits pr (r0 turn) z)
           (sym (readings.reading-dropped_acknowledged root outcome above half k v (active_open turn a)
           is_issued silent.no_prepared.0
@@ -158,5 +159,5 @@ module _ (turn : Turn) where
           (record { is_open = is_there; aborted = told_it }))))
       by_presumption PresumeAbort f =
           subst (λ (x : Presumption). (Fine turn) []
-          (if is_acknowledged x AbortedOutcome then (ack turn) AbortedOutcome else [])) f
+          (if is_acknowledged x AbortedOutcome then (ack turn) AbortedOutcome fs else [])) f
           (nothing_said turn [] (wires.wire-none c t t.child p net))

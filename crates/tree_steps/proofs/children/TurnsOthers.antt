@@ -30,6 +30,7 @@ use Rattle.tree_steps.proofs.children.Wires as wires
 use Rattle.tree_steps.proofs.children.Turns.{Turn, d as branch, place as place_in, k as half_in, v as wire_in, R, r0, O, Fine}
 use Rattle.tree_steps.proofs.children.TurnsQuiet.{nothing_said, falls_so}
 use Rattle.tree_steps.proofs.children.TurnsWritten.{hard}
+use Rattle.tree_model.specs.declared.messages.Finding.{Finding}
 
 module _ (turn : Turn) where
   open turn use {
@@ -116,15 +117,15 @@ module _ (turn : Turn) where
         (subst (λ (z : Wire). Fits pr (r0 turn) (R turn (stands_so (O turn x) k) z)) (sym e)
         (falls_so pr root outcome above half k v inv (O turn x) (plain_falls ls)))
 
-    pub written_other : (x : Case) (o : Outcome) → same_case x d ≡ false → (f : Bool)
+    pub written_other : (x : Case) (o : Outcome) (fs : List Finding) → same_case x d ≡ false → (f : Bool)
         → Fine turn (record { entry = r; is_forced = f } ∷ [])
-        (if f then post t.child p (Ack x o) ∷ [] else [])
-    written_other x o e true = forced_other (post t.child p (Ack x o) ∷ [])
-        (wires.other-ack c t t.child p net x e o)
-    written_other x o e false = plain_other [] (wires.wire-none c t t.child p net)
+        (if f then post t.child p (Ack x o fs) ∷ [] else [])
+    written_other x o fs e true = forced_other (post t.child p (Ack x o fs) ∷ [])
+        (wires.other-ack c t t.child p net x e o fs)
+    written_other x o fs e false = plain_other [] (wires.wire-none c t t.child p net)
 
-  pub acks_other : (x : Case) (o : Outcome) → same_case x d ≡ false → (f : Bool)
-      → Fine turn [] (if f then post t.child p (Ack x o) ∷ [] else [])
-  acks_other x o e true = nothing_said turn (post t.child p (Ack x o) ∷ [])
-      (wires.other-ack c t t.child p net x e o)
-  acks_other x o e false = nothing_said turn [] (wires.wire-none c t t.child p net)
+  pub acks_other : (x : Case) (o : Outcome) (fs : List Finding) → same_case x d ≡ false → (f : Bool)
+      → Fine turn [] (if f then post t.child p (Ack x o fs) ∷ [] else [])
+  acks_other x o fs e true = nothing_said turn (post t.child p (Ack x o fs) ∷ [])
+      (wires.other-ack c t t.child p net x e o fs)
+  acks_other x o fs e false = nothing_said turn [] (wires.wire-none c t t.child p net)

@@ -1,7 +1,7 @@
 -- An outcome that finds the branch in doubt keeps the invariant of its pair.
 use Rattle.tree_model.specs.Reactions.{leaf_of}
 use Rattle.tree_model.specs.ManagerRows.{is_acknowledged, ends_record}
-use Rattle.std.proofs.Common.{◌≡◌, ℕ, true, false, [], ◌∷◌, refl, sym, subst, if◌then◌else◌}
+use Rattle.std.proofs.Common.{◌≡◌, ℕ, true, false, [], ◌∷◌, refl, sym, subst, if◌then◌else◌, List}
 use Rattle.std.specs.Prelude.{not}
 use Rattle.tree_model.specs.declared.names.Case.{Case}
 use Rattle.tree_model.specs.declared.names.Outcome.{Outcome}
@@ -22,6 +22,7 @@ use Rattle.tree_nodes.proofs.Orders.{IsMarked}
 use Rattle.tree_steps.proofs.children.Doubts.{plain_so, heuristic_so}
 use Rattle.tree_steps.proofs.children.Turns.{Turn, d as branch, place as place_in, k as half_in, v as wire_in, Fine, ack, Written_as, Acked}
 use Rattle.tree_steps.proofs.children.TurnsWritten.{TellsCommit, TellsAbort, commit_forced, commit_plain, abort_plain, abort_forced}
+use Rattle.tree_model.specs.declared.messages.Finding.{Finding}
 
 module _ (turn : Turn) where
   open turn use {
@@ -59,10 +60,10 @@ module _ (turn : Turn) where
   abbrev v : Wire
   v = wire_in turn
 
-  pub obeys_own : (o : Outcome) (j : ℕ) → h.input ≡ MessageInput j (tells_outcome o d)
+  pub obeys_own : (o : Outcome) (fs : List Finding) (j : ℕ) → h.input ≡ MessageInput j (tells_outcome o d)
       → mark_at n d ≡ Promised
-      → Fine turn (Written_as turn o (ends_record (leaf_of place p d) o)) (Acked turn o)
-  obeys_own o j i e =
+      → Fine turn (Written_as turn o (ends_record (leaf_of place p d) o)) (Acked turn o fs)
+  obeys_own o fs j i e =
       by_both pr refl o i
     where
       w : Waits (mark_at n d)
@@ -113,35 +114,35 @@ module _ (turn : Turn) where
                 u;
           } ∷
           [])
-          (if is_acknowledged pr u then (ack turn) u else [])
+          (if is_acknowledged pr u then (ack turn) u fs else [])
       by_both PresumeAbort f CommittedOutcome g =
           subst (λ (x : Presumption). (Fine turn)
           (record { entry = Committed (CaseBranch d); is_forced = is_acknowledged x CommittedOutcome }
           ∷ [])
-          (if is_acknowledged x CommittedOutcome then (ack turn) CommittedOutcome else [])) f
-          (commit_forced turn j w op mk f g (Committed (CaseBranch d)) committed)
+          (if is_acknowledged x CommittedOutcome then (ack turn) CommittedOutcome fs else [])) f
+          (commit_forced turn j w op mk fs f g (Committed (CaseBranch d)) committed)
       by_both PresumeCommit f CommittedOutcome g =
           subst (λ (x : Presumption). (Fine turn)
           (record { entry = Committed (CaseBranch d); is_forced = is_acknowledged x CommittedOutcome }
           ∷ [])
-          (if is_acknowledged x CommittedOutcome then (ack turn) CommittedOutcome else [])) f
+          (if is_acknowledged x CommittedOutcome then (ack turn) CommittedOutcome fs else [])) f
           (commit_plain turn j w op mk f g (Committed (CaseBranch d)) committed)
       by_both PresumeAbort f AbortedOutcome g =
           subst (λ (x : Presumption). (Fine turn)
           (record { entry = RolledBack (CaseBranch d); is_forced = is_acknowledged x AbortedOutcome }
           ∷ [])
-          (if is_acknowledged x AbortedOutcome then (ack turn) AbortedOutcome else [])) f
+          (if is_acknowledged x AbortedOutcome then (ack turn) AbortedOutcome fs else [])) f
           (abort_plain turn j w op mk f g (RolledBack (CaseBranch d)) rolled)
       by_both PresumeCommit f AbortedOutcome g =
           subst (λ (x : Presumption). (Fine turn)
           (record { entry = RolledBack (CaseBranch d); is_forced = is_acknowledged x AbortedOutcome }
           ∷ [])
-          (if is_acknowledged x AbortedOutcome then (ack turn) AbortedOutcome else [])) f
-          (abort_forced turn j w op mk f g (RolledBack (CaseBranch d)) rolled)
+          (if is_acknowledged x AbortedOutcome then (ack turn) AbortedOutcome fs else [])) f
+          (abort_forced turn j w op mk fs f g (RolledBack (CaseBranch d)) rolled)
 
-  pub notes_own : (o : Outcome) (j : ℕ) → h.input ≡ MessageInput j (tells_outcome o d) → mark_at n d ≡ Decided
-      → Fine turn (Written_as turn o (Told (CaseBranch d) o)) (Acked turn o)
-  notes_own o j i e = by_both pr refl o i
+  pub notes_own : (o : Outcome) (fs : List Finding) (j : ℕ) → h.input ≡ MessageInput j (tells_outcome o d) → mark_at n d ≡ Decided
+      → Fine turn (Written_as turn o (Told (CaseBranch d) o)) (Acked turn o fs)
+  notes_own o fs j i e = by_both pr refl o i
     where
       w : Waits (mark_at n d)
       w = subst Waits (sym e) decided
@@ -186,7 +187,7 @@ module _ (turn : Turn) where
 
       by_both : (q : Presumption) → q ≡ pr → (u : Outcome) → h.input ≡ MessageInput j (tells_outcome u d)
           → Fine turn (record { entry = Told (CaseBranch d) u; is_forced = is_acknowledged pr u } ∷ [])
-          (if is_acknowledged pr u then (ack turn) u else [])
+          (if is_acknowledged pr u then (ack turn) u fs else [])
       by_both PresumeAbort f CommittedOutcome g =
           subst (λ (x : Presumption). (Fine turn)
           (record {
@@ -194,8 +195,8 @@ module _ (turn : Turn) where
             is_forced = is_acknowledged x
                 CommittedOutcome;
           } ∷ [])
-          (if is_acknowledged x CommittedOutcome then (ack turn) CommittedOutcome else [])) f
-          (commit_forced turn j w op mk f g (Told (CaseBranch d) CommittedOutcome) committed)
+          (if is_acknowledged x CommittedOutcome then (ack turn) CommittedOutcome fs else [])) f
+          (commit_forced turn j w op mk fs f g (Told (CaseBranch d) CommittedOutcome) committed)
       by_both PresumeCommit f CommittedOutcome g =
           subst (λ (x : Presumption). (Fine turn)
           (record {
@@ -203,7 +204,7 @@ module _ (turn : Turn) where
             is_forced = is_acknowledged x
                 CommittedOutcome;
           } ∷ [])
-          (if is_acknowledged x CommittedOutcome then (ack turn) CommittedOutcome else [])) f
+          (if is_acknowledged x CommittedOutcome then (ack turn) CommittedOutcome fs else [])) f
           (commit_plain turn j w op mk f g (Told (CaseBranch d) CommittedOutcome) committed)
       by_both PresumeAbort f AbortedOutcome g =
           subst (λ (x : Presumption). (Fine turn)
@@ -212,7 +213,7 @@ module _ (turn : Turn) where
             is_forced = is_acknowledged x
                 AbortedOutcome;
           } ∷ [])
-          (if is_acknowledged x AbortedOutcome then (ack turn) AbortedOutcome else [])) f
+          (if is_acknowledged x AbortedOutcome then (ack turn) AbortedOutcome fs else [])) f
           (abort_plain turn j w op mk f g (Told (CaseBranch d) AbortedOutcome) rolled)
       by_both PresumeCommit f AbortedOutcome g =
           subst (λ (x : Presumption). (Fine turn)
@@ -221,5 +222,5 @@ module _ (turn : Turn) where
             is_forced = is_acknowledged x
                 AbortedOutcome;
           } ∷ [])
-          (if is_acknowledged x AbortedOutcome then (ack turn) AbortedOutcome else [])) f
-          (abort_forced turn j w op mk f g (Told (CaseBranch d) AbortedOutcome) rolled)
+          (if is_acknowledged x AbortedOutcome then (ack turn) AbortedOutcome fs else [])) f
+          (abort_forced turn j w op mk fs f g (Told (CaseBranch d) AbortedOutcome) rolled)

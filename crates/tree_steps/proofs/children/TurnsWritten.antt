@@ -35,6 +35,7 @@ use Rattle.tree_steps.proofs.children.Readings as readings
 use Rattle.tree_steps.proofs.children.Wires as wires
 use Rattle.tree_steps.proofs.children.Turns.{Turn, d as branch, place as place_in, k as half_in, v as wire_in, R, r0, O, Fine, ack}
 use Rattle.tree_steps.proofs.children.TurnsQuiet.{active_open, may_vote}
+use Rattle.tree_model.specs.declared.messages.Finding.{Finding}
 
 module _ (turn : Turn) where
   open turn use {
@@ -184,12 +185,12 @@ module _ (turn : Turn) where
     closed : k.is_open ≡ false
     closed = closed_where_marked place n d mk
 
-    pub commit_forced : PresumeAbort ≡ pr → h.input ≡ MessageInput j (Commit d) → (r : Record) → TellsCommit r
-        → Fine turn (forced r) (ack turn CommittedOutcome)
-    commit_forced pa i r g =
-        forced_own r (ack turn CommittedOutcome) (record v { ack = true })
+    pub commit_forced : (fs : List Finding) → PresumeAbort ≡ pr → h.input ≡ MessageInput j (Commit d) → (r : Record) → TellsCommit r
+        → Fine turn (forced r) (ack turn CommittedOutcome fs)
+    commit_forced fs pa i r g =
+        forced_own r (ack turn CommittedOutcome fs) (record v { ack = true })
         (move.commits_forced (move.hardens_child (r0 turn))) g.none g.mine
-        (wires.wire-ack c t t.child p net CommittedOutcome)
+        (wires.wire-ack c t t.child p net CommittedOutcome fs)
         (readings.reading-commit_forced root outcome above half k v d r closed
         (promised_so n nested m d o) g.plain g.commit g.abort
         g.heuristic g.decides g.forgot g.ends)
@@ -227,12 +228,12 @@ module _ (turn : Turn) where
         (moves.rolls_back pr (sym pa) (r0 turn) inv
         (record { up = up; told = abort_sent j i; in_doubt = in_doubt w o }))
 
-    pub abort_forced : PresumeCommit ≡ pr → h.input ≡ MessageInput j (Abort d) → (r : Record) → TellsAbort r
-        → Fine turn (forced r) (ack turn AbortedOutcome)
-    abort_forced pc i r g =
-        forced_own r (ack turn AbortedOutcome) (record v { ack = true })
+    pub abort_forced : (fs : List Finding) → PresumeCommit ≡ pr → h.input ≡ MessageInput j (Abort d) → (r : Record) → TellsAbort r
+        → Fine turn (forced r) (ack turn AbortedOutcome fs)
+    abort_forced fs pc i r g =
+        forced_own r (ack turn AbortedOutcome fs) (record v { ack = true })
         (move.rolls_back_forced (move.hardens_child (r0 turn))) g.none g.mine
-        (wires.wire-ack c t t.child p net AbortedOutcome)
+        (wires.wire-ack c t t.child p net AbortedOutcome fs)
         (readings.reading-abort_forced root outcome above half k v d r closed (promised_so n nested m d o)
         g.plain g.commit g.abort
         g.heuristic g.decides g.forgot g.ends)

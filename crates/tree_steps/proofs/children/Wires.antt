@@ -11,6 +11,7 @@ use Rattle.tree_model.specs.NameLaws.{same_case-refl}
 use Rattle.tree_model.specs.CoordinatorRows.{post}
 use Rattle.tree_pairs.specs.readings.ReadingOf.{wire}
 use Rattle.tree_pairs.proofs.readings.Lists.{sent-push, sent-nil}
+use Rattle.tree_model.specs.declared.messages.Finding.{Finding}
 
 module _ (c : Case) (t : Ticket) (q p : ProcessId) (net : List Envelope) where
   pub wire-none : wire c t (net ++ []) ≡ wire c t net
@@ -28,9 +29,9 @@ module _ (c : Case) (t : Ticket) (q p : ProcessId) (net : List Envelope) where
       → wire c t (net ++ post q p (Read (child_case c.txn t)) ∷ []) ≡ record (wire c t net) { read = true }
   wire-read e = simp (sent-push, same_case-refl, e)
 
-  pub wire-ack : (o : Outcome)
-      → wire c t (net ++ post q p (Ack (child_case c.txn t) o) ∷ []) ≡ record (wire c t net) { ack = true }
-  wire-ack o = simp (sent-push, same_case-refl)
+  pub wire-ack : (o : Outcome) (fs : List Finding)
+      → wire c t (net ++ post q p (Ack (child_case c.txn t) o fs) ∷ []) ≡ record (wire c t net) { ack = true }
+  wire-ack o fs = simp (sent-push, same_case-refl)
 
   pub wire-inquire : wire c t (net ++ post q p (Inquire (child_case c.txn t)) ∷ []) ≡ record (wire c t net)
       { inquire = true }
@@ -46,8 +47,8 @@ module _ (c : Case) (t : Ticket) (q p : ProcessId) (net : List Envelope) where
     pub other-read : same_case d c ≡ false → wire c t (net ++ post q p (Read d) ∷ []) ≡ wire c t net
     other-read e = simp (sent-push, other, e)
 
-    pub other-ack : (o : Outcome) → wire c t (net ++ post q p (Ack d o) ∷ []) ≡ wire c t net
-    other-ack o = simp (sent-push, other)
+    pub other-ack : (o : Outcome) (fs : List Finding) → wire c t (net ++ post q p (Ack d o fs) ∷ []) ≡ wire c t net
+    other-ack o fs = simp (sent-push, other)
 
     pub other-inquire : wire c t (net ++ post q p (Inquire d) ∷ []) ≡ wire c t net
     other-inquire = simp (sent-push, other)

@@ -136,7 +136,7 @@ module _ (x c : Case) (t : Ticket) (other : same_case x c ≡ false) where
   gives_it (Read d) e = absurd (cc)
   gives_it (Commit d) e = absurd (cc)
   gives_it (Abort d) e = absurd (cc)
-  gives_it (Ack d o) e = absurd (cc)
+  gives_it (Ack d o fs) e = absurd (cc)
   gives_it (Inquire d) e = absurd (cc)
 
   gives_there : (net : List Envelope) → sent (is_joined_message x t) net ≡ true

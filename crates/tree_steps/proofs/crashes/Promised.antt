@@ -137,9 +137,9 @@ module _ (place : Place) (net : _) (n : Node) (coordinates : Coordinates place n
     row_voted d c _ (repeats_yes j i e) g = absurd (cc)
     row_voted d c _ (asks i e) g = absurd (cc)
     row_voted d c _ (refuses j i e) g = absurd (cc)
-    row_voted d c _ (acknowledges o i e) g = absurd (cc)
-    row_voted d c _ (waits_for_acks t o i e f a) g = absurd (cc)
-    row_voted d c _ (ends t o i e f a) g = absurd (cc)
+    row_voted d c _ (acknowledges o fs i e) g = absurd (cc)
+    row_voted d c _ (waits_for_acks t o fs i e f a) g = absurd (cc)
+    row_voted d c _ (ends t o fs i e f a) g = absurd (cc)
     row_voted d c _ (answers t o i e) g = absurd (cc)
 
     effect_voted : (c : Case) (e : Effect) → CoordinatorTurn place parent n h e

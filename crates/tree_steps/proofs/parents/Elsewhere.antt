@@ -1,5 +1,5 @@
 -- A turn of another case of the process: the pair sees nothing of it but an ACK, or that its log was forced.
-use Rattle.std.proofs.Common.{◌≡◌, ◌∙◌, ◌⊎◌, inl, inr, Bool, true, false, ◌||◌, ◌&&◌, Option, Some, None, List, [], ◌∷◌, map, filter, refl, sym, ap, arith, if◌then◌else◌}
+use Rattle.std.proofs.Common.{◌≡◌, ◌∙◌, ◌⊎◌, inl, inr, Bool, true, false, ◌||◌, ◌&&◌, Option, Some, None, List, [], ◌∷◌, map, filter, refl, sym, ap, arith, if◌then◌else◌, is_some}
 use Rattle.std.specs.List.{list_any}
 use Rattle.tree_model.specs.declared.names.Case.{Case}
 use Rattle.tree_model.specs.declared.names.ProcessId.{ProcessId}
@@ -31,6 +31,7 @@ use Rattle.tree_steps.proofs.parents.Rested.{view_so}
 use Rattle.tree_steps.proofs.parents.Turns.{Turn, IsSeat, is_top, top, under, Fine}
 use Rattle.tree_steps.proofs.parents.Wires.{Silent}
 use Rattle.tree_steps.proofs.parents.Writes.{is_told_so}
+use Rattle.tree_model.specs.declared.records.Reports.{Reports}
 
 -- Lists of another case's.
 
@@ -219,5 +220,11 @@ module _ (turn : Turn) (d : Case) (other : same_case d turn.c ≡ false) where
   pub other_abort : (ts : List Ticket) → Unrelated turn (AbortRecord d ts)
   other_abort ts = record { same = λ b p. rw other refl; commits = refl; boot = λ x. refl }
 
-  pub other_end : Unrelated turn (EndRecord d)
-  other_end = record { same = λ b p. rw other refl; commits = refl; boot = λ x. refl }
+  pub other_end : (rep : Option Reports) → Unrelated turn (EndRecord d rep)
+  other_end rep = record { same = λ b p. rw other refl; commits = refl; boot = λ x. refl }
+
+  -- an End, with what was found or without
+  pub ended_by : (rep : Option Reports)
+      → WroteElsewhere (record { entry = EndRecord d rep; is_forced = is_some rep } ∷ [])
+  ended_by None = one_plain (EndRecord d None) refl (other_end None)
+  ended_by (Some r) = one_forced (EndRecord d (Some r)) refl (other_end (Some r))

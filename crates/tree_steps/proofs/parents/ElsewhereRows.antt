@@ -1,5 +1,5 @@
 -- Each turn of another case of the process keeps the pair.
-use Rattle.std.proofs.Common.{◌≡◌, ◌≢◌, ◌∙◌, inl, inr, ℕ, Bool, true, false, ◌&&◌, Option, Some, None, List, [], ◌∷◌, ◌++◌, refl, sym, ap, subst, if◌then◌else◌}
+use Rattle.std.proofs.Common.{◌≡◌, ◌≢◌, ◌∙◌, inl, inr, ℕ, Bool, true, false, ◌&&◌, Option, Some, None, List, [], ◌∷◌, ◌++◌, refl, sym, ap, subst, if◌then◌else◌, is_some}
 use Rattle.std.specs.Prelude.{find}
 use Rattle.tree_model.specs.declared.names.Case.{Case}
 use Rattle.tree_model.specs.declared.names.ProcessId.{ProcessId}
@@ -25,9 +25,9 @@ use Rattle.tree_model.specs.NameLaws.{same_ticket_tells}
 use Rattle.tree_model.specs.Records.{has, in_list, is_prepare, none_of}
 use Rattle.tree_model.specs.Nodes.{Version, First, Second, kept, after}
 use Rattle.tree_model.specs.Memory.{Phase, Idle, Open, Asked, Over, memory_of, undecided_of}
-use Rattle.tree_model.specs.CoordinatorRows.{acknowledges_at_once, acknowledges_at_last, Row, active_commit_with, collecting_abort_by, read_only_end, root_commits, prepared_commit_by, prepared_abort_by, posted_up, each, to_child, prepares, told_by, tells_outcome, acknowledges_abort, abort_heard_above, Reason, ByVote, ByAct, ByAbort}
+use Rattle.tree_model.specs.CoordinatorRows.{acknowledges_at_once, acknowledges_at_last, Row, active_commit_with, collecting_abort_by, read_only_end, root_commits, prepared_commit_by, prepared_abort_by, posted_up, each, to_child, prepares, told_by, tells_outcome, acknowledges_abort, abort_heard_above, Reason, ByVote, ByAct, ByAbort, end_reports}
 use Rattle.tree_model.specs.Reactions.{row_effect, seat_of}
-use Rattle.tree_model.specs.Standings.{CoordinatorView, coordinator_view, case_of_child, own_cases, belongs, standing_by, phase_standing}
+use Rattle.tree_model.specs.Standings.{CoordinatorView, coordinator_view, case_of_child, own_cases, belongs, standing_by, phase_standing, found_below}
 use Rattle.tree_model.specs.Outcomes.{has_accepted}
 use Rattle.tree_model.specs.Views.{IsOpenAlike, vote_message}
 use Rattle.tree_pairs.specs.readings.ReadingOf.{wire}
@@ -50,6 +50,8 @@ use Rattle.tree_steps.proofs.parents.Rested as rested
 use Rattle.tree_steps.proofs.parents.Turns.{Turn, Fine}
 use Rattle.tree_steps.proofs.parents.Wires as wires
 use Rattle.tree_steps.proofs.parents.Wires.{Silent, same_children, silent_before}
+use Rattle.tree_model.specs.declared.messages.Finding.{Finding}
+use Rattle.tree_model.specs.declared.records.Reports.{Reports}
 
 -- a case that stands at Prepared has a promise
 prepared_by : (E C A P K N : Bool) (s : Standing) → s ≢ Prepared
@@ -183,15 +185,15 @@ module _ (turn : Turn) (d : Case) where
     up_read : Own → Quiet (posted_up place.me parent (Read d))
     up_read own = up_silent (Read d) (λ p e. wires.silent-read c t net place.me (Some p) d e other) own
 
-    up_ack : (o : Outcome) → Own → Quiet (posted_up place.me parent (Ack d o))
-    up_ack o own = up_silent (Ack d o) (λ p e. wires.silent-ack c t net place.me (Some p) d e o) own
+    up_ack : (o : Outcome) (fs : List Finding) → Own → Quiet (posted_up place.me parent (Ack d o fs))
+    up_ack o fs own = up_silent (Ack d o fs) (λ p e. wires.silent-ack c t net place.me (Some p) d e o fs) own
 
     up_inquire : Own → Quiet (posted_up place.me parent (Inquire d))
     up_inquire own = up_silent (Inquire d) (λ p e. wires.silent-inquire c t net place.me (Some p) d e) own
 
     up_acknowledges : (p : Presumption) → Own → Quiet (acknowledges_abort (seat_of place parent d) p)
     up_acknowledges PresumeAbort own = nothing_sent
-    up_acknowledges PresumeCommit own = up_ack AbortedOutcome own
+    up_acknowledges PresumeCommit own = up_ack AbortedOutcome [] own
 
     none_or : (b : Bool) (ls : List Envelope) → Quiet ls → Quiet (if b then ls else [])
     none_or true ls f = f
@@ -204,12 +206,13 @@ module _ (turn : Turn) (d : Case) where
     up_heard (ByAbort Second) us own = none_or (none_of us) _ (up_acknowledges d.txn.presumption own)
 
     at_once : (ver : Version) (o : Outcome) → Own → Quiet (acknowledges_at_once ver (seat_of place parent d) o)
-    at_once First o own = up_ack o own
+    at_once First o own = up_ack o [] own
     at_once Second o own = nothing_sent
 
-    at_last : (ver : Version) (o : Outcome) → Own → Quiet (acknowledges_at_last ver (seat_of place parent d) o)
-    at_last First o own = nothing_sent
-    at_last Second o own = up_ack o own
+    at_last : (ver : Version) (o : Outcome) (fs : List Finding) → Own
+        → Quiet (acknowledges_at_last ver (seat_of place parent d) o fs)
+    at_last First o fs own = nothing_sent
+    at_last Second o fs own = up_ack o fs own
 
     -- Messages down.
 
@@ -276,8 +279,9 @@ module _ (turn : Turn) (d : Case) where
         rested.rest_vote turn w i.txn u i.hears.0 i.hears.1
         (λ e f. rw (rested.others_ticket turn i.txn u d i.belongs other) refl)
 
-    rest_ack : (u : Ticket) (o : Outcome) → HearsChild place n h d u (λ e. Ack e o) → Rests turn
-    rest_ack u o i = rested.rest_ack turn o i.txn u i.hears.0 i.hears.1
+    rest_ack : (u : Ticket) (o : Outcome) (fs : List Finding) → HearsChild place n h d u (λ e. Ack e o fs)
+        → Rests turn
+    rest_ack u o fs i = rested.rest_ack turn o fs i.txn u i.hears.0 i.hears.1
 
     rest_inquiry : (u : Ticket) → HearsChild place n h d u Inquire → Rests turn
     rest_inquiry u i = rested.rest_same turn (by_input.inquires turn (child_case i.txn u) i.hears.0 i.hears.1)
@@ -300,7 +304,7 @@ module _ (turn : Turn) (d : Case) where
     rest_nothing (turns.takes_nobody u i f) =
         rested.rest_joined turn d u i.0 i.1 (λ g k. clash (same_case d c) g other)
     rest_nothing (turns.counts_nothing u w i f) = rest_vote u w i
-    rest_nothing (turns.owes_nothing u o i f) = rest_ack u o i
+    rest_nothing (turns.owes_nothing u o fs i f) = rest_ack u o fs i
     rest_nothing (turns.knows_nothing u i) = rest_inquiry u i
     rest_nothing (turns.prepares_nothing k i f) = rest_prepare k i
     rest_nothing (turns.commits_nothing i) = rest_commit i
@@ -366,7 +370,7 @@ module _ (turn : Turn) (d : Case) where
 
     reads_by : (p : Presumption) → WroteElsewhere turn d other (read_only_end (seat_of place parent d) p)
     reads_by PresumeAbort = none_written refl
-    reads_by PresumeCommit = one_plain (EndRecord d) refl (elsewhere.other_end turn d other)
+    reads_by PresumeCommit = one_plain (EndRecord d None) refl (elsewhere.other_end turn d other None)
 
     commits_by : (w : (Ticket × Vote)) (v : CoordinatorView) (ys : List Ticket) (p : Presumption)
         → After (record (root_commits (seat_of place parent d) v ys p) { counts = w ∷ [] })
@@ -499,13 +503,14 @@ module _ (turn : Turn) (d : Case) where
         (none_written refl)
     turn_elsewhere _ (turns.refuses k i e) later =
         row_fine _ later (rest_prepare k i) (up_no (own_prepare k i)) (inl refl) (none_written refl)
-    turn_elsewhere _ (turns.acknowledges o i e) later =
-        row_fine _ later (rest_outcome o i) (up_ack o (own_outcome o i)) (inl refl) (none_written refl)
-    turn_elsewhere _ (turns.waits_for_acks u o i e f g) later =
-        row_fine _ later (rest_ack u o i) nothing_sent (inl refl) (none_written refl)
-    turn_elsewhere _ (turns.ends u o i e f g) later =
-        row_fine _ later (rest_ack u o i) (at_last h.version o (own_of u (λ e. Ack e o) i)) (inl refl)
-        (one_plain (EndRecord d) refl (elsewhere.other_end turn d other))
+    turn_elsewhere _ (turns.acknowledges o fs i e) later =
+        row_fine _ later (rest_outcome o i) (up_ack o fs (own_outcome o i)) (inl refl) (none_written refl)
+    turn_elsewhere _ (turns.waits_for_acks u o fs i e f g) later =
+        row_fine _ later (rest_ack u o fs i) nothing_sent (inl refl) (none_written refl)
+    turn_elsewhere _ (turns.ends u o fs i e f g) later =
+        row_fine _ later (rest_ack u o fs i)
+        (at_last h.version o (found_below place n d o fs) (own_of u (λ e. Ack e o fs) i)) (inl refl)
+        (elsewhere.ended_by turn d other (end_reports h.version parent (found_below place n d o fs)))
     turn_elsewhere _ (turns.answers u o i e) later =
         row_fine _ later (rest_inquiry u i) (answer o i.txn u i.belongs) (inl refl) (none_written refl)
 
@@ -530,7 +535,7 @@ module _ (turn : Turn) (d : Case) where
     rests_elsewhere _ (turns.repeats_yes k i e) = rest_prepare k i
     rests_elsewhere _ (turns.asks i e) = rested.rest_same turn (by_input.ask_act turn d i)
     rests_elsewhere _ (turns.refuses k i e) = rest_prepare k i
-    rests_elsewhere _ (turns.acknowledges o i e) = rest_outcome o i
-    rests_elsewhere _ (turns.waits_for_acks u o i e f g) = rest_ack u o i
-    rests_elsewhere _ (turns.ends u o i e f g) = rest_ack u o i
+    rests_elsewhere _ (turns.acknowledges o fs i e) = rest_outcome o i
+    rests_elsewhere _ (turns.waits_for_acks u o fs i e f g) = rest_ack u o fs i
+    rests_elsewhere _ (turns.ends u o fs i e f g) = rest_ack u o fs i
     rests_elsewhere _ (turns.answers u o i e) = rest_inquiry u i

@@ -123,8 +123,8 @@ module _ (turn : Turn) where
     reads_only PresumeCommit none q x f order =
         let e = row_effect c (last.read_row turn u w ys l PresumeCommit) in
         let fits = last.heard_it turn u w ys l in
-        one_written turn e x f order (EndRecord c) refl (vote_hears e refl refl)
-        (λ one. record_appended turn e x f order (EndRecord c) one (λ j. refl) Over p0.accepted p0.acked
+        one_written turn e x f order (EndRecord c None) refl (vote_hears e refl refl)
+        (λ one. record_appended turn e x f order (EndRecord c None) one (λ j. refl) Over p0.accepted p0.acked
         (last.ends_votes turn u w ys l) p1
         (hears.heard_vote turn e u w refl refl)
         (read_as turn _ _ (readings.fails-ends_read_only manager above k c t root o0 promised p1 v0

@@ -1,5 +1,5 @@
 -- Faults behind the records of the pair's own case that has promised, or was decided, on the pair.
-use Rattle.std.proofs.Common.{◌≡◌, ◌∙◌, ℕ, Bool, true, false, [], refl, sym, subst}
+use Rattle.std.proofs.Common.{◌≡◌, ◌∙◌, ℕ, Bool, true, false, [], refl, sym, subst, List}
 use Rattle.tree_model.specs.declared.names.Ticket.{Ticket}
 use Rattle.tree_model.specs.declared.names.Outcome.{Outcome}
 use Rattle.tree_model.specs.declared.names.Presumption.{Presumption}
@@ -36,6 +36,7 @@ use Rattle.tree_steps.proofs.parents.Quiet.{rested}
 use Rattle.tree_steps.proofs.parents.Rested as rests
 use Rattle.tree_steps.proofs.parents.Turns.{Turn, Fits_in, R as seen, m as remembered, p0 as half, v0 as net_part, o0 as told_outcome, r0 as reading, root as at_root}
 use Rattle.tree_steps.proofs.parents.Writes.{begun_after, wrote}
+use Rattle.tree_model.specs.declared.messages.Finding.{Finding}
 
 closed_by : (ph : Phase) → (ph ≡ Open → ⊥) → (ph ≡ Asked → ⊥) → live_phase ph ≡ Closed
 closed_by Idle f g = refl
@@ -207,22 +208,24 @@ module _ (turn : Turn) where
       (moves.fails_to_end_abort c.txn.presumption q _ fits.invariant
       (decided.may_end_abort turn b v.standing (subst (λ (x : Outcome). Decided x v.standing) e d) refl f))
 
-  pub ends : (u : Ticket) (o : Outcome) → HearsChild place n h c u (λ d. Ack d o) → Decided o v.standing
-      → none_of (other_tickets u v.owed) ≡ true → (x f : ℕ) → Ordered (decided.end_row turn o) x f
-      → Fails (decided.end_row turn o) x f
-  ends u o i d none x f order =
-      let g = row_effect c (decided.end_row turn o) in
-      let b = decided.heard_acks turn u o i d none in
+  pub ends : (u : Ticket) (o : Outcome) (fs : List Finding) → HearsChild place n h c u (λ d. Ack d o fs)
+      → Decided o v.standing
+      → none_of (other_tickets u v.owed) ≡ true → (x f : ℕ) → Ordered (decided.end_row turn o fs) x f
+      → Fails (decided.end_row turn o fs) x f
+  ends u o fs i d none x f order =
+      let g = row_effect c (decided.end_row turn o fs) in
+      let r = EndRecord c (decided.reports turn o fs) in
+      let b = decided.heard_acks turn u o fs i d none in
       let late = decided.late_of turn o v.standing d refl in
-      one_written turn g x f order (EndRecord c) refl
-      (hears.of_rests turn g refl (rests.rest_ack turn o i.txn u i.hears.0 i.hears.1))
-      (λ one. record_appended turn g x f order (EndRecord c) one (λ j. refl) m.phase p0.accepted b
-      (decided.ack_says turn u o i d none) p0 refl
+      one_written turn g x f order r refl
+      (hears.of_rests turn g refl (rests.rest_ack turn o fs i.txn u i.hears.0 i.hears.1))
+      (λ one. record_appended turn g x f order r one (λ j. refl) m.phase p0.accepted b
+      (decided.ack_says turn u o fs i d none) p0 refl
       (subst (λ (y : Bool). Fits_in turn
-      (seen turn o0 (down p0.accepted b y (wrote (EndRecord c) c t promise p0)) v0))
-      (sym (begun_still turn g x f m.phase (rw one (has-cons (is_commit c) (EndRecord c) n.life)) refl))
-      (read_as turn _ _ (readings.fails-ends manager above k c t root o0 promise (rested turn b) v0
-      (closed late.0 late.1))
-      (end_fits b (decided.ack_fits turn u o i d none) o c.txn.presumption refl
-      (decided.agrees turn u o i d none) d
-      (decided.all_acked turn u o i d none)))))
+      (seen turn o0 (down p0.accepted b y (wrote r c t promise p0)) v0))
+      (sym (begun_still turn g x f m.phase (rw one (has-cons (is_commit c) r n.life)) refl))
+      (read_as turn _ _ (readings.fails-ends manager above k c t (decided.reports turn o fs) root o0 promise
+      (rested turn b) v0 (closed late.0 late.1))
+      (end_fits b (decided.ack_fits turn u o fs i d none) o c.txn.presumption refl
+      (decided.agrees turn u o fs i d none) d
+      (decided.all_acked turn u o fs i d none)))))

@@ -1,5 +1,5 @@
 -- Faults behind a record of the pair's case, on readings: halves and wires as variables.
-use Rattle.std.proofs.Common.{◌≡◌, Bool, true, false, not, ◌||◌, ◌&&◌, List, [], refl, arith}
+use Rattle.std.proofs.Common.{◌≡◌, Bool, true, false, not, ◌||◌, ◌&&◌, List, [], refl, arith, Option, None}
 use Rattle.tree_model.specs.declared.names.Case.{Case}
 use Rattle.tree_model.specs.declared.names.Ticket.{Ticket}
 use Rattle.tree_model.specs.declared.records.Record.TheVariants.{Collecting as CollectingRecord, Prepare as PrepareRecord, Commit as CommitRecord, Abort as AbortRecord, End as EndRecord}
@@ -12,6 +12,7 @@ use Rattle.tree_pairs.proofs.readings.Named.{in_list-none}
 use Rattle.tree_steps.proofs.parents.Faults.{down}
 use Rattle.tree_steps.proofs.parents.Readings.{Live}
 use Rattle.tree_steps.proofs.parents.Writes.{wrote}
+use Rattle.tree_model.specs.declared.records.Reports.{Reports}
 
 or-false : (a : Bool) → (a || false) ≡ a
 or-false a = grind arith
@@ -92,7 +93,7 @@ module _ (manager above : Bool) (k : ChildHalf) (c : Case) (t : Ticket) where
       rw (f, l.no_prepare, l.never_promised, l.no_read) (simp (dead-now, or-true))
 
   pub fails-ends_read_only : (root o b : Bool) (p : ParentHalf) (v : Wire) → Live root o p v
-      → X root o (D true p (wrote (EndRecord c) c t b p)) v ≡ crash.fails_to_end_read_only (X root o p v)
+      → X root o (D true p (wrote (EndRecord c None) c t b p)) v ≡ crash.fails_to_end_read_only (X root o p v)
   fails-ends_read_only true o b p v l =
       let f = l.undecided refl in
       rw (l.begun, l.no_commit, f) (simp (dead-now, same_case-refl))
@@ -141,6 +142,6 @@ module _ (manager above : Bool) (k : ChildHalf) (c : Case) (t : Ticket) where
       ≡ crash.fails_to_pass_abort_naming (X false o p v)
   fails-passes_abort_naming o x ys p v e g h = rw (e, g, h) (simp (same_case-refl, or-false))
 
-  pub fails-ends : (root o b : Bool) (p : ParentHalf) (v : Wire) → p.phase ≡ Closed
-      → X root o (D p.begun p (wrote (EndRecord c) c t b p)) v ≡ crash.fails_to_end (X root o p v)
-  fails-ends root o b p v e = rw e (simp (same_case-refl))
+  pub fails-ends : (rep : Option Reports) (root o b : Bool) (p : ParentHalf) (v : Wire) → p.phase ≡ Closed
+      → X root o (D p.begun p (wrote (EndRecord c rep) c t b p)) v ≡ crash.fails_to_end (X root o p v)
+  fails-ends rep root o b p v e = rw e (simp (same_case-refl))

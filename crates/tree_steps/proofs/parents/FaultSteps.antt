@@ -155,12 +155,13 @@ module _ (turn : Turn) where
   own_fault _ (turns.refuses j i e) x f order =
       rests_fault _ x f order refl refl refl
       (rest_prepare turn j i (λ o. refuses_late turn (own.v turn).standing e refl o))
-  own_fault _ (turns.acknowledges o i e) x f order =
-      let late = acknowledges_late turn h.version o c.txn.presumption (own.v turn).standing e refl in
+  own_fault _ (turns.acknowledges o fs i e) x f order =
+      let late =
+      acknowledges_late turn h.version c o c.txn.presumption (own.v turn).standing fs e refl in
       rests_fault _ x f order refl refl refl (rest_outcome turn o i late.0 late.1)
-  own_fault _ (turns.waits_for_acks u o i e g j) x f order =
-      rests_fault _ x f order refl refl refl (rested.rest_ack turn o i.txn u i.hears.0 i.hears.1)
-  own_fault _ (turns.ends u o i e g j) x f order = ends.ends turn u o i e j x f order.is
+  own_fault _ (turns.waits_for_acks u o fs i e g j) x f order =
+      rests_fault _ x f order refl refl refl (rested.rest_ack turn o fs i.txn u i.hears.0 i.hears.1)
+  own_fault _ (turns.ends u o fs i e g j) x f order = ends.ends turn u o fs i e j x f order.is
   own_fault _ (turns.answers u o i e) x f order =
       rests_fault _ x f order refl refl refl
       (rested.rest_same turn (by_input.inquires turn (child_case i.txn u) i.hears.0 i.hears.1))
@@ -206,7 +207,7 @@ module _ (turn : Turn) where
         one_forced _ refl (elsewhere.other_collecting turn d other _)
     wrote_elsewhere _ (turns.reads_only u w ys PresumeAbort l e q) = wrote_none refl
     wrote_elsewhere _ (turns.reads_only u w ys PresumeCommit l e q) = one_plain _ refl
-        (elsewhere.other_end turn d other)
+        (elsewhere.other_end turn d other None)
     wrote_elsewhere _ (turns.commits u w ys PresumeAbort l e s q) =
         one_forced _ refl (elsewhere.other_commit turn d other ys)
     wrote_elsewhere _ (turns.commits u w ys PresumeCommit l e s q) =
@@ -229,7 +230,7 @@ module _ (turn : Turn) where
         (elsewhere.other_abort turn d other [])
     wrote_elsewhere _ (turns.passes_abort PresumeCommit i e q) =
         one_forced _ refl (elsewhere.other_abort turn d other _)
-    wrote_elsewhere _ (turns.ends u o i e g j) = one_plain _ refl (elsewhere.other_end turn d other)
+    wrote_elsewhere _ (turns.ends u o fs i e g j) = elsewhere.ended_by turn d other _
     wrote_elsewhere _ (turns.rests r) = wrote_none refl
     wrote_elsewhere _ (turns.invites q i e g j) = wrote_none refl
     wrote_elsewhere _ (turns.accepts u i e g) = wrote_none refl
@@ -240,8 +241,8 @@ module _ (turn : Turn) where
     wrote_elsewhere _ (turns.repeats_yes j i e) = wrote_none refl
     wrote_elsewhere _ (turns.asks i e) = wrote_none refl
     wrote_elsewhere _ (turns.refuses j i e) = wrote_none refl
-    wrote_elsewhere _ (turns.acknowledges o i e) = wrote_none refl
-    wrote_elsewhere _ (turns.waits_for_acks u o i e g j) = wrote_none refl
+    wrote_elsewhere _ (turns.acknowledges o fs i e) = wrote_none refl
+    wrote_elsewhere _ (turns.waits_for_acks u o fs i e g j) = wrote_none refl
     wrote_elsewhere _ (turns.answers u o i e) = wrote_none refl
 
     other_fault : (row : Row) → CaseTurn place parent n h d row → (x f : ℕ) → Ordered (row_effect d row) x f

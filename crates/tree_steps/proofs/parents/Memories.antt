@@ -1,5 +1,5 @@
 -- What an input makes of what is remembered of the pair's case, root or cascaded.
-use Rattle.std.proofs.Common.{◌≡◌, ◌∙◌, ℕ, Bool, true, false, Option, Some, None, refl, ap, subst, if◌then◌else◌}
+use Rattle.std.proofs.Common.{◌≡◌, ◌∙◌, ℕ, Bool, true, false, Option, Some, None, refl, ap, subst, if◌then◌else◌, List}
 use Rattle.tree_model.specs.declared.names.Case.{Case}
 use Rattle.tree_model.specs.declared.names.ProcessId.{ProcessId}
 use Rattle.tree_model.specs.declared.names.Ticket.{Ticket}
@@ -21,6 +21,7 @@ use Rattle.tree_model.specs.Memory.{Memory, hears_child, Phase, Idle, Open, Aske
 use Rattle.tree_model.specs.Views.{vote_message}
 use Rattle.tree_steps.proofs.parents.Turns.{Turn, IsSeat, top, under, m as remembered, m' as then_remembered, Says}
 use Rattle.tree_steps.proofs.parents.Halves.{acked_of}
+use Rattle.tree_model.specs.declared.messages.Finding.{Finding}
 
 pub by_role : (role : Role) (parent : Option ProcessId) → IsSeat role parent → (P : Role → Type 0) → P AtRoot
     → ((p : ProcessId) → P (Below p)) → P role
@@ -118,14 +119,14 @@ module _ (turn : Turn) where
   unticketed_vote VoteRead x j i = at_either _ m i (if_itself (same_txn x c.txn))
       (λ p. if_itself (same_txn x c.txn))
 
-  pub ack_comes : (o : Outcome) (x : Txn) (u : Ticket) (j : ℕ) → h.input
-      ≡ MessageInput j (Ack (child_case x u) o)
-      → m' ≡ (if same_txn x c.txn then takes_ack m u o m.phase else m)
-  ack_comes o x u j i = at_either _ _ i refl (λ p. refl)
+  pub ack_comes : (o : Outcome) (fs : List Finding) (x : Txn) (u : Ticket) (j : ℕ) → h.input
+      ≡ MessageInput j (Ack (child_case x u) o fs)
+      → m' ≡ (if same_txn x c.txn then takes_ack m u o fs m.phase else m)
+  ack_comes o fs x u j i = at_either _ _ i refl (λ p. refl)
 
-  pub unticketed_ack : (o : Outcome) (x : Txn) (j : ℕ) → h.input ≡ MessageInput j (Ack (root_case x) o)
-      → m' ≡ m
-  unticketed_ack o x j i = at_either _ m i (if_itself (same_txn x c.txn)) (λ p. if_itself (same_txn x c.txn))
+  pub unticketed_ack : (o : Outcome) (fs : List Finding) (x : Txn) (j : ℕ)
+      → h.input ≡ MessageInput j (Ack (root_case x) o fs) → m' ≡ m
+  unticketed_ack o fs x j i = at_either _ m i (if_itself (same_txn x c.txn)) (λ p. if_itself (same_txn x c.txn))
 
   -- Inputs of the root alone.
 

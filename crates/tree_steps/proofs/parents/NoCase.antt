@@ -227,14 +227,14 @@ module _ (turn : Turn) where
 
   unticketed : (says : Case → Message) (x : Txn) → ChildSays says → Hears h (says (root_case x)) → Rests turn
   unticketed _ x (turns.votes w) i = rested.rest_same turn (by_input.unticketed_vote turn w x i.0 i.1)
-  unticketed _ x (turns.acknowledged o) i = rested.rest_same turn (by_input.unticketed_ack turn o x i.0 i.1)
+  unticketed _ x (turns.acknowledged o fs) i = rested.rest_same turn (by_input.unticketed_ack turn o fs x i.0 i.1)
   unticketed _ x turns.inquires i = rested.rest_same turn (by_input.inquires turn (root_case x) i.0 i.1)
 
   nowhere : (says : Case → Message) (x : Txn) (u : Ticket) → ChildSays says → Hears h (says (child_case x u))
       → case_of_child place n x u ≡ None → Rests turn
   nowhere _ x u (turns.votes w) i none =
       rested.rest_vote turn w x u i.0 i.1 (λ s a. rw (not_accepted x u s none) refl)
-  nowhere _ x u (turns.acknowledged o) i none = rested.rest_ack turn o x u i.0 i.1
+  nowhere _ x u (turns.acknowledged o fs) i none = rested.rest_ack turn o fs x u i.0 i.1
   nowhere _ x u turns.inquires i none = rested.rest_same turn
       (by_input.inquires turn (child_case x u) i.0 i.1)
 

@@ -1,5 +1,5 @@
 -- Turns of the pair's own case that was decided, on the pair: the last ACK, and answers.
-use Rattle.std.proofs.Common.{◌≡◌, ◌≢◌, ◌∙◌, ◌⊎◌, inl, inr, Bool, true, false, ◌||◌, ◌&&◌, not, List, [], ◌∷◌, ◌++◌, refl, sym, ap, subst}
+use Rattle.std.proofs.Common.{◌≡◌, ◌≢◌, ◌∙◌, ◌⊎◌, inl, inr, Bool, true, false, ◌||◌, ◌&&◌, not, List, [], ◌∷◌, ◌++◌, refl, sym, ap, subst, Option, is_some, Some, None}
 use Rattle.tree_model.specs.declared.names.Ticket.{Ticket}
 use Rattle.tree_model.specs.declared.names.Outcome.{Outcome}
 use Rattle.tree_model.specs.declared.names.Outcome.TheVariants.{Committed as CommittedOutcome, Aborted as AbortedOutcome}
@@ -11,11 +11,11 @@ use Rattle.tree_model.specs.declared.standings.Standing.{Standing}
 use Rattle.tree_model.specs.declared.standings.Standing.TheVariants.{Unknown, Active, Collecting, Committing, Aborting}
 use Rattle.tree_model.specs.Names.{same_outcome, same_ticket, child_case}
 use Rattle.tree_model.specs.Records.{has, in_list, none_of, owing_by, is_prepare}
-use Rattle.tree_model.specs.Nodes.{Version, First, Second, after, kept}
-use Rattle.tree_model.specs.Memory.{Memory, Phase, Idle, Open, Asked, Over, takes_ack, has_acked}
-use Rattle.tree_model.specs.CoordinatorRows.{Row, quiet, plain, other_tickets, acknowledges_at_last}
+use Rattle.tree_model.specs.Nodes.{Version, First, Second, after, kept, Written, Effect}
+use Rattle.tree_model.specs.Memory.{Memory, Phase, Idle, Open, Asked, Over, takes_ack, has_acked, first_found}
+use Rattle.tree_model.specs.CoordinatorRows.{Row, quiet, plain, other_tickets, acknowledges_at_last, ends_with, end_reports, forced}
 use Rattle.tree_model.specs.Reactions.{row_effect, seat_of}
-use Rattle.tree_model.specs.Standings.{CoordinatorView, unknown_view, still_owed}
+use Rattle.tree_model.specs.Standings.{CoordinatorView, unknown_view, still_owed, found_below}
 use Rattle.tree_pairs.specs.Reading.{Reading, is_live}
 use Rattle.tree_pairs.specs.Standing as pair
 use Rattle.tree_pairs.specs.ParentMoves as move
@@ -33,21 +33,27 @@ use Rattle.tree_steps.proofs.parents.OwnAborts.{in_filter}
 use Rattle.tree_steps.proofs.parents.OwnMoves.{and_then, read_as}
 use Rattle.tree_steps.proofs.parents.OwnPromised.{not_open, not_asked, phase_stays}
 use Rattle.tree_steps.proofs.parents.OwnQuiet.{After, not_childs}
-use Rattle.tree_steps.proofs.parents.Quiet.{rested, rest_fits, begun_plain}
+use Rattle.tree_steps.proofs.parents.Quiet.{rested, rest_fits, begun_plain, begun_forced, reading-hardens, DoesNothing}
 use Rattle.tree_steps.proofs.parents.Readings as readings
 use Rattle.tree_steps.proofs.parents.Rested.{view_so, heard_so, acked_now, has_acked-push}
 use Rattle.tree_steps.proofs.parents.Tables.{committing_facts, aborting_facts, UnknownFacts, ended, committed, aborted, unrecorded, unknown_facts, owing_by-naming, none_in}
-use Rattle.tree_steps.proofs.parents.Turns.{Turn, Says, Fine, Fits_in, R as seen, m as remembered, m' as then_remembered, p0 as half, v0 as net_part, o0 as told_outcome, r0 as reading, root as at_root, fine_plain}
+use Rattle.tree_steps.proofs.parents.Turns.{Turn, Says, Fine, Fits_in, R as seen, m as remembered, m' as then_remembered, p0 as half, v0 as net_part, o0 as told_outcome, r0 as reading, root as at_root, fine_plain, fine_forced}
 use Rattle.tree_steps.proofs.parents.Wires as wires
 use Rattle.tree_steps.proofs.parents.Wires.{Silent, same_children}
-use Rattle.tree_steps.proofs.parents.Writes.{stands_so, wrote, begun_after}
+use Rattle.tree_steps.proofs.parents.Writes.{stands_so, wrote, begun_after, hardens}
+use Rattle.tree_model.specs.declared.messages.Finding.{Finding}
+use Rattle.tree_model.specs.declared.records.Reports.{Reports}
 
-acks_late : (m : Memory) (u : Ticket) (o : Outcome) (ph : Phase) → (ph ≡ Open → ⊥) → (ph ≡ Asked → ⊥)
-    → takes_ack m u o ph ≡ record m { acks = m.acks ++ (u, o) ∷ [] }
-acks_late m u o Open f g = absurd (f refl)
-acks_late m u o Asked f g = absurd (g refl)
-acks_late m u o Idle f g = refl
-acks_late m u o Over f g = refl
+-- the memory with an acknowledgement that is taken
+abbrev pub acks_so : Memory → Ticket → Outcome → List Finding → Memory
+acks_so m u o fs = record m { acks = m.acks ++ (u, o) ∷ []; found = m.found ++ first_found m u o fs }
+
+acks_late : (m : Memory) (u : Ticket) (o : Outcome) (fs : List Finding) (ph : Phase)
+    → (ph ≡ Open → ⊥) → (ph ≡ Asked → ⊥) → takes_ack m u o fs ph ≡ acks_so m u o fs
+acks_late m u o fs Open f g = absurd (f refl)
+acks_late m u o fs Asked f g = absurd (g refl)
+acks_late m u o fs Idle f g = refl
+acks_late m u o fs Over f g = refl
 
 in_others : (u : Ticket) (ts : List Ticket) (t : Ticket)
     → in_list (other_tickets u ts) t ≡ (in_list ts t && not (same_ticket u t))
@@ -152,30 +158,39 @@ module _ (turn : Turn) where
       (moves.ends_abort c.txn.presumption q _ fits.invariant
       (may_end_abort b v.standing (subst (λ (x : Outcome). Decided x v.standing) e d) refl f))
 
-  abbrev pub end_row : Outcome → Row
-  end_row o = record (quiet unknown_view) {
-    written = plain (EndRecord c);
-    messages = acknowledges_at_last h.version (seat_of place parent c) o;
+  -- what its End reports
+  abbrev pub reports : Outcome → List Finding → Option Reports
+  reports o fs = end_reports h.version parent (found_below place n c o fs)
+
+  -- an End that reports so
+  abbrev pub end_written : Option Reports → List Written
+  end_written rep = record { entry = EndRecord c rep; is_forced = is_some rep } ∷ []
+
+  abbrev pub end_row : Outcome → List Finding → Row
+  end_row o fs = record (quiet unknown_view) {
+    written = ends_with h.version (seat_of place parent c) (found_below place n c o fs);
+    messages = acknowledges_at_last h.version (seat_of place parent c) o (found_below place n c o fs);
   }
 
-  at_last : (ver : Version) (o : Outcome) → Silent c t net (acknowledges_at_last ver (seat_of place parent c) o)
-  at_last First o = simp (wires.sent-none)
-  at_last Second o = wires.silent-ack c t net place.me parent c (not_childs turn) o
+  at_last : (ver : Version) (o : Outcome) (fs : List Finding)
+      → Silent c t net (acknowledges_at_last ver (seat_of place parent c) o fs)
+  at_last First o fs = simp (wires.sent-none)
+  at_last Second o fs = wires.silent-ack c t net place.me parent c (not_childs turn) o fs
 
   -- The last ACK that is owed.
 
-  module _ (u : Ticket) (o : Outcome) (i : HearsChild place n h c u (λ d. Ack d o)) (d : Decided o v.standing)
-      (none : none_of (other_tickets u v.owed) ≡ true) where
+  module _ (u : Ticket) (o : Outcome) (fs : List Finding) (i : HearsChild place n h c u (λ d. Ack d o fs))
+      (d : Decided o v.standing) (none : none_of (other_tickets u v.owed) ≡ true) where
     -- the pair's ACK was heard before, or is this one
     abbrev pub heard_acks : Bool
     heard_acks = acked_of m c t || heard_so turn u o
 
-    ack_now : then_remembered turn ≡ record m { acks = m.acks ++ (u, o) ∷ [] }
+    ack_now : then_remembered turn ≡ acks_so m u o fs
     ack_now =
         let late = late_of o v.standing d refl in
         let same = own.of_txn turn i.txn u i.belongs in
-        by_input.ack_comes turn o i.txn u i.hears.0 i.hears.1
-        ∙ (rw same refl ∙ acks_late m u o m.phase late.0 late.1)
+        by_input.ack_comes turn o fs i.txn u i.hears.0 i.hears.1
+        ∙ (rw same refl ∙ acks_late m u o fs m.phase late.0 late.1)
 
     pub ack_says : Says turn m.phase p0.accepted heard_acks
     ack_says = record {
@@ -188,7 +203,7 @@ module _ (turn : Turn) where
     pub ack_fits : Fits_in turn (seen turn o0 (rested turn heard_acks) v0)
     ack_fits =
         rest_fits turn heard_acks
-        (acked_now turn i.txn u o i.hears.0 i.hears.1 (own.of_txn turn i.txn u i.belongs)
+        (acked_now turn i.txn u o fs i.hears.0 i.hears.1 (own.of_txn turn i.txn u i.belongs)
         (heard_so turn u o) refl)
 
     pub agrees : o ≡ acknowledged c.txn.presumption
@@ -204,36 +219,83 @@ module _ (turn : Turn) where
         ∙ (sym (in_others u v.owed t) ∙ none_in (other_tickets u v.owed) t none))
         f))
 
-    pub ends : After turn (end_row o) → Fine turn (row_effect c (end_row o))
-    ends later =
+    abbrev the_end : Effect
+    the_end = row_effect c (end_row o fs)
+
+    quiet_else : DoesNothing turn the_end
+    quiet_else = record {
+      accepts = refl;
+      yes_votes = refl;
+      no_votes = refl;
+      read_votes = refl;
+      committed = refl;
+      aborted = refl;
+      told = refl;
+    }
+
+    end_stays : (b x : Bool) (rep : Option Reports) → Fits_in turn (seen turn o0 (rested turn b) v0)
+        → (p0.owed ≡ true → b ≡ true)
+        → Fits_in turn (seen turn o0 (wrote (EndRecord c rep) c t x (rested turn b)) v0)
+    end_stays b x rep fits f =
+        read_as turn _ _ (readings.reading-ended manager above k c t rep root o0 x (rested turn b) v0)
+        (ends_fits b fits o c.txn.presumption refl agrees d f)
+
+    -- nothing was found: the End is unforced
+    ends_plain : After turn (end_row o fs) → reports o fs ≡ None → Fine turn the_end
+    ends_plain later e =
         let x = has (is_prepare c) n.life in
-        fine_plain turn (row_effect c (end_row o)) later.alike m.phase p0.accepted heard_acks ack_says v0
-        (wires.wire-silent c t net (acknowledges_at_last h.version (seat_of place parent c) o) (at_last h.version o))
-        (EndRecord c) (λ j. refl) refl
+        let one : the_end.written ≡ plain (EndRecord c None) = ap end_written e in
+        fine_plain turn the_end later.alike m.phase p0.accepted heard_acks ack_says v0
+        (wires.wire-silent c t net the_end.messages (at_last h.version o (found_below place n c o fs)))
+        (EndRecord c None) (λ j. refl) one
         (subst (λ (y : Bool). Fits_in turn
         (seen turn o0 (stands_so false m.phase p0.accepted heard_acks y
-        (wrote (EndRecord c) c t x p0)) v0))
-        (sym begun_so)
+        (wrote (EndRecord c None) c t x p0)) v0))
+        (sym (begun_plain turn the_end (EndRecord c None) one refl quiet_else))
         (subst (λ (y : ParentHalf). Fits_in turn (seen turn o0 y v0)) (sym (shown heard_acks x))
-        (read_as turn _ _ (readings.reading-ended manager above k c t root o0 x (rested turn heard_acks) v0)
-        (ends_fits heard_acks ack_fits o c.txn.presumption refl agrees d all_acked))))
+        (end_stays heard_acks x None ack_fits all_acked)))
       where
-        begun_so : begun_after m.phase (after n h (row_effect c (end_row o))) c ≡ p0.begun
-        begun_so = begun_plain turn (row_effect c (end_row o)) (EndRecord c) refl refl
-            (record {
-              accepts = refl;
-              yes_votes = refl;
-              no_votes = refl;
-              read_votes = refl;
-              committed =
-                  refl;
-              aborted = refl;
-              told = refl;
-            })
-
-        shown : (b x : Bool) → stands_so false m.phase p0.accepted b p0.begun (wrote (EndRecord c) c t x p0)
-            ≡ wrote (EndRecord c) c t x (rested turn b)
+        shown : (b x : Bool) → stands_so false m.phase p0.accepted b p0.begun (wrote (EndRecord c None) c t x p0)
+            ≡ wrote (EndRecord c None) c t x (rested turn b)
         shown b x = rw up refl
+
+    -- else it is forced, and all that stands with it
+    ends_forced : After turn (end_row o fs) → (r : Reports) → reports o fs ≡ Some r → Fine turn the_end
+    ends_forced later r e =
+        let x = has (is_prepare c) n.life in
+        let one : the_end.written ≡ forced (EndRecord c (Some r)) = ap end_written e in
+        fine_forced turn the_end later.alike m.phase p0.accepted heard_acks ack_says v0
+        (wires.wire-silent c t net the_end.messages (at_last h.version o (found_below place n c o fs)))
+        (EndRecord c (Some r)) (λ j. refl) one
+        (subst (λ (y : Bool). Fits_in turn
+        (seen turn ((root && p0.commit_kept) || o0) (stands_so false m.phase p0.accepted heard_acks y
+        (hardens (wrote (EndRecord c (Some r)) c t x p0))) v0))
+        (sym (begun_forced turn the_end (EndRecord c (Some r)) one refl quiet_else))
+        (subst (λ (y : ParentHalf). Fits_in turn (seen turn ((root && p0.commit_kept) || o0) y v0))
+        (sym (shown heard_acks x)) (forced_end heard_acks x ack_fits all_acked)))
+      where
+        shown : (b x : Bool) → stands_so false m.phase p0.accepted b p0.begun
+            (hardens (wrote (EndRecord c (Some r)) c t x p0))
+            ≡ hardens (wrote (EndRecord c (Some r)) c t x (rested turn b))
+        shown b x = rw up refl
+
+        forced_end : (b x : Bool) → Fits_in turn (seen turn o0 (rested turn b) v0)
+            → (p0.owed ≡ true → b ≡ true)
+            → Fits_in turn (seen turn ((root && p0.commit_kept) || o0)
+            (hardens (wrote (EndRecord c (Some r)) c t x (rested turn b))) v0)
+        forced_end b x fits f =
+            let q = wrote (EndRecord c (Some r)) c t x (rested turn b) in
+            let old = end_stays b x (Some r) fits f in
+            read_as turn _ _ (reading-hardens manager above k root o0 q v0)
+            (and_then turn (seen turn o0 q v0) _ old
+            (moves.hardens c.txn.presumption (seen turn o0 q v0) old.invariant up))
+
+    pub ends : After turn (end_row o fs) → Fine turn the_end
+    ends later = by_reports (reports o fs) refl
+      where
+        by_reports : (rep : Option Reports) → reports o fs ≡ rep → Fine turn the_end
+        by_reports None e = ends_plain later e
+        by_reports (Some r) e = ends_forced later r e
 
   -- Answers.
 

@@ -205,7 +205,7 @@ module _ (turn : Turn) where
       (rw (same_txn-refl c.txn) (names e))
 
   at_once : (ver : Version) (o : Outcome) → Silent c t net (acknowledges_at_once ver (seat_of place parent c) o)
-  at_once First o = wires.silent-ack c t net place.me parent c (not_childs turn) o
+  at_once First o = wires.silent-ack c t net place.me parent c (not_childs turn) o []
   at_once Second o = simp (wires.sent-none)
 
   pub passes_commit : (p : Presumption) → HearsParent parent h (Commit c) → v.standing ≡ Prepared

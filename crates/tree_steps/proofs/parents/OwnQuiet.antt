@@ -96,7 +96,7 @@ module _ (turn : Turn) where
   rest_nothing (turns.counts_nothing u w i f) =
       rested.rest_vote turn w i.txn u i.hears.0 i.hears.1
       (λ g o. counted_not u (asked_is_collecting o) (f (asked_is_collecting o)))
-  rest_nothing (turns.owes_nothing u o i f) = rested.rest_ack turn o i.txn u i.hears.0 i.hears.1
+  rest_nothing (turns.owes_nothing u o fs i f) = rested.rest_ack turn o fs i.txn u i.hears.0 i.hears.1
   rest_nothing (turns.knows_nothing u i) =
       rested.rest_same turn (by_input.inquires turn (child_case i.txn u) i.hears.0 i.hears.1)
   rest_nothing (turns.prepares_nothing k i f) = rest_prepare k i (λ o. f (open_is_active o))

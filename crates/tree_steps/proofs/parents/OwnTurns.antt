@@ -36,6 +36,8 @@ use Rattle.tree_steps.proofs.parents.Rested as rested
 use Rattle.tree_steps.proofs.parents.Turns.{Turn, Fine, Fits_in, R as seen, m as remembered, p0 as half, v0 as net_part, o0 as told_outcome, r0 as reading, fine_silent}
 use Rattle.tree_steps.proofs.parents.Wires as wires
 use Rattle.tree_steps.proofs.parents.Writes.{stands_so}
+use Rattle.tree_model.specs.declared.messages.Finding.{Finding}
+use Rattle.tree_model.specs.declared.names.Case.{Case}
 
 module _ (turn : Turn) where
   open turn use {place, parent, n, h, net, c, t, up, inv}
@@ -110,16 +112,16 @@ module _ (turn : Turn) where
   refuses_late _ turns.unknown_refuses e o = not_open turn Unknown e (λ z. cc) o
   refuses_late _ turns.aborting_refuses e o = not_open turn Aborting e (λ z. cc) o
 
-  pub acknowledges_late : (ver : Version) (o : Outcome) (p : Presumption) (s : Standing)
-      → Acknowledges ver o p s → v.standing ≡ s
+  pub acknowledges_late : (ver : Version) (d : Case) (o : Outcome) (p : Presumption) (s : Standing)
+      (fs : List Finding) → Acknowledges ver d o p s fs → v.standing ≡ s
       → (m.phase ≡ Open → ⊥) × (m.phase ≡ Asked → ⊥)
-  acknowledges_late _ _ _ _ (turns.commit_presumed_abort w) e =
+  acknowledges_late _ _ _ _ _ _ (turns.commit_presumed_abort w _) e =
       (not_open turn Unknown e (λ z. cc), not_asked turn Unknown e (λ z. cc))
-  acknowledges_late _ _ _ _ (turns.commit_again p) e =
+  acknowledges_late _ _ _ _ _ _ (turns.commit_again _ p) e =
       (not_open turn Committing e (λ z. cc), not_asked turn Committing e (λ z. cc))
-  acknowledges_late _ _ _ _ (turns.abort_presumed_commit w) e =
+  acknowledges_late _ _ _ _ _ _ (turns.abort_presumed_commit w _) e =
       (not_open turn Unknown e (λ z. cc), not_asked turn Unknown e (λ z. cc))
-  acknowledges_late _ _ _ _ (turns.abort_again p) e =
+  acknowledges_late _ _ _ _ _ _ (turns.abort_again _ p) e =
       (not_open turn Aborting e (λ z. cc), not_asked turn Aborting e (λ z. cc))
 
   pub own_turn : (row : Row) → CaseTurn place parent n h c row → After turn row → Fine turn (row_effect c row)
@@ -154,12 +156,12 @@ module _ (turn : Turn) where
       quiet_row turn _ later refl refl refl refl
       (rest_prepare turn k i (λ o. refuses_late v.standing e refl o))
       (wires.silent-no c t net place.me parent c (not_childs turn))
-  own_turn _ (turns.acknowledges o i e) later =
-      let late = acknowledges_late h.version o c.txn.presumption v.standing e refl in
+  own_turn _ (turns.acknowledges o fs i e) later =
+      let late = acknowledges_late h.version c o c.txn.presumption v.standing fs e refl in
       quiet_row turn _ later refl refl refl refl (rest_outcome turn o i late.0 late.1)
-      (wires.silent-ack c t net place.me parent c (not_childs turn) o)
-  own_turn _ (turns.waits_for_acks u o i e f g) later =
-      quiet_row turn _ later refl refl refl refl (rested.rest_ack turn o i.txn u i.hears.0 i.hears.1)
+      (wires.silent-ack c t net place.me parent c (not_childs turn) o fs)
+  own_turn _ (turns.waits_for_acks u o fs i e f g) later =
+      quiet_row turn _ later refl refl refl refl (rested.rest_ack turn o fs i.txn u i.hears.0 i.hears.1)
       (simp (wires.sent-none))
-  own_turn _ (turns.ends u o i e f g) later = decided.ends turn u o i e g later
+  own_turn _ (turns.ends u o fs i e f g) later = decided.ends turn u o fs i e g later
   own_turn _ (turns.answers u o i e) later = answers u o i e (same_ticket u t) refl later

@@ -200,20 +200,20 @@ module _ (turn : Turn) where
           let x = has (is_prepare c) n.life in
           own.seat_is turn
           (λ s is_root. own_plain turn (read_row PresumeCommit) later Over ends_votes v0 (said_nothing s)
-          p1 (told_read PresumeCommit) (EndRecord c) (λ j. refl) refl
+          p1 (told_read PresumeCommit) (EndRecord c None) (λ j. refl) refl
           (read_as turn _ _
           (at_literal true is_root (λ b. Live b o0 p1 v0
-          → X b (stands_so false Over p1.accepted p1.acked true (wrote (EndRecord c) c t x p1)) v0
+          → X b (stands_so false Over p1.accepted p1.acked true (wrote (EndRecord c None) c t x p1)) v0
           ≡ at_top.ends_read_only_collected (X b p1 v0))
           (λ y. readings.reading-ends_collected manager above k c t o0 x p1 v0 y) alive)
           (and_then turn r1 _ heard_it (moves.ends_read_only_collected c.txn.presumption q r1
           heard_it.invariant (may_end is_root none)))))
           (λ p s is_below. own_plain turn (read_row PresumeCommit) later Over ends_votes
-          (record v0 { read_up = true }) (said_up p s) p1 (told_read PresumeCommit) (EndRecord c)
+          (record v0 { read_up = true }) (said_up p s) p1 (told_read PresumeCommit) (EndRecord c None)
           (λ j. refl) refl
           (read_as turn _ _
           (at_literal false is_below (λ b. Live b o0 p1 v0
-          → X b (stands_so false Over p1.accepted p1.acked true (wrote (EndRecord c) c t x p1))
+          → X b (stands_so false Over p1.accepted p1.acked true (wrote (EndRecord c None) c t x p1))
           (record v0 { read_up = true }) ≡ below.reads_up_collected (X b p1 v0))
           (λ y. readings.reading-reads_collected manager above k c t o0 x p1 v0 y) alive)
           (and_then turn r1 _ heard_it (moves.reads_up_collected c.txn.presumption q r1 heard_it.invariant

@@ -1,5 +1,5 @@
 -- A coordinator's rows on readings of the pairs below it: halves and wires as variables.
-use Rattle.std.proofs.Common.{◌≡◌, Bool, true, false, not, ◌||◌, ◌&&◌, [], refl, List, arith, if◌then◌else◌}
+use Rattle.std.proofs.Common.{◌≡◌, Bool, true, false, not, ◌||◌, ◌&&◌, [], refl, List, arith, if◌then◌else◌, Option, None}
 use Rattle.tree_model.specs.declared.names.Case.{Case}
 use Rattle.tree_model.specs.declared.names.Ticket.{Ticket}
 use Rattle.tree_model.specs.declared.records.Record.TheVariants.{Collecting as CollectingRecord, Prepare as PrepareRecord, Commit as CommitRecord, Abort as AbortRecord, End as EndRecord}
@@ -13,6 +13,7 @@ use Rattle.tree_pairs.specs.CascadedMoves as below
 use Rattle.tree_pairs.specs.readings.ReadingOf.{reading_from, ParentHalf, ChildHalf, Wire, is_dead}
 use Rattle.tree_pairs.proofs.readings.Named.{in_list-none}
 use Rattle.tree_steps.proofs.parents.Writes.{wrote, hardens, stands_so}
+use Rattle.tree_model.specs.declared.records.Reports.{Reports}
 
 and-false : (a : Bool) → (a && false) ≡ false
 and-false a = grind arith
@@ -100,7 +101,7 @@ module _ (manager above : Bool) (k : ChildHalf) (c : Case) (t : Ticket) where
       rw (l.begun, l.no_commit, f) (simp (dead-now))
 
   pub reading-ends_collected : (o b : Bool) (p : ParentHalf) (v : Wire) → Live true o p v
-      → R true o (S Over p (wrote (EndRecord c) c t b p)) v ≡ at_root.ends_read_only_collected (R true o p v)
+      → R true o (S Over p (wrote (EndRecord c None) c t b p)) v ≡ at_root.ends_read_only_collected (R true o p v)
   reading-ends_collected o b p v l =
       let f = l.undecided refl in
       rw (l.begun, l.no_commit, f) (simp (dead-now, same_case-refl))
@@ -111,7 +112,7 @@ module _ (manager above : Bool) (k : ChildHalf) (c : Case) (t : Ticket) where
   reading-reads o p v l = rw (l.live) (simp (dead-live, dead-read))
 
   pub reading-reads_collected : (o b : Bool) (p : ParentHalf) (v : Wire) → Live false o p v
-      → R false o (S Over p (wrote (EndRecord c) c t b p)) (record v { read_up = true })
+      → R false o (S Over p (wrote (EndRecord c None) c t b p)) (record v { read_up = true })
       ≡ below.reads_up_collected (R false o p v)
   reading-reads_collected o b p v l = rw (l.live) (simp (dead-live, dead-read, same_case-refl))
 
@@ -225,9 +226,9 @@ module _ (manager above : Bool) (k : ChildHalf) (c : Case) (t : Ticket) where
   reading-passes_abort_forced o x ys p v g h = rw (g, h) (simp (same_case-refl, or-false))
 
   -- the last ACK came
-  pub reading-ended : (root o b : Bool) (p : ParentHalf) (v : Wire)
-      → R root o (wrote (EndRecord c) c t b p) v ≡ move.ends (R root o p v)
-  reading-ended root o b p v = simp (same_case-refl)
+  pub reading-ended : (rep : Option Reports) (root o b : Bool) (p : ParentHalf) (v : Wire)
+      → R root o (wrote (EndRecord c rep) c t b p) v ≡ move.ends (R root o p v)
+  reading-ended rep root o b p v = simp (same_case-refl)
 
   -- JOINED was accepted, of the pair's ticket or of another
   pub reading-accepts : (root o b : Bool) (p : ParentHalf) (v : Wire) → p.phase ≡ Active → p.begun ≡ true

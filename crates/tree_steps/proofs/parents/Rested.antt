@@ -29,6 +29,7 @@ use Rattle.tree_steps.proofs.parents.Memories.{Alike, itself, stays, works_alike
 use Rattle.tree_steps.proofs.parents.Quiet.{Rests, rests_as}
 use Rattle.tree_steps.proofs.parents.Turns.{Turn, Says, m as remembered, m' as then_remembered, v0 as net_part}
 use Rattle.tree_steps.proofs.parents.Wires.{same_children}
+use Rattle.tree_model.specs.declared.messages.Finding.{Finding}
 
 -- the view of a case that stands so
 pub view_so : (place : Place) (n : Node) (d : Case) (s : Standing) → (coordinator_view place n d).standing ≡ s
@@ -97,33 +98,34 @@ module _ (turn : Turn) where
   abbrev pub heard_so : Ticket → Outcome → Bool
   heard_so u o = same_outcome o (acknowledged c.txn.presumption) && same_ticket u t
 
-  pub acked_now : (x : Txn) (u : Ticket) (o : Outcome) (j : ℕ) → h.input
-      ≡ MessageInput j (Ack (child_case x u) o)
+  pub acked_now : (x : Txn) (u : Ticket) (o : Outcome) (fs : List Finding) (j : ℕ) → h.input
+      ≡ MessageInput j (Ack (child_case x u) o fs)
       → same_txn x c.txn ≡ true → (b : Bool) → heard_so u o ≡ b
       → ((acked_of m c t || b) ≡ acked_of m c t)
       ⊎ (((acked_of m c t || b) ≡ true) × ((net_part turn).ack ≡ true))
-  acked_now x u o j i same false e = inl (or-false (acked_of m c t))
+  acked_now x u o fs j i same false e = inl (or-false (acked_of m c t))
     where
       or-false : (a : Bool) → (a || false) ≡ a
       or-false a = grind arith
-  acked_now x u o j i same true e =
+  acked_now x u o fs j i same true e =
       let one : same_ticket u t ≡ true =
       (both (same_outcome o (acknowledged c.txn.presumption)) (same_ticket u t) e).1 in
       inr (
         or-true (acked_of m c t),
         was_sent (is_ack_message (child_case c.txn t)) net place.me h.input j
-            (Ack (child_case x u) o) stands i
+            (Ack (child_case x u) o fs) stands i
             (same_children x c.txn u t ∙ rw (same, one) refl),
       )
     where
       or-true : (a : Bool) → (a || true) ≡ true
       or-true a = grind arith
 
-  takes : (x : Txn) (u : Ticket) (o : Outcome) (j : ℕ) → h.input ≡ MessageInput j (Ack (child_case x u) o)
-      → same_txn x c.txn ≡ true → (ph : Phase) → m.phase ≡ ph → m' ≡ takes_ack m u o ph → Rests turn
-  takes x u o j i same Open f e = rest_same e
-  takes x u o j i same Asked f e = rest_same e
-  takes x u o j i same Idle f e = record {
+  takes : (x : Txn) (u : Ticket) (o : Outcome) (fs : List Finding) (j : ℕ)
+      → h.input ≡ MessageInput j (Ack (child_case x u) o fs)
+      → same_txn x c.txn ≡ true → (ph : Phase) → m.phase ≡ ph → m' ≡ takes_ack m u o fs ph → Rests turn
+  takes x u o fs j i same Open f e = rest_same e
+  takes x u o fs j i same Asked f e = rest_same e
+  takes x u o fs j i same Idle f e = record {
     acked = acked_of m c t || heard_so u o;
     says = record {
       phase = ap (λ (y : Memory). y.phase) e;
@@ -131,9 +133,9 @@ module _ (turn : Turn) where
       acked_so = ap (λ (y : Memory). acked_of y c t) e
           ∙ has_acked-push m.acks u o (acknowledged c.txn.presumption) t;
     };
-    why = acked_now x u o j i same (heard_so u o) refl;
+    why = acked_now x u o fs j i same (heard_so u o) refl;
   }
-  takes x u o j i same Over f e = record {
+  takes x u o fs j i same Over f e = record {
     acked = acked_of m c t || heard_so u o;
     says = record {
       phase = ap (λ (y : Memory). y.phase) e;
@@ -141,17 +143,17 @@ module _ (turn : Turn) where
       acked_so = ap (λ (y : Memory). acked_of y c t) e
           ∙ has_acked-push m.acks u o (acknowledged c.txn.presumption) t;
     };
-    why = acked_now x u o j i same (heard_so u o) refl;
+    why = acked_now x u o fs j i same (heard_so u o) refl;
   }
 
-  pub rest_ack : (o : Outcome) (x : Txn) (u : Ticket) (j : ℕ) → h.input
-      ≡ MessageInput j (Ack (child_case x u) o)
+  pub rest_ack : (o : Outcome) (fs : List Finding) (x : Txn) (u : Ticket) (j : ℕ) → h.input
+      ≡ MessageInput j (Ack (child_case x u) o fs)
       → Rests turn
-  rest_ack o x u j i = by_test (same_txn x c.txn) refl
+  rest_ack o fs x u j i = by_test (same_txn x c.txn) refl
     where
       by_test : (b : Bool) → same_txn x c.txn ≡ b → Rests turn
-      by_test true e = takes x u o j i e m.phase refl (by_input.ack_comes turn o x u j i ∙ rw e refl)
-      by_test false e = rest_same (by_input.ack_comes turn o x u j i ∙ rw e refl)
+      by_test true e = takes x u o fs j i e m.phase refl (by_input.ack_comes turn o fs x u j i ∙ rw e refl)
+      by_test false e = rest_same (by_input.ack_comes turn o fs x u j i ∙ rw e refl)
 
   -- The parent's messages.
 

@@ -7,7 +7,7 @@ use Rattle.tree_model.specs.declared.names.Ticket.{Ticket}
 use Rattle.tree_model.specs.declared.names.Presumption.{Presumption}
 use Rattle.tree_model.specs.declared.names.Presumption.TheVariants.{PresumeAbort, PresumeCommit}
 use Rattle.tree_model.specs.declared.records.Record.{Record}
-use Rattle.tree_model.specs.declared.records.Record.TheVariants.{Commit as CommitRecord, Abort as AbortRecord, Opened, Collecting as CollectingRecord, Prepare as PrepareRecord, End, Prepared as PreparedRecord, Committed, RolledBack, Direct, HeurCommit, HeurRollback, Told, Forgot, Base, Pair}
+use Rattle.tree_model.specs.declared.records.Record.TheVariants.{Commit as CommitRecord, Abort as AbortRecord, Opened, Collecting as CollectingRecord, Prepare as PrepareRecord, End, Prepared as PreparedRecord, Committed, RolledBack, Direct, HeurCommit, HeurRollback, Told, Forgot, Base, Pair, Cleared}
 use Rattle.tree_model.specs.declared.standings.Standing.{Standing}
 use Rattle.tree_model.specs.declared.standings.Standing.TheVariants.{Unknown, Active, Collecting, Prepared, Committing, Aborting}
 use Rattle.tree_model.specs.Names.{same_case}
@@ -158,7 +158,8 @@ owing_in-naming c t (AbortRecord d ts) = if_named (same_case d c) ts t
 owing_in-naming c t (Opened n) = in_list-none t
 owing_in-naming c t (CollectingRecord d ts) = in_list-none t
 owing_in-naming c t (PrepareRecord d ts) = in_list-none t
-owing_in-naming c t (End d) = in_list-none t
+owing_in-naming c t (End d rep) = in_list-none t
+owing_in-naming c t (Cleared d) = in_list-none t
 owing_in-naming c t (PreparedRecord b ws) = in_list-none t
 owing_in-naming c t (Committed b) = in_list-none t
 owing_in-naming c t (RolledBack b) = in_list-none t

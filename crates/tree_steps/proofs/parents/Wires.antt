@@ -22,6 +22,7 @@ use Rattle.tree_model.specs.Outcomes.{sent, is_joined_message, is_read_message, 
 use Rattle.tree_model.specs.Standings.{CoordinatorView}
 use Rattle.tree_pairs.specs.readings.ReadingOf.{Wire, wire, no_wire, gives_case, is_prepare_message, is_no_message, is_ack_message, is_inquiry_message}
 use Rattle.tree_pairs.proofs.readings.Lists.{sent-append}
+use Rattle.tree_model.specs.declared.messages.Finding.{Finding}
 
 pub sent-cons : (q : Message → Bool) (l : Envelope) (ls : List Envelope) → sent q (l ∷ ls)
     ≡ (q l.message || sent q ls)
@@ -151,10 +152,10 @@ module _ (c : Case) (t : Ticket) (net : List Envelope) where
         at None = simp (sent-none)
         at (Some p) = simp (sent-cons, sent-none, other)
 
-    pub silent-ack : (o : Outcome) → Silent (posted_up me parent (Ack e o))
-    silent-ack u = at parent
+    pub silent-ack : (o : Outcome) (fs : List Finding) → Silent (posted_up me parent (Ack e o fs))
+    silent-ack u fs = at parent
       where
-        at : (o : Option ProcessId) → Silent (posted_up me o (Ack e u))
+        at : (o : Option ProcessId) → Silent (posted_up me o (Ack e u fs))
         at None = simp (sent-none)
         at (Some p) = simp (sent-cons, sent-none, other)
 

@@ -1,6 +1,6 @@
 -- Wrong bodies, each close to a right one, and where each breaks the invariant: the events of the run, and
 -- the wrong step behind it, written out.
-use Rattle.std.specs.Prelude.{ℕ, true, false, Some, List, [], ◌∷◌, ◌++◌, take, codes}
+use Rattle.std.specs.Prelude.{ℕ, true, false, Some, List, [], ◌∷◌, ◌++◌, take, codes, None}
 use Rattle.tree_model.specs.declared.names.Case.{Case}
 use Rattle.tree_model.specs.declared.names.Outcome.TheVariants.{Committed as CommittedOutcome, Aborted as AbortedOutcome}
 use Rattle.tree_model.specs.declared.names.Presumption.{Presumption}
@@ -145,9 +145,9 @@ forgets_after_first_ack = record {
       ∷ Delivers 11
       ∷ [];
   process = process 1;
-  happening = Handles (MessageInput 13 (Ack (case_at PresumeAbort second) CommittedOutcome));
-  leaves = λ n. after n (heard (MessageInput 13 (Ack (case_at PresumeAbort second) CommittedOutcome)))
-      (record no_effect { written = plain (End (top PresumeAbort)) ∷ [] });
+  happening = Handles (MessageInput 13 (Ack (case_at PresumeAbort second) CommittedOutcome []));
+  leaves = λ n. after n (heard (MessageInput 13 (Ack (case_at PresumeAbort second) CommittedOutcome [])))
+      (record no_effect { written = plain (End (top PresumeAbort) None) ∷ [] });
   sends = [];
   behind = Acts (Ask (case_at PresumeAbort third)) ∷ Delivers 14 ∷ Delivers 15 ∷ [];
 }
@@ -272,7 +272,7 @@ told_drops_decision = record {
         life = told ∷ n.life;
         durable = told ∷ (n.forced ++ n.durable);
       };
-  sends = post 2 1 (Ack (case_at PresumeAbort second) CommittedOutcome) ∷ [];
+  sends = post 2 1 (Ack (case_at PresumeAbort second) CommittedOutcome []) ∷ [];
   behind = [];
 }
 

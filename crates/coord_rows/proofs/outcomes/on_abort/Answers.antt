@@ -15,5 +15,5 @@ returns-in-Aborting-clause-ok c =
 pub returns-in-Unknown-clause-ok : goal.returns-in-Unknown-clause-ok
 returns-in-Unknown-clause-ok c =
     let stands : c.args.live.now.standing ≡ Unknown = search rules in
-    at_view c.args.seat (unknown_abort (seat c.args.seat)) _ c.args.live.now c.unknown_abort.result
+    at_view c.args.seat (unknown_abort this_version (seat c.args.seat)) _ c.args.live.now c.unknown_abort.result
     (ap (on_abort this_version (seat c.args.seat) c.args.live.now) stands) c.unknown_abort.ensures

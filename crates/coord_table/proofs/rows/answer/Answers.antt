@@ -7,6 +7,7 @@ use Rattle.coord_table.specs.declared.asked.Asked.TheVariants.{Aborts, Commits, 
 use Rattle.coord_table.specs.Asks.{asked_row}
 use Rattle.coord_rows.proofs.AnyView.{at_view}
 use Rattle.coord_table.proofs.rows.answer.Goals as goal
+use Rattle.core_model.specs.Turns.{this_version}
 
 pub returns-in-Prepare : goal.returns-in-Prepare
 returns-in-Prepare c =
@@ -17,11 +18,11 @@ returns-in-Prepare c =
 pub returns-in-Commits : goal.returns-in-Commits
 returns-in-Commits c =
     let asks : c.args.asked ≡ Commits = search rules in
-    at_view c.args.seat (unknown_commit (seat c.args.seat)) _ unknown_view c.unknown_commit.result
+    at_view c.args.seat (unknown_commit this_version (seat c.args.seat)) _ unknown_view c.unknown_commit.result
     (ap (λ (a : Asked). asked_row (seat c.args.seat) a unknown_view) asks) c.unknown_commit.ensures
 
 pub returns-in-Aborts : goal.returns-in-Aborts
 returns-in-Aborts c =
     let asks : c.args.asked ≡ Aborts = search rules in
-    at_view c.args.seat (unknown_abort (seat c.args.seat)) _ unknown_view c.unknown_abort.result
+    at_view c.args.seat (unknown_abort this_version (seat c.args.seat)) _ unknown_view c.unknown_abort.result
     (ap (λ (a : Asked). asked_row (seat c.args.seat) a unknown_view) asks) c.unknown_abort.ensures

@@ -1,4 +1,4 @@
-use Rattle.std.proofs.Common.{rules, ◌≡◌, ◌∙◌, Result, Ok, Err, IfOk, ap, subst, sym}
+use Rattle.std.proofs.Common.{rules, ◌≡◌, ◌∙◌, Result, Ok, Err, IfOk, ap, subst, sym, []}
 use Rattle.std.specs.declared.alloc.AllocError.{AllocError}
 use Rattle.tree_model.specs.declared.names.Outcome.{Outcome}
 use Rattle.tree_model.specs.declared.names.Outcome.TheVariants.{Committed, Aborted}
@@ -26,20 +26,20 @@ returns-in-Committed-Committing-clause-ok c =
     let s = seat c.args.seat in
     let t = c.args.ticket in
     let v = c.args.live.now in
-    let row : Outcome → Row = λ o. decided_ack this_version s o t v in
+    let row : Outcome → Row = λ o. decided_ack this_version s o t [] v in
     elim c.in-Committed-Committing-1.branch [
       | in-Committed+in-Committing-1 w ↦
           let told : c.args.outcome ≡ Committed = search rules in
           let stands : v.standing ≡ Committing = search rules in
           at_outcome c.args.seat row _ c.decided_ack.new.live c.decided_ack.result c.args.outcome
-          (ap (λ o. on_ack this_version s t o v v.standing) told
-          ∙ ap (λ st. on_ack this_version s t Committed v st) stands ∙ sym (ap row told))
+          (ap (λ o. on_ack this_version s t o [] v v.standing) told
+          ∙ ap (λ st. on_ack this_version s t Committed [] v st) stands ∙ sym (ap row told))
           c.decided_ack.ensures.ok
       | in-Aborted+in-Aborting-1 w ↦
           let told : c.args.outcome ≡ Aborted = search rules in
           let stands : v.standing ≡ Aborting = search rules in
           at_outcome c.args.seat row _ c.decided_ack.new.live c.decided_ack.result c.args.outcome
-          (ap (λ o. on_ack this_version s t o v v.standing) told
-          ∙ ap (λ st. on_ack this_version s t Aborted v st) stands ∙ sym (ap row told))
+          (ap (λ o. on_ack this_version s t o [] v v.standing) told
+          ∙ ap (λ st. on_ack this_version s t Aborted [] v st) stands ∙ sym (ap row told))
           c.decided_ack.ensures.ok
     ]
