@@ -1,0 +1,40 @@
+-- What acknowledgements say that was found, against what every process has ever forced.
+use Rattle.std.specs.Prelude.{◌≡◌, true, List, [], ◌∷◌}
+use Rattle.tree_model.specs.declared.names.Case.{Case}
+use Rattle.tree_model.specs.declared.names.ProcessId.{ProcessId}
+use Rattle.tree_model.specs.declared.names.Ticket.{Ticket}
+use Rattle.tree_model.specs.declared.names.Txn.{Txn}
+use Rattle.tree_model.specs.declared.names.Outcome.{Outcome}
+use Rattle.tree_model.specs.declared.messages.Finding.{Finding}
+use Rattle.tree_model.specs.declared.messages.Finding.TheVariants.{Mixed, Unreported}
+use Rattle.tree_model.specs.declared.messages.Message.{Message}
+use Rattle.tree_model.specs.declared.messages.Message.TheVariants.{Ack}
+use Rattle.tree_model.specs.declared.messages.Envelope.{Envelope}
+use Rattle.tree_model.specs.Names.{child_case}
+use Rattle.tree_model.specs.Records.{has, is_decided}
+use Rattle.tree_model.specs.Nodes.{Node}
+use Rattle.tree_model.specs.Standings.{other_outcome}
+
+-- the ticket's operator decided against the outcome, and the decision was in the forced front
+abbrev pub WasDecidedAgainst : (ProcessId → Node) → Txn → Outcome → Ticket → Type 0
+WasDecidedAgainst at x o t = has (is_decided (child_case x t) (other_outcome o)) (at t.child).durable ≡ true
+
+-- who is mixed was decided against
+abbrev pub IsTrue : (ProcessId → Node) → Txn → Outcome → Finding → Type 0
+IsTrue at x o (Mixed t) = WasDecidedAgainst at x o t
+IsTrue at x o (Unreported t) = Unit {0}
+
+-- each finding is true
+abbrev pub AreTrue : (ProcessId → Node) → Txn → Outcome → List Finding → Type 0
+AreTrue at x o [] = Unit {0}
+AreTrue at x o (f ∷ fs) = IsTrue at x o f × AreTrue at x o fs
+
+-- an acknowledgement brings true findings
+abbrev pub SaysTrue : (ProcessId → Node) → Message → Type 0
+SaysTrue at (Ack d o fs) = AreTrue at d.txn o fs
+SaysTrue at _ = Unit {0}
+
+-- each message does
+abbrev pub AllSayTrue : (ProcessId → Node) → List Envelope → Type 0
+AllSayTrue at [] = Unit {0}
+AllSayTrue at (l ∷ ls) = SaysTrue at l.message × AllSayTrue at ls
