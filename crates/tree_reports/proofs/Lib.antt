@@ -4,3 +4,6 @@ pub mod Memories
 pub mod Leaves
 pub mod Turns
 pub mod Runs
+pub mod Commits
+pub mod Reports
+pub mod Reported

@@ -41,7 +41,7 @@ last_go tree [] ys g = g
 last_go tree (x ∷ xs) ys g = last_go tree xs ys g.1
 
 module _ (tree : List TreeEntry) (at : ProcessId → Node) (net : List Envelope) (said : AllSayTrue at net) where
-  input_so : (q : ProcessId) (i : Input) → InputStands net q i → InputTrue at i
+  pub input_so : (q : ProcessId) (i : Input) → InputStands net q i → InputTrue at i
   input_so q (ActInput a) s = tt
   input_so q (MessageInput k m) s = says_at at net s.place _ said s.stands
 
@@ -107,12 +107,12 @@ module _ (tree : List TreeEntry) (es : List Made) (w : World) (run : IsRun tree 
     abbrev q : ProcessId
     q = m.step.process
 
-    step : StepOf (place_of tree q) (w.at q) m e (makes_at tree w m e w' made).node
+    pub step : StepOf (place_of tree q) (w.at q) m e (makes_at tree w m e w' made).node
     step = step_of (place_of tree q) (w.at q) m e (makes_at tree w m e w' made).node
         (makes_at tree w m e w' made).made
 
     -- what holds of the process behind the step, and of each other before it, holds of all
-    by_process : (P : ProcessId → Node → Type 0) → P q (makes_at tree w m e w' made).node
+    pub by_process : (P : ProcessId → Node → Type 0) → P q (makes_at tree w m e w' made).node
         → ((r : ProcessId) → P r (w.at r)) → (r : ProcessId)
         → P r (put_at q (makes_at tree w m e w' made).node w.at r)
     by_process P here old r = by_test (same_process q r) refl
@@ -125,7 +125,7 @@ module _ (tree : List TreeEntry) (es : List Made) (w : World) (run : IsRun tree 
         ]
         by_test false f = old r
 
-    grows : (r : ProcessId) (t : Record → Bool) → has t (w.at r).durable ≡ true
+    pub grows : (r : ProcessId) (t : Record → Bool) → has t (w.at r).durable ≡ true
         → has t (put_at q (makes_at tree w m e w' made).node w.at r).durable ≡ true
     grows = by_process
         (λ r n. (t : Record → Bool) → has t (w.at r).durable ≡ true → has t n.durable ≡ true)

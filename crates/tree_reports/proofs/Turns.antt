@@ -136,7 +136,7 @@ module _ (at : ProcessId → Node) (me : ProcessId) (parent : Option ProcessId) 
     abbrev place : Place
     place = coordinator_place me parent tree
 
-    child_says : (c : Case) (t : Ticket) (o : Outcome) (fs : List Finding)
+    pub child_says : (c : Case) (t : Ticket) (o : Outcome) (fs : List Finding)
         → HearsChild place n h c t (λ d. Ack d o fs) → AreTrue at c.txn o fs
     child_says c t o fs s =
         subst (λ (y : Txn). AreTrue at y o fs) (sym (child_txn me parent tree n s.txn t c s.belongs))

@@ -1,5 +1,5 @@
 -- What acknowledgements say that was found, against what every process has ever forced.
-use Rattle.std.specs.Prelude.{◌≡◌, true, List, [], ◌∷◌}
+use Rattle.std.specs.Prelude.{◌≡◌, ◌&&◌, Bool, true, false, Some, List, [], ◌∷◌}
 use Rattle.tree_model.specs.declared.names.Case.{Case}
 use Rattle.tree_model.specs.declared.names.ProcessId.{ProcessId}
 use Rattle.tree_model.specs.declared.names.Ticket.{Ticket}
@@ -10,9 +10,14 @@ use Rattle.tree_model.specs.declared.messages.Finding.TheVariants.{Mixed, Unrepo
 use Rattle.tree_model.specs.declared.messages.Message.{Message}
 use Rattle.tree_model.specs.declared.messages.Message.TheVariants.{Ack}
 use Rattle.tree_model.specs.declared.messages.Envelope.{Envelope}
-use Rattle.tree_model.specs.Names.{child_case}
-use Rattle.tree_model.specs.Records.{has, is_decided}
-use Rattle.tree_model.specs.Nodes.{Node}
+use Rattle.tree_model.specs.declared.records.Record.{Record}
+use Rattle.tree_model.specs.declared.records.Record.TheVariants.{End}
+use Rattle.tree_model.specs.declared.trees.TreeEntry.{TreeEntry}
+use Rattle.tree_model.specs.Names.{child_case, root_case, same_case}
+use Rattle.tree_model.specs.Records.{has, in_list, is_decided}
+use Rattle.tree_model.specs.Nodes.{AtRoot, Node, role_of}
+use Rattle.tree_model.specs.Outcomes.{Mismatch}
+use Rattle.tree_model.specs.World.{World}
 use Rattle.tree_model.specs.Standings.{other_outcome}
 
 -- the ticket's operator decided against the outcome, and the decision was in the forced front
@@ -38,3 +43,13 @@ SaysTrue at _ = Unit {0}
 abbrev pub AllSayTrue : (ProcessId → Node) → List Envelope → Type 0
 AllSayTrue at [] = Unit {0}
 AllSayTrue at (l ∷ ls) = SaysTrue at l.message × AllSayTrue at ls
+
+-- an End of the case reports the ticket as mixed
+abbrev pub reports_mixed : Case → Ticket → Record → Bool
+reports_mixed c t (End d (Some r)) = same_case d c && in_list r.mixed t
+reports_mixed c t _ = false
+
+-- a ticket that an End of a root's case reports as mixed has had a mismatch
+abbrev pub MixedHadMismatch : List TreeEntry → World → Type 0
+MixedHadMismatch tree w = (x : Txn) (t : Ticket) → role_of tree x.root ≡ AtRoot
+    → has (reports_mixed (root_case x) t) (w.at x.root).life ≡ true → (o : Outcome) × Mismatch w (child_case x t) o
