@@ -1,12 +1,12 @@
 -- The root's commits are forced, while it is up.
-use Rattle.std.proofs.Common.{◌≡◌, ◌⊎◌, inl, inr, ℕ, zero, suc, Bool, true, false, Option, Some, None, List, [], ◌∷◌, ◌++◌, refl}
+use Rattle.std.proofs.Common.{◌≡◌, inl, inr, ℕ, zero, suc, Bool, true, false, None, List, [], ◌∷◌, refl}
 use Rattle.tree_model.specs.declared.names.Case.{Case}
 use Rattle.tree_model.specs.declared.names.ProcessId.{ProcessId}
 use Rattle.tree_model.specs.declared.names.Presumption.TheVariants.{PresumeAbort, PresumeCommit}
 use Rattle.tree_model.specs.declared.records.Record.{Record}
 use Rattle.tree_model.specs.declared.trees.TreeEntry.{TreeEntry}
 use Rattle.tree_model.specs.Records.{has, is_commit}
-use Rattle.tree_model.specs.Nodes.{AtRoot, Effect, Heard, Node, Place, Written, appends, entries_written, is_any_forced, kept}
+use Rattle.tree_model.specs.Nodes.{Effect, Heard, Node, Place, Written, appends, entries_written, is_any_forced, kept}
 use Rattle.tree_model.specs.CoordinatorRows.{Row}
 use Rattle.tree_model.specs.Restarts.{trim_fails}
 use Rattle.tree_model.specs.World.{Move}

@@ -1,5 +1,5 @@
 -- Findings that are true stay so, as what was ever forced only grows.
-use Rattle.std.proofs.Common.{◌≡◌, ℕ, zero, suc, Bool, true, Option, Some, None, List, [], ◌∷◌, ◌++◌, subst, ap}
+use Rattle.std.proofs.Common.{◌≡◌, ℕ, zero, suc, Bool, true, Some, List, [], ◌∷◌, ◌++◌, subst}
 use Rattle.std.specs.List.{flat_map}
 use Rattle.std.specs.Prelude.{slice_get, map}
 use Rattle.tree_model.specs.declared.names.Case.{Case}

@@ -1,5 +1,5 @@
 -- What a manager's acknowledgement says is true.
-use Rattle.std.proofs.Common.{◌≡◌, Bool, true, false, Option, Some, None, List, [], ◌∷◌, ◌++◌, refl, sym, subst, if◌then◌else◌}
+use Rattle.std.proofs.Common.{◌≡◌, Bool, true, false, Option, Some, None, List, [], ◌∷◌, refl, sym, subst, if◌then◌else◌}
 use Rattle.std.specs.List.{flat_map}
 use Rattle.tree_model.specs.declared.names.Case.{Case}
 use Rattle.tree_model.specs.declared.names.ProcessId.{ProcessId}
@@ -9,8 +9,7 @@ use Rattle.tree_model.specs.declared.names.Outcome.{Outcome}
 use Rattle.tree_model.specs.declared.names.Outcome.TheVariants.{Aborted as AbortedOutcome}
 use Rattle.tree_model.specs.declared.messages.Finding.{Finding}
 use Rattle.tree_model.specs.declared.messages.Finding.TheVariants.{Mixed, Unreported}
-use Rattle.tree_model.specs.declared.messages.Message.TheVariants.{Ack, Inquire}
-use Rattle.tree_model.specs.declared.messages.Envelope.{Envelope}
+use Rattle.tree_model.specs.declared.messages.Message.TheVariants.{Ack}
 use Rattle.tree_model.specs.declared.records.Branch.TheVariants.{Case as CaseBranch}
 use Rattle.tree_model.specs.declared.records.Record.{Record}
 use Rattle.tree_model.specs.declared.trees.TreeEntry.{TreeEntry}
@@ -18,10 +17,9 @@ use Rattle.tree_model.specs.Names.{child_case, process_of}
 use Rattle.tree_model.specs.Records.{has, is_decided}
 use Rattle.tree_model.specs.Nodes.{Effect, First, Heard, Node, Place, Second, Version, kept}
 use Rattle.tree_model.specs.CoordinatorRows.{post}
-use Rattle.tree_model.specs.ManagerRows.{acknowledgement, is_acknowledged}
+use Rattle.tree_model.specs.ManagerRows.{is_acknowledged}
 use Rattle.tree_model.specs.Memory.{fresh_memory}
-use Rattle.tree_model.specs.Reactions.{leaf_of}
-use Rattle.tree_model.specs.Restarts.{inquires_by, manager_resumes, recorded_branch, untold_inquiry}
+use Rattle.tree_model.specs.Restarts.{inquires_by, manager_resumes, recorded_branch}
 use Rattle.tree_model.specs.Standings.{Decided, Finished, Mark, Promised, ToldOf, Unmarked, decided_findings, mark_of, marked_branch, other_outcome, own_finding, unknown_findings}
 use Rattle.tree_pairs.specs.turns.LeafTurns.{LeafTurn, does_nothing, gives_again, gives_fresh, votes_yes, votes_read, votes_no, repeats_yes, refuses, obeys, notes, acknowledges_told, acknowledges, drops, asks, decides, forgets}
 use Rattle.tree_nodes.specs.WorldHolds.{AllGo}

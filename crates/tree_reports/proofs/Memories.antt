@@ -1,13 +1,11 @@
 -- What a coordinator remembers that was found is true.
-use Rattle.std.proofs.Common.{◌≡◌, ◌⊎◌, ◌&&◌, ◌+◌, inl, inr, ℕ, Bool, true, false, Option, Some, None, List, [], ◌∷◌, ◌++◌, refl, sym, subst, if◌then◌else◌}
-use Rattle.std.specs.List.{flat_map}
+use Rattle.std.proofs.Common.{◌≡◌, ◌&&◌, ◌+◌, inl, inr, ℕ, Bool, true, false, Option, Some, None, List, [], ◌∷◌, ◌++◌, refl, subst, if◌then◌else◌}
 use Rattle.std.specs.Prelude.{fold}
 use Rattle.tree_model.specs.declared.names.Case.{Case}
 use Rattle.tree_model.specs.declared.names.ProcessId.{ProcessId}
 use Rattle.tree_model.specs.declared.names.Ticket.{Ticket}
 use Rattle.tree_model.specs.declared.names.Txn.{Txn}
 use Rattle.tree_model.specs.declared.names.Outcome.{Outcome}
-use Rattle.tree_model.specs.declared.names.Presumption.{Presumption}
 use Rattle.tree_model.specs.declared.messages.Finding.{Finding}
 use Rattle.tree_model.specs.declared.messages.Message.{Message}
 use Rattle.tree_model.specs.declared.messages.Message.TheVariants.{Join, Joined, Work, Prepare, Yes, No, Read, Commit, Abort, Ack, Inquire}
@@ -20,7 +18,7 @@ use Rattle.tree_model.specs.declared.trees.TreeEntry.{TreeEntry}
 use Rattle.tree_model.specs.Names.{same_case, same_outcome, same_txn, root_case, child_case}
 use Rattle.tree_model.specs.NameLaws.{same_outcome_tells, same_txn_tells}
 use Rattle.tree_model.specs.Records.{boot_of, in_list, owing_by}
-use Rattle.tree_model.specs.Nodes.{AtRoot, Below, Heard, Node, Place, kept}
+use Rattle.tree_model.specs.Nodes.{Heard, Node, kept}
 use Rattle.tree_model.specs.Memory.{Memory, Phase, Idle, Open, Asked, Over, fresh_memory, memory_of, remembers, root_remembers, cascaded_remembers, cascaded_hears, hears_child, next_txn, next_ticket, opens_case, gives, joins, active_ticket, asks_votes, closes, accepts_ticket, has_acked, has_child, retires, sends_work, ticket_of_child, takes_vote, is_counted, with_vote, takes_ack, first_found, found_of, of_child, of_ticket}
 use Rattle.tree_model.specs.Standings.{found_below}
 use Rattle.tree_nodes.proofs.Remembering.{coordinator_place, role_below}

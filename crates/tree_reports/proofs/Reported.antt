@@ -1,5 +1,5 @@
 -- In every run whom an End of the root reports as mixed has had a mismatch.
-use Rattle.std.proofs.Common.{◌≡◌, ◌≢◌, ◌∙◌, ◌||◌, Bool, true, false, Some, None, List, [], ◌∷◌, ◌++◌, refl, sym, subst, arith}
+use Rattle.std.proofs.Common.{◌≡◌, ◌≢◌, ◌||◌, Bool, true, Some, List, [], ◌∷◌, ◌++◌, sym, subst, arith}
 use Rattle.tree_model.specs.declared.names.Case.{Case}
 use Rattle.tree_model.specs.declared.names.ProcessId.{ProcessId}
 use Rattle.tree_model.specs.declared.names.Ticket.{Ticket}
@@ -9,10 +9,10 @@ use Rattle.tree_model.specs.declared.names.Outcome.TheVariants.{Committed as Com
 use Rattle.tree_model.specs.declared.records.Record.TheVariants.{Opened}
 use Rattle.tree_model.specs.declared.events.Happening.{Happening}
 use Rattle.tree_model.specs.declared.trees.TreeEntry.{TreeEntry}
-use Rattle.tree_model.specs.Names.{child_case, root_case}
+use Rattle.tree_model.specs.Names.{root_case}
 use Rattle.tree_model.specs.Records.{has}
 use Rattle.tree_model.specs.Nodes.{AtRoot, Effect, Node, Place, Role, place_of, role_of}
-use Rattle.tree_model.specs.Outcomes.{Mismatch, outcome_of, root_ends}
+use Rattle.tree_model.specs.Outcomes.{outcome_of, root_ends}
 use Rattle.tree_model.specs.Standings.{other_outcome}
 use Rattle.tree_model.specs.Trees.{IsTree}
 use Rattle.tree_model.specs.World.{IsRun, Made, Move, Stands, World, makes, opens, put_at, world_makes}
@@ -22,7 +22,7 @@ use Rattle.tree_nodes.specs.WorldHolds.{NodeHolds}
 use Rattle.tree_nodes.proofs.RootsHold.{nodes_hold}
 use Rattle.tree_nodes.proofs.Tests.{has-nil}
 use Rattle.tree_headline.proofs.runs.Headline as headline
-use Rattle.tree_reports.specs.Findings.{MixedHadMismatch, WasDecidedAgainst, reports_mixed}
+use Rattle.tree_reports.specs.Findings.{MixedHadMismatch, reports_mixed}
 use Rattle.tree_reports.proofs.Commits.{CommitsForced, commits_forced}
 use Rattle.tree_reports.proofs.Reports.{IsReported, ended_still, has_ended, reported_then}
 use Rattle.tree_reports.proofs.Runs.{FindingsHold, findings_hold, input_so}

@@ -1,5 +1,5 @@
 -- What a coordinator's acknowledgements say is true.
-use Rattle.std.proofs.Common.{◌≡◌, ℕ, Bool, true, false, Option, Some, None, List, [], ◌∷◌, ◌++◌, refl, sym, subst, if◌then◌else◌}
+use Rattle.std.proofs.Common.{Bool, true, false, Option, Some, None, List, [], sym, subst, if◌then◌else◌}
 use Rattle.std.specs.List.{flat_map}
 use Rattle.tree_model.specs.declared.names.Case.{Case}
 use Rattle.tree_model.specs.declared.names.ProcessId.{ProcessId}
@@ -12,7 +12,6 @@ use Rattle.tree_model.specs.declared.names.Presumption.TheVariants.{PresumeAbort
 use Rattle.tree_model.specs.declared.messages.Finding.{Finding}
 use Rattle.tree_model.specs.declared.messages.Message.{Message}
 use Rattle.tree_model.specs.declared.messages.Message.TheVariants.{Yes, No, Read, Commit, Abort, Ack, Inquire}
-use Rattle.tree_model.specs.declared.messages.Envelope.{Envelope}
 use Rattle.tree_model.specs.declared.records.Record.{Record}
 use Rattle.tree_model.specs.declared.events.Input.{Input}
 use Rattle.tree_model.specs.declared.standings.Standing.{Standing}
@@ -22,7 +21,7 @@ use Rattle.tree_model.specs.declared.trees.TreeEntry.{TreeEntry}
 use Rattle.tree_model.specs.Names.{child_case, presumed}
 use Rattle.tree_model.specs.Records.{none_of}
 use Rattle.tree_model.specs.Nodes.{Effect, First, Heard, Node, Place, Second, Version}
-use Rattle.tree_model.specs.CoordinatorRows.{ByAbort, ByAct, ByVote, Reason, Row, Seat, abort_answered, abort_heard_above, acknowledges_abort, acknowledges_at_last, acknowledges_at_once, active_commit_with, collecting_abort_by, each, posted_up, prepared_abort_by, prepared_commit_by, prepares, root_commits, tells_outcome, to_child, up}
+use Rattle.tree_model.specs.CoordinatorRows.{ByAbort, ByAct, ByVote, Reason, Row, Seat, abort_answered, abort_heard_above, acknowledges_abort, acknowledges_at_last, acknowledges_at_once, active_commit_with, collecting_abort_by, each, posted_up, prepared_abort_by, prepared_commit_by, root_commits, tells_outcome, to_child}
 use Rattle.tree_model.specs.Reactions.{seat_of}
 use Rattle.tree_model.specs.Restarts.{coordinator_resumes, recorded_view, resumes_by}
 use Rattle.tree_model.specs.Standings.{CoordinatorView, coordinator_view, found_below}

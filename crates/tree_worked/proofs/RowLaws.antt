@@ -23,7 +23,8 @@ use Rattle.tree_model.specs.Texts.{findings_text}
 -- what a run computes with
 unfoldable computing : ⊤
 unfolding digits other_tickets has_child ticket_of_child voted_so has_voted all_voted yes_of undecided_of
-    works_of has_acked found_of found_below findings_text active_ticket without_ticket memory_of same_process same_presumption same_outcome
+    works_of has_acked found_of found_below findings_text active_ticket without_ticket memory_of
+    same_process same_presumption same_outcome
     same_txn same_ticket same_owner same_case is_listed is_child role_of sent is_commit_outcome
     writes_heard reacts has in_list none_of same_bytes same_xid same_branch named_by promised_by
     owing_by boot_of has_case cases_in recorded_view recorded_branch trimmed still_owed

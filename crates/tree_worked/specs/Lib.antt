@@ -1,4 +1,6 @@
 pub mod FlatRuns
 pub mod TreeRuns
 pub mod DoubtRuns
+pub mod SecondPlays
+pub mod SecondRuns
 pub mod wrong

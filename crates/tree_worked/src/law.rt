@@ -4,6 +4,8 @@ ghost use Rattle.tree_model.specs.Rows.{Runs};
 ghost use Rattle.tree_worked.specs.FlatRuns.{flat_pa_commit, flat_pc_commit, late_no_vote_pa, late_no_vote_pc, readonly_transactions, forgotten_ticket_votes_no, commit_again_after_end, commit_again_before_votes};
 ghost use Rattle.tree_worked.specs.TreeRuns.{cascaded_abort_after_prepare_pc, cascaded_readonly_vote_end_lost_pc, cascaded_restart_pa, cascaded_pa_commit, cascaded_in_doubt_pa};
 ghost use Rattle.tree_worked.specs.DoubtRuns.{root_restart_collecting_pc, late_inquiry_after_trim_pa, heuristic_rollback_mismatch, root_restart_committing_pa, heuristic_rollback_forgotten, heuristic_forgotten_before_vote, ask_before_prepare, ask_after_commit, trim_manager_twice, collecting_in_doubt_pc};
+ghost use Rattle.tree_worked.specs.SecondPlays.{RunsBySecond};
+ghost use Rattle.tree_worked.specs.SecondRuns.{acknowledged_from_below_pa, acknowledged_from_below_pc, mismatch_is_reported, mismatch_below_is_reported, first_acknowledgement_counts, abort_below_is_unreported};
 
 /// The worked runs come out as they are written.
 pub fn worked_runs()
@@ -30,4 +32,14 @@ pub fn worked_runs()
     ensures trim_manager_twice { Runs trim_manager_twice }
     ensures collecting_in_doubt_pc { Runs collecting_in_doubt_pc }
     ensures cascaded_in_doubt_pa { Runs cascaded_in_doubt_pa }
+{}
+
+/// The worked runs by the second version come out as they are written.
+pub fn second_runs()
+    ensures acknowledged_from_below_pa { RunsBySecond acknowledged_from_below_pa }
+    ensures acknowledged_from_below_pc { RunsBySecond acknowledged_from_below_pc }
+    ensures mismatch_is_reported { RunsBySecond mismatch_is_reported }
+    ensures mismatch_below_is_reported { RunsBySecond mismatch_below_is_reported }
+    ensures first_acknowledgement_counts { RunsBySecond first_acknowledgement_counts }
+    ensures abort_below_is_unreported { RunsBySecond abort_below_is_unreported }
 {}
