@@ -5,6 +5,7 @@ ghost use Rattle.tree_model.specs.declared.names.Kind.TheVariants as kind;
 ghost use Rattle.rec_log.specs.Sights.{left_by, records_of};
 ghost use Rattle.core_model.specs.States.{CoreState};
 ghost use Rattle.core_model.specs.Restarting.{LeftSo, NotRestarted, NotTrimmed, Restarts, Trims};
+ghost use Rattle.coord_core.specs.Reopened.{NotReopened};
 ghost use Rattle.coord_core.specs.States.{error_of, role_below, state};
 
 use crate::coordinator::Coordinator;
@@ -80,6 +81,8 @@ impl<L: LogStore + Drop> Coordinator<L> {
             (record { me = me; role = role_below parent; tree = tree }) log.sight.failures
             → (keep : ℕ) → left_by old.log keep ≡ records_of log.sight.kept
             → Restarts old keep (state made.0) made.1) }
+        ensures err { IfErr result (λ e. NotReopened
+            (record { me = me; role = role_below parent; tree = tree }) log.sight e.1.sight e.0) }
     {
         let mut coordinator = Coordinator {
             alloc,
@@ -100,7 +103,9 @@ impl<L: LogStore + Drop> Coordinator<L> {
     }
 
     /// The log, as it stands.
-    fn into_log(self) -> RecLog<L> {
+    fn into_log(self) -> RecLog<L>
+        ensures { result ≡ self.log }
+    {
         let Coordinator { log, .. } = self;
         log
     }

@@ -12,3 +12,4 @@ pub mod Opened
 pub mod Told
 pub mod Restarted
 pub mod Trimmed
+pub mod Reopened

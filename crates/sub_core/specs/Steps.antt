@@ -1,9 +1,10 @@
 -- A step of a subordinate: one input, as `core_model` says of any process.
-use Rattle.std.specs.Prelude.{◌≡◌, ℕ, false}
+use Rattle.std.specs.Prelude.{◌≡◌, ◌-◌, ℕ, false, List, length, take}
 use Rattle.xa_codes.specs.declared.code.Code.{Code}
 use Rattle.xa_codes.specs.declared.code.Code.TheVariants.{RmFail}
 use Rattle.xa_assoc.specs.Answers.{Opens}
 use Rattle.xa_xid.specs.declared.xid.Xid.{Xid}
+use Rattle.tree_model.specs.declared.records.LogRecord.{LogRecord}
 use Rattle.tree_model.specs.declared.events.Act.{Act}
 use Rattle.tree_model.specs.declared.events.Input.{Input}
 use Rattle.tree_model.specs.declared.events.Input.TheVariants.{Act as ActInput, Message as MessageInput}
@@ -58,8 +59,16 @@ pub record Reopens (old new : ManagerSight) (keep : ℕ) : Type 0 where
   pub answer : Code
   pub calls : Calls mid new (answer ≡ RmFail) (λ old new. Opens old new 0 false answer)
 
--- behind a restart each branch that is in doubt by the records that were left has the writes that it
--- promised, and no other branch has any; and it holds their keys, and nothing else is held
-pub record LeavesPromises (old : SubState) (keep : ℕ) (new : SubState) : Type 0 where
-  pub writes : (x : Xid) → new.manager.writes x ≡ writes_left (left_by old.manager.log keep) x
-  pub held : HoldWrites (writes_left (left_by old.manager.log keep)) new.manager.holders
+-- the records of the log of a manager that restarted, but for the last, which is that of its boot
+abbrev pub left_before : ManagerSight → List LogRecord
+left_before m = take (length (left_by m.log 0) - 1) (left_by m.log 0)
+
+-- where these records were left, each branch that is in doubt by them has the writes that it promised, and no
+-- other branch has any; and it holds their keys, and nothing else is held
+pub record PromisesLeft (left : List LogRecord) (m : ManagerSight) : Type 0 where
+  pub writes : (x : Xid) → m.writes x ≡ writes_left left x
+  pub held : HoldWrites (writes_left left) m.holders
+
+-- so it is behind a restart, by the records that were left
+abbrev pub LeavesPromises : SubState → ℕ → SubState → Type 0
+LeavesPromises old keep new = PromisesLeft (left_by old.manager.log keep) new.manager

@@ -1,15 +1,22 @@
 //! Restart: what a crash left of the log stands, and the cases that were not told their outcomes ask. And
 //! trim.
 
-ghost use Rattle.std.specs.Prelude.{◌≡◌, ◌≢◌, ◌∷◌, ◌+◌, [], true, IfErr, IfOk, OnOk};
-ghost use Rattle.core_model.specs.Restarting.{NotRestarted, NotTrimmed, Restarts, Trims};
-ghost use Rattle.manager_model.specs.Restarting.{NotRestarted as NotReopened};
+ghost use Rattle.std.specs.Prelude.{◌≡◌, ◌≢◌, ◌∷◌, ◌+◌, ℕ, [], true, IfErr, IfOk, OnOk};
+ghost use Rattle.core_model.specs.Restarting.{LeftSo, NotRestarted, NotTrimmed, Restarts, Trims};
+ghost use Rattle.core_model.specs.States.{CoreState};
+ghost use Rattle.manager_model.specs.Restarting.{
+  IsRestarted,
+  NotRestarted as NotReopened,
+  Restarts as RestartsManager,
+};
+ghost use Rattle.manager_model.specs.Sights.{ManagerSight};
+ghost use Rattle.tree_model.specs.Nodes.{AtLeaf};
 ghost use Rattle.rec_log.specs.Sights.{left_by};
 ghost use Rattle.sub_deeds.specs.Deeds.{KeepsManager};
 ghost use Rattle.sub_table.specs.Rebuilt.{Rebuilds};
 ghost use Rattle.tree_model.specs.Views.{leaf_place};
 ghost use Rattle.sub_core.specs.Subordinates.{seen};
-ghost use Rattle.sub_core.specs.Steps.{LeavesPromises, Reopens, state};
+ghost use Rattle.sub_core.specs.Steps.{LeavesPromises, PromisesLeft, Reopens, left_before, state};
 ghost use Rattle.tree_model.specs.declared.records.RecordKind.TheVariants as kind;
 ghost use Rattle.tree_model.specs.declared.records.Subject.TheVariants as subject;
 
@@ -17,7 +24,9 @@ use crate::subordinate::Subordinate;
 use manager_model::{ResourceManager, RestartError, TrimError};
 use std::alloc::{AllocError, Global};
 use sub_table::{Rebuilt, rebuild};
-use tree_model::{Logged, Reaction, RecordKind, Sequence, StepError, Subject};
+use tree_model::{
+    LogRecord, Logged, ProcessId, Reaction, RecordKind, Sequence, StepError, Subject, Tree,
+};
 use xa_codes::Flags;
 
 /// The record of a boot, as a reaction shows it.
@@ -124,6 +133,106 @@ impl<M: ResourceManager> Subordinate<M> {
             Err(TrimError::Memory) => Err(StepError::Memory),
             Err(TrimError::Device) => Err(StepError::Device),
             Err(TrimError::Failed) => Err(StepError::Failed),
+        }
+    }
+}
+
+/// The records of the log of a manager that restarted, but for that of its boot, which is the last.
+fn left_before<M: ResourceManager>(manager: &M) -> Result<Vec<LogRecord>, AllocError>
+    ensures { IfOk result (λ records. records.items ≡ left_before (M.sight manager.now)) }
+{
+    let mut records = manager.left(0)?;
+    let _boot = records.pop();
+    Ok(records)
+}
+
+/// What these records leave. Memory: also where no run makes such records.
+fn rebuilt_before<M: ResourceManager>(
+    alloc: Global,
+    me: ProcessId,
+    parent: ProcessId,
+    tree: &Tree,
+    manager: &M,
+) -> Result<Rebuilt, StepError>
+    ensures ok { IfOk result (Rebuilds (leaf_place me parent tree.now) parent (left_before (M.sight manager.now))) }
+    ensures err { IfErr result (λ e. e ≡ StepError.Memory) }
+{
+    let records = left_before(manager)?;
+    match rebuild(me, parent, tree, &records, alloc) {
+        Ok(rebuilt) => Ok(rebuilt),
+        Err(_) => Err(StepError::Memory),
+    }
+}
+
+/// The same, and the record of the boot behind them, as a reaction shows it.
+fn ready_before<M: ResourceManager>(
+    alloc: Global,
+    me: ProcessId,
+    parent: ProcessId,
+    tree: &Tree,
+    manager: &M,
+) -> Result<(Rebuilt, Sequence<Logged>), StepError>
+    ensures ok { IfOk result (λ ready. Rebuilds (leaf_place me parent tree.now) parent
+        (left_before (M.sight manager.now)) ready.0) }
+    ensures written { IfOk result (λ ready.
+        ready.1 ≡ record { kind = kind.Opened; subject = subject.Boot (ready.0.boot + 1); forced = true } ∷ []) }
+    ensures err { IfErr result (λ e. e ≡ StepError.Memory) }
+{
+    let rebuilt = rebuilt_before(alloc, me, parent, tree, manager)?;
+    let written = opened(rebuilt.boot + 1, alloc)?;
+    Ok((rebuilt, written))
+}
+
+impl<M: ResourceManager + Drop> Subordinate<M> {
+    /// The manager `me` of this tree below this parent, as it restarts over the log that an earlier one left:
+    /// it drives a manager that restarted over that log, and opens it. Memory: also where the records that
+    /// were left are none that a run makes, as of `restart`. With a refusal the manager is handed back.
+    pub fn reopen(
+        alloc: Global,
+        me: ProcessId,
+        parent: ProcessId,
+        tree: Tree,
+        mut manager: M,
+    ) -> Result<(Subordinate<M>, Reaction), (StepError, M)>
+        requires { IsRestarted (M.sight manager) }
+        ensures ok { IfOk result (λ made. (before : ManagerSight) (all : ℕ)
+            → RestartsManager before (M.sight manager) all
+            → (old : CoreState) → LeftSo old
+            (record { me = me; role = AtLeaf parent; tree = tree }) before.log.failures
+            → (keep : ℕ) → left_by old.log keep ≡ left_by before.log all
+            → Restarts old keep (state M.sight made.0) made.1) }
+        ensures writes { IfOk result (λ made. (before : ManagerSight) (all : ℕ)
+            → RestartsManager before (M.sight manager) all
+            → PromisesLeft (left_by before.log all) (M.sight made.0.manager)) }
+        ensures err { IfErr result (λ e. (e.0 ≡ StepError.Memory) × (e.1 ≡ manager)) }
+    {
+        match ready_before(alloc, me, parent, &tree, &manager) {
+            Err(error) => Err((error, manager)),
+            Ok((rebuilt, written)) => {
+                let _ = manager.open(Flags::TMNOFLAGS, false);
+                let Rebuilt {
+                    branches,
+                    messages,
+                    ..
+                } = rebuilt;
+                let reaction = Reaction {
+                    begun: None,
+                    written,
+                    told: None,
+                    messages,
+                    kept: None,
+                };
+                let subordinate = Subordinate {
+                    alloc,
+                    me,
+                    parent,
+                    tree,
+                    given: 0,
+                    branches,
+                    manager,
+                };
+                Ok((subordinate, reaction))
+            }
         }
     }
 }

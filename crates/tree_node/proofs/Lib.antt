@@ -4,3 +4,4 @@ pub mod RoleKinds
 pub mod LastRecords
 pub mod Refusals
 pub mod Same
+pub mod Reopened

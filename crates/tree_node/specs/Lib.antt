@@ -1,3 +1,4 @@
 pub mod Nodes
 pub mod Openings
 pub mod Restarts
+pub mod Reopenings

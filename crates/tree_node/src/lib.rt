@@ -5,8 +5,10 @@
 
 mod node;
 mod opening;
+mod reopening;
 mod restarting;
 mod unforced;
 
 pub use node::Node;
 pub use opening::{OpenError, copied_tree, open_node};
+pub use reopening::{ReopenError, reopen_node};

@@ -1,0 +1,64 @@
+use Rattle.std.proofs.Common.{◌≡◌, ◌∷◌, [], List, None, sym, subst}
+use Rattle.xa_codes.specs.declared.code.Code.TheVariants as code
+use Rattle.tree_model.specs.declared.records.Logged.{Logged}
+use Rattle.core_model.specs.Restarting.{Restarts}
+use Rattle.manager_model.specs.Sights.{ManagerSight}
+use Rattle.sub_table.specs.declared.rebuilt.Rebuilt.{Rebuilt}
+use Rattle.sub_core.specs.Subordinates.{SubState, core_of}
+use Rattle.sub_core.proofs.Reopened.{over_left, over_promises, over_tied}
+use Rattle.sub_core.proofs.subordinate.Subordinate.reopen.Goals as goal
+
+pub invariant_of-subordinate : goal.invariant_of-subordinate
+invariant_of-subordinate g c =
+    let r : Rebuilt = c.in-Ok.rebuilt in
+    let s : SubState = record {
+      me = c.args.me;
+      parent = c.args.parent;
+      tree = c.args.tree;
+      given = 0;
+      table = r.branches;
+      manager = c.requires.old;
+    } in
+    over_tied s c.requires.keep r (g.M.ResourceManager.sight c.args.manager)
+    (g.M.ResourceManager.sight c.open.new.self) (λ answer. answer ≡ code.RmFail) c.open.result
+    c.in-Ok.ensures.ok c.requires.restarts c.open.ensures
+
+pub returns-in-Ok-clause-ok : goal.returns-in-Ok-clause-ok
+returns-in-Ok-clause-ok g c = λ before all restarts old so keep left.
+    let r : Rebuilt = c.in-Ok.rebuilt in
+    let m : ManagerSight = g.M.ResourceManager.sight c.open.new.self in
+    let s : SubState = record {
+      me = c.args.me;
+      parent = c.args.parent;
+      tree = c.args.tree;
+      given = 0;
+      table = r.branches;
+      manager = before;
+    } in
+    let n : SubState = record {
+      me = c.args.me;
+      parent = c.args.parent;
+      tree = c.args.tree;
+      given = 0;
+      table = r.branches;
+      manager = m;
+    } in
+    subst (λ (ws : List Logged). Restarts old keep (core_of n)
+    (record { begun = None; written = ws; told = None; messages = r.messages; kept = None }))
+    (sym c.in-Ok.ensures.written)
+    (over_left s all r (g.M.ResourceManager.sight c.args.manager) m (λ answer. answer ≡ code.RmFail) c.open.result
+    c.in-Ok.ensures.ok restarts c.open.ensures old so keep left)
+
+pub returns-in-Ok-clause-writes : goal.returns-in-Ok-clause-writes
+returns-in-Ok-clause-writes g c = λ before all restarts.
+    let r : Rebuilt = c.in-Ok.rebuilt in
+    let s : SubState = record {
+      me = c.args.me;
+      parent = c.args.parent;
+      tree = c.args.tree;
+      given = 0;
+      table = r.branches;
+      manager = before;
+    } in
+    over_promises s all r (g.M.ResourceManager.sight c.args.manager) (g.M.ResourceManager.sight c.open.new.self)
+    (λ answer. answer ≡ code.RmFail) c.open.result c.in-Ok.ensures.ok restarts c.open.ensures

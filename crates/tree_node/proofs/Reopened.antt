@@ -1,0 +1,179 @@
+-- A process that goes on over the log that an earlier one left.
+use Rattle.std.proofs.Common.{◌≡◌, ◌∙◌, inl, inr, ◌+◌, ◌∷◌, ◌++◌, [], ℕ, List, Option, Some, None, refl, sym, ap, subst, arith}
+use Rattle.std.proofs.lemmas.List.{append-nil}
+use Rattle.xa_branch.specs.Branches.{in_doubt}
+use Rattle.tree_model.specs.declared.names.Kind.{Kind}
+use Rattle.tree_model.specs.declared.names.ProcessId.{ProcessId}
+use Rattle.tree_model.specs.declared.trees.TreeEntry.{TreeEntry}
+use Rattle.tree_model.specs.declared.events.Reaction.{Reaction}
+use Rattle.tree_model.specs.declared.names.Kind.TheVariants.{Coordinator, Manager}
+use Rattle.tree_model.specs.declared.events.StepError.{StepError}
+use Rattle.tree_model.specs.declared.events.StepError.TheVariants as steps
+use Rattle.tree_model.specs.declared.records.LogRecord.{LogRecord}
+use Rattle.tree_model.specs.Nodes.{AtLeaf, Place, Role, role_by}
+use Rattle.log_store.specs.Stores.{MoreFailures}
+use Rattle.rec_log.specs.declared.opening.OpenError.{OpenError as LogError}
+use Rattle.rec_log.specs.declared.opening.OpenError.TheVariants as logs
+use Rattle.rec_log.specs.Openings.{NotOpened as LogNotOpened, Opens}
+use Rattle.rec_log.specs.Sights.{LogSight, LogState, left_by, records_of, whole_within}
+use Rattle.core_model.specs.States.{CoreState, forced_sight}
+use Rattle.core_model.specs.Restarting.{LeftSo, Restarts}
+use Rattle.core_law.specs.worlds.Worlds.{RestartsData}
+use Rattle.coord_core.specs.States.{role_below}
+use Rattle.manager_model.specs.Data.{ManagerData, no_data}
+use Rattle.manager_model.specs.Sights.{ManagerSight, manager_data}
+use Rattle.sub_core.specs.Steps.{PromisesLeft}
+use Rattle.manager_model.specs.Restarting.{IsRestarted, Restarts as ManagerRestarts}
+use Rattle.coord_core.specs.Reopened.{NotReopened as CoordinatorNotReopened}
+use Rattle.kv_manager.specs.declared.manager.RestoreError.{RestoreError}
+use Rattle.kv_manager.specs.declared.manager.RestoreError.TheVariants as restores
+use Rattle.kv_manager.specs.declared.restart.RestartError.TheVariants as restarts
+use Rattle.kv_manager.specs.Resources.{sight_of}
+use Rattle.kv_manager.specs.Restarts.{LeavesStore, NotRestored, Restarted, RestoredFrom, StartsOver, opened}
+use Rattle.kv_manager.specs.Sights.{KvSight}
+use Rattle.kv_manager.proofs.Restarted.{restarted}
+use Rattle.tree_node.specs.Reopenings.{NotReopened, Reopens, error_of_log, error_of_manager, error_of_step}
+
+-- Managers.
+
+-- a manager whose log has these records, all of them forced
+abbrev pub before : LogState → KvSight → KvSight
+before log s = record {
+  store = s.store;
+  log = record s.log { sight = forced_sight (records_of log.sight.kept) log.sight.failures };
+  boot = s.boot;
+}
+
+pub all_left : (ls : List LogRecord) (failures : ℕ) → left_by (forced_sight ls failures) 0 ≡ ls
+unfolding whole_within
+all_left ls failures = append-nil ls
+
+-- a manager over a log that was opened is the restart of that one
+pub starts_over : (log : LogState) (s : KvSight) → StartsOver log s
+    → ManagerRestarts (sight_of (before log s)) (sight_of s) 0
+starts_over log s h =
+    let ls = records_of log.sight.kept in
+    let all = sym (all_left ls log.sight.failures) in
+    let made : Restarted (before log s) s 0 (in_doubt s.store.tables.branches.branches) = record {
+      left = subst (λ rs. LeavesStore rs s.store s.boot) all h.left;
+      log = record {
+        kind = refl;
+        forced = h.forced ∙ ap (λ rs. rs ++ opened s.boot ∷ []) all;
+        unforced = h.unforced;
+        behind = h.behind;
+        works = h.works;
+        failures = h.failures;
+      };
+      gives = refl;
+    } in
+    restarted (before log s) s 0 (in_doubt s.store.tables.branches.branches) made
+
+pub over_restarted : (log : LogState) (s : KvSight) → StartsOver log s → IsRestarted (sight_of s)
+over_restarted log s h = record {
+  old = sight_of (before log s);
+  keep = 0;
+  restarts = starts_over log s h;
+}
+
+module _ (me parent : ProcessId) (tree : List TreeEntry) (bytes : List ℕ) (forced failures : ℕ) (s : KvSight)
+    (core : CoreState) (m : ManagerSight) (reaction : Reaction)
+    (r : RestoredFrom bytes forced failures s)
+    (restarts : (old : ManagerSight) (all : ℕ) → ManagerRestarts old (sight_of s) all
+    → (q : CoreState) → LeftSo q (record { me = me; role = AtLeaf parent; tree = tree }) old.log.failures
+    → (keep : ℕ) → left_by q.log keep ≡ left_by old.log all → Restarts q keep core reaction)
+    (promises : (old : ManagerSight) (all : ℕ) → ManagerRestarts old (sight_of s) all
+    → PromisesLeft (left_by old.log all) m) where
+  abbrev ls : List LogRecord
+  ls = records_of r.log.sight.kept
+
+  here : ManagerRestarts (sight_of (before r.log s)) (sight_of s) 0
+  here = starts_over r.log s r.starts
+
+  left : left_by (sight_of (before r.log s)).log 0 ≡ ls
+  left = all_left ls r.log.sight.failures
+
+  -- it is the restart of whatever manager left those records
+  pub manager_left : Reopens Manager (record { me = me; role = AtLeaf parent; tree = tree }) bytes forced failures
+      core (manager_data m) reaction
+  manager_left =
+      let p : PromisesLeft ls m = subst (λ (rs : List LogRecord). PromisesLeft rs m) left
+      (promises (sight_of (before r.log s)) 0 here) in
+      record {
+        log = r.log;
+        opens = r.opens;
+        restarts = λ old so keep is. restarts (sight_of (before r.log s)) 0 here old
+            (record { place_is = so.place_is; failures_are = so.failures_are ∙ sym r.opens.failures_stay })
+            keep (is ∙ sym left);
+        holdings = record { writes = p.writes; held = p.held };
+      }
+
+-- Coordinators.
+
+pub same_role : (parent : Option ProcessId) → role_below parent ≡ role_by Coordinator parent
+same_role None = refl
+same_role (Some p) = refl
+
+no_data_there : (parent : Option ProcessId) (rs : List LogRecord) (d : ManagerData)
+    → RestartsData (role_by Coordinator parent) rs d
+no_data_there None rs d = tt
+no_data_there (Some p) rs d = tt
+
+-- it is the restart of whatever coordinator left those records
+pub coordinator_left : (me : ProcessId) (parent : Option ProcessId) (tree : List TreeEntry) (bytes : List ℕ)
+    (forced failures : ℕ) (log : LogState) (core : CoreState) (reaction : Reaction)
+    → Opens Coordinator bytes forced failures log
+    → ((old : CoreState) → LeftSo old (record { me = me; role = role_below parent; tree = tree })
+    log.sight.failures
+    → (keep : ℕ) → left_by old.log keep ≡ records_of log.sight.kept → Restarts old keep core reaction)
+    → Reopens Coordinator (record { me = me; role = role_by Coordinator parent; tree = tree }) bytes forced failures
+    core no_data reaction
+coordinator_left me parent tree bytes forced failures log core reaction opens restarts = record {
+  log = log;
+  opens = opens;
+  restarts = λ old so keep is. restarts old
+      (record {
+        place_is = so.place_is
+            ∙ ap (λ (r : Role). record { me = me; role = r; tree = tree }) (sym (same_role parent));
+        failures_are = so.failures_are ∙ sym opens.failures_stay;
+      })
+      keep is;
+  holdings = no_data_there parent (records_of log.sight.kept) no_data;
+}
+
+-- Refusals.
+
+pub log_fails : {S : Type 0} (bytes : S → List ℕ) (forced failures : S → ℕ) (k : Kind) (old new : S)
+    (e : LogError) → LogNotOpened bytes forced failures k old new e
+    → NotReopened bytes forced failures k old (error_of_log e)
+log_fails bytes forced failures k old new logs.Memory h = tt
+log_fails bytes forced failures k old new logs.Device h = record { left = new; more = h.breaks.cause }
+log_fails bytes forced failures k old new (logs.Damaged place) h = h.1
+
+pub coordinator_fails : {S : Type 0} (bytes : S → List ℕ) (forced failures : S → ℕ) (place : Place) (old new : S)
+    (opened left : LogState) (e : StepError)
+    → opened.sight.failures ≡ failures old → left.sight.failures ≡ failures new
+    → CoordinatorNotReopened place opened.sight left.sight e
+    → NotReopened bytes forced failures Coordinator old (error_of_step e)
+coordinator_fails bytes forced failures place old new opened left steps.Memory at to h = tt
+coordinator_fails bytes forced failures place old new opened left steps.Device at to h =
+    let from : h.before.log.failures ≡ failures old = ap (λ (l : LogSight). l.failures) h.log_is ∙ at in
+    let until : h.behind.log.failures ≡ failures new = ap (λ (l : LogSight). l.failures) h.log_left ∙ to in
+    let more : MoreFailures (failures old) (failures new) = omega (arith, from, until, h.refused.0.cause) in
+    record { left = new; more = more }
+coordinator_fails bytes forced failures place old new opened left e at to h = absurd h.refused
+
+pub manager_fails : {S : Type 0} (bytes : S → List ℕ) (forced failures : S → ℕ) (old new : S)
+    (e : RestoreError) → NotRestored bytes forced failures old new e
+    → NotReopened bytes forced failures Manager old (error_of_manager e)
+manager_fails bytes forced failures old new (restores.Log e) h =
+    log_fails bytes forced failures Manager old new e h
+manager_fails bytes forced failures old new (restores.Records restarts.Memory) h = tt
+manager_fails bytes forced failures old new (restores.Records restarts.Device) h =
+    let to : h.left_as.sight.failures ≡ failures new = ap (λ (s : LogSight). s.failures) h.holds in
+    let more : MoreFailures (failures old) (failures new) =
+    omega (arith, h.opens.failures_stay, to, h.why.2.cause) in
+    record { left = new; more = more }
+manager_fails bytes forced failures old new (restores.Records restarts.Unfit) h =
+    record { log = h.opened_as; opens = h.opens; why = inl h.why.0 }
+manager_fails bytes forced failures old new (restores.Records restarts.Exhausted) h =
+    record { log = h.opened_as; opens = h.opens; why = inr h.why.0 }

@@ -1,0 +1,6 @@
+use Rattle.tree_node.proofs.Reopened.{log_fails}
+use Rattle.tree_node.proofs.reopening.left_log.Goals as goal
+
+pub returns-in-Err-clause-err : goal.returns-in-Err-clause-err
+returns-in-Err-clause-err g c = rw (c.refused.ensures, c.of_log.ensures)
+    (log_fails _ _ _ _ c.args.store c.in-Err.store c.in-Err.error c.in-Err.ensures.err)

@@ -1,0 +1,88 @@
+-- A process that goes on over the log that an earlier one left, and why none did.
+use Rattle.std.specs.Prelude.{◌≡◌, ⊤, ◌⊎◌, ℕ, Option, Some, None, List}
+use Rattle.tree_model.specs.declared.names.Kind.{Kind}
+use Rattle.tree_model.specs.declared.names.Kind.TheVariants.{Coordinator, Manager}
+use Rattle.tree_model.specs.declared.names.ProcessId.{ProcessId}
+use Rattle.tree_model.specs.declared.events.Reaction.{Reaction}
+use Rattle.tree_model.specs.declared.events.StepError.{StepError}
+use Rattle.tree_model.specs.declared.events.StepError.TheVariants as steps
+use Rattle.tree_model.specs.declared.trees.TreeEntry.{TreeEntry}
+use Rattle.tree_model.specs.Nodes.{Place, role_by}
+use Rattle.log_store.specs.Stores.{MoreFailures}
+use Rattle.log_rules.specs.order.Logs.{Damaged as DamagedLog, read_log}
+use Rattle.rec_log.specs.declared.opening.OpenError.{OpenError}
+use Rattle.rec_log.specs.declared.opening.OpenError.TheVariants as logs
+use Rattle.rec_log.specs.Openings.{Opens}
+use Rattle.rec_log.specs.Sights.{LogState, left_by, records_of}
+use Rattle.core_model.specs.States.{CoreState}
+use Rattle.core_model.specs.Restarting.{LeftSo, Restarts}
+use Rattle.core_law.specs.worlds.Worlds.{RestartsData}
+use Rattle.manager_model.specs.Data.{ManagerData}
+use Rattle.kv_manager.specs.declared.manager.RestoreError.{RestoreError}
+use Rattle.kv_manager.specs.declared.manager.RestoreError.TheVariants as restores
+use Rattle.kv_manager.specs.declared.restart.RestartError.TheVariants as restarts
+use Rattle.kv_manager.specs.Restarts.{NotRebuilt}
+use Rattle.tree_node.specs.declared.reopening.ReopenError.{ReopenError}
+use Rattle.tree_node.specs.declared.reopening.ReopenError.TheVariants.{Memory, Device, Damaged, Unfit}
+
+-- The process is the restart of whatever process left these records: the bytes are a log of them, and of every
+-- process that sat here, and of whose log a crash left them, this is the restart, with what that shows. A
+-- manager's branches in doubt have the writes that they promised.
+pub record Reopens (p : Kind) (place : Place) (bytes : List ℕ) (forced failures : ℕ) (s : CoreState)
+    (values : ManagerData) (reaction : Reaction) : Type 0 where
+  pub log : LogState
+  pub opens : Opens p bytes forced failures log
+  pub restarts : (old : CoreState) → LeftSo old place failures
+      → (keep : ℕ) → left_by old.log keep ≡ records_of log.sight.kept → Restarts old keep s reaction
+  pub holdings : RestartsData place.role (records_of log.sight.kept) values
+
+-- the kind of the log of a process of this kind below this parent: the root's is a coordinator's
+abbrev pub kind_by : Kind → Option ProcessId → Kind
+kind_by Manager (Some p) = Manager
+kind_by _ parent = Coordinator
+
+-- the same of the process of an entry of the tree
+abbrev pub ReopensAs : List TreeEntry → TreeEntry → List ℕ → ℕ → ℕ → CoreState → ManagerData → Reaction → Type 0
+ReopensAs tree e bytes forced failures s values reaction =
+    Reopens (kind_by e.kind e.parent) (record { me = e.id; role = role_by e.kind e.parent; tree = tree })
+    bytes forced failures s values reaction
+
+-- Refusals.
+
+-- the bytes are the log of records that leave no manager, or behind which no number comes
+pub record LeavesNoManager (p : Kind) (bytes : List ℕ) (forced failures : ℕ) : Type 0 where
+  pub log : LogState
+  pub opens : Opens p bytes forced failures log
+  pub why : NotRebuilt (records_of log.sight.kept) restarts.Unfit
+      ⊎ NotRebuilt (records_of log.sight.kept) restarts.Exhausted
+
+-- the device failed: there is a store that has more failures, as a failure leaves one, or whose count is at its
+-- top
+pub record FailsOver {L : Type 0} (failures : L → ℕ) (store : L) : Type 0 where
+  pub left : L
+  pub more : MoreFailures (failures store) (failures left)
+
+-- why no process goes on over the log in a store; want of memory may come at any time
+abbrev pub NotReopened : {L : Type 0} → (L → List ℕ) → (L → ℕ) → (L → ℕ) → Kind → L → ReopenError → Type 0
+NotReopened bytes forced failures p store Memory = ⊤
+NotReopened bytes forced failures p store Device = FailsOver failures store
+NotReopened bytes forced failures p store (Damaged place) = read_log p (bytes store) ≡ DamagedLog place
+NotReopened bytes forced failures p store Unfit = LeavesNoManager p (bytes store) (forced store) (failures store)
+
+-- why a process did not go on, where its log did not open
+abbrev pub error_of_log : OpenError → ReopenError
+error_of_log logs.Memory = Memory
+error_of_log logs.Device = Device
+error_of_log (logs.Damaged place) = Damaged place
+
+-- likewise, where it did not restart
+abbrev pub error_of_step : StepError → ReopenError
+error_of_step steps.Memory = Memory
+error_of_step e = Device
+
+-- likewise, where its key store was not restored
+abbrev pub error_of_manager : RestoreError → ReopenError
+error_of_manager (restores.Log e) = error_of_log e
+error_of_manager (restores.Records restarts.Memory) = Memory
+error_of_manager (restores.Records restarts.Device) = Device
+error_of_manager (restores.Records e) = Unfit

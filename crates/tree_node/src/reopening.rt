@@ -1,0 +1,168 @@
+//! Opening a process over the log that an earlier one left, or over an empty store.
+
+ghost use Rattle.std.specs.Prelude.{◌≡◌, IfErr, IfOk};
+ghost use Rattle.tree_model.specs.declared.names.Kind.TheVariants as kind;
+ghost use Rattle.tree_model.specs.Nodes.{Role, role_by};
+ghost use Rattle.rec_log.specs.Openings.{Opens};
+ghost use Rattle.kv_manager.specs.Restarts.{RestoredFrom};
+ghost use Rattle.tree_node.specs.Nodes.{core_of, data_of};
+ghost use Rattle.tree_node.specs.Reopenings.{
+  NotReopened,
+  Reopens,
+  ReopensAs,
+  error_of_log,
+  error_of_manager,
+  error_of_step,
+  kind_by,
+};
+
+use crate::node::Node;
+use coord_core::Coordinator;
+use kv_manager::{KvManager, RestartError, RestoreError};
+use log_store::LogStore;
+use rec_log::{OpenError, RecLog};
+use std::alloc::Global;
+use sub_core::Subordinate;
+use thiserror::Error;
+use tree_model::{Kind, ProcessId, Reaction, StepError, Tree, TreeEntry};
+
+/// Why no process goes on over the log in a store.
+#[derive(Clone, Copy, Debug, PartialEq, Eq, Error)]
+pub enum ReopenError {
+    /// A growth was refused; or the records are none that a run of the process makes.
+    #[error("no memory")]
+    Memory,
+    /// The device of the store failed.
+    #[error("the device failed")]
+    Device,
+    /// The bytes are no log of such a process: the first byte of the first frame that is wrong, 0 for the
+    /// header.
+    #[error("damaged at byte {0}")]
+    Damaged(usize),
+    /// The records are those of no key store.
+    #[error("the records are those of no key store")]
+    Unfit,
+}
+
+/// Lets go of what a refusal handed back, and tells why.
+fn refused<T: Drop>(_left: T, why: ReopenError) -> ReopenError
+    ensures { result ≡ why }
+{
+    why
+}
+
+fn of_log(error: OpenError) -> ReopenError
+    ensures { result ≡ error_of_log error }
+{
+    match error {
+        OpenError::Memory => ReopenError::Memory,
+        OpenError::Device => ReopenError::Device,
+        OpenError::Damaged(place) => ReopenError::Damaged(place),
+    }
+}
+
+fn of_step(error: StepError) -> ReopenError
+    ensures { result ≡ error_of_step error }
+{
+    match error {
+        StepError::Memory => ReopenError::Memory,
+        _ => ReopenError::Device,
+    }
+}
+
+fn of_manager(error: RestoreError) -> ReopenError
+    ensures { result ≡ error_of_manager error }
+{
+    match error {
+        RestoreError::Log(error) => of_log(error),
+        RestoreError::Records(RestartError::Memory) => ReopenError::Memory,
+        RestoreError::Records(RestartError::Device) => ReopenError::Device,
+        RestoreError::Records(_) => ReopenError::Unfit,
+    }
+}
+
+/// The log of a coordinator in a store.
+fn left_log<L: LogStore + Drop>(alloc: Global, store: L) -> Result<RecLog<L>, ReopenError>
+    ensures ok { IfOk result (Opens kind.Coordinator (L.bytes store) (L.forced store) (L.failures store)) }
+    ensures err { IfErr result (NotReopened L.bytes L.forced L.failures kind.Coordinator store) }
+{
+    match RecLog::open(store, Kind::Coordinator, alloc) {
+        Ok(log) => Ok(log),
+        Err((error, store)) => Err(refused(store, of_log(error))),
+    }
+}
+
+/// A key store over the log in a store.
+fn left_manager<L: LogStore + Drop>(alloc: Global, store: L) -> Result<KvManager<L>, ReopenError>
+    ensures ok { IfOk result (RestoredFrom (L.bytes store) (L.forced store) (L.failures store)) }
+    ensures err { IfErr result (NotReopened L.bytes L.forced L.failures kind.Manager store) }
+{
+    match KvManager::restore(store, alloc) {
+        Ok(manager) => Ok(manager),
+        Err((error, store)) => Err(refused(store, of_manager(error))),
+    }
+}
+
+/// A coordinator of the tree over the log in a store. Without a parent it is the root.
+fn reopen_coordinator<L: LogStore + Drop>(
+    alloc: Global,
+    me: ProcessId,
+    parent: Option<ProcessId>,
+    tree: Tree,
+    store: L,
+) -> Result<(Node<L>, Reaction), ReopenError>
+    ensures ok { IfOk result (λ made. Reopens kind.Coordinator
+        (record { me = me; role = role_by kind.Coordinator parent; tree = tree })
+        (L.bytes store) (L.forced store) (L.failures store) (core_of made.0) (data_of made.0) made.1) }
+    ensures err { IfErr result (NotReopened L.bytes L.forced L.failures kind.Coordinator store) }
+{
+    let log = left_log(alloc, store)?;
+    match Coordinator::reopen(alloc, me, parent, tree, log) {
+        Ok((coordinator, reaction)) => Ok((Node::Coordinator(coordinator), reaction)),
+        Err((error, log)) => Err(refused(log.into_store(), of_step(error))),
+    }
+}
+
+/// A manager of the tree over the log in a store.
+fn reopen_manager<L: LogStore + Drop>(
+    alloc: Global,
+    me: ProcessId,
+    parent: ProcessId,
+    tree: Tree,
+    store: L,
+) -> Result<(Node<L>, Reaction), ReopenError>
+    ensures ok { IfOk result (λ made. Reopens kind.Manager
+        (record { me = me; role = Role.AtLeaf parent; tree = tree })
+        (L.bytes store) (L.forced store) (L.failures store) (core_of made.0) (data_of made.0) made.1) }
+    ensures err { IfErr result (NotReopened L.bytes L.forced L.failures kind.Manager store) }
+{
+    let manager = left_manager(alloc, store)?;
+    match Subordinate::reopen(alloc, me, parent, tree, manager) {
+        Ok((subordinate, reaction)) => Ok((Node::Manager(subordinate), reaction)),
+        Err((error, manager)) => Err(refused(manager, of_step(error))),
+    }
+}
+
+/// The process of an entry over the log in a store: it restarts as whatever process left that log would, and a
+/// log without a record is that of a process which never opened. What it logs and sends as it restarts comes
+/// with it. A process without a parent is the root, whatever its kind.
+///
+/// Memory: a growth was refused, or the log's records are none that a run of the process makes. Device: the
+/// device of the store failed. Damaged: the bytes are no log of such a process. Unfit: the records leave no
+/// manager. Behind a refusal the store is let go.
+pub fn reopen_node<L: LogStore + Drop>(
+    alloc: Global,
+    entry: &TreeEntry,
+    tree: Tree,
+    store: L,
+) -> Result<(Node<L>, Reaction), ReopenError>
+    ensures ok { IfOk result (λ made. ReopensAs tree entry.now
+        (L.bytes store) (L.forced store) (L.failures store) (core_of made.0) (data_of made.0) made.1) }
+    ensures err { IfErr result (NotReopened L.bytes L.forced L.failures
+        (kind_by entry.now.kind entry.now.parent) store) }
+{
+    match (entry.kind, entry.parent) {
+        (Kind::Manager, Some(parent)) => reopen_manager(alloc, entry.id, parent, tree, store),
+        (_, parent) => reopen_coordinator(alloc, entry.id, parent, tree, store),
+    }
+}
