@@ -7,3 +7,14 @@ pub mod Runs
 pub mod Commits
 pub mod Reports
 pub mod Reported
+pub mod Found
+pub mod Noted
+pub mod Owed
+pub mod Naming
+pub mod Rows
+pub mod Became
+pub mod Forced
+pub mod Opened
+pub mod Stays
+pub mod Lasting
+pub mod CoordinatorAcks

@@ -1,1 +1,2 @@
 pub mod Findings
+pub mod Mismatches
