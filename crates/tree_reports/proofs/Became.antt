@@ -6,9 +6,9 @@ use Rattle.tree_model.specs.declared.names.ProcessId.{ProcessId}
 use Rattle.tree_model.specs.declared.records.Record.{Record}
 use Rattle.tree_model.specs.declared.records.Record.TheVariants.{Opened}
 use Rattle.tree_model.specs.declared.trees.TreeEntry.{TreeEntry}
-use Rattle.tree_model.specs.Records.{has}
+use Rattle.tree_model.specs.Records.{boot_of, has, record_case}
 use Rattle.tree_model.specs.Nodes.{AtRoot, Effect, Heard, Node, Place, Written, after, appends, entries_written, is_any_forced, kept}
-use Rattle.tree_model.specs.Restarts.{data_records, left_of, reopens, trim_fails, trimmed, trims}
+use Rattle.tree_model.specs.Restarts.{case_stays, data_records, left_of, reopens, staying, trim_fails, trimmed, trims}
 use Rattle.tree_model.specs.World.{Move}
 use Rattle.tree_model.proofs.ListLaws.{kept-after}
 use Rattle.tree_pairs.specs.turns.CoordinatorTurns.{CoordinatorTurn}
@@ -17,10 +17,29 @@ use Rattle.tree_pairs.proofs.turns.Steps.{turn_of}
 use Rattle.tree_nodes.specs.Lasts.{logs_of}
 use Rattle.tree_nodes.proofs.Appends.{breaks_keeps, loses}
 use Rattle.tree_nodes.proofs.CoordinatorAccepts.{turn_here}
-use Rattle.tree_nodes.proofs.CoordinatorRestarts.{data_same, reopens_same, trimmed_same}
+use Rattle.tree_nodes.proofs.CoordinatorRestarts.{reopens_same}
 use Rattle.tree_nodes.proofs.Remembering.{coordinator_place, role_below}
 use Rattle.tree_nodes.proofs.Tests.{has-nil, in_either, in_first, in_front, in_second, not_both}
 use Rattle.tree_nodes.proofs.Trims.{trim_left}
+
+-- A trim is the same at each coordinator.
+
+staying_same : (parent : Option ProcessId) (whole rs : List Record)
+    → staying (role_below parent) whole rs ≡ staying AtRoot whole rs
+staying_same None whole rs = refl
+staying_same (Some p) whole [] = refl
+staying_same (Some p) whole (r ∷ rs) =
+    ap (λ xs. if case_stays whole (record_case r) then r ∷ xs else xs) (staying_same (Some p) whole rs)
+
+pub data_same : (parent : Option ProcessId) (rs : List Record) → data_records (role_below parent) rs ≡ []
+data_same None rs = refl
+data_same (Some p) rs = refl
+
+trimmed_same : (parent : Option ProcessId) (rs : List Record) → trimmed (role_below parent) rs ≡ trimmed AtRoot rs
+unfolding trimmed
+trimmed_same parent rs =
+    ap (λ xs. (Opened (boot_of rs) ∷ xs) ++ data_records (role_below parent) rs) (staying_same parent rs rs)
+    ∙ ap (λ xs. (Opened (boot_of rs) ∷ staying AtRoot rs rs) ++ xs) (data_same parent rs)
 
 -- what is in the first list is in the second
 abbrev pub Grows : List Record → List Record → Type 0
@@ -62,12 +81,16 @@ life_after n ws = by_force (is_any_forced ws) refl
     by_force true f = rw f refl
     by_force false f = rw f refl
 
-forced_after : (n : Node) (ws : List Written) → Grows n.forced (appends n ws).forced
+pub forced_after : (n : Node) (ws : List Written) → Grows n.forced (appends n ws).forced
 forced_after n ws q e = by_force (is_any_forced ws) refl
   where
     by_force : (b : Bool) → is_any_forced ws ≡ b → has q (appends n ws).forced ≡ true
     by_force true f = rw f (in_first q (kept n) (entries_written ws) (in_first q n.forced n.unforced e))
     by_force false f = rw f e
+
+pub forced_whole : (n : Node) (ws : List Written) → is_any_forced ws ≡ true
+    → (appends n ws).forced ≡ kept n ++ entries_written ws
+forced_whole n ws f = rw f refl
 
 module _ (me : ProcessId) (parent : Option ProcessId) (tree : List TreeEntry) (m : Move) (n : Node) where
   abbrev place : Place

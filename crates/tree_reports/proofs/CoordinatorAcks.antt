@@ -37,15 +37,15 @@ module _ (d : Case) (o : Outcome) (fs : List Finding) where
 
   never_each : {A : Type 0} (s : Seat) (f : Case → Message) → ((c : Case) → f c ≡ Ack d o fs → ⊥)
       → (ts : List Ticket) → Among (each s f ts) → A
-  never_each s f no [] i = absurd i
-  never_each s f no (t ∷ ts) (inl e) = absurd (no (child_case s.own.txn t) e)
-  never_each s f no (t ∷ ts) (inr i) = never_each s f no ts i
+  never_each s f differs [] i = absurd i
+  never_each s f differs (t ∷ ts) (inl e) = absurd (differs (child_case s.own.txn t) e)
+  never_each s f differs (t ∷ ts) (inr i) = never_each s f differs ts i
 
   never_map : {A : Type 0} (f : Ticket → Envelope) → ((t : Ticket) → (f t).message ≡ Ack d o fs → ⊥)
       → (ts : List Ticket) → Among (map f ts) → A
-  never_map f no [] i = absurd i
-  never_map f no (t ∷ ts) (inl e) = absurd (no t e)
-  never_map f no (t ∷ ts) (inr i) = never_map f no ts i
+  never_map f differs [] i = absurd i
+  never_map f differs (t ∷ ts) (inl e) = absurd (differs t e)
+  never_map f differs (t ∷ ts) (inr i) = never_map f differs ts i
 
   no_abort : (c : Case) → Abort c ≡ Ack d o fs → ⊥
   no_abort c e = cc
@@ -89,10 +89,10 @@ module _ (d : Case) (o : Outcome) (fs : List Finding) where
 
   pub flat_none : (f : Case → List Envelope) → ((c : Case) → Among (f c) → ⊥) → (cs : List Case)
       → Among (flat_map f cs) → ⊥
-  flat_none f no [] i = i
-  flat_none f no (c ∷ cs) i = elim (among_either (Ack d o fs) (f c) (flat_map f cs) i) [
-    | inl a ↦ no c a
-    | inr b ↦ flat_none f no cs b
+  flat_none f differs [] i = i
+  flat_none f differs (c ∷ cs) i = elim (among_either (Ack d o fs) (f c) (flat_map f cs) i) [
+    | inl a ↦ differs c a
+    | inr b ↦ flat_none f differs cs b
   ]
 
   pub resumes_none : (me : ProcessId) (parent : Option ProcessId) (rs : List Record) (cs : List Case)
@@ -161,7 +161,7 @@ module _ (place : Place) (parent : Option ProcessId) (n : Node) (h : Heard) (sec
 
     either_way : {A : Type 0} (xs ys : List Envelope) → AmongThem (xs ++ ys) → (AmongThem xs → A)
         → (AmongThem ys → A) → A
-    either_way xs ys i f g = elim (among_either (Ack d o fs) xs ys i) [ | inl a ↦ f a | inr b ↦ g b ]
+    either_way xs ys i f g = elim (among_either (Ack d o fs) xs ys i) [ inl a ↦ f a | inr b ↦ g b ]
 
     each_none : {A : Type 0} (c : Case) (ts : List Ticket) → AmongThem (each (seat_of place parent c) Abort ts) → A
     each_none c ts i = never_each d o fs (seat_of place parent c) Abort (no_abort d o fs) ts i
@@ -170,7 +170,7 @@ module _ (place : Place) (parent : Option ProcessId) (n : Node) (h : Heard) (sec
     commits_none c ts i = never_each d o fs (seat_of place parent c) Commit (no_commit d o fs) ts i
 
     up_none : {A : Type 0} (m : Message) → (m ≡ Ack d o fs → ⊥) → AmongThem (posted_up place.me parent m) → A
-    up_none m no i = absurd (no (one_up d o fs place.me parent m i))
+    up_none m differs i = absurd (differs (one_up d o fs place.me parent m i))
 
     -- a case that collects and has nobody to wait for
     alone : (c : Case) (us : List Ticket) → (coordinator_view place n c).standing ≡ Collecting

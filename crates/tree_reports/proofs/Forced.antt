@@ -12,6 +12,7 @@ use Rattle.tree_model.specs.Names.{same_case}
 use Rattle.tree_model.specs.Records.{has, is_abort, is_commit}
 use Rattle.tree_model.specs.Nodes.{Effect, Heard, Node, Place, Written, appends, entries_written, is_any_forced, kept}
 use Rattle.tree_model.specs.Restarts.{trim_fails}
+use Rattle.tree_model.specs.Standings.{coordinator_view}
 use Rattle.tree_model.specs.World.{Move}
 use Rattle.tree_pairs.specs.readings.ReadingOf.{acknowledged}
 use Rattle.tree_pairs.specs.turns.Steps.{StepOf, heard_in, handled, failed_in, passed, failed_passing, reopened, failed_reopening, trimmed, failed_trimming}
@@ -52,7 +53,6 @@ appended n ws old none c = by_force (is_any_forced ws) refl
 one_other : (q : Record → Bool) (r : Record) → q r ≡ false → has q (r ∷ []) ≡ false
 one_other q r e = has-cons q r [] ∙ neither (q r) (has q []) e (has-nil q)
 
-
 by_outcome : (f : Outcome → Bool) → f CommittedOutcome ≡ false → f AbortedOutcome ≡ false → (o : Outcome)
     → f o ≡ false
 by_outcome f a b CommittedOutcome = a
@@ -85,8 +85,8 @@ module _ (place : Place) (n : Node) where
       one_other (is_owed_decision c) (EndRecord d r)
       (by_outcome (λ o. is_decision_by o c (EndRecord d r)) refl refl (acknowledged c.txn.presumption))
   writes_plain d _ (collected b s) e c =
-      one_other (is_owed_decision c) _
-      (by_outcome (λ o. is_decision_by o c (CollectingRecord d _)) refl refl (acknowledged c.txn.presumption))
+      one_other (is_owed_decision c) (CollectingRecord d (coordinator_view place n d).accepted)
+      (by_outcome (λ o. is_decision_by o c (CollectingRecord d (coordinator_view place n d).accepted)) refl refl (acknowledged c.txn.presumption))
   writes_plain d _ (promised ys b s) e c =
       one_other (is_owed_decision c) (PrepareRecord d ys)
       (by_outcome (λ o. is_decision_by o c (PrepareRecord d ys)) refl refl (acknowledged c.txn.presumption))

@@ -18,3 +18,5 @@ pub mod Opened
 pub mod Stays
 pub mod Lasting
 pub mod CoordinatorAcks
+pub mod Facts
+pub mod ManagerAcks

@@ -19,12 +19,12 @@ use Rattle.tree_model.specs.declared.trees.TreeEntry.{TreeEntry}
 use Rattle.tree_model.specs.Names.{child_case, process_of, same_ticket}
 use Rattle.tree_model.specs.NameLaws.{same_case-refl, same_ticket-refl}
 use Rattle.tree_model.specs.Records.{has, in_list, is_decided, is_forgot, is_heuristic, mixed_of, unreported_of}
-use Rattle.tree_model.specs.Nodes.{AtLeaf, Effect, Heard, Node, Place, Second, Version, First, kept}
+use Rattle.tree_model.specs.Nodes.{AtLeaf, Effect, Heard, Node, Place, Role, Second, Version, First, kept}
 use Rattle.tree_model.specs.CoordinatorRows.{post, tells_outcome}
 use Rattle.tree_model.specs.ManagerRows.{is_acknowledged}
 use Rattle.tree_model.specs.Memory.{Memory, Open, Phase, memory_of}
 use Rattle.tree_model.specs.Outcomes.{sent}
-use Rattle.tree_model.specs.Standings.{Decided, ManagerView, Mark, Promised, ToldOf, Unmarked, decided_findings, manager_view, marked_branch, mark_of, other_outcome, own_finding, standing_of, unknown_findings}
+use Rattle.tree_model.specs.Standings.{Decided, ManagerView, Mark, Promised, ToldOf, Unmarked, decided_findings, manager_view, marked_branch, mark_of, other_outcome, own_finding, standing_in, standing_of, unknown_findings}
 use Rattle.tree_pairs.specs.Reading.{is_live}
 use Rattle.tree_pairs.specs.readings.ReadingOf.{gives_case, is_promise, phase_by}
 use Rattle.tree_pairs.specs.turns.LeafTurns.{Hears, IsActive, IsDecided, IsOpenBranch, LeafTurn, acknowledges, acknowledges_told, asks, by_operator, decides, does_nothing, drops, forgets, gives_again, gives_fresh, mark_at, notes, obeys, promised, refuses, repeats_yes, told, untold, votes_no, votes_read, votes_yes, waits, Waits}
@@ -88,6 +88,14 @@ own_there : (t : Ticket) → in_list (t ∷ []) t ≡ true
 unfolding in_list
 own_there t = left _ _ (same_ticket-refl t)
 
+mixed_one : (t : Ticket) → in_list (mixed_of (Mixed t ∷ [])) t ≡ true
+unfolding mixed_of
+mixed_one t = own_there t
+
+pub unreported_one : (t : Ticket) → in_list (unreported_of (Unreported t ∷ [])) t ≡ true
+unfolding unreported_of
+unreported_one t = own_there t
+
 module _ (net : List Envelope) (place : Place) (p : ProcessId) (leaf : place.role ≡ AtLeaf p) (n : Node)
     (nested : Nested (logs_of n)) (m : Manages (logs_of n)) (one : OneDecision n)
     (about_given : (d : Case) → sent (is_about d) net ≡ true → sent (gives_case d) net ≡ true)
@@ -128,7 +136,8 @@ module _ (net : List Envelope) (place : Place) (p : ProcessId) (leaf : place.rol
 
         standing_so : standing_of place n d ≡ Active
         standing_so =
-            rw leaf (ap (λ (v : ManagerView). v.standing) (viewed place n d)
+            ap (λ (r : Role). standing_in r place n d) leaf
+            ∙ (ap (λ (v : ManagerView). v.standing) (viewed place n d)
             ∙ open_view (mark_at n d) (memory_of place n d).phase a.unmarked a.is_open)
 
     module _ (h : Heard) (heard : (x : Message) → Hears h x → IsAmong x net) (second : h.version ≡ Second)
@@ -170,18 +179,10 @@ module _ (net : List Envelope) (place : Place) (p : ProcessId) (leaf : place.rol
         mixed_so : (d : Case) (o : Outcome) (t : Ticket) (u : Option Ticket) → u ≡ Some t
             → in_list (mixed_of (own_finding Mixed u)) t ≡ true
         mixed_so d o t _ e = rw e (mixed_one t)
-          where
-            mixed_one : (t : Ticket) → in_list (mixed_of (Mixed t ∷ [])) t ≡ true
-            unfolding mixed_of
-            mixed_one t = own_there t
 
         unreported_so : (t : Ticket) (u : Option Ticket) → u ≡ Some t
             → in_list (unreported_of (own_finding Unreported u)) t ≡ true
         unreported_so t _ e = rw e (unreported_one t)
-          where
-            unreported_one : (t : Ticket) → in_list (unreported_of (Unreported t ∷ [])) t ≡ true
-            unfolding unreported_of
-            unreported_one t = own_there t
 
         against_kept : (v : Version) → v ≡ Second → (d : Case) (o : Outcome) (t : Ticket) → d.ticket ≡ Some t
             → in_list (mixed_of (decided_findings v (kept n) d o)) t ≡ false

@@ -52,7 +52,7 @@ pub none_of_them : (q r : Record → Bool) (rs : List Record) → ((x : Record) 
     → has r rs ≡ false → has q rs ≡ false
 none_of_them q r rs f e = none_if q rs (λ g. never (has r rs) (has_other q r rs f g) e)
 
-has_or : (p q : Record → Bool) (rs : List Record) → has (λ r. p r || q r) rs ≡ (has p rs || has q rs)
+pub has_or : (p q : Record → Bool) (rs : List Record) → has (λ r. p r || q r) rs ≡ (has p rs || has q rs)
 unfolding has
 has_or p q [] = refl
 has_or p q (r ∷ rs) = ap (λ b. (p r || q r) || b) (has_or p q rs) ∙ four (p r) (q r) (has p rs) (has q rs)
@@ -154,6 +154,20 @@ module _ (q naming without : Record → Bool)
         not_here true g k = absurd (never (has q rs) (has_other naming q rs names_it k)
             (none_later q q bars (pre ++ r ∷ []) rs f.1 (last_one pre r (lacks_it r g))))
 
+nobody : (t : Ticket) → in_list [] t ≡ true → ⊥
+unfolding in_list
+nobody t f = cc
+
+rest_of : (xs ys : List Ticket) → none_of xs ≡ true → none_of (xs ++ ys) ≡ false → none_of ys ≡ false
+unfolding none_of
+rest_of [] ys a b = b
+rest_of (x ∷ xs) ys a b = absurd (cc)
+
+some_if : (b : Bool) (ts : List Ticket) → none_of (if b then ts else []) ≡ false → (b ≡ true) × (none_of ts ≡ false)
+unfolding none_of
+some_if true ts g = (refl, g)
+some_if false ts g = absurd (cc)
+
 module _ (c : Case) (t : Ticket) where
   apart_in : (s b : Bool) → (s && b) ≡ true → (s && not b) ≡ false
   apart_in s b e = grind arith
@@ -203,11 +217,7 @@ module _ (c : Case) (t : Ticket) where
 
   if_named : (b : Bool) (ts : List Ticket) → in_list (if b then ts else []) t ≡ true → (b && in_list ts t) ≡ true
   if_named true ts e = e
-  if_named false ts e = absurd (nobody e)
-    where
-      nobody : in_list [] t ≡ true → ⊥
-      unfolding in_list
-      nobody f = absurd (cc)
+  if_named false ts e = absurd (nobody t e)
 
   -- whom the promises name, a Prepare names
   pub promised_named : (rs : List Record) → in_list (promised_by c rs) t ≡ true
@@ -278,24 +288,13 @@ module _ (c : Case) (t : Ticket) where
   unfolding owing_by has none_of
   decision_owes [] e f = absurd (cc)
   decision_owes (r ∷ rs) e f =
-      by_first (none_of (owing_in c r)) refl
+      by_first (decision_owes rs) (none_of (owing_in c r)) refl
     where
-      of_rest : (xs ys : List Ticket) → none_of xs ≡ true → none_of (xs ++ ys) ≡ false → none_of ys ≡ false
-      unfolding none_of
-      of_rest [] ys a b = b
-      of_rest (x ∷ xs) ys a b = absurd (cc)
-
       sure : (s z b : Bool) (ts : List Ticket) → (s && (not z && not b)) ≡ false → s ≡ true → z ≡ false → b ≡ true
       sure true false true ts g k j = refl
       sure true false false ts g k j = absurd (cc)
       sure true true b ts g k j = absurd (cc)
       sure false z b ts g k j = absurd (cc)
-
-      some_if : (b : Bool) (ts : List Ticket) → none_of (if b then ts else []) ≡ false
-          → (b ≡ true) × (none_of ts ≡ false)
-      unfolding none_of
-      some_if true ts g = (refl, g)
-      some_if false ts g = absurd (cc)
 
       in_if : (b : Bool) (ts : List Ticket) → b ≡ true → in_list ts t ≡ true → in_list (if b then ts else []) t ≡ true
       in_if true ts g k = k
@@ -311,9 +310,10 @@ module _ (c : Case) (t : Ticket) where
           in_if (same_case d c) ts s.0 (sure (same_case d c) (none_of ts) (in_list ts t) ts k s.0 s.1)
       one x g k = absurd (cc)
 
-      by_first : (b : Bool) → none_of (owing_in c r) ≡ b
+      by_first : (none_of (owing_by c rs) ≡ false → has (decision_without c t) rs ≡ false
+          → in_list (owing_by c rs) t ≡ true) → (b : Bool) → none_of (owing_in c r) ≡ b
           → in_list (owing_in c r ++ flat_map (owing_in c) rs) t ≡ true
-      by_first false g = in_first_list (owing_in c r) (flat_map (owing_in c) rs)
+      by_first again false g = in_first_list (owing_in c r) (flat_map (owing_in c) rs)
           (one r g (first_false (decision_without c t r) _ f))
-      by_first true g = in_second_list (owing_in c r) (flat_map (owing_in c) rs)
-          (decision_owes rs (of_rest (owing_in c r) _ g e) (second_false (decision_without c t r) _ f))
+      by_first again true g = in_second_list (owing_in c r) (flat_map (owing_in c) rs)
+          (again (rest_of (owing_in c r) _ g e) (second_false (decision_without c t r) _ f))

@@ -22,13 +22,12 @@ use Rattle.tree_nodes.specs.WorldHolds.{is_record_of}
 use Rattle.tree_nodes.proofs.Boots.{boot_written, trims_memory, turn_none}
 use Rattle.tree_nodes.proofs.Cases.{viewed}
 use Rattle.tree_nodes.proofs.CoordinatorKept.{Coordinated, IsLive, memory_behind, memory_empty}
-use Rattle.tree_nodes.proofs.CoordinatorRestarts.{data_same}
 use Rattle.tree_nodes.proofs.CoordinatorSteps.{Premises, handled_so}
 use Rattle.tree_nodes.proofs.Phases.{Together, active_unrecorded, collecting_undecided, standing_at}
 use Rattle.tree_nodes.proofs.Remembering.{Moves, asks, closes, coordinator_place, counts, keeps, moves, opens, remembers_at, role_below, takes}
 use Rattle.tree_nodes.proofs.RootKnown.{no_abort}
 use Rattle.tree_nodes.proofs.Tests.{has-reverse, in_none, in_second}
-use Rattle.tree_reports.proofs.Became.{life_after}
+use Rattle.tree_reports.proofs.Became.{data_same, life_after}
 use Rattle.tree_reports.proofs.Naming.{is_decision, never, no_decisions, none_if}
 
 -- a live case has no Abort in its life list, while its process is up
@@ -61,14 +60,14 @@ module _ (me : ProcessId) (parent : Option ProcessId) (tree : List TreeEntry) (n
         none_kept c Idle g live = absurd live
         none_kept c Over g live = absurd live
 
-        none_written : (c : Case) → IsLive (memory_of place (after n h e) c).phase
+        none_written : (after n h e).failed ≡ false → (c : Case) → IsLive (memory_of place (after n h e) c).phase
             → has (is_abort c) (entries_written e.written) ≡ false
-        none_written c live = none_if (is_abort c) (entries_written e.written) (λ f.
+        none_written up c live = none_if (is_abort c) (entries_written e.written) (λ f.
             never (has (is_abort c) (kept (after n h e)))
             (ap (has (is_abort c)) (kept-after n h e)
             ∙ in_second (is_abort c) (kept n) (entries_written e.written) f)
             (none_kept c (memory_of place (after n h e) c).phase
-            ((handled_so me parent tree n given old h e t r).together t.up c) live))
+            ((handled_so me parent tree n given old h e t r).together up c) live))
 
         none_before : (c : Case) → IsLive (memory_of place (after n h e) c).phase → has (is_abort c) n.life ≡ false
         none_before c live =
@@ -91,7 +90,7 @@ module _ (me : ProcessId) (parent : Option ProcessId) (tree : List TreeEntry) (n
         handled_unaborted up c live =
             ap (has (is_abort c)) (life_after n e.written)
             ∙ in_none (is_abort c) (reverse (entries_written e.written)) n.life
-            (has-reverse (is_abort c) (entries_written e.written) ∙ none_written c live) (none_before c live)
+            (has-reverse (is_abort c) (entries_written e.written) ∙ none_written up c live) (none_before c live)
 
     trims_unaborted : Unaborted (coordinator_place me parent tree) (trims (coordinator_place me parent tree) n)
     trims_unaborted up c live =

@@ -85,6 +85,18 @@ module _ (c d : Case) (t : Ticket) (ts : List Ticket) where
   other_not_left CommittedOutcome e = other_left (same_case d c) (none_of ts) (in_list ts t) e
   other_not_left AbortedOutcome e = other_left (same_case d c) (none_of ts) (in_list ts t) e
 
+nobody_here : none_of [] ≡ true
+unfolding none_of
+nobody_here = refl
+
+and_nothing : (x : Bool) → (x && false) ≡ false
+and_nothing x = grind arith
+
+names_nobody : (c d : Case) (t : Ticket) (p : Outcome) → is_decision_naming c t (decision p d []) ≡ false
+unfolding in_list
+names_nobody c d t CommittedOutcome = and_nothing (same_case d c)
+names_nobody c d t AbortedOutcome = and_nothing (same_case d c)
+
 -- What a restart writes.
 
 module _ (c : Case) (rs : List Record) where
@@ -310,23 +322,8 @@ module _ (me : ProcessId) (parent : Option ProcessId) (tree : List TreeEntry) (n
                   )
           deciding d o _ b (for_nobody at) same accepted k =
               quietly (record { entry = decision o d []; is_forced = b } ∷ [])
-              (one_lacks (is_decision_naming c t) _ (names_nobody o))
-              (one_lacks (leaves_out c t) _ (none_not_left c d t [] o nobody)) k
-            where
-              nobody : none_of [] ≡ true
-              unfolding none_of
-              nobody = refl
-
-              names_nobody : (p : Outcome) → is_decision_naming c t (decision p d []) ≡ false
-              unfolding in_list
-              names_nobody CommittedOutcome = last (same_case d c)
-                where
-                  last : (x : Bool) → (x && false) ≡ false
-                  last x = grind arith
-              names_nobody AbortedOutcome = last (same_case d c)
-                where
-                  last : (x : Bool) → (x && false) ≡ false
-                  last x = grind arith
+              (one_lacks (is_decision_naming c t) _ (names_nobody c d t o))
+              (one_lacks (leaves_out c t) _ (none_not_left c d t [] o nobody_here)) k
 
           others_collecting : (d : Case) (ts : List Ticket) → same_case d c ≡ false
               → leaves_out c t (CollectingRecord d ts) ≡ false
