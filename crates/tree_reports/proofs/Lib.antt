@@ -20,3 +20,12 @@ pub mod Lasting
 pub mod CoordinatorAcks
 pub mod Facts
 pub mod ManagerAcks
+pub mod Operators
+pub mod ManagerRuns
+pub mod ManagerClears
+pub mod CoordinatorCovers
+pub mod SinceOpened
+pub mod EndRows
+pub mod SinceRuns
+pub mod Descent
+pub mod Reporting

@@ -46,7 +46,7 @@ NamesStay n = (c : Case) (t : Ticket) → has (is_decision_naming c t) n.life �
 grown_none : (xs ys : List Record) → Grows xs ys → (q : Record → Bool) → has q ys ≡ false → has q xs ≡ false
 grown_none xs ys g q e = none_if q xs (λ f. never (has q ys) (g q f) e)
 
-one_has : (q : Record → Bool) (r : Record) → has q (r ∷ []) ≡ true → q r ≡ true
+pub one_has : (q : Record → Bool) (r : Record) → has q (r ∷ []) ≡ true → q r ≡ true
 unfolding has
 one_has q r e = first_is (q r) e
   where
