@@ -29,7 +29,8 @@ use Rattle.tree_model.specs.Reactions.{seat_of}
 use Rattle.tree_model.specs.Restarts.{coordinator_resumes, recorded_view, resumes_by}
 use Rattle.tree_model.specs.Standings.{CoordinatorView, coordinator_view, found_below, unknown_findings}
 use Rattle.tree_pairs.specs.turns.CoordinatorTurns.{Acknowledges, CaseTurn, CoordinatorTurn, Decided, HearsChild, abort_act, abort_again, abort_comes, abort_presumed_commit, accepts, acknowledges, aborts, answers, asks, asks_for_votes, begins, commit_again, commit_presumed_abort, commits, counts_vote, does_nothing, ends, finds_nobody, gives_again, gives_fresh, gives_up, hears_no, invites, of_case, passes_abort, passes_commit, presumes, promises, reads_only, refuses, repeats_yes, rests, sends_work, voted, waits_for_acks}
-use Rattle.tree_reports.proofs.Found.{IsAmong, among_either}
+use Rattle.tree_reports.specs.SinceOpened.{IsAmong}
+use Rattle.tree_reports.proofs.Found.{among_either}
 
 module _ (d : Case) (o : Outcome) (fs : List Finding) where
   abbrev Among : List Envelope → Type 0

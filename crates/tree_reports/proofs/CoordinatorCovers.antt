@@ -37,25 +37,16 @@ use Rattle.tree_nodes.proofs.RootLogs.{known_stays}
 use Rattle.tree_nodes.proofs.Tests.{both, case_is, either, has-cons, has-nil, has-reverse, in_either, in_first, in_second, left, neither, right}
 use Rattle.tree_nodes.proofs.Worlds.{has_other}
 use Rattle.tree_steps.proofs.parents.Tables.{none_in, prepared_facts}
+use Rattle.tree_reports.specs.SinceOpened.{Acked, AllHeardAmong, Covers, InputAmong, is_decision}
 use Rattle.tree_reports.proofs.Became.{Became, Grows, at_rest, by_restart, by_trim, by_turn, left_kept, trim_kept}
 use Rattle.tree_reports.proofs.CoordinatorAcks.{AcksBy, alone_acks, last_acks, open_acks, unknown_acks}
 use Rattle.tree_reports.proofs.Facts.{IsOver}
-use Rattle.tree_reports.proofs.Found.{Acked}
 use Rattle.tree_reports.proofs.Lasting.{CoordinatorLasts, decided_forced, named_owed}
 use Rattle.tree_reports.proofs.ManagerAcks.{unreported_one}
-use Rattle.tree_reports.proofs.Naming.{has_or, is_decision, never, no_decision_naming}
-use Rattle.tree_reports.proofs.Noted.{AllHeardAmong, InputAmong}
+use Rattle.tree_reports.proofs.Naming.{has_or, never, no_decision_naming}
 use Rattle.tree_reports.proofs.Owed.{all_acked}
 use Rattle.tree_reports.proofs.Rows.{DecidesFrom, OneCase, Writes, collected, decided, decision, ended, for_nobody, from_promise, from_votes, nothing, promised, turn_writes}
 use Rattle.tree_reports.proofs.Stays.{decision_names, naming_recorded, one_has, reopened_stood, stood}
-
--- each ticket that a decision of the case ever named has acknowledged, and what it found is among these findings; and a
--- Collecting that is kept has its decision in the forced front
-pub record Covers (ls : List Envelope) (n : Node) (x : Txn) (t : Ticket) (o : Outcome)
-    (fs : List Finding) : Type 0 where
-  pub named : (u : Ticket) → has (is_decision_naming (child_case x t) u) n.life ≡ true → Acked ls x o fs u
-  pub decided_so : has (is_collecting (child_case x t)) (kept n) ≡ true
-      → has (is_decision (child_case x t)) n.forced ≡ true
 
 learnt_is : (d : Case) (r : Record) → is_learnt_commit d r ≡ true → (is_commit d r || is_managers r) ≡ true
 learnt_is d r e = grind arith

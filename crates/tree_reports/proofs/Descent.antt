@@ -26,10 +26,10 @@ use Rattle.tree_nodes.specs.WorldHolds.{NodeHolds}
 use Rattle.tree_nodes.proofs.RootsHold.{nodes_hold}
 use Rattle.tree_nodes.proofs.Tests.{in_first}
 use Rattle.tree_nodes.proofs.Worlds.{has_other}
+use Rattle.tree_reports.specs.SinceOpened.{Acked, IsAmong, SinceOpened, Within}
 use Rattle.tree_reports.specs.Mismatches.{IsNamedDown, LiesBelow, LiesUnreported, Names, accepted_by, at_top, by_root, by_ticket, mixed_in, unreported_in}
-use Rattle.tree_reports.proofs.Found.{Acked, IsAmong, Within, acked_within}
+use Rattle.tree_reports.proofs.Found.{acked_within}
 use Rattle.tree_reports.proofs.Naming.{never}
-use Rattle.tree_reports.proofs.SinceOpened.{SinceOpened}
 
 -- what is found is within a report
 pub record Reported (fs : List Finding) (r : Option Reports) : Type 0 where

@@ -47,7 +47,7 @@ entries_forced (r ∷ rs) = ap (λ xs. r ∷ xs) (entries_forced rs)
 none_at : {A : Type 0} (j : ℕ) (r : Record) → slice_get [] j ≡ Some r → A
 none_at j r e = absurd (cc)
 
-one_at : (x : Record) (j : ℕ) (r : Record) → slice_get (x ∷ []) j ≡ Some r → x ≡ r
+pub one_at : (x : Record) (j : ℕ) (r : Record) → slice_get (x ∷ []) j ≡ Some r → x ≡ r
 one_at x zero r e = let f : x ≡ r = cc in f
 one_at x (suc j) r e = absurd (cc)
 

@@ -14,13 +14,9 @@ use Rattle.tree_model.specs.Names.{child_case}
 use Rattle.tree_model.specs.Records.{in_list, mixed_of, unreported_of}
 use Rattle.tree_model.specs.Outcomes.{sent}
 use Rattle.tree_nodes.proofs.Tests.{either, left, right}
+use Rattle.tree_reports.specs.SinceOpened.{Acked, IsAmong, Within}
 
 -- Findings.
-
--- whom the first findings report, the second report so too
-pub record Within (fs gs : List Finding) : Type 0 where
-  pub mixed : (t : Ticket) → in_list (mixed_of fs) t ≡ true → in_list (mixed_of gs) t ≡ true
-  pub unreported : (t : Ticket) → in_list (unreported_of fs) t ≡ true → in_list (unreported_of gs) t ≡ true
 
 pub within_same : (fs : List Finding) → Within fs fs
 within_same fs = record { mixed = λ t e. e; unreported = λ t e. e }
@@ -63,11 +59,6 @@ within_second fs gs = record {
 
 -- Messages.
 
--- the message is one of these
-abbrev pub IsAmong : Message → List Envelope → Type 0
-IsAmong m [] = ⊥
-IsAmong m (l ∷ ls) = (l.message ≡ m) ⊎ IsAmong m ls
-
 pub among_first : (m : Message) (xs ys : List Envelope) → IsAmong m xs → IsAmong m (xs ++ ys)
 among_first m [] ys i = absurd i
 among_first m (x ∷ xs) ys (inl e) = inl e
@@ -96,12 +87,6 @@ unfolding sent
 among_sent q m e [] i = absurd i
 among_sent q m e (l ∷ ls) (inl f) = left _ _ (ap q f ∙ e)
 among_sent q m e (l ∷ ls) (inr i) = right (q l.message) _ (among_sent q m e ls i)
-
--- the ticket's case acknowledged the outcome among these messages, and what it found is within these findings
-pub record Acked (ls : List Envelope) (x : Txn) (o : Outcome) (fs : List Finding) (t : Ticket) : Type 0 where
-  pub found : List Finding
-  pub sent_so : IsAmong (Ack (child_case x t) o found) ls
-  pub within : Within found fs
 
 pub acked_within : (ls : List Envelope) (x : Txn) (o : Outcome) (fs gs : List Finding) (t : Ticket) → Within fs gs
     → Acked ls x o fs t → Acked ls x o gs t

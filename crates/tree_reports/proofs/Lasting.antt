@@ -38,9 +38,10 @@ use Rattle.tree_steps.proofs.parents.Tables.{aborting_facts, committing_facts}
 use Rattle.tree_headline.proofs.Pairs.{joined_pair}
 use Rattle.tree_headline.proofs.Parts.{accepts, standing_world}
 use Rattle.tree_headline.proofs.runs.Headline.{the_world_holds}
+use Rattle.tree_reports.specs.SinceOpened.{is_decision}
 use Rattle.tree_reports.proofs.Became.{became}
 use Rattle.tree_reports.proofs.Forced.{OwedForced, is_decision_by, is_owed_decision, owed_forced}
-use Rattle.tree_reports.proofs.Naming.{collecting_without, decision_owes, decision_stays_named, is_decision, never, no_collecting_without, one_collecting}
+use Rattle.tree_reports.proofs.Naming.{collecting_without, decision_owes, decision_stays_named, never, no_collecting_without, one_collecting}
 use Rattle.tree_reports.proofs.Opened.{Unaborted, live_undecided, still_unaborted}
 use Rattle.tree_reports.proofs.Stays.{NamesStay, names_stay}
 

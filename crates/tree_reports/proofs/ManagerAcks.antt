@@ -38,26 +38,15 @@ use Rattle.tree_nodes.proofs.Worlds.{has_other}
 use Rattle.tree_steps.proofs.children.Doubts.{doubt, heuristic_so, plain_so, promised_so}
 use Rattle.tree_steps.proofs.children.Tables.{IsLate, no_heuristic}
 use Rattle.tree_headline.proofs.runs.MessagesHold.{none_gives}
+use Rattle.tree_reports.specs.SinceOpened.{IsAmong, IsClean, NoneAgainst, ever}
 use Rattle.tree_reports.proofs.Facts.{CaseFacts}
-use Rattle.tree_reports.proofs.Found.{IsAmong, among_sent}
+use Rattle.tree_reports.proofs.Found.{among_sent}
 use Rattle.tree_reports.proofs.Naming.{never, none_if, none_of_them}
-
--- all that the log keeps, or ever had in its forced front
-abbrev pub ever : Node → List Record
-ever n = kept n ++ n.durable
 
 -- no branch was ever decided in both ways
 abbrev pub OneDecision : Node → Type 0
 OneDecision n = (d : Case) (o : Outcome) → has (is_decided d o) (ever n) ≡ true
     → has (is_decided d (other_outcome o)) (ever n) ≡ true → ⊥
-
--- the findings do not report the case's own ticket
-abbrev pub IsClean : Case → List Finding → Type 0
-IsClean d fs = (t : Ticket) → d.ticket ≡ Some t
-    → (in_list (unreported_of fs) t ≡ false) × (in_list (mixed_of fs) t ≡ false)
-
-abbrev pub NoneAgainst : Node → Case → Outcome → Type 0
-NoneAgainst n d o = has (is_decided d (other_outcome o)) (ever n) ≡ false
 
 pub decided_heuristic : (d : Case) (o : Outcome) (r : Record) → is_decided d o r ≡ true → is_heuristic d r ≡ true
 decided_heuristic d CommittedOutcome r e = grind arith

@@ -27,9 +27,8 @@ use Rattle.tree_pairs.specs.turns.Steps.{StepOf, heard_in}
 use Rattle.tree_nodes.specs.Lasts.{Manages, Nested, logs_of}
 use Rattle.tree_nodes.proofs.Tests.{and, both, either, in_first, left, right}
 use Rattle.tree_steps.proofs.children.Doubts.{doubt, promised_so}
+use Rattle.tree_reports.specs.SinceOpened.{IsAmong, NoneAgainst, ever}
 use Rattle.tree_reports.proofs.Facts.{IsOver}
-use Rattle.tree_reports.proofs.Found.{IsAmong}
-use Rattle.tree_reports.proofs.ManagerAcks.{NoneAgainst, ever}
 use Rattle.tree_reports.proofs.Naming.{never, none_if}
 use Rattle.tree_reports.proofs.Operators.{ByTurn, decided_came, decision_by_act}
 

@@ -26,8 +26,9 @@ use Rattle.tree_nodes.proofs.Tests.{has-cons, has-nil, in_none, neither}
 use Rattle.tree_nodes.proofs.Worlds.{has_other, put}
 use Rattle.tree_steps.proofs.children.Doubts.{promised_so}
 use Rattle.tree_headline.proofs.runs.Headline.{the_world_holds}
+use Rattle.tree_reports.specs.SinceOpened.{ever}
 use Rattle.tree_reports.proofs.Facts.{CaseFacts, facts_at}
-use Rattle.tree_reports.proofs.ManagerAcks.{OneDecision, ever, promised_never}
+use Rattle.tree_reports.proofs.ManagerAcks.{OneDecision, promised_never}
 use Rattle.tree_reports.proofs.Naming.{never}
 use Rattle.tree_reports.proofs.Operators.{still_one}
 

@@ -14,6 +14,7 @@ use Rattle.tree_pairs.specs.readings.ReadingOf.{is_collecting_naming, is_decisio
 use Rattle.tree_nodes.proofs.CaseOrders.{AllFit, Fits, none_later}
 use Rattle.tree_nodes.proofs.Tests.{both, case_is, either, first_false, has-append, has-cons, has-nil, in_either, in_first, in_second, left, neither, not_both, right, second_false}
 use Rattle.tree_nodes.proofs.Worlds.{has_other}
+use Rattle.tree_reports.specs.SinceOpened.{is_decision}
 use Rattle.tree_reports.proofs.Found.{in_list_both}
 
 -- Tests.
@@ -74,10 +75,6 @@ collecting_is c t r e = absurd (cc)
 prepare_is : (c : Case) (t : Ticket) (r : Record) → prepare_without c t r ≡ true → is_prepare c r ≡ true
 prepare_is c t (Prepare d ts) e = (both (same_case d c) _ e).0
 prepare_is c t r e = absurd (cc)
-
--- a decision of the case
-abbrev pub is_decision : Case → Record → Bool
-is_decision c r = is_commit c r || is_abort c r
 
 decision_is : (c : Case) (t : Ticket) (r : Record) → decision_without c t r ≡ true → is_decision c r ≡ true
 decision_is c t (Commit d ts) e = left (same_case d c) false (both (same_case d c) _ e).0

@@ -24,19 +24,10 @@ use Rattle.tree_model.specs.Memory.{Memory, Phase, Idle, Open, Asked, Over, fres
 use Rattle.tree_model.proofs.AckLaws.{has_acked-push}
 use Rattle.tree_nodes.proofs.Remembering.{coordinator_place, role_below}
 use Rattle.tree_nodes.proofs.Tests.{both, either}
-use Rattle.tree_reports.proofs.Found.{IsAmong, Within, among_first, within_first, within_second, within_then}
+use Rattle.tree_reports.specs.SinceOpened.{AllHeardAmong, InputAmong, IsAmong, Within}
+use Rattle.tree_reports.proofs.Found.{among_first, within_first, within_second, within_then}
 
 -- What was heard.
-
--- a message that is heard is among these
-abbrev pub InputAmong : List Envelope → Input → Type 0
-InputAmong ls (MessageInput k m) = IsAmong m ls
-InputAmong ls (ActInput a) = Unit {0}
-
--- each message that was heard is
-abbrev pub AllHeardAmong : List Envelope → List Heard → Type 0
-AllHeardAmong ls [] = Unit {0}
-AllHeardAmong ls (h ∷ hs) = InputAmong ls h.input × AllHeardAmong ls hs
 
 pub heard_more : (ls : List Envelope) (hs : List Heard) (h : Heard) → AllHeardAmong ls hs → InputAmong ls h.input
     → AllHeardAmong ls (hs ++ h ∷ [])

@@ -27,8 +27,9 @@ use Rattle.tree_nodes.proofs.Phases.{Together, active_unrecorded, collecting_und
 use Rattle.tree_nodes.proofs.Remembering.{Moves, asks, closes, coordinator_place, counts, keeps, moves, opens, remembers_at, role_below, takes}
 use Rattle.tree_nodes.proofs.RootKnown.{no_abort}
 use Rattle.tree_nodes.proofs.Tests.{has-reverse, in_none, in_second}
+use Rattle.tree_reports.specs.SinceOpened.{is_decision}
 use Rattle.tree_reports.proofs.Became.{data_same, life_after}
-use Rattle.tree_reports.proofs.Naming.{is_decision, never, no_decisions, none_if}
+use Rattle.tree_reports.proofs.Naming.{never, no_decisions, none_if}
 
 -- a live case has no Abort in its life list, while its process is up
 abbrev pub Unaborted : Place → Node → Type 0

@@ -31,8 +31,9 @@ use Rattle.tree_nodes.proofs.Appends.{breaks_keeps, loses}
 use Rattle.tree_nodes.proofs.Tests.{case_is, has-cons, has-nil, in_either, in_first, in_front, in_second, neither}
 use Rattle.tree_nodes.proofs.Trims.{data_is_other, trim_left}
 use Rattle.tree_nodes.proofs.Worlds.{has_other}
+use Rattle.tree_reports.specs.SinceOpened.{ever}
 use Rattle.tree_reports.proofs.Became.{left_kept}
-use Rattle.tree_reports.proofs.ManagerAcks.{OneDecision, decided_heuristic, ever}
+use Rattle.tree_reports.proofs.ManagerAcks.{OneDecision, decided_heuristic}
 use Rattle.tree_reports.proofs.Naming.{never, none_of_them}
 use Rattle.tree_reports.proofs.Stays.{one_has}
 

@@ -27,8 +27,9 @@ use Rattle.tree_nodes.proofs.Remembering.{coordinator_place}
 use Rattle.tree_steps.proofs.parents.OwnAborts.{in_filter}
 use Rattle.tree_steps.proofs.parents.Rested.{view_so}
 use Rattle.tree_steps.proofs.parents.Tables.{none_in}
-use Rattle.tree_reports.proofs.Found.{Acked, IsAmong, Within, within_first, within_second, within_then}
-use Rattle.tree_reports.proofs.Noted.{AllHeardAmong, InputAmong, memory_noted, note_found}
+use Rattle.tree_reports.specs.SinceOpened.{Acked, AllHeardAmong, InputAmong, IsAmong}
+use Rattle.tree_reports.proofs.Found.{within_first, within_second, within_then}
+use Rattle.tree_reports.proofs.Noted.{memory_noted, note_found}
 
 in_others : (u : Ticket) (ts : List Ticket) (t : Ticket)
     → in_list (other_tickets u ts) t ≡ (in_list ts t && not (same_ticket u t))

@@ -1,5 +1,5 @@
 -- In every run each End that the root appends since its tree was opened last, by the second version, reports truly.
-use Rattle.std.proofs.Common.{◌≡◌, ◌∙◌, ◌&&◌, ◌||◌, ◌⊎◌, inl, inr, ℕ, zero, suc, Bool, true, false, Option, Some, None, List, [], ◌∷◌, ◌++◌, take, refl, sym, ap, subst, arith, if◌then◌else◌}
+use Rattle.std.proofs.Common.{◌≡◌, ◌∙◌, ◌&&◌, ◌||◌, ◌⊎◌, inl, inr, ℕ, zero, suc, Bool, true, false, Option, Some, None, List, [], ◌∷◌, ◌++◌, take, refl, sym, ap, subst, arith, if◌thereafter◌else◌}
 use Rattle.std.specs.Prelude.{reverse, slice_get}
 use Rattle.tree_model.specs.declared.names.Case.{Case}
 use Rattle.tree_model.specs.declared.names.Outcome.{Outcome}
@@ -44,22 +44,21 @@ use Rattle.tree_nodes.proofs.RootsHold.{nodes_hold}
 use Rattle.tree_nodes.proofs.Tests.{has-cons, has-nil, has-reverse, in_either, in_first, in_front, neither}
 use Rattle.tree_steps.proofs.parents.Tables.{aborting_facts, committing_facts}
 use Rattle.tree_headline.proofs.runs.Headline as headline
+use Rattle.tree_reports.specs.SinceOpened.{InputAmong, is_decision}
 use Rattle.tree_reports.specs.Findings.{reports_mixed}
 use Rattle.tree_reports.specs.Mismatches.{AllReportTruly, EndsReportTruly, IsNamedDown, Names, ReportsTruly, by_root, by_ticket, mixed_in, unreported_in}
 use Rattle.tree_reports.proofs.Became.{life_after}
 use Rattle.tree_reports.proofs.Commits.{commit_is_old}
 use Rattle.tree_reports.proofs.Descent.{Reported, is_reported}
 use Rattle.tree_reports.proofs.EndRows.{EndsBy, acked_last, entries_forced, entries_taken, has_at, one_at, read_only, taken_at, turn_ends}
-use Rattle.tree_reports.proofs.Found.{Acked, acked_still}
+use Rattle.tree_reports.proofs.Found.{acked_still}
 use Rattle.tree_reports.proofs.Lasting.{CoordinatorLasts, all_last, named_owed}
-use Rattle.tree_reports.proofs.Naming.{is_decision, never, no_decision_naming}
-use Rattle.tree_reports.proofs.Noted.{InputAmong}
+use Rattle.tree_reports.proofs.Naming.{never, no_decision_naming}
 use Rattle.tree_reports.proofs.Opened.{live_undecided}
 use Rattle.tree_reports.proofs.Owed.{all_acked}
 use Rattle.tree_reports.proofs.Reported.{reported_had_mismatch, reports_hold}
 use Rattle.tree_reports.proofs.Reports.{ended_still, has_ended}
 use Rattle.tree_reports.proofs.Rows.{OneCase, Writes, collected, decided, decision, ended, nothing, promised, turn_writes}
-use Rattle.tree_reports.proofs.SinceOpened.{SinceOpened}
 use Rattle.tree_reports.proofs.SinceRuns.{Since, delivered_among, since_opened, since_then, stands_new}
 
 one_lacks : (q : Record → Bool) (r : Record) → q r ≡ false → has q (r ∷ []) ≡ false
@@ -134,8 +133,8 @@ module _ (tree : List TreeEntry) (is_tree : IsTree tree) (before : ℕ) (es : Li
     stands : Stands w.net m.step.process m.step.happening
     stands = stands_new w.net before q m.step.happening new
 
-    then : IsRun tree (record { move = m; effect = e } ∷ es) w'
-    then = makes es w m e w' plain stands made
+    thereafter : IsRun tree (record { move = m; effect = e } ∷ es) w'
+    thereafter = makes es w m e w' plain stands made
 
     since : Since tree before w
     since = since_opened tree is_tree before es w run
@@ -234,7 +233,7 @@ module _ (tree : List TreeEntry) (is_tree : IsTree tree) (before : ℕ) (es : Li
     own_case : (c.ticket ≡ None) × (process_of c ≡ m.step.process)
     own_case =
         let node = subst (λ (y : Role). NodeHolds (record { me = q; role = y; tree = tree }) w'.net (w'.at q)) top
-        (nodes_hold tree (record { move = m; effect = e } ∷ es) w' then q) in
+        (nodes_hold tree (record { move = m; effect = e } ∷ es) w' thereafter q) in
         let g = node.role.1.own_records c
         (ap (λ (y : Node). has (is_record_of c) y.life) node_so ∙ end.appended (is_record_of c) (same_case-refl c)) in
         (g.0, g.1.0)
@@ -266,7 +265,7 @@ module _ (tree : List TreeEntry) (is_tree : IsTree tree) (before : ℕ) (es : Li
     unfolding in_list
     mixed_then None f t x = absurd (cc)
     mixed_then (Some s) f t x =
-        reported_had_mismatch tree is_tree (record { move = m; effect = e } ∷ es) w' then c.txn t root_role
+        reported_had_mismatch tree is_tree (record { move = m; effect = e } ∷ es) w' thereafter c.txn t root_role
         (ap (λ (y : Node). has (reports_mixed (root_case c.txn) t) y.life) at_root
         ∙ (ap (λ (d : Case). has (reports_mixed d t) k.life) case_so
         ∙ end.appended (reports_mixed c t) (mixed_by r f)))
@@ -299,7 +298,7 @@ module _ (tree : List TreeEntry) (is_tree : IsTree tree) (before : ℕ) (es : Li
 
     agrees_so : (o : Outcome) → has_ended n c o ≡ true → o ≡ outcome_of w' c.txn
     agrees_so o f =
-        (headline.headline tree is_tree (record { move = m; effect = e } ∷ es) w' then).agreement.root_agrees c.txn o
+        (headline.headline tree is_tree (record { move = m; effect = e } ∷ es) w' thereafter).agreement.root_agrees c.txn o
         root_role
         (ends_so (w'.at c.txn.root) c.txn o
         (ap (λ (y : Node). has_ended y (root_case c.txn) o) at_root
@@ -315,7 +314,7 @@ module _ (tree : List TreeEntry) (is_tree : IsTree tree) (before : ℕ) (es : Li
     reported_truly h up by now (acked_last t' o fs hears from last reports) = record {
       mixed_had_mismatch = mixed_then r refl;
       mismatch_is_reported =
-          is_reported tree (record { move = m; effect = e } ∷ es) w' then (since.messages ++ e.messages)
+          is_reported tree (record { move = m; effect = e } ∷ es) w' thereafter (since.messages ++ e.messages)
           (since_then tree is_tree before es w m e w' run second new made) c.txn o (found_below here n c o fs) r
           (reported_so h.version by (found_below here n c o fs) r reports)
           (λ u names. acked_still since.messages e.messages c.txn o (found_below here n c o fs) u

@@ -41,28 +41,18 @@ use Rattle.tree_steps.proofs.cascades.Senders.{step_sent}
 use Rattle.tree_steps.specs.cascades.Messages.{AllSentBy}
 use Rattle.tree_headline.proofs.runs.Headline.{the_world_holds}
 use Rattle.tree_headline.proofs.runs.NetsHold.{nets_hold}
+use Rattle.tree_reports.specs.SinceOpened.{AllHeardAmong, Covers, InputAmong, IsAmong, IsClean, NoneAgainst, SinceOpened}
 use Rattle.tree_reports.proofs.Became.{became, forced_after, forced_whole, life_after}
 use Rattle.tree_reports.proofs.CoordinatorAcks.{flat_none, resumes_none, turn_acks}
-use Rattle.tree_reports.proofs.CoordinatorCovers.{Covers, covers_now, covers_still}
+use Rattle.tree_reports.proofs.CoordinatorCovers.{covers_now, covers_still}
 use Rattle.tree_reports.proofs.Facts.{IsOver, acked_over}
-use Rattle.tree_reports.proofs.Found.{Acked, IsAmong, acked_still, among_either, among_first, among_sent}
+use Rattle.tree_reports.proofs.Found.{acked_still, among_either, among_first, among_sent}
 use Rattle.tree_reports.proofs.Lasting.{CoordinatorLasts, all_last}
-use Rattle.tree_reports.proofs.ManagerAcks.{IsClean, NoneAgainst, leaf_fine}
+use Rattle.tree_reports.proofs.ManagerAcks.{leaf_fine}
 use Rattle.tree_reports.proofs.ManagerClears.{none_now, none_still}
 use Rattle.tree_reports.proofs.ManagerRuns.{all_one, leaf_facts, leaf_node}
-use Rattle.tree_reports.proofs.Noted.{AllHeardAmong, InputAmong, heard_more, heard_still}
+use Rattle.tree_reports.proofs.Noted.{heard_more, heard_still}
 use Rattle.tree_reports.proofs.Opened.{live_undecided}
-
--- Each process that is up has heard these messages alone. Behind an acknowledgement that does not report its ticket, a
--- manager has no decision against the outcome, and a coordinator has acknowledgements of all that it ever named.
-pub record SinceOpened (tree : List TreeEntry) (ls : List Envelope) (w : World) : Type 0 where
-  pub heard : (q : ProcessId) → (w.at q).failed ≡ false → AllHeardAmong ls (w.at q).heard
-  pub managers : (x : Txn) (t : Ticket) (p : ProcessId) → role_of tree t.child ≡ AtLeaf p → (o : Outcome)
-      (fs : List Finding) → IsAmong (Ack (child_case x t) o fs) ls → IsClean (child_case x t) fs
-      → NoneAgainst (w.at t.child) (child_case x t) o
-  pub coordinators : (x : Txn) (t : Ticket) (p : ProcessId) → role_of tree t.child ≡ Below p → (o : Outcome)
-      (fs : List Finding) → IsAmong (Ack (child_case x t) o fs) ls → in_list (unreported_of fs) t ≡ false
-      → Covers ls (w.at t.child) x t o fs
 
 -- Who acknowledges.
 

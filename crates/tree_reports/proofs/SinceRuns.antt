@@ -15,10 +15,10 @@ use Rattle.tree_model.specs.Trees.{IsTree}
 use Rattle.tree_model.specs.World.{InputIsNew, InputStands, IsDown, IsNew, IsRun, IsRunBy, Made, Move, Stands, World, first_opens, next, opened_world, reopens, world_makes}
 use Rattle.tree_model.proofs.RunLaws.{makes_at, runs_by_are_runs}
 use Rattle.tree_headline.proofs.runs.Headline.{the_world_holds}
-use Rattle.tree_reports.proofs.Found.{IsAmong, among_at, among_second}
+use Rattle.tree_reports.specs.SinceOpened.{AllHeardAmong, InputAmong, IsAmong, SinceOpened}
+use Rattle.tree_reports.proofs.Found.{among_at, among_second}
 use Rattle.tree_reports.proofs.Naming.{never}
-use Rattle.tree_reports.proofs.Noted.{AllHeardAmong, InputAmong}
-use Rattle.tree_reports.proofs.SinceOpened.{SinceOpened, since_step}
+use Rattle.tree_reports.proofs.SinceOpened.{since_step}
 
 -- these messages were sent behind so many others
 pub record Behind (net : List Envelope) (before : ℕ) (ls : List Envelope) : Type 0 where
@@ -27,7 +27,7 @@ pub record Behind (net : List Envelope) (before : ℕ) (ls : List Envelope) : Ty
   pub counted : length earlier ≡ before
 
 get_behind : (xs ys : List Envelope) (j : ℕ) → slice_get (xs ++ ys) (length xs + j) ≡ slice_get ys j
-get_behind [] ys j = let e : length ([] {A = Envelope}) + j ≡ j = omega arith in ap (slice_get ys) e
+get_behind [] ys j = let e : 0 + j ≡ j = omega arith in ap (slice_get ys) e
 get_behind (x ∷ xs) ys j =
     let e : length (x ∷ xs) + j ≡ suc (length xs + j) = omega arith in
     ap (slice_get (x ∷ (xs ++ ys))) e ∙ get_behind xs ys j

@@ -35,8 +35,9 @@ use Rattle.tree_nodes.proofs.RootLogs.{idle_standing, recorded_stands}
 use Rattle.tree_nodes.proofs.Tests.{and, both, case_is, has-cons, has-nil, has-reverse, in_either, in_none, in_second, left, neither, right}
 use Rattle.tree_nodes.proofs.Worlds.{has_other}
 use Rattle.tree_steps.proofs.parents.Tables.{prepared_facts}
+use Rattle.tree_reports.specs.SinceOpened.{is_decision}
 use Rattle.tree_reports.proofs.Became.{Became, Grows, at_rest, by_restart, by_trim, by_turn, left_kept, trim_kept}
-use Rattle.tree_reports.proofs.Naming.{collecting_names_it, collecting_stays_named, collecting_without, decision_without, is_decision, leaves_none, leaves_out, never, no_collecting_without, no_decision_naming, no_decision_without, no_decisions, no_prepare_without, none_if, none_of_them, one_prepare, prepare_promises, prepare_stays_named, prepare_without, promised_named}
+use Rattle.tree_reports.proofs.Naming.{collecting_names_it, collecting_stays_named, collecting_without, decision_without, leaves_none, leaves_out, never, no_collecting_without, no_decision_naming, no_decision_without, no_decisions, no_prepare_without, none_if, none_of_them, one_prepare, prepare_promises, prepare_stays_named, prepare_without, promised_named}
 use Rattle.tree_reports.proofs.Rows.{DecidesFrom, OneCase, Writes, collected, decided, decision, ended, for_nobody, from_promise, from_votes, nothing, promised, turn_writes}
 
 abbrev pub NamesStay : Node → Type 0
