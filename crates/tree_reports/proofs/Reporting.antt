@@ -1,5 +1,5 @@
 -- In every run each End that the root appends since its tree was opened last, by the second version, reports truly.
-use Rattle.std.proofs.Common.{◌≡◌, ◌∙◌, ◌&&◌, ◌||◌, ◌⊎◌, inl, inr, ℕ, zero, suc, Bool, true, false, Option, Some, None, List, [], ◌∷◌, ◌++◌, take, refl, sym, ap, subst, arith, if◌thereafter◌else◌}
+use Rattle.std.proofs.Common.{◌≡◌, ◌∙◌, ◌&&◌, ◌||◌, ◌⊎◌, inl, inr, ℕ, zero, suc, Bool, true, false, Option, Some, None, List, [], ◌∷◌, ◌++◌, take, refl, sym, ap, subst, arith, if◌then◌else◌}
 use Rattle.std.specs.Prelude.{reverse, slice_get}
 use Rattle.tree_model.specs.declared.names.Case.{Case}
 use Rattle.tree_model.specs.declared.names.Outcome.{Outcome}
@@ -136,7 +136,7 @@ module _ (tree : List TreeEntry) (is_tree : IsTree tree) (before : ℕ) (es : Li
     thereafter : IsRun tree (record { move = m; effect = e } ∷ es) w'
     thereafter = makes es w m e w' plain stands made
 
-    since : Since tree before w
+    abbrev since : Since tree before w
     since = since_opened tree is_tree before es w run
 
     step : StepOf (coordinator_place m.step.process None tree) (w.at m.step.process) m e
@@ -315,7 +315,7 @@ module _ (tree : List TreeEntry) (is_tree : IsTree tree) (before : ℕ) (es : Li
       mixed_had_mismatch = mixed_then r refl;
       mismatch_is_reported =
           is_reported tree (record { move = m; effect = e } ∷ es) w' thereafter (since.messages ++ e.messages)
-          (since_then tree is_tree before es w m e w' run second new made) c.txn o (found_below here n c o fs) r
+          (since_then tree is_tree before es w m e w' plain second new made since) c.txn o (found_below here n c o fs) r
           (reported_so h.version by (found_below here n c o fs) r reports)
           (λ u names. acked_still since.messages e.messages c.txn o (found_below here n c o fs) u
           (all_acked since.messages q None tree n (since.holds.heard q up) h now c t' o fs hears from last u

@@ -79,6 +79,16 @@ module _ (tree : List TreeEntry) (is_tree : IsTree tree) where
       by_listed false f =
           subst (λ (n : Node). AllHeardAmong [] n.heard) (sym ((the_world_holds tree is_tree es w run).unlisted q f)) tt
 
+  pub since_then : (before : ℕ) (es : List Made) (w : World) (m : Move) (e : Effect) (w' : World)
+      → IsRun tree es w → m.version ≡ Second → IsNew w.net before m.step.process m.step.happening
+      → world_makes tree w m ≡ Some (e, w') → (s : Since tree before w)
+      → SinceOpened tree (s.messages ++ e.messages) w'
+  since_then before es w m e w' run second new made s =
+      since_step tree is_tree es w run s.messages (among_net w.net before s.messages s.behind) s.holds m e w' second
+      (λ i hp. delivered_among w.net before s.messages s.behind m.step.process i
+      (subst (λ (x : Happening). IsNew w.net before m.step.process x) hp new))
+      (stands_new w.net before m.step.process m.step.happening new) made
+
   since_next : (before : ℕ) (es : List Made) (w : World) (m : Move) (e : Effect) (w' : World)
       → IsRun tree es w → m.version ≡ Second → IsNew w.net before m.step.process m.step.happening
       → world_makes tree w m ≡ Some (e, w') → Since tree before w → Since tree before w'
@@ -87,10 +97,7 @@ module _ (tree : List TreeEntry) (is_tree : IsTree tree) where
     behind = subst (λ zs. Behind zs before (s.messages ++ e.messages))
         (sym (ap (λ (y : World). y.net) (makes_at tree w m e w' made).world))
         (behind_more w.net before s.messages e.messages s.behind);
-    holds = since_step tree is_tree es w run s.messages (among_net w.net before s.messages s.behind) s.holds m e w' second
-        (λ i hp. delivered_among w.net before s.messages s.behind m.step.process i
-        (subst (λ (x : Happening). IsNew w.net before m.step.process x) hp new))
-        (stands_new w.net before m.step.process m.step.happening new) made;
+    holds = since_then before es w m e w' run second new made s;
   }
 
   since_runs : (v : Version) (before : ℕ) (es : List Made) (w : World) → IsRunBy tree v before es w → v ≡ Second
@@ -119,10 +126,3 @@ module _ (tree : List TreeEntry) (is_tree : IsTree tree) where
 
   pub since_opened : (before : ℕ) (es : List Made) (w : World) → IsRunBy tree Second before es w → Since tree before w
   since_opened before es w run = since_runs Second before es w run refl
-
-  pub since_then : (before : ℕ) (es : List Made) (w : World) (m : Move) (e : Effect) (w' : World)
-      → (run : IsRunBy tree Second before es w) → m.version ≡ Second → IsNew w.net before m.step.process m.step.happening
-      → world_makes tree w m ≡ Some (e, w') → SinceOpened tree ((since_opened before es w run).messages ++ e.messages) w'
-  since_then before es w m e w' run second new made =
-      (since_next before es w m e w' (runs_by_are_runs tree Second before es w run) second new made
-      (since_opened before es w run)).holds
