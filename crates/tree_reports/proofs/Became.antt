@@ -1,5 +1,5 @@
 -- What a step of a coordinator makes of its log and its life list.
-use Rattle.std.proofs.Common.{◌≡◌, ◌∙◌, inl, inr, ℕ, zero, suc, Bool, true, false, Option, Some, None, List, [], ◌∷◌, ◌++◌, take, drop, refl, sym, ap, subst, if◌then◌else◌}
+use Rattle.std.proofs.Common.{◌≡◌, ◌∙◌, inl, inr, ℕ, zero, suc, Bool, true, false, Option, Some, None, List, [], ◌∷◌, ◌++◌, take, refl, sym, ap, if◌then◌else◌}
 use Rattle.std.specs.Prelude.{reverse}
 use Rattle.std.proofs.lemmas.List.{append-nil}
 use Rattle.tree_model.specs.declared.names.ProcessId.{ProcessId}
@@ -7,7 +7,7 @@ use Rattle.tree_model.specs.declared.records.Record.{Record}
 use Rattle.tree_model.specs.declared.records.Record.TheVariants.{Opened}
 use Rattle.tree_model.specs.declared.trees.TreeEntry.{TreeEntry}
 use Rattle.tree_model.specs.Records.{boot_of, has, record_case}
-use Rattle.tree_model.specs.Nodes.{AtRoot, Effect, Heard, Node, Place, Written, after, appends, entries_written, is_any_forced, kept}
+use Rattle.tree_model.specs.Nodes.{AtRoot, Effect, Heard, Node, Place, Written, appends, entries_written, is_any_forced, kept}
 use Rattle.tree_model.specs.Restarts.{case_stays, data_records, left_of, reopens, staying, trim_fails, trimmed, trims}
 use Rattle.tree_model.specs.World.{Move}
 use Rattle.tree_model.proofs.ListLaws.{kept-after}

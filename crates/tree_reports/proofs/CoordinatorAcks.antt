@@ -1,5 +1,5 @@
 -- When a coordinator acknowledges by the second version, and with what findings.
-use Rattle.std.proofs.Common.{◌≡◌, ◌∙◌, ◌⊎◌, inl, inr, ℕ, Bool, true, false, Option, Some, None, List, [], ◌∷◌, ◌++◌, refl, sym, ap, subst, if◌then◌else◌}
+use Rattle.std.proofs.Common.{◌≡◌, ◌∙◌, inl, inr, Bool, true, false, Option, Some, None, List, [], ◌∷◌, ◌++◌, refl, sym, ap, subst, if◌then◌else◌}
 use Rattle.std.specs.List.{flat_map}
 use Rattle.std.specs.Prelude.{map}
 use Rattle.tree_model.specs.declared.names.Case.{Case}
@@ -7,7 +7,6 @@ use Rattle.tree_model.specs.declared.names.ProcessId.{ProcessId}
 use Rattle.tree_model.specs.declared.names.Presumption.{Presumption}
 use Rattle.tree_model.specs.declared.names.Presumption.TheVariants.{PresumeAbort, PresumeCommit}
 use Rattle.tree_model.specs.declared.names.Ticket.{Ticket}
-use Rattle.tree_model.specs.declared.names.Txn.{Txn}
 use Rattle.tree_model.specs.declared.names.Outcome.{Outcome}
 use Rattle.tree_model.specs.declared.names.Outcome.TheVariants.{Committed as CommittedOutcome, Aborted as AbortedOutcome}
 use Rattle.tree_model.specs.declared.messages.Finding.{Finding}
@@ -19,16 +18,14 @@ use Rattle.tree_model.specs.declared.records.Record.TheVariants.{Abort as AbortR
 use Rattle.tree_model.specs.declared.records.Reports.{Reports}
 use Rattle.tree_model.specs.declared.standings.Standing.{Standing}
 use Rattle.tree_model.specs.declared.standings.Standing.TheVariants.{Unknown, Active, Collecting, Prepared, Committing, Aborting, Heuristic}
-use Rattle.tree_model.specs.declared.standings.Vote.TheVariants.{No as VoteNo}
-use Rattle.tree_model.specs.declared.trees.TreeEntry.{TreeEntry}
 use Rattle.tree_model.specs.Names.{child_case, presumed}
 use Rattle.tree_model.specs.Records.{none_of}
 use Rattle.tree_model.specs.Nodes.{Effect, First, Heard, Node, Place, Second, Version, Written}
-use Rattle.tree_model.specs.CoordinatorRows.{ByAbort, ByAct, ByVote, Reason, Row, Seat, abort_answered, abort_heard_above, acknowledges_abort, acknowledges_at_last, acknowledges_at_once, active_commit_with, collecting_abort_by, each, forced, other_tickets, posted_up, prepared_abort_by, prepared_commit_by, root_commits, tells_outcome, to_child}
+use Rattle.tree_model.specs.CoordinatorRows.{Row, Seat, abort_answered, acknowledges_abort, acknowledges_at_last, acknowledges_at_once, each, forced, other_tickets, posted_up, tells_outcome}
 use Rattle.tree_model.specs.Reactions.{seat_of}
 use Rattle.tree_model.specs.Restarts.{coordinator_resumes, recorded_view, resumes_by}
 use Rattle.tree_model.specs.Standings.{CoordinatorView, coordinator_view, found_below, unknown_findings}
-use Rattle.tree_pairs.specs.turns.CoordinatorTurns.{Acknowledges, CaseTurn, CoordinatorTurn, Decided, HearsChild, abort_act, abort_again, abort_comes, abort_presumed_commit, accepts, acknowledges, aborts, answers, asks, asks_for_votes, begins, commit_again, commit_presumed_abort, commits, counts_vote, does_nothing, ends, finds_nobody, gives_again, gives_fresh, gives_up, hears_no, invites, of_case, passes_abort, passes_commit, presumes, promises, reads_only, refuses, repeats_yes, rests, sends_work, voted, waits_for_acks}
+use Rattle.tree_pairs.specs.turns.CoordinatorTurns.{Acknowledges, CaseTurn, CoordinatorTurn, Decided, HearsChild, abort_act, abort_again, abort_comes, abort_presumed_commit, accepts, acknowledges, aborts, answers, asks, asks_for_votes, begins, commit_again, commit_presumed_abort, commits, counts_vote, does_nothing, ends, finds_nobody, gives_again, gives_fresh, gives_up, hears_no, invites, of_case, passes_abort, passes_commit, presumes, promises, reads_only, refuses, repeats_yes, rests, sends_work, waits_for_acks}
 use Rattle.tree_reports.specs.SinceOpened.{IsAmong}
 use Rattle.tree_reports.proofs.Found.{among_either}
 

@@ -1,5 +1,5 @@
 -- Behind a cascaded coordinator's acknowledgement that is clear, each ticket that its case ever named has acknowledged.
-use Rattle.std.proofs.Common.{◌≡◌, ◌∙◌, ◌&&◌, ◌||◌, ◌⊎◌, inl, inr, ℕ, Bool, true, false, Option, Some, None, List, [], ◌∷◌, ◌++◌, refl, sym, ap, subst, arith}
+use Rattle.std.proofs.Common.{◌≡◌, ◌∙◌, ◌||◌, ◌⊎◌, inl, inr, ℕ, Bool, true, false, Some, List, [], ◌∷◌, ◌++◌, refl, sym, ap, subst, arith}
 use Rattle.std.specs.Prelude.{reverse}
 use Rattle.tree_model.specs.declared.names.Case.{Case}
 use Rattle.tree_model.specs.declared.names.Outcome.{Outcome}
@@ -9,19 +9,18 @@ use Rattle.tree_model.specs.declared.names.Ticket.{Ticket}
 use Rattle.tree_model.specs.declared.names.Txn.{Txn}
 use Rattle.tree_model.specs.declared.messages.Envelope.{Envelope}
 use Rattle.tree_model.specs.declared.messages.Finding.{Finding}
-use Rattle.tree_model.specs.declared.messages.Finding.TheVariants.{Unreported}
 use Rattle.tree_model.specs.declared.records.Record.{Record}
-use Rattle.tree_model.specs.declared.records.Record.TheVariants.{Abort as AbortRecord, Collecting as CollectingRecord, End as EndRecord, Opened, Prepare as PrepareRecord}
+use Rattle.tree_model.specs.declared.records.Record.TheVariants.{Abort as AbortRecord, Collecting as CollectingRecord, End as EndRecord, Prepare as PrepareRecord}
 use Rattle.tree_model.specs.declared.standings.Standing.{Standing}
 use Rattle.tree_model.specs.declared.standings.Standing.TheVariants.{Active, Collecting, Prepared}
 use Rattle.tree_model.specs.declared.trees.TreeEntry.{TreeEntry}
 use Rattle.tree_model.specs.Names.{child_case, same_case}
 use Rattle.tree_model.specs.NameLaws.{same_case-refl}
-use Rattle.tree_model.specs.Records.{has, in_list, is_abort, is_collecting, is_commit, is_forgot, is_prepare, none_of, unreported_of}
-use Rattle.tree_model.specs.Nodes.{AtRoot, Effect, Heard, Node, Place, Second, Written, entries_written, is_any_forced, kept}
+use Rattle.tree_model.specs.Records.{has, in_list, is_abort, is_collecting, is_commit, is_forgot, is_prepare, unreported_of}
+use Rattle.tree_model.specs.Nodes.{AtRoot, Effect, Heard, Node, Place, Written, entries_written, is_any_forced, kept}
 use Rattle.tree_model.specs.Memory.{memory_of}
 use Rattle.tree_model.specs.Restarts.{is_known, left_of, recorded_view, reopens, trimmed}
-use Rattle.tree_model.specs.Standings.{coordinator_view, found_below, standing_of, unknown_findings}
+use Rattle.tree_model.specs.Standings.{coordinator_view}
 use Rattle.tree_pairs.specs.Reading.{is_live}
 use Rattle.tree_pairs.specs.readings.ReadingOf.{is_decision_naming, is_learnt_abort, is_learnt_commit, is_promise, phase_by}
 use Rattle.tree_pairs.specs.turns.CoordinatorTurns.{CoordinatorTurn}
@@ -34,7 +33,7 @@ use Rattle.tree_nodes.proofs.Cases.{viewed}
 use Rattle.tree_nodes.proofs.Phases.{active_unrecorded}
 use Rattle.tree_nodes.proofs.Remembering.{coordinator_place}
 use Rattle.tree_nodes.proofs.RootLogs.{known_stays}
-use Rattle.tree_nodes.proofs.Tests.{both, case_is, either, has-cons, has-nil, has-reverse, in_either, in_first, in_second, left, neither, right}
+use Rattle.tree_nodes.proofs.Tests.{both, case_is, either, has-cons, has-nil, has-reverse, in_either, in_first, in_second, left, right}
 use Rattle.tree_nodes.proofs.Worlds.{has_other}
 use Rattle.tree_steps.proofs.parents.Tables.{none_in, prepared_facts}
 use Rattle.tree_reports.specs.SinceOpened.{Acked, AllHeardAmong, Covers, InputAmong, is_decision}
@@ -45,7 +44,7 @@ use Rattle.tree_reports.proofs.Lasting.{CoordinatorLasts, decided_forced, named_
 use Rattle.tree_reports.proofs.ManagerAcks.{unreported_one}
 use Rattle.tree_reports.proofs.Naming.{has_or, never, no_decision_naming}
 use Rattle.tree_reports.proofs.Owed.{all_acked}
-use Rattle.tree_reports.proofs.Rows.{DecidesFrom, OneCase, Writes, collected, decided, decision, ended, for_nobody, from_promise, from_votes, nothing, promised, turn_writes}
+use Rattle.tree_reports.proofs.Rows.{DecidesFrom, Writes, collected, decided, decision, ended, for_nobody, from_promise, from_votes, nothing, promised, turn_writes}
 use Rattle.tree_reports.proofs.Stays.{decision_names, naming_recorded, one_has, reopened_stood, stood}
 
 learnt_is : (d : Case) (r : Record) → is_learnt_commit d r ≡ true → (is_commit d r || is_managers r) ≡ true
@@ -176,7 +175,7 @@ module _ (me p : ProcessId) (tree : List TreeEntry) (n : Node) (nested : Nested 
             let rs = left_of n j in
             let s = stood d rs (reopened_stood d rs
             (has_other (is_decision_naming d u) (is_record_of d) (reopens AtRoot rs) (naming_recorded d u) e)) in
-            never _ (in_first (is_decision d) n.forced _ (old.decided_so (left_kept n j (is_collecting d) s.collecting)))
+            never _ (in_first (is_decision d) n.forced _ (old.collecting_is_decided (left_kept n j (is_collecting d) s.collecting)))
             s.no_decision
 
         named_then : (k : Node) → Became me (Some p) tree n k → (u : Ticket)
@@ -207,21 +206,21 @@ module _ (me p : ProcessId) (tree : List TreeEntry) (n : Node) (nested : Nested 
             by_known true f =
                 known_stays d (is_decision d) (decision_of d) (kept n) f
                 (in_first (is_decision d) n.forced n.unforced
-                (old.decided_so (trim_kept (kept n) (is_collecting d) (λ k. refl) e)))
+                (old.collecting_is_decided (trim_kept (kept n) (is_collecting d) (λ k. refl) e)))
             by_known false f = absurd (never _ e (gone (kept n) d t f).collecting)
 
         decided_then : (k : Node) → Became me (Some p) tree n k → has (is_collecting d) (kept k) ≡ true
             → has (is_decision d) k.forced ≡ true
         decided_then k (by_turn h g new up turn front keeps life grows) e =
             elim (in_either (is_collecting d) (kept n) new (ap (has (is_collecting d)) (sym keeps) ∙ e)) [
-              | inl before ↦ grows (is_decision d) (old.decided_so before)
+              | inl before ↦ grows (is_decision d) (old.collecting_is_decided before)
               | inr now ↦ absurd (turn_uncollected d over up h g turn (front (is_collecting d) now))
             ]
         decided_then k (at_rest keeps life grows) e =
-            grows (is_decision d) (old.decided_so (ap (has (is_collecting d)) (sym keeps) ∙ e))
+            grows (is_decision d) (old.collecting_is_decided (ap (has (is_collecting d)) (sym keeps) ∙ e))
         decided_then k (by_restart j new front keeps life grows) e =
             elim (in_either (is_collecting d) (left_of n j) new (ap (has (is_collecting d)) (sym keeps) ∙ e)) [
-              | inl before ↦ grows (is_decision d) (old.decided_so (left_kept n j (is_collecting d) before))
+              | inl before ↦ grows (is_decision d) (old.collecting_is_decided (left_kept n j (is_collecting d) before))
               | inr now ↦ absurd (never _ (front (is_collecting d) now)
                   (reopens_none (is_collecting d) (λ c ts. refl) (λ k. refl) AtRoot (left_of n j)))
             ]
@@ -229,7 +228,7 @@ module _ (me p : ProcessId) (tree : List TreeEntry) (n : Node) (nested : Nested 
             ap (has (is_decision d)) whole ∙ trim_decided (ap (has (is_collecting d)) (sym keeps) ∙ e)
 
         pub covers_still : (k : Node) → Became me (Some p) tree n k → Covers ls k x t o fs
-        covers_still k b = record { named = named_then k b; decided_so = decided_then k b }
+        covers_still k b = record { named = named_then k b; collecting_is_decided = decided_then k b }
 
     -- A new acknowledgement covers what it should.
 
@@ -274,7 +273,7 @@ module _ (me p : ProcessId) (tree : List TreeEntry) (n : Node) (nested : Nested 
                 (has-nil (is_decision_naming own u)))
             | inr b ↦ absurd (never _ b (no_decision_naming own u n.life (undecided (inl at))))
           ];
-          decided_so = λ e. elim (in_either (is_collecting own) (kept n) (entries_written g.written)
+          collecting_is_decided = λ e. elim (in_either (is_collecting own) (kept n) (entries_written g.written)
               (ap (has (is_collecting own)) (sym keeps) ∙ e)) [
                 | inl a ↦ absurd (never _ a
                     (active_unrecorded (kept n) own (memory_of place n own).phase (sym (viewed place n own) ∙ at)).no_collecting)
@@ -289,7 +288,7 @@ module _ (me p : ProcessId) (tree : List TreeEntry) (n : Node) (nested : Nested 
                 (none_in us u none))
             | inr b ↦ absurd (never _ b (no_decision_naming own u n.life (undecided (inr at))))
           ];
-          decided_so = λ e. ap (has (is_decision own)) (whole (ap is_any_forced wrote))
+          collecting_is_decided = λ e. ap (has (is_decision own)) (whole (ap is_any_forced wrote))
               ∙ in_second (is_decision own) (kept n) (entries_written g.written)
               (ap (λ ws. has (is_decision own) (entries_written ws)) wrote ∙ abort_there us);
         }
@@ -305,6 +304,6 @@ module _ (me p : ProcessId) (tree : List TreeEntry) (n : Node) (nested : Nested 
                 (all_acked ls me (Some p) tree n heard h now own u' o gs hears from last u
                 (named_owed place n own lasts.stays o (coordinator_view place n own).standing from refl u old))
           ];
-          decided_so = λ e. grows (is_decision own)
+          collecting_is_decided = λ e. grows (is_decision own)
               (decided_forced place n own names lasts.forced up o (coordinator_view place n own).standing from refl);
         }

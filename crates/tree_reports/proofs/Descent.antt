@@ -1,5 +1,5 @@
 -- From a root's End down to each mismatch that stands: it is reported, or lies below a ticket that is reported.
-use Rattle.std.proofs.Common.{◌≡◌, ◌≢◌, ◌∙◌, ◌⊎◌, inl, inr, ℕ, Bool, true, false, Option, Some, None, List, [], ◌∷◌, refl, sym, ap, subst, arith}
+use Rattle.std.proofs.Common.{◌≡◌, ◌≢◌, ◌∙◌, ◌⊎◌, inl, inr, ℕ, Bool, true, false, Option, Some, List, [], refl, sym, ap, subst, arith}
 use Rattle.tree_model.specs.declared.names.Case.{Case}
 use Rattle.tree_model.specs.declared.names.Outcome.{Outcome}
 use Rattle.tree_model.specs.declared.names.Outcome.TheVariants.{Committed as CommittedOutcome, Aborted as AbortedOutcome}
@@ -15,19 +15,17 @@ use Rattle.tree_model.specs.declared.records.Reports.{Reports}
 use Rattle.tree_model.specs.declared.trees.TreeEntry.{TreeEntry}
 use Rattle.tree_model.specs.Names.{child_case, root_case}
 use Rattle.tree_model.specs.Records.{has, in_list, is_decided, mixed_of, unreported_of}
-use Rattle.tree_model.specs.Nodes.{AtLeaf, AtRoot, Below, Node, Place, Role, kept, place_of, role_of}
+use Rattle.tree_model.specs.Nodes.{AtLeaf, AtRoot, Below, Node, Place, Role, kept, role_of}
 use Rattle.tree_model.specs.Outcomes.{DecisionStands, Mismatch, has_accepted, outcome_of}
 use Rattle.tree_model.specs.Standings.{other_outcome}
-use Rattle.tree_model.specs.Trees.{IsTree}
 use Rattle.tree_model.specs.World.{IsRun, Made, World}
-use Rattle.tree_nodes.specs.Lasts.{logs_of}
 use Rattle.tree_nodes.specs.Marks.{is_managers}
 use Rattle.tree_nodes.specs.WorldHolds.{NodeHolds}
 use Rattle.tree_nodes.proofs.RootsHold.{nodes_hold}
 use Rattle.tree_nodes.proofs.Tests.{in_first}
 use Rattle.tree_nodes.proofs.Worlds.{has_other}
 use Rattle.tree_reports.specs.SinceOpened.{Acked, IsAmong, SinceOpened, Within}
-use Rattle.tree_reports.specs.Mismatches.{IsNamedDown, LiesBelow, LiesUnreported, Names, accepted_by, at_top, by_root, by_ticket, mixed_in, unreported_in}
+use Rattle.tree_reports.specs.Mismatches.{IsNamedDown, LiesUnreported, Names, accepted_by, at_top, by_root, by_ticket, mixed_in, unreported_in}
 use Rattle.tree_reports.proofs.Found.{acked_within}
 use Rattle.tree_reports.proofs.Naming.{never}
 
@@ -39,7 +37,7 @@ pub record Reported (fs : List Finding) (r : Option Reports) : Type 0 where
 -- the ticket's case acknowledged the outcome, does not report itself as unreported, and all that it found is among these
 pub record ClearAck (ls : List Envelope) (x : Txn) (o : Outcome) (fs : List Finding) (t : Ticket) : Type 0 where
   pub found : List Finding
-  pub sent_so : IsAmong (Ack (child_case x t) o found) ls
+  pub is_sent : IsAmong (Ack (child_case x t) o found) ls
   pub within : Within found fs
   pub clear : in_list (unreported_of found) t ≡ false
 
@@ -83,14 +81,14 @@ module _ (tree : List TreeEntry) (es : List Made) (w : World) (run : IsRun tree 
         by_test : (b : Bool) → in_list (unreported_of a.found) t ≡ b → Told t
         by_test true e =
             inr (record { top = t; reported = reported.unreported t (a.within.unreported t e); lies = at_top })
-        by_test false e = inl (record { found = a.found; sent_so = a.sent_so; within = a.within; clear = e })
+        by_test false e = inl (record { found = a.found; is_sent = a.is_sent; within = a.within; clear = e })
 
     -- a case that has a ticket, and accepted one, is of a coordinator below the root
     module _ (u t : Ticket) (names : Names (w.at u.child) (child_case x u) t) where
       below_told : (p : ProcessId) → role_of tree u.child ≡ Below p → ClearAck ls x o fs u → Told t
       below_told p role a =
           told_of t (acked_within ls x o a.found fs t a.within
-          ((since.coordinators x u p role o a.found a.sent_so a.clear).named t names.named))
+          ((since.coordinators x u p role o a.found a.is_sent a.clear).named t names.named))
 
       by_role : (y : Role) → role_of tree u.child ≡ y → ClearAck ls x o fs u → Told t
       by_role (Below p) f a = below_told p f a
@@ -133,7 +131,7 @@ module _ (tree : List TreeEntry) (es : List Made) (w : World) (run : IsRun tree 
                 absurd (never _
                 (in_first (is_decided (child_case x t) (other_outcome o)) (kept (w.at t.child)) (w.at t.child).durable
                 (subst (λ (y : Outcome). has (is_decided (child_case x t) y) (kept (w.at t.child)) ≡ true) against kept_so))
-                (since.managers x t p leaf o a.found a.sent_so
+                (since.managers x t p leaf o a.found a.is_sent
                 (λ v f. subst (λ (z : Ticket). (in_list (unreported_of a.found) z ≡ false)
                 × (in_list (mixed_of a.found) z ≡ false)) (same_ticket_so v f) (a.clear, e))))
 

@@ -1,15 +1,14 @@
 -- Which rows of the root append an End, and with what reports.
-use Rattle.std.proofs.Common.{◌≡◌, ◌∙◌, inl, inr, ℕ, zero, suc, Bool, true, false, Option, Some, None, List, [], ◌∷◌, take, map, refl, sym, ap, subst}
+use Rattle.std.proofs.Common.{◌≡◌, ◌∙◌, ℕ, zero, suc, Bool, true, Option, Some, None, List, [], ◌∷◌, take, refl, ap, subst}
 use Rattle.std.specs.Prelude.{slice_get}
 use Rattle.tree_model.specs.declared.names.Case.{Case}
-use Rattle.tree_model.specs.declared.names.ProcessId.{ProcessId}
 use Rattle.tree_model.specs.declared.names.Presumption.TheVariants.{PresumeAbort, PresumeCommit}
 use Rattle.tree_model.specs.declared.names.Ticket.{Ticket}
 use Rattle.tree_model.specs.declared.names.Outcome.{Outcome}
 use Rattle.tree_model.specs.declared.messages.Finding.{Finding}
 use Rattle.tree_model.specs.declared.messages.Message.TheVariants.{Ack}
 use Rattle.tree_model.specs.declared.records.Record.{Record}
-use Rattle.tree_model.specs.declared.records.Record.TheVariants.{Abort as AbortRecord, Collecting as CollectingRecord, Commit as CommitRecord, End as EndRecord, Prepare as PrepareRecord}
+use Rattle.tree_model.specs.declared.records.Record.TheVariants.{End as EndRecord}
 use Rattle.tree_model.specs.declared.records.Reports.{Reports}
 use Rattle.tree_model.specs.declared.standings.Standing.TheVariants.{Collecting}
 use Rattle.tree_model.specs.Records.{has, none_of}

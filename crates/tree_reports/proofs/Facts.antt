@@ -1,5 +1,5 @@
 -- What a pair says of a ticket's case at its own process: what is settled, and what was ever decided.
-use Rattle.std.proofs.Common.{◌≡◌, ◌∙◌, ◌&&◌, ◌||◌, ◌⊎◌, inl, inr, Bool, true, false, Option, Some, None, List, refl, sym, ap, subst, arith}
+use Rattle.std.proofs.Common.{◌≡◌, ◌&&◌, ◌||◌, ◌⊎◌, Bool, true, false, Option, Some, None, List, subst, arith}
 use Rattle.tree_model.specs.declared.names.Case.{Case}
 use Rattle.tree_model.specs.declared.names.ProcessId.{ProcessId}
 use Rattle.tree_model.specs.declared.names.Ticket.{Ticket}
@@ -17,7 +17,7 @@ use Rattle.tree_pairs.specs.Reading.{is_live}
 use Rattle.tree_pairs.specs.readings.ReadingOf.{gives_case, is_ack_message, is_learnt_abort, is_learnt_commit, is_promise, phase_by}
 use Rattle.tree_nodes.specs.WorldHolds.{WorldHolds, is_about, pair_reading}
 use Rattle.tree_nodes.proofs.GivenCases.{sent_other}
-use Rattle.tree_nodes.proofs.PairOf.{Given, given, pair_of}
+use Rattle.tree_nodes.proofs.PairOf.{given, pair_of}
 use Rattle.tree_nodes.proofs.Tests.{and}
 use Rattle.tree_headline.proofs.runs.MessagesHold.{none_gives}
 

@@ -1,5 +1,5 @@
 -- A decision that children acknowledge is forced, while its coordinator is up.
-use Rattle.std.proofs.Common.{◌≡◌, ◌∙◌, ◌||◌, ◌⊎◌, inl, inr, ℕ, zero, suc, Bool, true, false, Option, Some, None, List, [], ◌∷◌, ◌++◌, refl, sym, ap, subst, arith}
+use Rattle.std.proofs.Common.{◌≡◌, ◌∙◌, ◌||◌, ◌⊎◌, inl, inr, ℕ, zero, suc, Bool, true, false, Option, List, [], ◌∷◌, refl, sym, ap, subst, arith}
 use Rattle.tree_model.specs.declared.names.Case.{Case}
 use Rattle.tree_model.specs.declared.names.Outcome.{Outcome}
 use Rattle.tree_model.specs.declared.names.Outcome.TheVariants.{Committed as CommittedOutcome, Aborted as AbortedOutcome}
@@ -10,7 +10,7 @@ use Rattle.tree_model.specs.declared.records.Record.TheVariants.{Collecting as C
 use Rattle.tree_model.specs.declared.trees.TreeEntry.{TreeEntry}
 use Rattle.tree_model.specs.Names.{same_case}
 use Rattle.tree_model.specs.Records.{has, is_abort, is_commit}
-use Rattle.tree_model.specs.Nodes.{Effect, Heard, Node, Place, Written, appends, entries_written, is_any_forced, kept}
+use Rattle.tree_model.specs.Nodes.{Effect, Node, Place, Written, appends, entries_written, is_any_forced}
 use Rattle.tree_model.specs.Restarts.{trim_fails}
 use Rattle.tree_model.specs.Standings.{coordinator_view}
 use Rattle.tree_model.specs.World.{Move}

@@ -1,5 +1,5 @@
 -- Lists of findings, one within another; and messages among others.
-use Rattle.std.proofs.Common.{◌≡◌, ◌∙◌, ◌⊎◌, ◌||◌, inl, inr, ℕ, zero, suc, Bool, true, false, Some, List, [], ◌∷◌, ◌++◌, refl, sym, ap, subst, arith}
+use Rattle.std.proofs.Common.{◌≡◌, ◌∙◌, ◌⊎◌, ◌||◌, inl, inr, ℕ, zero, suc, Bool, true, Some, List, [], ◌∷◌, ◌++◌, refl, ap, arith}
 use Rattle.std.specs.Prelude.{slice_get}
 use Rattle.std.proofs.lemmas.List.Folds.{list_any-append}
 use Rattle.tree_model.specs.declared.names.Outcome.{Outcome}
@@ -8,12 +8,10 @@ use Rattle.tree_model.specs.declared.names.Txn.{Txn}
 use Rattle.tree_model.specs.declared.messages.Finding.{Finding}
 use Rattle.tree_model.specs.declared.messages.Finding.TheVariants.{Mixed, Unreported}
 use Rattle.tree_model.specs.declared.messages.Message.{Message}
-use Rattle.tree_model.specs.declared.messages.Message.TheVariants.{Ack}
 use Rattle.tree_model.specs.declared.messages.Envelope.{Envelope}
-use Rattle.tree_model.specs.Names.{child_case}
 use Rattle.tree_model.specs.Records.{in_list, mixed_of, unreported_of}
 use Rattle.tree_model.specs.Outcomes.{sent}
-use Rattle.tree_nodes.proofs.Tests.{either, left, right}
+use Rattle.tree_nodes.proofs.Tests.{left, right}
 use Rattle.tree_reports.specs.SinceOpened.{Acked, IsAmong, Within}
 
 -- Findings.
@@ -91,9 +89,9 @@ among_sent q m e (l ∷ ls) (inr i) = right (q l.message) _ (among_sent q m e ls
 pub acked_within : (ls : List Envelope) (x : Txn) (o : Outcome) (fs gs : List Finding) (t : Ticket) → Within fs gs
     → Acked ls x o fs t → Acked ls x o gs t
 acked_within ls x o fs gs t w a =
-    record { found = a.found; sent_so = a.sent_so; within = within_then a.found fs gs a.within w }
+    record { found = a.found; is_sent = a.is_sent; within = within_then a.found fs gs a.within w }
 
 pub acked_still : (ls ms : List Envelope) (x : Txn) (o : Outcome) (fs : List Finding) (t : Ticket)
     → Acked ls x o fs t → Acked (ls ++ ms) x o fs t
 acked_still ls ms x o fs t a =
-    record { found = a.found; sent_so = among_first _ ls ms a.sent_so; within = a.within }
+    record { found = a.found; is_sent = among_first _ ls ms a.is_sent; within = a.within }

@@ -1,5 +1,5 @@
 -- What lasts at every coordinator: decisions that are acknowledged are forced, live cases are undecided, and names stay.
-use Rattle.std.proofs.Common.{◌≡◌, ◌∙◌, ◌⊎◌, inl, inr, Bool, true, false, Option, Some, None, List, [], ◌∷◌, ◌++◌, refl, sym, ap, subst}
+use Rattle.std.proofs.Common.{◌≡◌, ◌∙◌, inl, inr, Bool, true, false, Option, Some, None, List, [], ◌∷◌, refl, sym, subst}
 use Rattle.tree_model.specs.declared.names.Case.{Case}
 use Rattle.tree_model.specs.declared.names.Outcome.{Outcome}
 use Rattle.tree_model.specs.declared.names.Outcome.TheVariants.{Committed as CommittedOutcome, Aborted as AbortedOutcome}
@@ -10,7 +10,6 @@ use Rattle.tree_model.specs.declared.names.Ticket.{Ticket}
 use Rattle.tree_model.specs.declared.records.Record.{Record}
 use Rattle.tree_model.specs.declared.records.Record.TheVariants.{Opened}
 use Rattle.tree_model.specs.declared.standings.Standing.{Standing}
-use Rattle.tree_model.specs.declared.standings.Standing.TheVariants.{Committing, Aborting}
 use Rattle.tree_model.specs.declared.trees.TreeEntry.{TreeEntry}
 use Rattle.tree_model.specs.Names.{process_of}
 use Rattle.tree_model.specs.Records.{has, in_list, is_abort, is_collecting, is_commit, none_of, owing_by}
@@ -20,17 +19,14 @@ use Rattle.tree_model.specs.Standings.{coordinator_view}
 use Rattle.tree_model.specs.Trees.{IsTree}
 use Rattle.tree_model.specs.World.{IsRun, Made, World, makes, opens}
 use Rattle.tree_model.proofs.RunLaws.{makes_at}
-use Rattle.tree_pairs.specs.Reading.{Reading}
 use Rattle.tree_pairs.specs.readings.ReadingOf.{acknowledged, is_collecting_naming, is_decision_naming}
 use Rattle.tree_pairs.specs.turns.CoordinatorTurns.{Decided, by_abort, by_commit}
 use Rattle.tree_pairs.specs.turns.Steps.{StepOf}
 use Rattle.tree_pairs.proofs.turns.Steps.{step_of}
-use Rattle.tree_nodes.specs.WorldHolds.{Coordinates, InvariantOf, NamesBy, WorldHolds, pair_reading}
+use Rattle.tree_nodes.specs.WorldHolds.{InvariantOf, NamesBy, WorldHolds, pair_reading}
 use Rattle.tree_nodes.proofs.CaseOrders.{AllFit}
-use Rattle.tree_nodes.proofs.CoordinatorKept.{Coordinated}
 use Rattle.tree_nodes.proofs.CoordinatorLogs.{all_fit}
-use Rattle.tree_nodes.proofs.CoordinatorSteps.{Premises}
-use Rattle.tree_nodes.proofs.CoordinatorsHold.{all_coordinated, coordinates, premises}
+use Rattle.tree_nodes.proofs.CoordinatorsHold.{all_coordinated, premises}
 use Rattle.tree_nodes.proofs.Remembering.{coordinator_place, role_below}
 use Rattle.tree_nodes.proofs.Tests.{has-cons, has-nil, in_either, left, neither, right}
 use Rattle.tree_nodes.proofs.Worlds.{has_other, put}

@@ -1,5 +1,5 @@
 -- When a manager acknowledges by the second version, and does not report its ticket, no operator decided against it.
-use Rattle.std.proofs.Common.{◌≡◌, ◌∙◌, ◌||◌, ◌⊎◌, inl, inr, ℕ, Bool, true, false, Option, Some, None, List, [], ◌∷◌, ◌++◌, refl, sym, ap, subst, arith, if◌then◌else◌}
+use Rattle.std.proofs.Common.{◌≡◌, ◌∙◌, ◌||◌, ◌⊎◌, inl, inr, Bool, true, false, Option, Some, None, List, [], ◌∷◌, refl, sym, ap, subst, arith, if◌then◌else◌}
 use Rattle.tree_model.specs.declared.names.Case.{Case}
 use Rattle.tree_model.specs.declared.names.ProcessId.{ProcessId}
 use Rattle.tree_model.specs.declared.names.Ticket.{Ticket}
@@ -9,32 +9,29 @@ use Rattle.tree_model.specs.declared.names.Outcome.TheVariants.{Committed as Com
 use Rattle.tree_model.specs.declared.messages.Finding.{Finding}
 use Rattle.tree_model.specs.declared.messages.Finding.TheVariants.{Mixed, Unreported}
 use Rattle.tree_model.specs.declared.messages.Message.{Message}
-use Rattle.tree_model.specs.declared.messages.Message.TheVariants.{Abort, Ack, Commit, Inquire, Join, Joined, No, Prepare, Read, Work, Yes}
+use Rattle.tree_model.specs.declared.messages.Message.TheVariants.{Abort, Ack, Inquire, Joined, No, Read, Yes}
 use Rattle.tree_model.specs.declared.messages.Envelope.{Envelope}
-use Rattle.tree_model.specs.declared.records.Branch.TheVariants.{Case as CaseBranch}
 use Rattle.tree_model.specs.declared.records.Record.{Record}
 use Rattle.tree_model.specs.declared.standings.Standing.{Standing}
 use Rattle.tree_model.specs.declared.standings.Standing.TheVariants.{Active}
-use Rattle.tree_model.specs.declared.trees.TreeEntry.{TreeEntry}
-use Rattle.tree_model.specs.Names.{child_case, process_of, same_ticket}
+use Rattle.tree_model.specs.Names.{process_of}
 use Rattle.tree_model.specs.NameLaws.{same_case-refl, same_ticket-refl}
-use Rattle.tree_model.specs.Records.{has, in_list, is_decided, is_forgot, is_heuristic, mixed_of, unreported_of}
+use Rattle.tree_model.specs.Records.{has, in_list, is_decided, is_heuristic, mixed_of, unreported_of}
 use Rattle.tree_model.specs.Nodes.{AtLeaf, Effect, Heard, Node, Place, Role, Second, Version, First, kept}
 use Rattle.tree_model.specs.CoordinatorRows.{post, tells_outcome}
 use Rattle.tree_model.specs.ManagerRows.{is_acknowledged}
-use Rattle.tree_model.specs.Memory.{Memory, Open, Phase, memory_of}
+use Rattle.tree_model.specs.Memory.{Open, Phase, memory_of}
 use Rattle.tree_model.specs.Outcomes.{sent}
-use Rattle.tree_model.specs.Standings.{Decided, ManagerView, Mark, Promised, ToldOf, Unmarked, decided_findings, manager_view, marked_branch, mark_of, other_outcome, own_finding, standing_in, standing_of, unknown_findings}
+use Rattle.tree_model.specs.Standings.{ManagerView, Mark, Promised, Unmarked, decided_findings, marked_branch, other_outcome, own_finding, standing_in, standing_of, unknown_findings}
 use Rattle.tree_pairs.specs.Reading.{is_live}
-use Rattle.tree_pairs.specs.readings.ReadingOf.{gives_case, is_promise, phase_by}
-use Rattle.tree_pairs.specs.turns.LeafTurns.{Hears, IsActive, IsDecided, IsOpenBranch, LeafTurn, acknowledges, acknowledges_told, asks, by_operator, decides, does_nothing, drops, forgets, gives_again, gives_fresh, mark_at, notes, obeys, promised, refuses, repeats_yes, told, untold, votes_no, votes_read, votes_yes, waits, Waits}
+use Rattle.tree_pairs.specs.readings.ReadingOf.{gives_case, phase_by}
+use Rattle.tree_pairs.specs.turns.LeafTurns.{Hears, IsActive, IsDecided, IsOpenBranch, LeafTurn, acknowledges, acknowledges_told, asks, decides, does_nothing, drops, forgets, gives_again, gives_fresh, mark_at, notes, obeys, promised, refuses, repeats_yes, told, untold, votes_no, votes_read, votes_yes, waits, Waits}
 use Rattle.tree_pairs.specs.turns.Written.{is_coordinators}
 use Rattle.tree_pairs.proofs.turns.LeafInputs.{viewed}
 use Rattle.tree_nodes.specs.Lasts.{Manages, Nested, logs_of}
 use Rattle.tree_nodes.specs.WorldHolds.{is_about}
 use Rattle.tree_nodes.proofs.Orders.{mark_is}
-use Rattle.tree_nodes.proofs.Tests.{either, in_either, in_first, in_none, in_second, left, right}
-use Rattle.tree_nodes.proofs.Worlds.{has_other}
+use Rattle.tree_nodes.proofs.Tests.{either, in_first, in_none, in_second, left, right}
 use Rattle.tree_steps.proofs.children.Doubts.{doubt, heuristic_so, plain_so, promised_so}
 use Rattle.tree_steps.proofs.children.Tables.{IsLate, no_heuristic}
 use Rattle.tree_headline.proofs.runs.MessagesHold.{none_gives}

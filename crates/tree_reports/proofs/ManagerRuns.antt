@@ -1,7 +1,6 @@
 -- In every run no branch of a manager is decided in both ways.
-use Rattle.std.proofs.Common.{◌≡◌, ◌∙◌, inl, inr, Bool, true, false, Some, None, List, [], ◌∷◌, ◌++◌, refl, sym, ap, subst, arith}
+use Rattle.std.proofs.Common.{◌≡◌, ◌∙◌, Bool, true, false, List, [], ◌∷◌, refl, sym, subst, arith}
 use Rattle.tree_model.specs.declared.names.Case.{Case}
-use Rattle.tree_model.specs.declared.names.Outcome.{Outcome}
 use Rattle.tree_model.specs.declared.names.Outcome.TheVariants.{Committed as CommittedOutcome, Aborted as AbortedOutcome}
 use Rattle.tree_model.specs.declared.names.ProcessId.{ProcessId}
 use Rattle.tree_model.specs.declared.records.Record.{Record}
@@ -9,9 +8,9 @@ use Rattle.tree_model.specs.declared.records.Record.TheVariants.{Opened}
 use Rattle.tree_model.specs.declared.trees.TreeEntry.{TreeEntry}
 use Rattle.tree_model.specs.Names.{process_of}
 use Rattle.tree_model.specs.Records.{has, is_decided, is_heuristic}
-use Rattle.tree_model.specs.Nodes.{AtLeaf, Effect, Node, Place, Role, kept, opened_node, place_of, role_of}
+use Rattle.tree_model.specs.Nodes.{AtLeaf, Node, Place, Role, opened_node, place_of, role_of}
 use Rattle.tree_model.specs.Outcomes.{sent}
-use Rattle.tree_model.specs.Standings.{Promised, other_outcome}
+use Rattle.tree_model.specs.Standings.{Promised}
 use Rattle.tree_model.specs.Trees.{IsTree}
 use Rattle.tree_model.specs.World.{IsRun, Made, World, makes, opens}
 use Rattle.tree_model.proofs.RunLaws.{makes_at}
@@ -19,8 +18,7 @@ use Rattle.tree_pairs.specs.readings.ReadingOf.{gives_case, is_promise}
 use Rattle.tree_pairs.specs.turns.LeafTurns.{IsOpenBranch, mark_at, waits}
 use Rattle.tree_pairs.specs.turns.Steps.{StepOf}
 use Rattle.tree_pairs.proofs.turns.Steps.{step_of}
-use Rattle.tree_nodes.specs.Lasts.{Manages, Nested, logs_of}
-use Rattle.tree_nodes.specs.WorldHolds.{NodeHolds, WorldHolds, is_record_of}
+use Rattle.tree_nodes.specs.WorldHolds.{NodeHolds, is_record_of}
 use Rattle.tree_nodes.proofs.RootsHold.{nodes_hold}
 use Rattle.tree_nodes.proofs.Tests.{has-cons, has-nil, in_none, neither}
 use Rattle.tree_nodes.proofs.Worlds.{has_other, put}

@@ -3,8 +3,6 @@ use Rattle.std.proofs.Common.{◌≡◌, ◌∙◌, ◌&&◌, ◌||◌, ◌⊎�
 use Rattle.std.specs.Prelude.{not}
 use Rattle.std.specs.List.{flat_map}
 use Rattle.tree_model.specs.declared.names.Case.{Case}
-use Rattle.tree_model.specs.declared.names.Outcome.{Outcome}
-use Rattle.tree_model.specs.declared.names.Outcome.TheVariants.{Committed as CommittedOutcome, Aborted as AbortedOutcome}
 use Rattle.tree_model.specs.declared.names.Ticket.{Ticket}
 use Rattle.tree_model.specs.declared.records.Record.{Record}
 use Rattle.tree_model.specs.declared.records.Record.TheVariants.{Collecting, Prepare, Commit, Abort}
@@ -12,7 +10,7 @@ use Rattle.tree_model.specs.Names.{same_case}
 use Rattle.tree_model.specs.Records.{has, in_list, is_abort, is_collecting, is_commit, is_prepare, named_by, named_in, none_of, owing_by, owing_in, promised_by, promised_in}
 use Rattle.tree_pairs.specs.readings.ReadingOf.{is_collecting_naming, is_decision_naming, is_prepare_naming}
 use Rattle.tree_nodes.proofs.CaseOrders.{AllFit, Fits, none_later}
-use Rattle.tree_nodes.proofs.Tests.{both, case_is, either, first_false, has-append, has-cons, has-nil, in_either, in_first, in_second, left, neither, not_both, right, second_false}
+use Rattle.tree_nodes.proofs.Tests.{both, case_is, either, first_false, has-cons, has-nil, in_second, left, neither, right, second_false}
 use Rattle.tree_nodes.proofs.Worlds.{has_other}
 use Rattle.tree_reports.specs.SinceOpened.{is_decision}
 use Rattle.tree_reports.proofs.Found.{in_list_both}

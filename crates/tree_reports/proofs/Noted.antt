@@ -1,5 +1,5 @@
 -- What a coordinator remembers to have been acknowledged was acknowledged among the messages that it heard.
-use Rattle.std.proofs.Common.{◌≡◌, ◌∙◌, ◌⊎◌, ◌&&◌, ◌||◌, ◌+◌, inl, inr, ℕ, Bool, true, false, Option, Some, None, List, [], ◌∷◌, ◌++◌, refl, sym, ap, subst, if◌then◌else◌}
+use Rattle.std.proofs.Common.{◌≡◌, ◌∙◌, ◌⊎◌, ◌&&◌, ◌+◌, inl, inr, ℕ, Bool, true, false, Option, Some, None, List, [], ◌∷◌, ◌++◌, refl, sym, ap, subst, if◌then◌else◌}
 use Rattle.std.specs.Prelude.{fold}
 use Rattle.tree_model.specs.declared.names.Case.{Case}
 use Rattle.tree_model.specs.declared.names.ProcessId.{ProcessId}
@@ -72,13 +72,13 @@ note_second (a ∷ as') bs t o fs i = inr (note_second as' bs t o fs i)
 -- each note is of an acknowledgement among the messages, and each acknowledgement is noted
 pub record Noted (ls : List Envelope) (x : Txn) (acks : List (Ticket × Outcome))
     (found : List (Ticket × (Outcome × List Finding))) : Type 0 where
-  pub sent_so : (t : Ticket) (o : Outcome) (fs : List Finding) → HasNote found t o fs
+  pub is_sent : (t : Ticket) (o : Outcome) (fs : List Finding) → HasNote found t o fs
       → IsAmong (Ack (child_case x t) o fs) ls
   pub noted : (t : Ticket) (o : Outcome) → has_acked acks o t ≡ true → (fs : List Finding) × HasNote found t o fs
 
 none_noted : (ls : List Envelope) (x : Txn) → Noted ls x [] []
 unfolding has_acked
-none_noted ls x = record { sent_so = λ t o fs i. absurd i; noted = λ t o e. absurd (cc) }
+none_noted ls x = record { is_sent = λ t o fs i. absurd i; noted = λ t o e. absurd (cc) }
 
 module _ (ls : List Envelope) (x : Txn) (acks : List (Ticket × Outcome))
     (found : List (Ticket × (Outcome × List Finding))) (t : Ticket) (o : Outcome) (fs : List Finding)
@@ -106,8 +106,8 @@ module _ (ls : List Envelope) (x : Txn) (acks : List (Ticket × Outcome))
 
     pub noted_more : Noted ls x (acks ++ (t, o) ∷ []) (found ++ one (has_acked acks o t))
     noted_more = record {
-      sent_so = λ u p gs i. elim (note_either found (one (has_acked acks o t)) u p gs i) [
-        | inl a ↦ old.sent_so u p gs a
+      is_sent = λ u p gs i. elim (note_either found (one (has_acked acks o t)) u p gs i) [
+        | inl a ↦ old.is_sent u p gs a
         | inr b ↦ sent_one (has_acked acks o t) u p gs b
       ];
       noted = λ u p e. elim (either _ _ (sym (has_acked-push acks t u o p) ∙ e)) [

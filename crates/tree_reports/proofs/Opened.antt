@@ -1,10 +1,8 @@
 -- A case of a coordinator that is open, or collects votes, never had a decision.
-use Rattle.std.proofs.Common.{◌≡◌, ◌∙◌, ◌⊎◌, inl, inr, ℕ, zero, suc, Bool, true, false, Option, Some, None, List, [], ◌∷◌, ◌++◌, refl, sym, ap, subst}
+use Rattle.std.proofs.Common.{◌≡◌, ◌∙◌, ◌⊎◌, inl, inr, ℕ, zero, suc, false, Option, List, [], ◌++◌, refl, sym, ap, subst}
 use Rattle.std.specs.Prelude.{reverse}
 use Rattle.tree_model.specs.declared.names.Case.{Case}
 use Rattle.tree_model.specs.declared.names.ProcessId.{ProcessId}
-use Rattle.tree_model.specs.declared.records.Record.{Record}
-use Rattle.tree_model.specs.declared.standings.Standing.{Standing}
 use Rattle.tree_model.specs.declared.standings.Standing.TheVariants.{Active, Collecting}
 use Rattle.tree_model.specs.declared.trees.TreeEntry.{TreeEntry}
 use Rattle.tree_model.specs.Records.{boot_of, has, is_abort, is_collecting, is_commit, is_end, is_prepare, none_of, owing_by}
@@ -18,13 +16,12 @@ use Rattle.tree_model.proofs.ListLaws.{kept-after}
 use Rattle.tree_model.proofs.StandingLaws.{active_facts, phase_active}
 use Rattle.tree_pairs.specs.turns.Steps.{StepOf, TurnOf, heard_in, handled, failed_in, passed, failed_passing, reopened, failed_reopening, trimmed, failed_trimming}
 use Rattle.tree_pairs.proofs.turns.Steps.{turn_of}
-use Rattle.tree_nodes.specs.WorldHolds.{is_record_of}
 use Rattle.tree_nodes.proofs.Boots.{boot_written, trims_memory, turn_none}
 use Rattle.tree_nodes.proofs.Cases.{viewed}
 use Rattle.tree_nodes.proofs.CoordinatorKept.{Coordinated, IsLive, memory_behind, memory_empty}
 use Rattle.tree_nodes.proofs.CoordinatorSteps.{Premises, handled_so}
-use Rattle.tree_nodes.proofs.Phases.{Together, active_unrecorded, collecting_undecided, standing_at}
-use Rattle.tree_nodes.proofs.Remembering.{Moves, asks, closes, coordinator_place, counts, keeps, moves, opens, remembers_at, role_below, takes}
+use Rattle.tree_nodes.proofs.Phases.{Together, active_unrecorded, collecting_undecided}
+use Rattle.tree_nodes.proofs.Remembering.{Moves, asks, closes, coordinator_place, counts, keeps, moves, opens, remembers_at, takes}
 use Rattle.tree_nodes.proofs.RootKnown.{no_abort}
 use Rattle.tree_nodes.proofs.Tests.{has-reverse, in_none, in_second}
 use Rattle.tree_reports.specs.SinceOpened.{is_decision}

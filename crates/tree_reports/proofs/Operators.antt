@@ -1,20 +1,17 @@
 -- What a step of a manager adds to all that its log ever had; and no branch is decided in both ways.
-use Rattle.std.proofs.Common.{◌≡◌, ◌∙◌, ◌+◌, ◌||◌, ◌⊎◌, inl, inr, ℕ, zero, suc, Bool, true, false, Option, Some, None, List, [], ◌∷◌, ◌++◌, take, drop, refl, sym, ap, subst, arith, if◌then◌else◌}
+use Rattle.std.proofs.Common.{◌≡◌, ◌∙◌, ◌+◌, ◌⊎◌, inl, inr, ℕ, zero, suc, Bool, true, false, List, [], ◌∷◌, ◌++◌, take, refl, sym, ap, subst, arith}
 use Rattle.std.proofs.lemmas.List.{append-nil}
 use Rattle.tree_model.specs.declared.names.Case.{Case}
 use Rattle.tree_model.specs.declared.names.ProcessId.{ProcessId}
 use Rattle.tree_model.specs.declared.names.Outcome.{Outcome}
 use Rattle.tree_model.specs.declared.names.Outcome.TheVariants.{Committed as CommittedOutcome, Aborted as AbortedOutcome}
-use Rattle.tree_model.specs.declared.records.Branch.TheVariants.{Case as CaseBranch}
 use Rattle.tree_model.specs.declared.records.Record.{Record}
 use Rattle.tree_model.specs.declared.records.Record.TheVariants.{Base, Opened, Pair}
 use Rattle.tree_model.specs.declared.events.Act.TheVariants.{Decide}
-use Rattle.tree_model.specs.declared.events.Happening.{Happening}
 use Rattle.tree_model.specs.declared.events.Happening.TheVariants.{Input as Handles}
 use Rattle.tree_model.specs.declared.events.Input.{Input}
 use Rattle.tree_model.specs.declared.events.Input.TheVariants.{Act as ActInput}
 use Rattle.tree_model.specs.declared.trees.TreeEntry.{TreeEntry}
-use Rattle.tree_model.specs.Names.{process_of, same_case}
 use Rattle.tree_model.specs.Records.{boot_of, has, is_decided, is_heuristic}
 use Rattle.tree_model.specs.Nodes.{AtLeaf, Effect, Heard, Node, Place, Written, after, appends, entries_written, is_any_forced, kept}
 use Rattle.tree_model.specs.ManagerRows.{decides_record}
@@ -23,8 +20,8 @@ use Rattle.tree_model.specs.Restarts.{left_of, trim_fails, trimmed}
 use Rattle.tree_model.specs.Standings.{Promised, other_outcome}
 use Rattle.tree_model.specs.World.{Move}
 use Rattle.tree_model.proofs.ListLaws.{kept-after}
-use Rattle.tree_pairs.specs.turns.LeafTurns.{IsOpenBranch, LeafTurn, acknowledges, acknowledges_told, asks, decides, does_nothing, drops, forgets, gives_again, gives_fresh, mark_at, notes, obeys, refuses, repeats_yes, votes_no, votes_read, votes_yes, waits}
-use Rattle.tree_pairs.specs.turns.Steps.{StepOf, TurnAt, heard_in, handled, failed_in, passed, failed_passing, reopened, failed_reopening, trimmed as trims_log, failed_trimming}
+use Rattle.tree_pairs.specs.turns.LeafTurns.{LeafTurn, acknowledges, acknowledges_told, asks, decides, does_nothing, drops, forgets, gives_again, gives_fresh, mark_at, notes, obeys, refuses, repeats_yes, votes_no, votes_read, votes_yes}
+use Rattle.tree_pairs.specs.turns.Steps.{StepOf, heard_in, handled, failed_in, passed, failed_passing, reopened, failed_reopening, trimmed as trims_log, failed_trimming}
 use Rattle.tree_pairs.proofs.turns.Steps.{turn_of}
 use Rattle.tree_nodes.specs.Lasts.{logs_of}
 use Rattle.tree_nodes.proofs.Appends.{breaks_keeps, loses}
@@ -34,7 +31,7 @@ use Rattle.tree_nodes.proofs.Worlds.{has_other}
 use Rattle.tree_reports.specs.SinceOpened.{ever}
 use Rattle.tree_reports.proofs.Became.{left_kept}
 use Rattle.tree_reports.proofs.ManagerAcks.{OneDecision, decided_heuristic}
-use Rattle.tree_reports.proofs.Naming.{never, none_of_them}
+use Rattle.tree_reports.proofs.Naming.{never}
 use Rattle.tree_reports.proofs.Stays.{one_has}
 
 one_lacks : (q : Record → Bool) (r : Record) → q r ≡ false → has q (r ∷ []) ≡ false

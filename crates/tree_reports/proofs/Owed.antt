@@ -1,5 +1,5 @@
 -- Behind the last acknowledgement that is owed, each ticket that a kept decision names has acknowledged it.
-use Rattle.std.proofs.Common.{◌≡◌, ◌∙◌, ◌&&◌, inl, inr, Bool, true, false, Option, Some, None, List, [], ◌∷◌, ◌++◌, refl, sym, ap, subst, arith}
+use Rattle.std.proofs.Common.{◌≡◌, ◌∙◌, ◌&&◌, inl, inr, Bool, true, false, Option, List, [], refl, sym, ap, subst, arith}
 use Rattle.std.specs.Prelude.{not}
 use Rattle.tree_model.specs.declared.names.Case.{Case}
 use Rattle.tree_model.specs.declared.names.ProcessId.{ProcessId}
@@ -93,7 +93,7 @@ module _ (ls : List Envelope) (me : ProcessId) (parent : Option ProcessId) (tree
         let k = all.noted u o f in
         record {
           found = k.0;
-          sent_so = all.sent_so u o k.0 k.1;
+          is_sent = all.is_sent u o k.0 k.1;
           within = within_then k.0 (found_of m.found o (owing_by c (kept n))) _
               (note_found m.found (owing_by c (kept n)) u o k.0 e k.1)
               (within_first (found_of m.found o (owing_by c (kept n))) fs);
@@ -104,7 +104,7 @@ module _ (ls : List Envelope) (me : ProcessId) (parent : Option ProcessId) (tree
     unfolding found_below
     last_acked = record {
       found = fs;
-      sent_so = subst (λ (x : Txn). IsAmong (Ack (child_case x t) o fs) ls)
+      is_sent = subst (λ (x : Txn). IsAmong (Ack (child_case x t) o fs) ls)
           (sym (child_txn me parent tree n i.txn t c i.belongs))
           (subst (λ (x : Input). InputAmong ls x) i.hears.1 now);
       within = within_second (found_of m.found o (owing_by c (kept n))) fs;

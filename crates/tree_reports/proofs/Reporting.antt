@@ -1,5 +1,5 @@
 -- In every run each End that the root appends since its tree was opened last, by the second version, reports truly.
-use Rattle.std.proofs.Common.{◌≡◌, ◌∙◌, ◌&&◌, ◌||◌, ◌⊎◌, inl, inr, ℕ, zero, suc, Bool, true, false, Option, Some, None, List, [], ◌∷◌, ◌++◌, take, refl, sym, ap, subst, arith, if◌then◌else◌}
+use Rattle.std.proofs.Common.{◌≡◌, ◌∙◌, ◌&&◌, ◌||◌, ◌⊎◌, inl, inr, ℕ, Bool, true, false, Option, Some, None, List, [], ◌∷◌, ◌++◌, take, refl, sym, ap, subst, arith}
 use Rattle.std.specs.Prelude.{reverse, slice_get}
 use Rattle.tree_model.specs.declared.names.Case.{Case}
 use Rattle.tree_model.specs.declared.names.Outcome.{Outcome}
@@ -7,9 +7,7 @@ use Rattle.tree_model.specs.declared.names.Outcome.TheVariants.{Committed as Com
 use Rattle.tree_model.specs.declared.names.ProcessId.{ProcessId}
 use Rattle.tree_model.specs.declared.names.Ticket.{Ticket}
 use Rattle.tree_model.specs.declared.names.Txn.{Txn}
-use Rattle.tree_model.specs.declared.messages.Envelope.{Envelope}
 use Rattle.tree_model.specs.declared.messages.Finding.{Finding}
-use Rattle.tree_model.specs.declared.messages.Message.TheVariants.{Ack}
 use Rattle.tree_model.specs.declared.records.Record.{Record}
 use Rattle.tree_model.specs.declared.records.Record.TheVariants.{Collecting as CollectingRecord, End as EndRecord, Prepare as PrepareRecord}
 use Rattle.tree_model.specs.declared.records.Reports.{Reports}
@@ -19,11 +17,11 @@ use Rattle.tree_model.specs.declared.events.Input.{Input}
 use Rattle.tree_model.specs.declared.standings.Standing.{Standing}
 use Rattle.tree_model.specs.declared.standings.Standing.TheVariants.{Collecting}
 use Rattle.tree_model.specs.declared.trees.TreeEntry.{TreeEntry}
-use Rattle.tree_model.specs.Names.{child_case, process_of, root_case, same_process}
+use Rattle.tree_model.specs.Names.{child_case, process_of, root_case}
 use Rattle.tree_model.specs.NameLaws.{same_case-refl, same_process_tells}
-use Rattle.tree_model.specs.Records.{has, in_list, is_abort, is_commit, is_end, mixed_of, none_of, unreported_of}
-use Rattle.tree_model.specs.Nodes.{AtRoot, Effect, First, Heard, Node, Place, Role, Second, Version, Written, entries_written, kept, place_of, role_of}
-use Rattle.tree_model.specs.CoordinatorRows.{end_reports, other_tickets}
+use Rattle.tree_model.specs.Records.{has, in_list, is_abort, is_end, mixed_of, unreported_of}
+use Rattle.tree_model.specs.Nodes.{AtRoot, Effect, First, Heard, Node, Place, Role, Second, Version, Written, entries_written, place_of, role_of}
+use Rattle.tree_model.specs.CoordinatorRows.{end_reports}
 use Rattle.tree_model.specs.Outcomes.{Mismatch, outcome_of, root_ends}
 use Rattle.tree_model.specs.Restarts.{forced_all, left_of, reopens}
 use Rattle.tree_model.specs.Standings.{coordinator_view, found_below}
@@ -31,12 +29,11 @@ use Rattle.tree_model.specs.Trees.{IsTree}
 use Rattle.tree_model.specs.World.{IsNew, IsRun, IsRunBy, Made, Move, Stands, World, first_opens, makes, next, put_at, reopens as opens_again, world_makes}
 use Rattle.tree_model.proofs.RunLaws.{makes_at, runs_by_are_runs}
 use Rattle.tree_pairs.specs.readings.ReadingOf.{is_decision_naming}
-use Rattle.tree_pairs.specs.turns.CoordinatorTurns.{CoordinatorTurn, Decided, HearsChild, by_abort, by_commit}
+use Rattle.tree_pairs.specs.turns.CoordinatorTurns.{CoordinatorTurn, Decided, by_abort, by_commit}
 use Rattle.tree_pairs.specs.turns.Steps.{StepOf, heard_in, handled, failed_in, passed, failed_passing, reopened, failed_reopening, trimmed, failed_trimming}
 use Rattle.tree_pairs.proofs.turns.CoordinatorReactions.{coordinator_turn_of}
 use Rattle.tree_pairs.proofs.turns.Operators.{reopens_none}
 use Rattle.tree_pairs.proofs.turns.Steps.{step_of, turn_of}
-use Rattle.tree_nodes.specs.Lasts.{logs_of}
 use Rattle.tree_nodes.specs.WorldHolds.{NodeHolds, is_record_of}
 use Rattle.tree_nodes.proofs.CoordinatorsHold.{all_coordinated, premises}
 use Rattle.tree_nodes.proofs.Remembering.{coordinator_place}
@@ -46,7 +43,7 @@ use Rattle.tree_steps.proofs.parents.Tables.{aborting_facts, committing_facts}
 use Rattle.tree_headline.proofs.runs.Headline as headline
 use Rattle.tree_reports.specs.SinceOpened.{InputAmong, is_decision}
 use Rattle.tree_reports.specs.Findings.{reports_mixed}
-use Rattle.tree_reports.specs.Mismatches.{AllReportTruly, EndsReportTruly, IsNamedDown, Names, ReportsTruly, by_root, by_ticket, mixed_in, unreported_in}
+use Rattle.tree_reports.specs.Mismatches.{AllReportTruly, IsNamedDown, Names, ReportsTruly, by_root, by_ticket, mixed_in}
 use Rattle.tree_reports.proofs.Became.{life_after}
 use Rattle.tree_reports.proofs.Commits.{commit_is_old}
 use Rattle.tree_reports.proofs.Descent.{Reported, is_reported}

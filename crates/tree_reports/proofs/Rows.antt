@@ -1,20 +1,18 @@
 -- What a coordinator's input writes: at most one record, and where its case stood then.
-use Rattle.std.proofs.Common.{◌≡◌, ◌∙◌, ◌⊎◌, inl, inr, Bool, true, false, Option, Some, None, List, [], ◌∷◌, refl, sym, ap}
+use Rattle.std.proofs.Common.{◌≡◌, ◌∙◌, ◌⊎◌, inl, inr, Bool, true, false, Option, None, List, [], ◌∷◌, refl, ap}
 use Rattle.tree_model.specs.declared.names.Case.{Case}
 use Rattle.tree_model.specs.declared.names.Outcome.{Outcome}
 use Rattle.tree_model.specs.declared.names.Outcome.TheVariants.{Committed as CommittedOutcome, Aborted as AbortedOutcome}
 use Rattle.tree_model.specs.declared.names.ProcessId.{ProcessId}
-use Rattle.tree_model.specs.declared.names.Presumption.{Presumption}
 use Rattle.tree_model.specs.declared.names.Presumption.TheVariants.{PresumeAbort, PresumeCommit}
 use Rattle.tree_model.specs.declared.names.Ticket.{Ticket}
 use Rattle.tree_model.specs.declared.records.Record.{Record}
 use Rattle.tree_model.specs.declared.records.Record.TheVariants.{Collecting as CollectingRecord, Prepare as PrepareRecord, Commit as CommitRecord, Abort as AbortRecord, End as EndRecord}
 use Rattle.tree_model.specs.declared.records.Reports.{Reports}
-use Rattle.tree_model.specs.declared.standings.Standing.{Standing}
 use Rattle.tree_model.specs.declared.standings.Standing.TheVariants.{Active, Collecting, Prepared}
 use Rattle.tree_model.specs.Nodes.{Effect, Heard, Node, Place, Written}
 use Rattle.tree_model.specs.CoordinatorRows.{Row}
-use Rattle.tree_model.specs.Standings.{CoordinatorView, coordinator_view}
+use Rattle.tree_model.specs.Standings.{coordinator_view}
 use Rattle.tree_pairs.specs.readings.ReadingOf.{acknowledged}
 use Rattle.tree_pairs.specs.turns.CoordinatorTurns.{CaseTurn, CoordinatorTurn, aborts, accepts, acknowledges, answers, asks, asks_for_votes, begins, commits, counts_vote, does_nothing, ends, finds_nobody, gives_again, gives_fresh, gives_up, hears_no, invites, of_case, passes_abort, passes_commit, presumes, promises, reads_only, refuses, repeats_yes, rests, sends_work, waits_for_acks}
 

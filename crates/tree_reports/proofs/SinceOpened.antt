@@ -1,5 +1,5 @@
 -- What holds of the acknowledgements that were sent since a tree was opened last, by the second version: through a step.
-use Rattle.std.proofs.Common.{◌≡◌, ◌∙◌, ◌⊎◌, inl, inr, ℕ, zero, suc, Bool, true, false, Option, Some, None, List, [], ◌∷◌, ◌++◌, refl, sym, ap, subst, if◌then◌else◌}
+use Rattle.std.proofs.Common.{◌≡◌, ◌∙◌, inl, inr, ℕ, zero, suc, false, Some, List, [], ◌∷◌, ◌++◌, refl, sym, ap, subst}
 use Rattle.std.specs.List.{flat_map}
 use Rattle.tree_model.specs.declared.names.Case.{Case}
 use Rattle.tree_model.specs.declared.names.Outcome.{Outcome}
@@ -9,16 +9,16 @@ use Rattle.tree_model.specs.declared.names.Txn.{Txn}
 use Rattle.tree_model.specs.declared.messages.Envelope.{Envelope}
 use Rattle.tree_model.specs.declared.messages.Finding.{Finding}
 use Rattle.tree_model.specs.declared.messages.Message.{Message}
-use Rattle.tree_model.specs.declared.messages.Message.TheVariants.{Ack, Inquire}
+use Rattle.tree_model.specs.declared.messages.Message.TheVariants.{Ack}
 use Rattle.tree_model.specs.declared.records.Branch.TheVariants.{Case as CaseBranch}
 use Rattle.tree_model.specs.declared.records.Record.{Record}
 use Rattle.tree_model.specs.declared.events.Happening.TheVariants.{Input as Handles}
 use Rattle.tree_model.specs.declared.events.Input.{Input}
 use Rattle.tree_model.specs.declared.trees.TreeEntry.{TreeEntry}
-use Rattle.tree_model.specs.Names.{child_case, process_of}
+use Rattle.tree_model.specs.Names.{child_case}
 use Rattle.tree_model.specs.NameLaws.{same_case-refl}
 use Rattle.tree_model.specs.Records.{cases_in, in_list, unreported_of}
-use Rattle.tree_model.specs.Nodes.{AtLeaf, AtRoot, Below, Effect, Heard, IsCoordinator, Node, Place, Role, Second, Version, is_any_forced, kept, appends, entries_written, place_of, role_of}
+use Rattle.tree_model.specs.Nodes.{AtLeaf, Below, Effect, Node, Place, Role, Second, place_of, role_of}
 use Rattle.tree_model.specs.Memory.{fresh_memory}
 use Rattle.tree_model.specs.Restarts.{inquires_by, left_of, manager_resumes, recorded_branch, reopens, trim_fails}
 use Rattle.tree_model.specs.Standings.{Decided, Finished, Mark, Promised, ToldOf, Unmarked, mark_of, marked_branch}
@@ -30,7 +30,6 @@ use Rattle.tree_pairs.specs.readings.ReadingOf.{is_ack_message}
 use Rattle.tree_pairs.specs.turns.LeafTurns.{Hears}
 use Rattle.tree_pairs.specs.turns.Steps.{StepOf, heard_in, handled, failed_in, passed, failed_passing, reopened, failed_reopening, trimmed, failed_trimming}
 use Rattle.tree_pairs.proofs.turns.Steps.{step_of, turn_of}
-use Rattle.tree_nodes.specs.Lasts.{logs_of}
 use Rattle.tree_nodes.specs.WorldHolds.{AllGo, GoesBy, NodeHolds, WorldHolds}
 use Rattle.tree_nodes.proofs.CoordinatorAccepts.{turn_here}
 use Rattle.tree_nodes.proofs.CoordinatorsHold.{all_coordinated, coordinates, premises}
@@ -46,7 +45,7 @@ use Rattle.tree_reports.proofs.Became.{became, forced_after, forced_whole, life_
 use Rattle.tree_reports.proofs.CoordinatorAcks.{flat_none, resumes_none, turn_acks}
 use Rattle.tree_reports.proofs.CoordinatorCovers.{covers_now, covers_still}
 use Rattle.tree_reports.proofs.Facts.{IsOver, acked_over}
-use Rattle.tree_reports.proofs.Found.{acked_still, among_either, among_first, among_sent}
+use Rattle.tree_reports.proofs.Found.{acked_still, among_either, among_sent}
 use Rattle.tree_reports.proofs.Lasting.{CoordinatorLasts, all_last}
 use Rattle.tree_reports.proofs.ManagerAcks.{leaf_fine}
 use Rattle.tree_reports.proofs.ManagerClears.{none_now, none_still}
@@ -86,7 +85,7 @@ manager_resumes_none me p rs d o fs cs =
 covers_more : (ls ms : List Envelope) (n : Node) (x : Txn) (t : Ticket) (o : Outcome) (fs : List Finding)
     → Covers ls n x t o fs → Covers (ls ++ ms) n x t o fs
 covers_more ls ms n x t o fs c =
-    record { named = λ u e. acked_still ls ms x o fs u (c.named u e); decided_so = c.decided_so }
+    record { named = λ u e. acked_still ls ms x o fs u (c.named u e); collecting_is_decided = c.collecting_is_decided }
 
 module _ (tree : List TreeEntry) (is_tree : IsTree tree) (es : List Made) (w : World) (run : IsRun tree es w)
     (ls : List Envelope) (within : (x : Message) → IsAmong x ls → IsAmong x w.net) (old : SinceOpened tree ls w)

@@ -1,5 +1,5 @@
 -- In every run by the second version since its tree was opened last: what holds of the acknowledgements sent since.
-use Rattle.std.proofs.Common.{◌≡◌, ◌∙◌, ◌+◌, ◌-◌, inl, inr, ℕ, zero, suc, Bool, true, false, Some, None, List, [], ◌∷◌, ◌++◌, refl, sym, ap, subst, arith, append_assoc}
+use Rattle.std.proofs.Common.{◌≡◌, ◌∙◌, ◌+◌, ◌-◌, ℕ, suc, Bool, true, false, Some, List, [], ◌∷◌, ◌++◌, refl, sym, ap, subst, arith, append_assoc}
 use Rattle.std.specs.Prelude.{length, slice_get}
 use Rattle.std.proofs.lemmas.List.{append-nil}
 use Rattle.tree_model.specs.declared.names.ProcessId.{ProcessId}
@@ -10,9 +10,9 @@ use Rattle.tree_model.specs.declared.events.Happening.TheVariants.{Input as Hand
 use Rattle.tree_model.specs.declared.events.Input.{Input}
 use Rattle.tree_model.specs.declared.events.Input.TheVariants.{Act as ActInput, Message as MessageInput}
 use Rattle.tree_model.specs.declared.trees.TreeEntry.{TreeEntry}
-use Rattle.tree_model.specs.Nodes.{Effect, Node, Second, Version, is_listed, opened_node}
+use Rattle.tree_model.specs.Nodes.{Effect, Node, Second, Version, is_listed}
 use Rattle.tree_model.specs.Trees.{IsTree}
-use Rattle.tree_model.specs.World.{InputIsNew, InputStands, IsDown, IsNew, IsRun, IsRunBy, Made, Move, Stands, World, first_opens, next, opened_world, reopens, world_makes}
+use Rattle.tree_model.specs.World.{InputIsNew, IsDown, IsNew, IsRun, IsRunBy, Made, Move, Stands, World, first_opens, next, reopens, world_makes}
 use Rattle.tree_model.proofs.RunLaws.{makes_at, runs_by_are_runs}
 use Rattle.tree_headline.proofs.runs.Headline.{the_world_holds}
 use Rattle.tree_reports.specs.SinceOpened.{AllHeardAmong, InputAmong, IsAmong, SinceOpened}

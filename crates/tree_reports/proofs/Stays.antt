@@ -1,5 +1,5 @@
 -- Whom a decision of a coordinator's case ever named, no kept Collecting, Prepare or decision of the case leaves out.
-use Rattle.std.proofs.Common.{◌≡◌, ◌∙◌, ◌&&◌, ◌||◌, ◌⊎◌, ◌+◌, inl, inr, ℕ, Bool, true, false, Option, Some, None, List, [], ◌∷◌, ◌++◌, refl, sym, ap, subst, arith, if◌then◌else◌}
+use Rattle.std.proofs.Common.{◌≡◌, ◌∙◌, ◌&&◌, ◌||◌, ◌⊎◌, ◌+◌, inl, inr, ℕ, Bool, true, false, Option, List, [], ◌∷◌, ◌++◌, refl, sym, ap, subst, arith}
 use Rattle.std.specs.Prelude.{not, reverse}
 use Rattle.std.specs.List.{flat_map}
 use Rattle.tree_model.specs.declared.names.Case.{Case}
@@ -14,12 +14,12 @@ use Rattle.tree_model.specs.declared.standings.Standing.TheVariants.{Unknown, Ac
 use Rattle.tree_model.specs.declared.trees.TreeEntry.{TreeEntry}
 use Rattle.tree_model.specs.Names.{same_case}
 use Rattle.tree_model.specs.NameLaws.{same_case-refl}
-use Rattle.tree_model.specs.Records.{boot_of, cases_in, has, in_list, is_abort, is_collecting, is_commit, is_prepare, named_by, none_of, promised_by}
+use Rattle.tree_model.specs.Records.{boot_of, cases_in, has, in_list, is_collecting, is_prepare, none_of, promised_by}
 use Rattle.tree_model.specs.Nodes.{AtRoot, Effect, Heard, Node, Place, Written, entries_written, kept}
 use Rattle.tree_model.specs.Memory.{Idle, memory_of}
 use Rattle.tree_model.specs.Outcomes.{has_accepted}
-use Rattle.tree_model.specs.Restarts.{aborts_collecting, coordinator_reopens, left_of, recorded_view, reopens, restart_abort, trimmed}
-use Rattle.tree_model.specs.Standings.{CoordinatorView, coordinator_view}
+use Rattle.tree_model.specs.Restarts.{aborts_collecting, left_of, recorded_view, reopens, restart_abort, trimmed}
+use Rattle.tree_model.specs.Standings.{coordinator_view}
 use Rattle.tree_pairs.specs.readings.ReadingOf.{is_decision_naming}
 use Rattle.tree_pairs.specs.turns.CoordinatorTurns.{CoordinatorTurn}
 use Rattle.tree_nodes.specs.Lasts.{Nested, logs_of}
@@ -32,12 +32,12 @@ use Rattle.tree_nodes.proofs.Naming.{effect_names, reopens_name, view_names}
 use Rattle.tree_nodes.proofs.Phases.{collecting_undecided}
 use Rattle.tree_nodes.proofs.Remembering.{coordinator_place}
 use Rattle.tree_nodes.proofs.RootLogs.{idle_standing, recorded_stands}
-use Rattle.tree_nodes.proofs.Tests.{and, both, case_is, has-cons, has-nil, has-reverse, in_either, in_none, in_second, left, neither, right}
+use Rattle.tree_nodes.proofs.Tests.{both, case_is, has-cons, has-nil, has-reverse, in_either, in_none, left, neither}
 use Rattle.tree_nodes.proofs.Worlds.{has_other}
 use Rattle.tree_steps.proofs.parents.Tables.{prepared_facts}
 use Rattle.tree_reports.specs.SinceOpened.{is_decision}
 use Rattle.tree_reports.proofs.Became.{Became, Grows, at_rest, by_restart, by_trim, by_turn, left_kept, trim_kept}
-use Rattle.tree_reports.proofs.Naming.{collecting_names_it, collecting_stays_named, collecting_without, decision_without, leaves_none, leaves_out, never, no_collecting_without, no_decision_naming, no_decision_without, no_decisions, no_prepare_without, none_if, none_of_them, one_prepare, prepare_promises, prepare_stays_named, prepare_without, promised_named}
+use Rattle.tree_reports.proofs.Naming.{collecting_names_it, collecting_stays_named, collecting_without, leaves_none, leaves_out, never, no_decision_naming, no_decision_without, no_decisions, no_prepare_without, none_if, one_prepare, prepare_promises, prepare_stays_named, promised_named}
 use Rattle.tree_reports.proofs.Rows.{DecidesFrom, OneCase, Writes, collected, decided, decision, ended, for_nobody, from_promise, from_votes, nothing, promised, turn_writes}
 
 abbrev pub NamesStay : Node → Type 0

@@ -1,5 +1,5 @@
 -- The invariant of reports: what holds of the acknowledgements that were sent since a tree was opened last.
-use Rattle.std.specs.Prelude.{◌≡◌, ◌⊎◌, ◌||◌, true, false, Bool, Option, Some, None, List, [], ◌∷◌, ◌++◌}
+use Rattle.std.specs.Prelude.{◌≡◌, ◌⊎◌, ◌||◌, true, false, Bool, Some, List, [], ◌∷◌, ◌++◌}
 use Rattle.tree_model.specs.declared.names.Case.{Case}
 use Rattle.tree_model.specs.declared.names.Outcome.{Outcome}
 use Rattle.tree_model.specs.declared.names.ProcessId.{ProcessId}
@@ -47,7 +47,7 @@ pub record Within (fs gs : List Finding) : Type 0 where
 -- the ticket's case acknowledged the outcome among these messages, and what it found is within these findings
 pub record Acked (ls : List Envelope) (x : Txn) (o : Outcome) (fs : List Finding) (t : Ticket) : Type 0 where
   pub found : List Finding
-  pub sent_so : IsAmong (Ack (child_case x t) o found) ls
+  pub is_sent : IsAmong (Ack (child_case x t) o found) ls
   pub within : Within found fs
 
 -- the findings do not report the case's own ticket
@@ -74,7 +74,7 @@ is_decision c r = is_commit c r || is_abort c r
 pub record Covers (ls : List Envelope) (n : Node) (x : Txn) (t : Ticket) (o : Outcome)
     (fs : List Finding) : Type 0 where
   pub named : (u : Ticket) → has (is_decision_naming (child_case x t) u) n.life ≡ true → Acked ls x o fs u
-  pub decided_so : has (is_collecting (child_case x t)) (kept n) ≡ true
+  pub collecting_is_decided : has (is_collecting (child_case x t)) (kept n) ≡ true
       → has (is_decision (child_case x t)) n.forced ≡ true
 
 -- Each process that is up has heard these messages alone. Behind an acknowledgement that does not report its own ticket,

@@ -1,7 +1,6 @@
 -- The wrong bodies that report too little: each breaks the invariant of reports, and leads to an End that reports falsely.
-use Rattle.std.proofs.Common.{◌≡◌, ◌≢◌, ◌∙◌, ◌&&◌, ◌⊎◌, inl, inr, ℕ, Bool, true, false, Option, Some, None, List, [], ◌∷◌, ◌++◌, refl, sym, ap}
+use Rattle.std.proofs.Common.{◌≡◌, ◌∙◌, ◌&&◌, inl, inr, ℕ, Bool, true, false, Some, None, List, [], ◌∷◌, ◌++◌, refl, sym}
 use Rattle.std.specs.Prelude.{⊤, not, slice_get}
-use Rattle.tree_model.specs.declared.names.Case.{Case}
 use Rattle.tree_model.specs.declared.names.Outcome.{Outcome}
 use Rattle.tree_model.specs.declared.names.Outcome.TheVariants.{Committed as CommittedOutcome, Aborted as AbortedOutcome}
 use Rattle.tree_model.specs.declared.names.Presumption.TheVariants.{PresumeAbort}
@@ -9,22 +8,21 @@ use Rattle.tree_model.specs.declared.names.ProcessId.{ProcessId}
 use Rattle.tree_model.specs.declared.names.Ticket.{Ticket}
 use Rattle.tree_model.specs.declared.names.Txn.{Txn}
 use Rattle.tree_model.specs.declared.messages.Envelope.{Envelope}
-use Rattle.tree_model.specs.declared.messages.Finding.{Finding}
 use Rattle.tree_model.specs.declared.messages.Message.{Message}
 use Rattle.tree_model.specs.declared.messages.Message.TheVariants.{Ack}
 use Rattle.tree_model.specs.declared.records.Record.TheVariants.{End}
 use Rattle.tree_model.specs.declared.trees.TreeEntry.{TreeEntry}
-use Rattle.tree_model.specs.Names.{child_case, root_case, same_case}
+use Rattle.tree_model.specs.Names.{child_case, same_case}
 use Rattle.tree_model.specs.NameLaws.{same_case-refl}
 use Rattle.tree_model.specs.Nodes.{AtRoot, Below, entries_written, role_of}
-use Rattle.tree_model.specs.Outcomes.{DecisionStands, Mismatch, has_last, is_commit_outcome, outcome_of, sent}
+use Rattle.tree_model.specs.Outcomes.{DecisionStands, Mismatch, has_last, is_commit_outcome, sent}
 use Rattle.tree_model.specs.Plays.{Player, Played}
 use Rattle.tree_model.specs.Records.{has, in_list, is_decided, mixed_of, unreported_of}
 use Rattle.tree_model.specs.Rows.{process, tree_b, txn}
 use Rattle.tree_model.specs.World.{Made, Stands, World}
-use Rattle.tree_pairs.specs.readings.ReadingOf.{is_ack_message, is_decision_naming}
-use Rattle.tree_reports.specs.Mismatches.{EndsReportTruly, IsNamedDown, LiesUnreported, Names, ReportsTruly, by_root, by_ticket}
-use Rattle.tree_reports.specs.SinceOpened.{Acked, IsAmong, SinceOpened, Within}
+use Rattle.tree_pairs.specs.readings.ReadingOf.{is_decision_naming}
+use Rattle.tree_reports.specs.Mismatches.{IsNamedDown, Names, ReportsTruly, by_root, by_ticket}
+use Rattle.tree_reports.specs.SinceOpened.{Acked, IsAmong, SinceOpened}
 use Rattle.tree_reports.proofs.Found.{among_second, among_sent}
 use Rattle.tree_worked.specs.SecondPlays.{second_plays_all}
 use Rattle.tree_worked.specs.wrong.WrongBodies.{case_at, post, second, third, top}
@@ -111,7 +109,7 @@ no_ack ls x o t none a = by_test (in_list (mixed_of a.found) t) refl
         contrary (sent (acks_without x t) ls)
         (among_sent (acks_without x t) (Ack (child_case x t) o a.found)
         (and_not (same_case (child_case x t) (child_case x t)) (in_list (mixed_of a.found) t)
-        (same_case-refl (child_case x t)) e) ls a.sent_so) none
+        (same_case-refl (child_case x t)) e) ls a.is_sent) none
 
 clear_of : (t : Ticket) → in_list (unreported_of []) t ≡ false
 unfolding computing

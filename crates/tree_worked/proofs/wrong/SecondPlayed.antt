@@ -1,9 +1,8 @@
 -- What is played by the second version, by acts, deliveries, restarts and trims, is a run by it.
 use Rattle.std.proofs.Common.{◌≡◌, ◌∙◌, ap, ℕ, zero, suc, ◌-◌, ◌+◌, Bool, true, false, ◌&&◌, Option, Some, None, List, [], ◌∷◌, refl, if◌then◌else◌, arith, fold, slice_get}
-use Rattle.std.specs.Prelude.{◌≤◌}
 use Rattle.tree_model.specs.Nodes.{Effect, Second, is_listed, place_of}
 use Rattle.tree_model.specs.Plays.{Play, Acts, Delivers, Settles, Restarts, Trims, Player, Played, Goes, Stops, played, plays_move, sent_as, plain_answer, process_of_act}
-use Rattle.tree_model.specs.World.{World, Made, opened_world, node_makes, world_makes, IsNew, IsNumbered, IsRunBy, Stands, Move, Stepped, Refuses, Makes, first_opens, next, Continues, stays, goes_on as steps_on}
+use Rattle.tree_model.specs.World.{World, Made, opened_world, node_makes, world_makes, IsNew, IsNumbered, IsRunBy, Move, Stepped, Refuses, Makes, first_opens, next, Continues, stays, goes_on as steps_on}
 use Rattle.tree_model.specs.declared.events.Input.TheVariants.{Act as ActInput, Message as MessageInput}
 use Rattle.tree_model.specs.declared.events.Happening.TheVariants.{Input as Handles, Restart, Trim}
 use Rattle.tree_model.specs.declared.events.StepError.TheVariants.{NoSuch}

@@ -1,24 +1,23 @@
 -- Wrong bodies of the second version, which report too little: where each breaks the invariant of reports, and what comes
 -- of it.
-use Rattle.std.specs.Prelude.{◌≡◌, ℕ, true, false, Some, None, List, [], ◌∷◌, ◌++◌, codes, fold}
+use Rattle.std.specs.Prelude.{◌≡◌, true, List, [], ◌∷◌, ◌++◌, fold}
 use Rattle.tree_model.specs.declared.names.Outcome.TheVariants.{Committed as CommittedOutcome, Aborted as AbortedOutcome}
 use Rattle.tree_model.specs.declared.names.Presumption.TheVariants.{PresumeAbort}
 use Rattle.tree_model.specs.declared.messages.Message.TheVariants.{Ack, Commit}
-use Rattle.tree_model.specs.declared.messages.Op.TheVariants.{Put}
-use Rattle.tree_model.specs.declared.events.Act.TheVariants.{Begin, Commit as CommitAct, Decide, Join, Work}
+use Rattle.tree_model.specs.declared.events.Act.TheVariants.{Decide}
 use Rattle.tree_model.specs.declared.events.Happening.TheVariants.{Input as Handles}
 use Rattle.tree_model.specs.declared.events.Input.{Input}
 use Rattle.tree_model.specs.declared.events.Input.TheVariants.{Message as MessageInput}
 use Rattle.tree_model.specs.declared.trees.TreeEntry.{TreeEntry}
 use Rattle.tree_model.specs.Nodes.{Heard, ReadsOnly, Second, after, no_effect}
 use Rattle.tree_model.specs.Plays.{Acts, Delivers, Goes, Play, Played, Player}
-use Rattle.tree_model.specs.Rows.{process, tree_b, txn}
+use Rattle.tree_model.specs.Rows.{process, tree_b}
 use Rattle.tree_model.specs.Trees.{IsTree}
 use Rattle.tree_model.specs.World.{Continues, IsRunBy, Made, Stands, World}
 use Rattle.tree_reports.specs.Mismatches.{EndsReportTruly}
 use Rattle.tree_reports.specs.SinceOpened.{SinceOpened}
 use Rattle.tree_worked.specs.SecondPlays.{second_plays_all, second_plays_on}
-use Rattle.tree_worked.specs.wrong.WrongBodies.{case_at, cascade_is_asked, post, second, third, top}
+use Rattle.tree_worked.specs.wrong.WrongBodies.{case_at, cascade_is_asked, post, second, third}
 use Rattle.tree_worked.specs.wrong.WrongSteps.{WrongStep, player_at, wrongly_left}
 
 -- What is said of them.
