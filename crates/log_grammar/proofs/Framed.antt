@@ -262,7 +262,7 @@ there_reads p s place xs (l ∷ ls) said rest begins =
         (begins.text ∙ append_assoc (record_text l) (records_text ls) rest)
         ∙ ap (with_first l) (more t order ∙ ap (λ n. with_all ls (read_frames p n said 0 rest)) at)
 
-text_reads : (p : Kind) (bytes : List ℕ) (ls : List LogRecord) (torn : ℕ)
+pub text_reads : (p : Kind) (bytes : List ℕ) (ls : List LogRecord) (torn : ℕ)
     → IsText p nothing_seen bytes ls torn → read_frames p 5 nothing_seen 0 bytes ≡ Whole ls torn
 text_reads p bytes ls torn text =
     there_reads p nothing_seen 5 bytes ls text.said text.tail text.begins

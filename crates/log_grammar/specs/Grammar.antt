@@ -1,14 +1,15 @@
 -- The bytes of a log as a relation: which bytes behind a header are which records with a torn tail, and which
 -- are damaged at which place.
-use Rattle.std.specs.Prelude.{◌≡◌, ◌<◌, ◌+◌, ◌++◌, ◌⊎◌, ℕ, List, [], ◌∷◌, Option, Some, None, length}
+use Rattle.std.specs.Prelude.{◌≡◌, ◌<◌, ◌+◌, ◌++◌, ◌⊎◌, ℕ, true, is_some, List, [], ◌∷◌, Option, Some, None, length}
 use Rattle.std.specs.List.{AllByRecursion}
 use Rattle.tree_model.specs.declared.names.Kind.{Kind}
 use Rattle.tree_model.specs.declared.records.LogRecord.{LogRecord}
-use Rattle.log_text.specs.Frames.{Cut, first_frame}
+use Rattle.log_text.specs.Frames.{Cut, first_frame, header}
 use Rattle.log_text.specs.Payloads.{kind_byte, payload_text, records_text}
 use Rattle.log_text.specs.Reading.{read_record}
-use Rattle.log_rules.specs.order.Logs.{Damaged, Whole, read_frames}
+use Rattle.log_rules.specs.order.Logs.{Damaged, Whole, read_frames, read_log}
 use Rattle.log_rules.specs.order.Orders.{SeenLog, after, nothing_seen}
+use Rattle.log_rules.specs.sound.Sound.{IsSound}
 use Rattle.log_rules.specs.sound.Written.{AreBytes}
 
 -- what has been seen behind more, where it may stand so far
@@ -74,3 +75,14 @@ pub record ReadsAsText (p : Kind) (bytes : List ℕ) : Type 0 where
 -- every list of bytes reads exactly as the text that it is, or as damaged where it is damaged first
 abbrev pub BytesReadAsText : Type 0
 BytesReadAsText = (p : Kind) (bytes : List ℕ) → AreBytes bytes → ReadsAsText p bytes
+
+-- the records may follow one another in a log, from its first record on
+abbrev pub MayFollow : List LogRecord → Type 0
+MayFollow ls = is_some (admitted nothing_seen ls) ≡ true
+
+-- records that can stand in a log of this sort of process, and that may follow one another, are read as these behind the
+-- header, and as damaged nowhere; bytes behind them that are no whole frame are a torn tail
+abbrev pub OrderedIsRead : Type 0
+OrderedIsRead = (p : Kind) (ls : List LogRecord) → AllByRecursion (IsSound p) ls → MayFollow ls
+    → (tail : List ℕ) → first_frame tail ≡ None
+    → read_log p (header ++ (records_text ls ++ tail)) ≡ Whole ls (length tail)
