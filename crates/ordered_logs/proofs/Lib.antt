@@ -1,3 +1,4 @@
 pub mod Follows
 pub mod Names
 pub mod Ranks
+pub mod LogsRead

@@ -1,11 +1,21 @@
 -- When the records of a process may follow one another in its log.
-use Rattle.std.specs.Prelude.{◌≡◌, true, is_some, List, [], ◌∷◌, map, Option, Some, None}
+use Rattle.std.specs.Prelude.{◌≡◌, ◌++◌, ℕ, true, is_some, List, [], ◌∷◌, length, map, Option, Some, None}
+use Rattle.std.specs.List.{AllByRecursion}
 use Rattle.tree_model.specs.declared.names.Case.{Case}
 use Rattle.tree_model.specs.declared.names.ProcessId.{ProcessId}
+use Rattle.tree_model.specs.declared.names.Kind.TheVariants.{Coordinator}
+use Rattle.tree_model.specs.declared.records.LogRecord.{LogRecord}
 use Rattle.tree_model.specs.declared.records.Record.{Record}
+use Rattle.tree_model.specs.declared.trees.TreeEntry.{TreeEntry}
 use Rattle.tree_model.specs.Branches.{FitsBelow, FitsTxn}
-use Rattle.tree_model.specs.LogNames.{below_of, in_log}
+use Rattle.tree_model.specs.LogNames.{below_of, in_log, parent_of}
+use Rattle.tree_model.specs.Nodes.{kept, role_of}
 use Rattle.tree_model.specs.Records.{record_case}
+use Rattle.tree_model.specs.World.{World}
+use Rattle.log_text.specs.Frames.{first_frame, header}
+use Rattle.log_text.specs.Payloads.{records_text}
+use Rattle.log_rules.specs.order.Logs.{Whole, read_log}
+use Rattle.log_rules.specs.sound.Sound.{IsSound}
 use Rattle.kv_core.specs.Replays.{seen_of}
 
 -- the numbers of the case's name fit the bytes of its XID, where there is a case
@@ -21,3 +31,17 @@ NamesFit p (r ∷ rs) = NameFits p (record_case r) × NamesFit p rs
 -- the records may follow one another in the log of a process below this parent
 abbrev pub AreOrdered : Option ProcessId → List Record → Type 0
 AreOrdered p rs = is_some (seen_of (map (in_log p) rs)) ≡ true
+
+-- the log of a process, record by record
+abbrev pub log_of : List TreeEntry → World → ProcessId → List LogRecord
+log_of tree w q = map (in_log (parent_of (role_of tree q))) (kept (w.at q))
+
+-- as bytes behind a header it reads as these records, with any torn tail behind them
+abbrev pub IsReadWhole : List LogRecord → Type 0
+IsReadWhole ls = (tail : List ℕ) → first_frame tail ≡ None
+    → read_log Coordinator (header ++ (records_text ls ++ tail)) ≡ Whole ls (length tail)
+
+-- each record can stand in the log of a coordinator: its numbers are within their bounds, it names 255 tickets at most, and an
+-- End has no report
+abbrev pub CanStand : List LogRecord → Type 0
+CanStand ls = AllByRecursion (IsSound Coordinator) ls

@@ -4,9 +4,10 @@ ghost use Rattle.std.specs.List.{list_all};
 ghost use Rattle.tree_model.specs.declared.names.ProcessId.{ProcessId};
 ghost use Rattle.tree_model.specs.declared.trees.TreeEntry.{TreeEntry};
 ghost use Rattle.tree_model.specs.LogNames.{is_own_record, parent_of};
-ghost use Rattle.tree_model.specs.Nodes.{IsCoordinator, kept, place_of, role_of};
+ghost use Rattle.tree_model.specs.Nodes.{IsCoordinator, is_listed, kept, place_of, role_of};
+ghost use Rattle.tree_model.specs.Trees.{IsTree};
 ghost use Rattle.tree_model.specs.World.{IsRun, Made, World};
-ghost use Rattle.ordered_logs.specs.Orders.{AreOrdered, NamesFit};
+ghost use Rattle.ordered_logs.specs.Orders.{AreOrdered, CanStand, IsReadWhole, NamesFit, log_of};
 
 /// In every run the records of a coordinator's log may follow one another: an Opened of a higher boot, and of each case
 /// Collecting, Prepare, a decision and End in this order, each at most once. It asks that the cases are the process's own, and
@@ -16,4 +17,12 @@ pub fn coordinators_write_in_order()
         → IsCoordinator (role_of tree q) → list_all (is_own_record (place_of tree q)) (kept (w.at q)) ≡ true
         → NamesFit (parent_of (role_of tree q)) (kept (w.at q))
         → AreOrdered (parent_of (role_of tree q)) (kept (w.at q)) }
+{}
+
+/// In every run of every tree the log of a coordinator, as bytes, is never damaged: it reads as its records, and as a torn tail
+/// behind them where bytes stand there that are no whole frame. It asks that each record can stand in such a log.
+pub fn coordinators_logs_are_read()
+    ensures { (tree : List TreeEntry) (es : List Made) (w : World) → IsTree tree → IsRun tree es w
+        → (q : ProcessId) → is_listed tree q ≡ true → IsCoordinator (role_of tree q)
+        → CanStand (log_of tree w q) → IsReadWhole (log_of tree w q) }
 {}
