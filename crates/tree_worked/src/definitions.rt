@@ -1,6 +1,6 @@
 //! Laws of the definitions, each on a function with an empty body.
 
-ghost use Rattle.std.specs.Prelude.{◌≡◌, ◌↔◌, Bool, true, ℕ, List};
+ghost use Rattle.std.specs.Prelude.{◌≡◌, ◌↔◌, Bool, true, ℕ, Some, List};
 ghost use Rattle.tree_model.specs.declared.names.Ticket.{Ticket};
 ghost use Rattle.tree_model.specs.Names.{same_case, same_process, same_ticket, same_txn};
 ghost use Rattle.tree_model.specs.Texts.{TellsCases, TellsTickets};
@@ -12,11 +12,14 @@ ghost use Rattle.tree_model.specs.declared.names.Case.{Case};
 ghost use Rattle.tree_model.specs.declared.names.Presumption.{Presumption};
 ghost use Rattle.tree_model.specs.declared.names.Txn.{Txn};
 ghost use Rattle.tree_model.specs.LogNames.{ReadsBack};
-ghost use Rattle.tree_model.specs.Nodes.{DataAnswer, Node, Place, place_of};
+ghost use Rattle.tree_model.specs.Nodes.{DataAnswer, IsCoordinator, Node, Place, place_of, role_of};
 ghost use Rattle.tree_model.specs.declared.records.Record.{Record};
+ghost use Rattle.tree_model.specs.declared.standings.Vote.{Vote};
+ghost use Rattle.tree_model.specs.Memory.{same_vote};
+ghost use Rattle.tree_model.specs.Outcomes.{first_vote, has_accepted, has_heard_vote};
 ghost use Rattle.tree_model.specs.Views.{ManagerViews, RootBegins, RootViews};
 ghost use Rattle.tree_model.specs.Records.{has};
-ghost use Rattle.tree_worked.specs.Histories.{was_forced};
+ghost use Rattle.tree_worked.specs.Histories.{AcceptedTicket, HeardFirst, has_txn, was_forced, was_found_undecided};
 ghost use Rattle.tree_model.specs.World.{IsRun, Made, World, made_by, net_by, node_by};
 
 /// A run is told process by process: each process is what its own moves make of it, and the net is the
@@ -32,6 +35,31 @@ pub fn processes_are_their_moves()
 pub fn durable_is_what_was_forced()
     ensures { (tree : List TreeEntry) (es : List Made) (w : World) → IsRun tree es w → (p : ProcessId)
         → (q : Record → Bool) → has q (w.at p).durable ≡ was_forced (place_of tree p) q (made_by p es) }
+{}
+
+/// A coordinator's history of votes has, of each ticket in each case, the first vote that the case heard of it while it
+/// collected votes, and no other; and the first vote that is read off it is this one.
+pub fn voted_is_what_was_heard_first()
+    ensures voted { (tree : List TreeEntry) (es : List Made) (w : World) → IsRun tree es w → (p : ProcessId)
+        → IsCoordinator (role_of tree p) → (c : Case) (t : Ticket) (v : Vote)
+        → (has_heard_vote (w.at p) c t (same_vote v) ≡ true) ↔ HeardFirst (place_of tree p) c t v (made_by p es) }
+    ensures first { (tree : List TreeEntry) (es : List Made) (w : World) → IsRun tree es w → (p : ProcessId)
+        → IsCoordinator (role_of tree p) → (c : Case) (t : Ticket) (v : Vote)
+        → (first_vote (w.at p).voted c t ≡ Some v) ↔ HeardFirst (place_of tree p) c t v (made_by p es) }
+{}
+
+/// A coordinator's history of accepted tickets has each ticket that JOINED brought to a case that was Active and had
+/// accepted none of the same child, and no other.
+pub fn accepted_is_what_joined()
+    ensures { (tree : List TreeEntry) (es : List Made) (w : World) → IsRun tree es w → (p : ProcessId)
+        → IsCoordinator (role_of tree p) → (c : Case) (t : Ticket)
+        → (has_accepted (w.at p) c t ≡ true) ↔ AcceptedTicket (place_of tree p) c t (made_by p es) }
+{}
+
+/// The history of undecided transactions has each that a restart of the root found undecided, and no other.
+pub fn found_undecided_is_what_restarts_found()
+    ensures { (tree : List TreeEntry) (es : List Made) (w : World) → IsRun tree es w → (p : ProcessId) (x : Txn)
+        → has_txn x (w.at p).found_undecided ≡ was_found_undecided (place_of tree p) x (made_by p es) }
 {}
 
 /// A manager's new view, as its reaction table gives it, is what its extended lists read as.
