@@ -18,7 +18,7 @@ struct Script {
 enum Called {
     /// No allocation was refused, and the answer is the script's.
     Whole,
-    /// One was, and all was as it has to be.
+    /// One was, and all was as it has to be: the call said so, or, where less room was enough, was answered.
     Refused,
 }
 
@@ -56,8 +56,13 @@ fn answers(alloc: Global, requests: &[Request]) -> Option<Vec<Vec<u8>>> {
     lines
 }
 
-/// Whether the log is as it was, and the requests from this one on are answered as by a manager of which nothing
-/// was refused.
+/// Whether the requests from this one on are answered as by a manager of which nothing was refused.
+fn goes_on(alloc: Global, script: &Script, manager: &mut Manager, place: usize) -> Option<bool> {
+    let behind = answers_of(alloc, manager, script.requests.get(place..)?)?;
+    Some(behind.as_slice() == script.answers.get(place..)?)
+}
+
+/// Whether the log is as it was, and the requests from this one on are answered so.
 fn stands(
     alloc: Global,
     script: &Script,
@@ -69,12 +74,12 @@ fn stands(
     if log.as_slice() != before {
         return Some(false);
     }
-    let behind = answers_of(alloc, manager, script.requests.get(place..)?)?;
-    Some(behind.as_slice() == script.answers.get(place..)?)
+    goes_on(alloc, script, manager, place)
 }
 
 /// Makes the request at a place with the nth allocation refused. Where one is, the log is as it was, and the
-/// request, made once more, and those behind it are answered as if it had not been. None where it is not so.
+/// request, made once more, and those behind it are answered as if it had not been; or less room was enough,
+/// and the request and those behind it are answered so. None where it is not so.
 fn call_refused(
     alloc: Global,
     refuser: &mut Refuser,
@@ -88,13 +93,17 @@ fn call_refused(
     refuser.refuse(nth);
     let made = make(manager, request);
     let refused = refuser.has_refused();
-    match (refused, told(alloc, made)) {
-        (false, Some(line)) => (line == *script.answers.get(place)?).then_some(Called::Whole),
-        (true, None) => {
-            stands(alloc, script, manager, place, before.as_slice())?.then_some(Called::Refused)
-        }
-        _ => None,
+    let Some(line) = told(alloc, made) else {
+        let alike = refused && stands(alloc, script, manager, place, before.as_slice())?;
+        return alike.then_some(Called::Refused);
+    };
+    if line != *script.answers.get(place)? {
+        return None;
     }
+    if !refused {
+        return Some(Called::Whole);
+    }
+    goes_on(alloc, script, manager, place.checked_add(1)?)?.then_some(Called::Refused)
 }
 
 /// The same at a manager that makes the requests before it first.
