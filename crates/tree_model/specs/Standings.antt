@@ -28,7 +28,8 @@ use Rattle.xa_xid.specs.declared.xid.Xid.{Xid}
 -- A coordinator.
 
 -- Its standing; the accepted tickets, their first votes, a ticket for each work sent; the tickets that its
--- Prepare record names, those that any of its records names, and those that still owe an acknowledgement.
+-- Prepared record names, those that any of its records names, and those that still owe an acknowledgement; and
+-- what those found that acknowledged its decision.
 pub record CoordinatorView : Type 0 where
   pub standing : Standing
   pub accepted : List Ticket
@@ -37,6 +38,7 @@ pub record CoordinatorView : Type 0 where
   pub promised : List Ticket
   pub named : List Ticket
   pub owed : List Ticket
+  pub found : List Finding
 
 -- the view of a case of which nothing is known
 abbrev pub unknown_view : CoordinatorView
@@ -48,6 +50,7 @@ unknown_view = record {
   promised = [];
   named = [];
   owed = [];
+  found = [];
 }
 
 -- the standing of a decided case, but Unknown where the decision names nobody
@@ -102,6 +105,7 @@ view_at s rs c m =
       promised = promised_by c rs;
       named = named_by c rs;
       owed = still_owed m.acks (decided_outcome s) (owing_by c rs);
+      found = found_of m.found (decided_outcome s) (owing_by c rs);
     })
 
 -- a coordinator's view of the case
