@@ -92,7 +92,7 @@ pub record Hears (v : CoordinatorValue) (i : Input) (says : Option Case → Core
 -- what a child asks of its case
 abbrev pub is_of_child : Asked → Bool
 is_of_child (Vote t w) = true
-is_of_child (Ack t o) = true
+is_of_child (Ack t o fs) = true
 is_of_child (Inquire t) = true
 is_of_child _ = false
 

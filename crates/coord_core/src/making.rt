@@ -19,10 +19,13 @@ use crate::coordinator::Coordinator;
 use crate::saying::{began, joined, nothing, presumes};
 use crate::turn::Turn;
 use crate::writing::write_down;
+use coord_rows::clears;
 use coord_table::{Asked, answer, take};
 use core_log::make_room;
 use core_model::InputRef;
+use inquire_core::is_reported;
 use log_store::LogStore;
+use std::alloc::AllocError;
 use tree_model::{Case, Presumption, ProcessId, Reaction, StepError, Ticket, Txn};
 
 impl<L: LogStore> Coordinator<L> {
@@ -39,6 +42,7 @@ impl<L: LogStore> Coordinator<L> {
             Turn::Begins(presumption) => self.begins(presumption),
             Turn::Issues(parent, case) => self.issues(parent, case),
             Turn::Takes(key, case, asked) => self.takes(key, case, asked),
+            Turn::Clears(case) => self.clears(case),
             Turn::Answers(case, asked) => self.answers(case, asked),
             Turn::Repeats(parent, case, ticket) => self.repeats(parent, case, ticket),
             Turn::Presumes(txn, ticket) => self.presumes(txn, ticket),
@@ -107,6 +111,27 @@ impl<L: LogStore> Coordinator<L> {
             return Err(StepError::Device);
         }
         Ok(effect.reaction())
+    }
+
+    /// Whether the records of the log report what was found of a case of the root, and it was not cleared
+    /// since. It goes through them once.
+    fn is_reported(&self, case: &Case) -> Result<bool, AllocError> {
+        let records = self.log.records(self.alloc)?;
+        Ok(is_reported(&records, case))
+    }
+
+    /// What is reported of the root's case is cleared, forced. UnknownTxn: nothing is reported. Memory:
+    /// nothing changed. Device: the device failed under the record.
+    fn clears(&mut self, case: Case) -> Result<Reaction, StepError> {
+        if !self.is_reported(&case)? {
+            return Err(StepError::UnknownTxn);
+        }
+        make_room(&mut self.log)?;
+        let effect = clears(self.alloc, self.seat(case))?;
+        match write_down(&mut self.log, self.parent, &effect.written) {
+            Ok(()) => Ok(effect.reaction()),
+            Err(_) => Err(StepError::Device),
+        }
     }
 
     /// What is said of a case that is not live. Memory: nothing changed, as nothing does.

@@ -317,7 +317,7 @@ standing_recorded rs c =
 
 -- how a case stands by records alone
 pub view_recorded : (rs : List Record) (c : Case) → recorded_view rs c ≡ view_of (summary_of rs c)
-unfolding recorded_view
+unfolding recorded_view found_of
 view_recorded rs c =
     ap (λ s. view_at s rs c fresh_memory) (standing_recorded rs c)
     ∙ ap (λ ts. known_view (standing_of (summary_of rs c))

@@ -1,12 +1,12 @@
 //! The parts of payloads, as they are read from the front.
 
 ghost use Rattle.std.specs.Prelude.{◌≡◌, option_map, IfOk, IfErr, None, Some, OnErr};
-ghost use Rattle.log_text.specs.Parts.{all_of, key_at, left_at, piece_at, ticket_at, tickets_of, value_at, write_at, writes_of};
+ghost use Rattle.log_text.specs.Parts.{all_of, front_of, key_at, left_at, piece_at, reports_of, ticket_at, tickets_at, tickets_of, value_at, write_at, writes_of};
 
 use crate::records::ReadFault;
 use byteorder::{BigEndian, ByteOrder};
 use std::alloc::{AllocError, Global};
-use tree_model::{Bytes, ProcessId, Sequence, Ticket, Tickets, Write, Writes};
+use tree_model::{Bytes, ProcessId, Reports, Sequence, Ticket, Tickets, Write, Writes};
 
 /// Numbers of boots and tickets are below this.
 pub const LIMIT: u64 = 1 << 63;
@@ -61,6 +61,44 @@ pub fn tickets_of(bytes: &[u8], alloc: Global) -> Result<Tickets, ReadFault>
         [count, rest @ ..] => tickets_in(*count, rest, alloc),
         [] => Err(ReadFault::Malformed),
     }
+}
+
+/// So many tickets at the front, and the bytes behind them.
+fn tickets_front(count: u8, bytes: &[u8], alloc: Global) -> Result<(Tickets, &[u8]), ReadFault>
+    ensures ok { IfOk result (λ p. front_of ticket_at count bytes.now ≡ Some (p.0, p.1.now)) }
+    ensures err { IfErr result (λ e. e ≡ ReadFault.Malformed → front_of ticket_at count bytes.now ≡ None) }
+{
+    let mut tickets = Vec::new(alloc);
+    let mut rest = bytes;
+    for _ in 0..count {
+        let Some((ticket, behind)) = ticket_at(rest) else {
+            return Err(ReadFault::Malformed);
+        };
+        tickets.push(ticket)?;
+        rest = behind;
+    }
+    Ok((Sequence::from_vec(tickets), rest))
+}
+
+/// Tickets at the front behind their number, and the bytes behind them.
+fn tickets_at(bytes: &[u8], alloc: Global) -> Result<(Tickets, &[u8]), ReadFault>
+    ensures ok { IfOk result (λ p. tickets_at bytes.now ≡ Some (p.0, p.1.now)) }
+    ensures err { IfErr result (λ e. e ≡ ReadFault.Malformed → tickets_at bytes.now ≡ None) }
+{
+    match bytes {
+        [count, rest @ ..] => tickets_front(*count, rest, alloc),
+        [] => Err(ReadFault::Malformed),
+    }
+}
+
+/// What an End reports: the mixed tickets and the unreported ones, with nothing behind them.
+pub fn reports_of(bytes: &[u8], alloc: Global) -> Result<Reports, ReadFault>
+    ensures ok { IfOk result (λ reports. reports_of bytes.now ≡ Some reports) }
+    ensures err { IfErr result (λ e. e ≡ ReadFault.Malformed → reports_of bytes.now ≡ None) }
+{
+    let (mixed, rest) = tickets_at(bytes, alloc)?;
+    let unreported = tickets_of(rest, alloc)?;
+    Ok(Reports { mixed, unreported })
 }
 
 /// The first so many bytes, where there are as many, and the bytes behind them.

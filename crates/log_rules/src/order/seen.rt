@@ -8,6 +8,7 @@ ghost use Rattle.log_rules.specs.order.Holders.{holder_of, holds_at};
 ghost use Rattle.log_rules.specs.order.Orders.{
   IsPlain,
   after,
+  cleared,
   decided,
   direct,
   followed,
@@ -27,7 +28,9 @@ ghost use Rattle.log_rules.specs.order.Orders.{
   prepared,
   promised,
   promises,
+  rank_in,
   ranked,
+  reported,
   settled,
   told,
   with_promise,
@@ -313,10 +316,41 @@ impl Seen {
         ensures ok { OnOk result (ranked self.old xid rank ≡ Some self.new) }
         ensures err { IfErr result (λ e. e ≡ ReadFault.Malformed → ranked self.old xid rank ≡ None) }
     {
-        if self.ranks.get(&xid).copied().unwrap_or(0) >= rank {
+        if self.rank(&xid) >= rank {
             return Err(ReadFault::Malformed);
         }
         self.ranks.insert(xid, rank)?;
+        self.before = Data::Other;
+        Ok(())
+    }
+
+    /// How far a case has come: the rank of its last record, 0 where it has none.
+    fn rank(&self, xid: &Xid) -> u8
+        ensures { result ≡ rank_in self.now.ranks xid.now }
+    {
+        self.ranks.get(xid).copied().unwrap_or(0)
+    }
+
+    fn reported(&mut self, xid: Xid) -> Result<(), ReadFault>
+        ensures ok { OnOk result (reported self.old xid ≡ Some self.new) }
+        ensures err { IfErr result (λ e. e ≡ ReadFault.Malformed → reported self.old xid ≡ None) }
+    {
+        if self.rank(&xid) >= 4 {
+            return Err(ReadFault::Malformed);
+        }
+        self.ranks.insert(xid, 5)?;
+        self.before = Data::Other;
+        Ok(())
+    }
+
+    fn cleared(&mut self, xid: Xid) -> Result<(), ReadFault>
+        ensures ok { OnOk result (cleared self.old xid ≡ Some self.new) }
+        ensures err { IfErr result (λ e. e ≡ ReadFault.Malformed → cleared self.old xid ≡ None) }
+    {
+        if self.rank(&xid) != 5 {
+            return Err(ReadFault::Malformed);
+        }
+        self.ranks.insert(xid, 6)?;
         self.before = Data::Other;
         Ok(())
     }
@@ -455,8 +489,9 @@ impl Seen {
             Record::Commit(case, _) | Record::Abort(case, _) => {
                 self.ranked(name_xid(parent, Branch::Case(*case)), 3)
             }
-            Record::End(case, _) => self.ranked(name_xid(parent, Branch::Case(*case)), 4),
-            Record::Cleared(_) => Err(ReadFault::Malformed),
+            Record::End(case, None) => self.ranked(name_xid(parent, Branch::Case(*case)), 4),
+            Record::End(case, Some(_)) => self.reported(name_xid(parent, Branch::Case(*case))),
+            Record::Cleared(case) => self.cleared(name_xid(parent, Branch::Case(*case))),
             Record::Committed(branch) | Record::RolledBack(branch) => {
                 self.settled(name_xid(parent, *branch))
             }

@@ -25,6 +25,8 @@ pub enum Said {
     Owes,
     /// It is over.
     Over,
+    /// It is over, and what was found of it is reported.
+    Reported,
 }
 
 /// What a log says of a name, and the place of the record that last prepared it: how many records stand
@@ -82,6 +84,7 @@ impl Said {
         match self {
             Said::Over => Said::Over,
             Said::Owes => Said::Owes,
+            Said::Reported => Said::Reported,
             _ => match tickets.as_slice() {
                 [] => Said::Settled,
                 _ => Said::Owes,
@@ -103,12 +106,14 @@ impl Said {
             | Record::HeurCommit(_)
             | Record::HeurRollback(_)
             | Record::Told(..) => Said::Waits,
-            Record::End(..)
+            Record::End(_, Some(_)) => Said::Reported,
+            Record::End(_, None)
+            | Record::Cleared(_)
             | Record::Committed(_)
             | Record::RolledBack(_)
             | Record::Direct(..)
             | Record::Forgot(_) => Said::Over,
-            Record::Cleared(_) | Record::Opened(_) | Record::Base(_) | Record::Pair(..) => self,
+            Record::Opened(_) | Record::Base(_) | Record::Pair(..) => self,
         }
     }
 
@@ -116,7 +121,7 @@ impl Said {
     fn is_live(self) -> bool
         ensures { result ≡ is_live self }
     {
-        matches!(self, Said::Waits | Said::Owes)
+        matches!(self, Said::Waits | Said::Owes | Said::Reported)
     }
 }
 
