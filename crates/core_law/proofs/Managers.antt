@@ -38,7 +38,7 @@ use Rattle.std.proofs.lemmas.List.{append-nil}
 use Rattle.rec_log.specs.Sights.{LogSight}
 use Rattle.core_model.specs.States.{CoreState, wrote}
 use Rattle.core_model.specs.Makes.{HandlesRow, Moves, retired_by, retires as retires_ticket}
-use Rattle.core_model.specs.Turns.{Handles, Issues, Refuses, Says, Turn, childless_turn, decide_turn, forget_turn, leaf_ask_turn, leaf_joined_turn, manager_act, manager_turn, next_ticket as next_of, reacted, untold_turn, heard_now, this_version}
+use Rattle.core_model.specs.Turns.{decision_records, Handles, Issues, Refuses, Says, Turn, childless_turn, decide_turn, forget_turn, leaf_ask_turn, leaf_joined_turn, manager_act, manager_turn, next_ticket as next_of, reacted, untold_turn, heard_now, this_version}
 use Rattle.core_law.specs.Ties.{Stands, StandsUp}
 use Rattle.core_law.proofs.Records.{Holds, NoBoot, boot-after, held_after, same_boot}
 use Rattle.core_law.proofs.Tickets.{found_fresh, found_more, found_without, manager_once, one_case, unless_of}
@@ -53,6 +53,7 @@ same_view-trans u v w first second =
       promised = first.promised ∙ second.promised;
       named = λ t. first.named t ∙ second.named t;
       owed = λ t. first.owed t ∙ second.owed t;
+      found = first.found ∙ second.found;
     }
 
 -- what the effect of a turn leaves of the model's process
@@ -308,7 +309,7 @@ module _ (n : Node) (s s' : CoreState) (me p : ProcessId) (tree : List TreeEntry
             (Handles c (untold_ask (leaf_of place p c) v))
         asks = handled (ActInput (Ask c)) c (untold_ask (leaf_of place p c) v) (λ b. refl)
             (subst (λ u. MovesBranch place n (heard (ActInput (Ask c))) c (untold_ask (leaf_of place p c) u))
-            (sym is) ((manager_views me p tree n c).ask a))
+            (sym is) ((manager_views this_version me p tree n c).ask a))
             (remains_quiet (ActInput (Ask c)) (λ d. refl) (λ d t. refl))
 
         by_told : (o : Option Outcome) → Follows n (heard (ActInput (Ask c))) old new (ActInput (Ask c))
@@ -338,7 +339,7 @@ module _ (n : Node) (s s' : CoreState) (me p : ProcessId) (tree : List TreeEntry
     decide_at c o standing.Collecting = refused (ActInput (Decide c o)) _
     decide_at c o standing.Prepared = handled (ActInput (Decide c o)) c
         (prepared_decide (leaf_of place p c) o) (decide_boot (leaf_of place p c) o)
-        ((manager_views me p tree n c).decide o a)
+        ((manager_views this_version me p tree n c).decide o a)
         (remains_quiet (ActInput (Decide c o)) (λ d. refl) (λ d t. refl))
     decide_at c o standing.Committing = refused (ActInput (Decide c o)) _
     decide_at c o standing.Aborting = refused (ActInput (Decide c o)) _
@@ -355,7 +356,7 @@ module _ (n : Node) (s s' : CoreState) (me p : ProcessId) (tree : List TreeEntry
     forget_at c standing.Aborting = refused (ActInput (Forget c)) _
     forget_at c standing.Heuristic = handled (ActInput (Forget c)) c
         (heuristic_forget (leaf_of place p c)) (λ b. refl)
-        ((manager_views me p tree n c).forget a)
+        ((manager_views this_version me p tree n c).forget a)
         (remains_quiet (ActInput (Forget c)) (λ d. refl) (λ d t. refl))
 
     childless_at : (x : Act) (st : Standing) → Follows n (heard (ActInput x)) old new
@@ -390,7 +391,7 @@ module _ (n : Node) (s s' : CoreState) (me p : ProcessId) (tree : List TreeEntry
         handled (MessageInput k (Work d j op)) d (on_work j a.does v v.standing)
         (no_boot _ (work_writes j a.does v v.standing))
         (subst (λ u. MovesBranch place n (heard (MessageInput k (Work d j op))) d
-        (on_work j a.does u u.standing)) (sym is) ((manager_views me p tree n d).work k j op a))
+        (on_work j a.does u u.standing)) (sym is) ((manager_views this_version me p tree n d).work k j op a))
         (remains_quiet (MessageInput k (Work d j op)) (λ c. refl) (λ c t. refl))
 
     prepare_at : (k j : ℕ) (d : Case) (v : ManagerView) → v ≡ manager_view place n d
@@ -400,27 +401,29 @@ module _ (n : Node) (s s' : CoreState) (me p : ProcessId) (tree : List TreeEntry
         handled (MessageInput k (Prepare d j)) d (on_prepare (leaf_of place p d) j a.holding v v.standing)
         (prepare_own (leaf_of place p d) j a.holding v v.standing).boot
         (subst (λ u. MovesBranch place n (heard (MessageInput k (Prepare d j))) d (on_prepare (leaf_of place p
-        d) j a.holding u u.standing)) (sym is) ((manager_views me p tree n d).prepare k j a))
+        d) j a.holding u u.standing)) (sym is) ((manager_views this_version me p tree n d).prepare k j a))
         (remains_prepare k j d)
 
     commit_at : (k : ℕ) (d : Case) (v : ManagerView) → v ≡ manager_view place n d
         → Follows n (heard (MessageInput k (Commit d))) old new (MessageInput k (Commit d))
-        (Handles d (on_commit this_version (leaf_of place p d) [] v v.standing))
+        (Handles d (on_commit this_version (leaf_of place p d) (decision_records d (s.decided_of d)) v v.standing))
     commit_at k d v is =
-        handled (MessageInput k (Commit d)) d (on_commit this_version (leaf_of place p d) [] v v.standing)
-        (commit_own this_version [] (leaf_of place p d) v v.standing).boot
+        handled (MessageInput k (Commit d)) d (on_commit this_version (leaf_of place p d) (decision_records d (s.decided_of d)) v v.standing)
+        (commit_own this_version (decision_records d (s.decided_of d)) (leaf_of place p d) v v.standing).boot
         (subst (λ u. MovesBranch place n (heard (MessageInput k (Commit d))) d
-        (on_commit this_version (leaf_of place p d) [] u u.standing)) (sym is) ((manager_views me p tree n d).commit k a []))
+        (on_commit this_version (leaf_of place p d) (decision_records d (s.decided_of d)) u u.standing)) (sym is)
+        ((manager_views this_version me p tree n d).commit k a (decision_records d (s.decided_of d))))
         (remains_quiet (MessageInput k (Commit d)) (λ c. refl) (λ c t. refl))
 
     abort_at : (k : ℕ) (d : Case) (v : ManagerView) → v ≡ manager_view place n d
         → Follows n (heard (MessageInput k (Abort d))) old new (MessageInput k (Abort d))
-        (Handles d (on_abort this_version (leaf_of place p d) [] v v.standing))
+        (Handles d (on_abort this_version (leaf_of place p d) (decision_records d (s.decided_of d)) v v.standing))
     abort_at k d v is =
-        handled (MessageInput k (Abort d)) d (on_abort this_version (leaf_of place p d) [] v v.standing)
-        (abort_own this_version [] (leaf_of place p d) v v.standing).boot
+        handled (MessageInput k (Abort d)) d (on_abort this_version (leaf_of place p d) (decision_records d (s.decided_of d)) v v.standing)
+        (abort_own this_version (decision_records d (s.decided_of d)) (leaf_of place p d) v v.standing).boot
         (subst (λ u. MovesBranch place n (heard (MessageInput k (Abort d))) d
-        (on_abort this_version (leaf_of place p d) [] u u.standing)) (sym is) ((manager_views me p tree n d).abort k a []))
+        (on_abort this_version (leaf_of place p d) (decision_records d (s.decided_of d)) u u.standing)) (sym is)
+        ((manager_views this_version me p tree n d).abort k a (decision_records d (s.decided_of d))))
         (remains_abort k d)
 
     -- JOIN.
@@ -429,7 +432,7 @@ module _ (n : Node) (s s' : CoreState) (me p : ProcessId) (tree : List TreeEntry
     join k d = MessageInput k (Join d)
 
     joins_at : (k : ℕ) (d : Case) → JoinsBranch place p n (heard (join k d)) d a.starts
-    joins_at k d = (manager_views me p tree n d).join k a
+    joins_at k d = (manager_views this_version me p tree n d).join k a
 
     joined_before : (b : Bool) (d : Case) (t : Ticket) (g : Givens) → active_ticket g.1 d ≡ Some t
         → (if b then gives_fresh me boot d g (active_ticket g.1 d) else g) ≡ g

@@ -31,38 +31,6 @@ fn ticket_at(bytes: &[u8]) -> Option<(Ticket, &[u8])>
     }
 }
 
-/// So many tickets, with nothing behind them.
-fn tickets_in(count: u8, bytes: &[u8], alloc: Global) -> Result<Tickets, ReadFault>
-    ensures ok { IfOk result (λ tickets. all_of ticket_at count bytes.now ≡ Some tickets) }
-    ensures err { IfErr result (λ e. e ≡ ReadFault.Malformed → all_of ticket_at count bytes.now ≡ None) }
-{
-    let mut tickets = Vec::new(alloc);
-    let mut rest = bytes;
-    for _ in 0..count {
-        let Some((ticket, behind)) = ticket_at(rest) else {
-            return Err(ReadFault::Malformed);
-        };
-        tickets.push(ticket)?;
-        rest = behind;
-    }
-    if rest.is_empty() {
-        Ok(Sequence::from_vec(tickets))
-    } else {
-        Err(ReadFault::Malformed)
-    }
-}
-
-/// Tickets behind their number, with nothing behind them.
-pub fn tickets_of(bytes: &[u8], alloc: Global) -> Result<Tickets, ReadFault>
-    ensures ok { IfOk result (λ tickets. tickets_of bytes.now ≡ Some tickets) }
-    ensures err { IfErr result (λ e. e ≡ ReadFault.Malformed → tickets_of bytes.now ≡ None) }
-{
-    match bytes {
-        [count, rest @ ..] => tickets_in(*count, rest, alloc),
-        [] => Err(ReadFault::Malformed),
-    }
-}
-
 /// So many tickets at the front, and the bytes behind them.
 fn tickets_front(count: u8, bytes: &[u8], alloc: Global) -> Result<(Tickets, &[u8]), ReadFault>
     ensures ok { IfOk result (λ p. front_of ticket_at count bytes.now ≡ Some (p.0, p.1.now)) }
@@ -88,6 +56,19 @@ fn tickets_at(bytes: &[u8], alloc: Global) -> Result<(Tickets, &[u8]), ReadFault
     match bytes {
         [count, rest @ ..] => tickets_front(*count, rest, alloc),
         [] => Err(ReadFault::Malformed),
+    }
+}
+
+/// Tickets behind their number, with nothing behind them.
+pub fn tickets_of(bytes: &[u8], alloc: Global) -> Result<Tickets, ReadFault>
+    ensures ok { IfOk result (λ tickets. tickets_of bytes.now ≡ Some tickets) }
+    ensures err { IfErr result (λ e. e ≡ ReadFault.Malformed → tickets_of bytes.now ≡ None) }
+{
+    let (tickets, rest) = tickets_at(bytes, alloc)?;
+    if rest.is_empty() {
+        Ok(tickets)
+    } else {
+        Err(ReadFault::Malformed)
     }
 }
 

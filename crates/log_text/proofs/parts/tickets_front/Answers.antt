@@ -1,7 +1,7 @@
 use Rattle.std.proofs.Common.{◌∙◌, ◌-◌, ◌+◌, sym, ap, subst, arith, Some}
 use Rattle.log_text.specs.Parts.{ticket_at}
-use Rattle.log_text.proofs.Lists.{Goes, begins_with, goes_on, stops, ends, trails}
-use Rattle.log_text.proofs.parts.tickets_in.Goals as goal
+use Rattle.log_text.proofs.Lists.{Goes, begins_with, goes_on, stops, ends}
+use Rattle.log_text.proofs.parts.tickets_front.Goals as goal
 
 pub loop-init : goal.loop-init
 loop-init c = begins_with ticket_at c.args.count
@@ -17,17 +17,11 @@ loop-preserved c =
     c.loop.tickets.items a.ticket
     (omega arith) c.loop.invariant (sym c.in-Some.ensures))
 
-pub returns-then-is_empty-clause-ok : goal.returns-then-is_empty-clause-ok
-returns-then-is_empty-clause-ok c =
+pub returns-clause-ok : goal.returns-clause-ok
+returns-clause-ok c =
     ends ticket_at c.args.count (c.args.count - c.loop.counter) c.args.bytes.now c.loop.rest.now
-    c.loop.tickets.items (omega arith)
-    (sym c.is_empty.ensures ∙ c.if-is_empty.true) c.loop.invariant ∙ ap Some (sym c.from_vec.ensures)
-
-pub returns-else-is_empty-clause-err : goal.returns-else-is_empty-clause-err
-returns-else-is_empty-clause-err c =
-    λ _. trails ticket_at c.args.count (c.args.count - c.loop.counter) c.args.bytes.now c.loop.rest.now
-    c.loop.tickets.items (omega arith)
-    (sym c.is_empty.ensures ∙ c.if-is_empty.false) c.loop.invariant
+    c.loop.tickets.items (omega arith) c.loop.invariant
+    ∙ ap (λ xs. Some (xs, c.loop.rest.now)) (sym c.from_vec.ensures)
 
 pub returns-in_default-clause-err : goal.returns-in_default-clause-err
 returns-in_default-clause-err c =
