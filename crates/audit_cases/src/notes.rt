@@ -7,7 +7,7 @@ ghost use Rattle.tree_model.specs.LogNames.{own_by};
 ghost use Rattle.tree_model.specs.Nodes.{role_by};
 ghost use Rattle.tree_model.specs.Records.{record_case};
 ghost use Rattle.inquire_core.specs.Readings.{same};
-ghost use Rattle.audit_cases.specs.Notes.{IsRecordAt, last_places as last_places_of, listed_in, no_note, no_notes, note_after, noted, noted_of, place_at, promised_in, tickets_in};
+ghost use Rattle.audit_cases.specs.Notes.{IsRecordAt, last_places as last_places_of, listed_in, no_note, no_notes, note_after, noted, noted_of, place_at, promised_in, reports_behind, tickets_in};
 
 use crate::kinds::Kinds;
 use indexmap::{IndexMap, IndexSet};

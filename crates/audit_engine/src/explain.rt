@@ -197,6 +197,7 @@ fn push_explanation(
 }
 
 /// The way of a report from this process up to the root: each told its parent.
+#[tactic(auto, unfolding(crate::specs::Explanations::way_text))]
 fn push_way(
     out: &mut Vec<u8>,
     tree: &Tree,
