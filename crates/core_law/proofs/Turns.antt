@@ -16,11 +16,13 @@ use Rattle.tree_model.specs.declared.events.Input.{Input}
 use Rattle.tree_model.specs.declared.events.Input.TheVariants.{Act as ActInput, Message as MessageInput}
 use Rattle.tree_model.specs.declared.events.StepError.TheVariants.{Failed, NoSuch}
 use Rattle.tree_model.specs.Names.{child_case, presumed}
-use Rattle.tree_model.specs.Records.{boot_of, has, is_decided, owing_by}
+use Rattle.tree_model.specs.declared.records.Branch.TheVariants.{Case as CaseBranch}
+use Rattle.tree_model.specs.NameLaws.{same_case-refl}
+use Rattle.tree_model.specs.Records.{boot_of, decision_of, is_branch, owing_by}
 use Rattle.tree_model.specs.LogNames.{parent_of}
 use Rattle.tree_model.specs.Nodes.{AtLeaf, AtRoot, Below, DataAnswer, Effect, Node, Role, kept, no_effect}
 use Rattle.tree_model.specs.Memory.{Memory, active_ticket, found_of, memory_of, next_ticket, of_ticket}
-use Rattle.tree_model.specs.Standings.{CoordinatorView, case_of_child, coordinator_standing, coordinator_view, decided_findings, manager_view, other_outcome, own_finding, some_case, unknown_view, found_below, ManagerView, view_at as view_by}
+use Rattle.tree_model.specs.Standings.{CoordinatorView, case_of_child, coordinator_standing, coordinator_view, decided_against, decided_findings, manager_view, own_finding, some_case, unknown_view, found_below, ManagerView, view_at as view_by}
 use Rattle.tree_model.specs.CoordinatorRows.{on_abort, on_ack, on_commit, on_inquiry, on_joined, on_prepare, on_vote, post, tells_outcome, Row, Seat}
 use Rattle.tree_model.specs.ManagerRows.{Leaf, LeafRow}
 use Rattle.tree_model.specs.ManagerRows as leaf
@@ -45,8 +47,7 @@ record Reads (s : CoreState) (n : Node) : Type 0 where
   tickets : (d : Case) → s.ticket_for d ≡ active_ticket (memory_of s.place n d).active d
   views : (c : Case) → s.view_of c ≡ view_at s.place.role s.place n c
   branches : (c : Case) → s.branch_of c ≡ branch_at s.place.role s.place n c
-  decided : (c : Case) (o : Outcome) → (s.branch_of c).standing ≡ standing.Heuristic
-      → has (is_decided c o) (kept n) ≡ has (is_decided c o) (decision_records c (s.decided_of c))
+  decided : (c : Case) → (s.branch_of c).standing ≡ standing.Heuristic → s.decided_of c ≡ decision_of (kept n) c
 
 -- Messages of children.
 
@@ -249,7 +250,18 @@ module _ (s : CoreState) (n : Node) (fit : ChildrenFit s.place n) (reads : Reads
   decided_so : (d : Case) (o : Outcome) → (s.branch_of d).standing ≡ standing.Heuristic
       → decided_findings this_version (kept n) d o
       ≡ decided_findings this_version (decision_records d (s.decided_of d)) d o
-  decided_so d o is = ap (λ b. if b then own_finding Mixed d.ticket else []) (reads.decided d (other_outcome o) is)
+  decided_so d o is =
+      ap (λ k. if decided_against k o then own_finding Mixed d.ticket else [])
+      (sym (reads.decided d is) ∙ sym (read_back d (s.decided_of d)))
+    where
+      own_branch_is : (d : Case) → is_branch d (CaseBranch d) ≡ true
+      own_branch_is d = same_case-refl d
+
+      read_back : (d : Case) (k : Option Outcome) → decision_of (decision_records d k) d ≡ k
+      unfolding decision_of
+      read_back d None = refl
+      read_back d (Some Committed) = ap (λ b. if b then Some Committed else None) (own_branch_is d)
+      read_back d (Some Aborted) = ap (λ b. if b then Some Aborted else None) (own_branch_is d)
 
   manager_at : (p : ProcessId) (a : DataAnswer)
       → ((c : Case) → s.branch_of c ≡ manager_view s.place n c) → (m : Message)
@@ -357,7 +369,7 @@ module _ (n : Node) (s : CoreState) (a : DataAnswer) (found : Option Case) (i : 
             refl;
         views = λ c. refl;
         branches = λ c. refl;
-        decided = λ c o is. up.decided c o (ap (λ (u : ManagerView). u.standing) (up.branches c) ∙ is);
+        decided = λ c is. up.decided c (ap (λ (u : ManagerView). u.standing) (up.branches c) ∙ is);
       })
       a found i (finds-alike s (read_off s n) (asked_by i) found
       (λ c. same_view-sym (s.view_of c) (view_at s.place.role s.place n c) (up.views c)) finds) runs

@@ -4,16 +4,14 @@ use Rattle.std.specs.Prelude.{◌≡◌, true, false}
 use Rattle.tree_model.specs.declared.names.Case.{Case}
 use Rattle.tree_model.specs.declared.names.Ticket.{Ticket}
 use Rattle.tree_model.specs.declared.names.Txn.{Txn}
-use Rattle.tree_model.specs.declared.names.Outcome.{Outcome}
 use Rattle.tree_model.specs.declared.standings.Standing.TheVariants.{Heuristic}
-use Rattle.tree_model.specs.Records.{boot_of, has, has_case, is_decided}
+use Rattle.tree_model.specs.Records.{boot_of, decision_of, has_case}
 use Rattle.tree_model.specs.Nodes.{Role, AtLeaf, Node, Place, kept}
 use Rattle.tree_model.specs.Memory.{active_ticket, memory_of}
 use Rattle.tree_model.specs.Standings.{CoordinatorView, ManagerView, belongs, coordinator_view, manager_view, own_cases, unknown_branch, unknown_view}
 use Rattle.tree_model.specs.Restarts.{is_known}
 use Rattle.tree_model.specs.SameViews.{SameView}
 use Rattle.core_model.specs.States.{CoreState, logged}
-use Rattle.core_model.specs.Turns.{decision_records}
 
 -- how a case stands at a coordinator, read off its lists; a manager has no such views
 abbrev pub view_at : Role → Place → Node → Case → CoordinatorView
@@ -33,8 +31,7 @@ pub record StandsUp (n : Node) (s : CoreState) : Type 0 where
   pub tickets : (d : Case) → s.ticket_for d ≡ active_ticket (memory_of s.place n d).active d
   pub views : (c : Case) → SameView (s.view_of c) (view_at s.place.role s.place n c)
   pub branches : (c : Case) → s.branch_of c ≡ branch_at s.place.role s.place n c
-  pub decided : (c : Case) (o : Outcome) → (s.branch_of c).standing ≡ Heuristic
-      → has (is_decided c o) (kept n) ≡ has (is_decided c o) (decision_records c (s.decided_of c))
+  pub decided : (c : Case) → (s.branch_of c).standing ≡ Heuristic → s.decided_of c ≡ decision_of (kept n) c
 
 -- Its log holds the same records, under their whole names. Of a process whose device failed nothing else is
 -- said.

@@ -3,12 +3,12 @@ use Rattle.std.proofs.Common.{◌≡◌, None, [], ◌∷◌, refl}
 use Rattle.tree_model.specs.declared.names.Case.{Case}
 use Rattle.tree_model.specs.declared.records.Record.TheVariants.{Opened}
 use Rattle.tree_model.specs.Nodes.{AtLeaf, AtRoot, Below, Place, Role}
-use Rattle.tree_model.specs.Records.{boot_of, has, none_of, owing_by}
+use Rattle.tree_model.specs.Records.{boot_of, decision_of, has, none_of, owing_by}
 use Rattle.tree_model.specs.Standings.{mark_of, unknown_branch, unknown_view}
 use Rattle.tree_model.specs.Restarts.{recorded_branch, recorded_view}
 use Rattle.tree_model.specs.SameViews.{SameView}
 use Rattle.core_model.specs.Laws.{opened_core}
-use Rattle.core_model.specs.Restarting.{ReadOff, recorded_branch_at, recorded_decision, recorded_view_at}
+use Rattle.core_model.specs.Restarting.{ReadOff, recorded_branch_at, recorded_view_at}
 use Rattle.core_model.proofs.Alike.{same_view}
 
 nothing_seen : (c : Case) → recorded_view (Opened 1 ∷ []) c ≡ unknown_view
@@ -19,8 +19,8 @@ no_branch : (c : Case) → recorded_branch (Opened 1 ∷ []) c ≡ unknown_branc
 unfolding recorded_branch mark_of
 no_branch c = refl
 
-no_decision : (c : Case) → None ≡ recorded_decision (Opened 1 ∷ []) c
-unfolding recorded_decision
+no_decision : (c : Case) → None ≡ decision_of (Opened 1 ∷ []) c
+unfolding decision_of
 no_decision c = refl
 
 view_at : (role : Role) (c : Case) → SameView unknown_view (recorded_view_at role (Opened 1 ∷ []) c)

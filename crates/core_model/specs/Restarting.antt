@@ -1,18 +1,15 @@
 -- Opening, restart and trim of a process.
-use Rattle.std.specs.Prelude.{◌≡◌, ◌⊎◌, ℕ, true, if◌then◌else◌, fold, List, [], ◌++◌, length, Option, Some, None}
+use Rattle.std.specs.Prelude.{◌≡◌, ◌⊎◌, ℕ, true, List, [], ◌++◌, length, None}
 use Rattle.tree_model.specs.declared.names.Case.{Case}
-use Rattle.tree_model.specs.declared.names.Outcome.{Outcome}
-use Rattle.tree_model.specs.declared.names.Outcome.TheVariants.{Committed, Aborted}
 use Rattle.tree_model.specs.declared.names.ProcessId.{ProcessId}
 use Rattle.tree_model.specs.declared.records.LogRecord.{LogRecord}
 use Rattle.tree_model.specs.declared.records.Record.{Record}
-use Rattle.tree_model.specs.declared.records.Record.TheVariants.{HeurCommit, HeurRollback}
 use Rattle.tree_model.specs.declared.standings.Standing.TheVariants.{Heuristic}
 use Rattle.tree_model.specs.declared.events.Reaction.{Reaction}
 use Rattle.tree_model.specs.declared.events.StepError.{StepError}
 use Rattle.tree_model.specs.declared.events.StepError.TheVariants.{Memory, Device, Failed}
 use Rattle.tree_model.specs.LogNames.{own_records}
-use Rattle.tree_model.specs.Records.{boot_of, is_branch}
+use Rattle.tree_model.specs.Records.{boot_of, decision_of}
 use Rattle.tree_model.specs.Nodes.{Role, AtLeaf, Effect, Place, reaction_of}
 use Rattle.tree_model.specs.Standings.{CoordinatorView, ManagerView, unknown_branch, unknown_view}
 use Rattle.tree_model.specs.Restarts.{data_records, forced_all, recorded_branch, recorded_view, reopens, resumes}
@@ -35,16 +32,6 @@ abbrev pub recorded_branch_at : Role → List Record → Case → ManagerView
 recorded_branch_at (AtLeaf p) rs c = recorded_branch rs c
 recorded_branch_at _ rs c = unknown_branch
 
--- what an operator decided of the case behind one more record: the last decision counts
-abbrev pub decision_after : Case → Option Outcome → Record → Option Outcome
-decision_after c d (HeurCommit b) = if is_branch c b then Some Committed else d
-decision_after c d (HeurRollback b) = if is_branch c b then Some Aborted else d
-decision_after c d _ = d
-
--- what an operator decided of the case by these records
-unfoldable pub recorded_decision : List Record → Case → Option Outcome
-recorded_decision rs c = fold (decision_after c) None rs
-
 -- the process stands as these records say, and has heard nothing
 pub record ReadOff (s : CoreState) (rs : List Record) : Type 0 where
   pub boot : s.boot ≡ boot_of rs
@@ -53,7 +40,7 @@ pub record ReadOff (s : CoreState) (rs : List Record) : Type 0 where
   pub tickets : (d : Case) → s.ticket_for d ≡ None
   pub views : (c : Case) → SameView (s.view_of c) (recorded_view_at s.place.role rs c)
   pub branches : (c : Case) → s.branch_of c ≡ recorded_branch_at s.place.role rs c
-  pub decided : (c : Case) → (s.branch_of c).standing ≡ Heuristic → s.decided_of c ≡ recorded_decision rs c
+  pub decided : (c : Case) → (s.branch_of c).standing ≡ Heuristic → s.decided_of c ≡ decision_of rs c
 
 -- the process's records, as it reads them of these of its log
 abbrev pub read_of : CoreState → List LogRecord → List Record

@@ -17,8 +17,8 @@ use Rattle.tree_model.specs.declared.records.Record.TheVariants.{Prepared as Pre
 use Rattle.tree_model.specs.declared.standings.Standing.{Standing}
 use Rattle.tree_model.specs.declared.standings.Standing.TheVariants.{Unknown, Active, Collecting, Prepared, Committing, Aborting, Heuristic}
 use Rattle.tree_model.specs.declared.standings.Vote.{Vote}
-use Rattle.tree_model.specs.Names.{same_txn, root_case}
-use Rattle.tree_model.specs.Records.{has, in_list, none_of, same_branch, is_collecting, is_prepare, is_commit, is_abort, is_end, is_decided, named_by, promised_by, owing_by, cases_in}
+use Rattle.tree_model.specs.Names.{same_txn, same_outcome, root_case}
+use Rattle.tree_model.specs.Records.{has, in_list, none_of, same_branch, is_collecting, is_prepare, is_commit, is_abort, is_end, decision_of, named_by, promised_by, owing_by, cases_in}
 use Rattle.tree_model.specs.Nodes.{Version, First, Second, Place, Role, AtRoot, AtLeaf, Node, kept}
 use Rattle.tree_model.specs.Memory.{Memory, Phase, Open, Asked, memory_of, has_acked, found_of}
 use Rattle.tree_model.specs.declared.records.LogRecord.{LogRecord}
@@ -135,11 +135,16 @@ abbrev pub other_outcome : Outcome → Outcome
 other_outcome CommittedOutcome = AbortedOutcome
 other_outcome AbortedOutcome = CommittedOutcome
 
+-- an operator decided, and otherwise than this outcome
+abbrev pub decided_against : Option Outcome → Outcome → Bool
+decided_against None o = false
+decided_against (Some d) o = not (same_outcome d o)
+
 -- by the second version a branch is mixed that an operator decided against the outcome that it is told
 abbrev pub decided_findings : Version → List Record → Case → Outcome → List Finding
 decided_findings First rs c o = []
 decided_findings Second rs c o =
-    if has (is_decided c (other_outcome o)) rs then own_finding Mixed c.ticket else []
+    if decided_against (decision_of rs c) o then own_finding Mixed c.ticket else []
 
 -- Whose case a child is of.
 
