@@ -167,11 +167,11 @@ found_taken acks found t o fs ts = by_test (has_acked acks o t) refl
 pub found_nobody : (found : List (Ticket × (Outcome × List Finding))) (o : Outcome) → found_of found o [] ≡ []
 unfolding found_of in_list
 found_nobody [] o = refl
-found_nobody (a ∷ fs) o = by_test (same_outcome a.1.0 o)
+found_nobody (a ∷ fs) o = by_test (same_outcome a.1.0 o) (found_nobody fs o)
   where
-    by_test : (b : Bool) → ((if b && false then a.1.1 else []) ++ found_of fs o []) ≡ []
-    by_test true = found_nobody fs o
-    by_test false = found_nobody fs o
+    by_test : (b : Bool) → found_of fs o [] ≡ [] → ((if b && false then a.1.1 else []) ++ found_of fs o []) ≡ []
+    by_test true none = none
+    by_test false none = none
 
 -- an acknowledgement that agrees with the decision
 pub acked_commit : (ver : Version) (s : Seat) (p : Presumption) (t : Ticket) (rs : List Record) (m : Memory)

@@ -202,6 +202,7 @@ pub none_found : (acks : List (Ticket × Outcome)) (found : List (Ticket × (Out
 unfolding found_of
 none_found acks [] o ts n h = refl
 none_found acks (a ∷ fs) o ts n h = by_tests (same_outcome a.1.0 o) (in_list ts a.0) refl refl
+    (none_found acks fs o ts n.1 h)
   where
     clash : (u : Outcome) → u ≡ o → has_acked acks u a.0 ≡ true → in_list ts a.0 ≡ true → ⊥
     clash u e k i = (let z : true ≡ false = sym k ∙ (ap (λ v. has_acked acks v a.0) e ∙ h a.0 i) in cc)
@@ -209,11 +210,11 @@ none_found acks (a ∷ fs) o ts n h = by_tests (same_outcome a.1.0 o) (in_list t
     same : (u : Outcome) → same_outcome u o ≡ true → u ≡ o
     same u g = elim (same_outcome_tells u o) [ inl t ↦ t.1 | inr k ↦ absurd (let z = k.0 in cc) ]
 
-    by_tests : (b k : Bool) → same_outcome a.1.0 o ≡ b → in_list ts a.0 ≡ k
+    by_tests : (b k : Bool) → same_outcome a.1.0 o ≡ b → in_list ts a.0 ≡ k → found_of fs o ts ≡ []
         → ((if b && k then a.1.1 else []) ++ found_of fs o ts) ≡ []
-    by_tests true true e i = absurd (clash a.1.0 (same a.1.0 e) n.0 i)
-    by_tests true false e i = none_found acks fs o ts n.1 h
-    by_tests false k e i = none_found acks fs o ts n.1 h
+    by_tests true true e i none = absurd (clash a.1.0 (same a.1.0 e) n.0 i)
+    by_tests true false e i none = none
+    by_tests false k e i none = none
 
 -- where nobody has acknowledged, nothing is found
 pub nothing_noted : (acks : List (Ticket × Outcome)) (found : List (Ticket × (Outcome × List Finding)))

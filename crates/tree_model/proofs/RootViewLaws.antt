@@ -638,8 +638,8 @@ module _ (ver : Version) (me : ProcessId) (tree : List TreeEntry) (n : Node) (x 
       let not_active : s ≡ Active → ⊥ = λ e. closed
       (phase_active x.presumption m.phase (active_facts _ _ _ _ _ _ _ (h ∙ e)).heard) in
       let not_collecting : s ≡ Collecting → ⊥ = λ e. decided (asked_of alike (h ∙ e)) in
-      let P : CoordinatorView → Type 0 = λ v. MovesTxn place n (hears_message ver k (Ack (child_case x t) o fs) a) x
-      (on_ack ver seat t o gs v s) in
+      let P : CoordinatorView → Type 0 = λ v. MovesTxn place n
+      (hears_message ver k (Ack (child_case x t) o fs) a) x (on_ack ver seat t o (v.found ++ fs) v s) in
       subst P (sym (seen_as s h)) (ack_by k a t o fs s h not_active not_collecting noted)
 
   now_active : IsOpenAlike place n c → (s : Standing) → standing_with x.presumption rs c m ≡ s

@@ -113,8 +113,9 @@ is_decided c CommittedOutcome _ = false
 is_decided c AbortedOutcome (HeurRollback b) = is_branch c b
 is_decided c AbortedOutcome _ = false
 
--- what an operator decided of the case behind one more record: the last decision counts
+-- what an operator decided of the case behind one more record: the last decision behind its last promise counts
 abbrev pub decision_after : Case → Option Outcome → Record → Option Outcome
+decision_after c d (Prepared b ws) = if is_branch c b then None else d
 decision_after c d (HeurCommit b) = if is_branch c b then Some CommittedOutcome else d
 decision_after c d (HeurRollback b) = if is_branch c b then Some AbortedOutcome else d
 decision_after c d _ = d

@@ -40,7 +40,11 @@ decision_step c b d (Commit k ts) e = inl e
 decision_step c b d (Abort k ts) e = inl e
 decision_step c b d (End k rep) e = inl e
 decision_step c b d (Cleared k) e = inl e
-decision_step c b d (Prepared k ws) e = inl e
+decision_step c b d (Prepared k ws) e = by_test (is_branch c k) e
+  where
+    by_test : (t : Bool) → (if t then None else d) ≡ Some b → (d ≡ Some b) ⊎ (is_decided c b (Prepared k ws) ≡ true)
+    by_test true f = absurd (cc)
+    by_test false f = inl f
 decision_step c b d (Committed k) e = inl e
 decision_step c b d (RolledBack k) e = inl e
 decision_step c b d (Direct k ws) e = inl e
