@@ -42,10 +42,14 @@ same = names.ghosts.eq
 abbrev pub rank_in : List (Xid × ℕ) → Xid → ℕ
 rank_in ranks x = unwrap_or (lookup (same x) ranks) 0
 
+-- the rank of a case's last record is within these bounds
+abbrev pub is_within : SeenLog → Xid → ℕ → ℕ → Bool
+is_within s x least most = nat_le least (rank_in s.ranks x) && nat_le (rank_in s.ranks x) most
+
 -- a case's record of this rank, where the rank of its last one is within these bounds
 abbrev pub ranked : SeenLog → Xid → ℕ → ℕ → ℕ → Option SeenLog
 ranked s x least most rank =
-    if nat_le least (rank_in s.ranks x) && nat_le (rank_in s.ranks x) most then Some
+    if is_within s x least most then Some
     (record { boot = s.boot; before = Other; ranks = insert_entry same s.ranks x rank; live = s.live })
     else None
 
