@@ -152,8 +152,8 @@ module _ (n : Node) (s s' : CoreState) (place : Place) (a : DataAnswer)
             branches = λ c. behind.branches c ∙ up.branches c ∙ no_branch n c
                 ∙ sym (no_branch (after n (heard i) e) c);
             decided = λ c is. absurd (let clash : Unknown ≡ Heuristic =
-            ap (λ (v : ManagerView). v.standing) (sym (behind.branches c ∙ up.branches c ∙ no_branch n c)) ∙ is
-            in cc);
+                ap (λ (v : ManagerView). v.standing) (sym (behind.branches c ∙ up.branches c ∙ no_branch n c)) ∙ is
+                in cc);
           };
         }
 
