@@ -1,5 +1,6 @@
 -- What has been seen of a case is no higher than its records allow; so each record of a coordinator may follow.
-use Rattle.std.proofs.Common.{◌≡◌, ◌∙◌, ◌≤◌, ◌<◌, ◌||◌, ◌&&◌, nat_lt, ℕ, suc, Bool, true, false, is_some, unwrap_or, Option, Some, None, List, [], ◌∷◌, ◌++◌, map, refl, sym, ap, subst, append_assoc, arith, if◌then◌else◌}
+use Rattle.std.proofs.Common.{◌≡◌, ◌∙◌, ◌≤◌, ◌<◌, ◌||◌, ◌&&◌, nat_le, nat_lt, ℕ, suc, Bool, true, false, is_some, unwrap_or, Option, Some, None, List, [], ◌∷◌, ◌++◌, map, refl, sym, ap, subst, append_assoc, arith, if◌then◌else◌}
+use Rattle.std.proofs.lemmas.Bool.Decides.{nat_tests}
 use Rattle.std.specs.List.{list_all}
 use Rattle.std.specs.Map.{lookup}
 use Rattle.indexmap.specs.IndexMap.{insert_entry}
@@ -65,20 +66,20 @@ inserted x y v (e ∷ t) = inserted_by x y v e t (insert_entry same t y v) (same
 
 -- How far the records of a case go.
 
--- by End, a decision, Prepare and Collecting
+-- by End, whichever it is, a decision, Prepare and Collecting
 abbrev rank_by : Bool → Bool → Bool → Bool → ℕ
-rank_by true d p k = 4
+rank_by true d p k = 6
 rank_by false true p k = 3
 rank_by false false true k = 2
 rank_by false false false true = 1
 rank_by false false false false = 0
 
-at_most_4 : (e d p k : Bool) → rank_by e d p k ≤ 4
-at_most_4 true d p k = omega arith
-at_most_4 false true p k = omega arith
-at_most_4 false false true k = omega arith
-at_most_4 false false false true = omega arith
-at_most_4 false false false false = omega arith
+at_most_6 : (e d p k : Bool) → rank_by e d p k ≤ 6
+at_most_6 true d p k = omega arith
+at_most_6 false true p k = omega arith
+at_most_6 false false true k = omega arith
+at_most_6 false false false true = omega arith
+at_most_6 false false false false = omega arith
 
 at_most_3 : (d p k : Bool) → rank_by false d p k ≤ 3
 at_most_3 true p k = omega arith
@@ -98,7 +99,7 @@ at_most_1 false = omega arith
 -- more records go no less far
 grows : (e d p k e' d' p' k' : Bool) → rank_by e d p k ≤ rank_by (e || e') (d || d') (p || p') (k || k')
 grows true d p k e' d' p' k' = omega arith
-grows false d p k true d' p' k' = at_most_4 false d p k
+grows false d p k true d' p' k' = at_most_6 false d p k
 grows false true p k false d' p' k' = omega arith
 grows false false p k false true p' k' = at_most_3 false p k
 grows false false true k false false p' k' = omega arith
@@ -196,30 +197,24 @@ module _ (rs : List Record) (c : Case) where
       by_bool false true p k f = omega arith
       by_bool false false p k f = absurd (cc)
 
-  ended : (x : Record) → is_end c x ≡ true → 4 ≤ behind x
+  ended : (x : Record) → is_end c x ≡ true → 6 ≤ behind x
   ended x e = rw (last_passes (is_end c) x e) (omega arith)
 
   -- and what its place asks keeps the records before it below
 
-  beneath : (a b : ℕ) → a ≤ b → a < suc b
-  beneath a b h = omega arith
-
-  before_end : has (is_end c) rs ≡ false → rank_of rs c < 4
+  before_end : has (is_end c) rs ≡ false → rank_of rs c ≤ 3
   before_end e =
-      rw e (beneath _ 3
-      (at_most_3 (has (is_commit c) rs || has (is_abort c) rs) (has (is_prepare c) rs) (has (is_collecting c) rs)))
+      rw e (at_most_3 (has (is_commit c) rs || has (is_abort c) rs) (has (is_prepare c) rs) (has (is_collecting c) rs))
 
-  before_decision : Undecided rs c → rank_of rs c < 3
+  before_decision : Undecided rs c → rank_of rs c ≤ 2
   before_decision u =
-      rw (u.no_end, u.no_commit, u.no_abort)
-      (beneath _ 2 (at_most_2 (has (is_prepare c) rs) (has (is_collecting c) rs)))
+      rw (u.no_end, u.no_commit, u.no_abort) (at_most_2 (has (is_prepare c) rs) (has (is_collecting c) rs))
 
-  before_promise : Undecided rs c → has (is_prepare c) rs ≡ false → rank_of rs c < 2
-  before_promise u e = rw (u.no_end, u.no_commit, u.no_abort, e)
-      (beneath _ 1 (at_most_1 (has (is_collecting c) rs)))
+  before_promise : Undecided rs c → has (is_prepare c) rs ≡ false → rank_of rs c ≤ 1
+  before_promise u e = rw (u.no_end, u.no_commit, u.no_abort, e) (at_most_1 (has (is_collecting c) rs))
 
   before_collecting : Undecided rs c → has (is_prepare c) rs ≡ false → has (is_collecting c) rs ≡ false
-      → rank_of rs c < 1
+      → rank_of rs c ≤ 0
   before_collecting u e f = rw (u.no_end, u.no_commit, u.no_abort, e, f) (omega arith)
 
 -- What has been seen.
@@ -254,8 +249,8 @@ module _ (place : Place) (coordinator : IsCoordinator place.role) where
       by_test true = refl
       by_test false = refl
 
-  module _ (rs : List Record) (s : SeenLog) (seen : Seen rs s) (c : Case) (named : IsNamed c) (x : Record) (r : ℕ)
-      (below : rank_of rs c < r) (reached : r ≤ rank_of (rs ++ x ∷ []) c)
+  module _ (rs : List Record) (s : SeenLog) (seen : Seen rs s) (c : Case) (named : IsNamed c) (x : Record) (most r : ℕ)
+      (below : rank_of rs c ≤ most) (reached : r ≤ rank_of (rs ++ x ∷ []) c)
       (no_boot : boot_of (rs ++ x ∷ []) ≡ boot_of rs)
     where
       seen_so : Seen (rs ++ x ∷ []) (ranks_on s c r)
@@ -278,19 +273,20 @@ module _ (place : Place) (coordinator : IsCoordinator place.role) where
               no_less (rank_in s.ranks (xid_of p d)) (rank_of rs d) (rank_of (rs ++ x ∷ []) d) (seen.ranks d is)
               (rank_grows rs x d)
 
-      ranked_so : ranked s (xid_of p c) r ≡ Some (ranks_on s c r)
+      ranked_so : ranked s (xid_of p c) 0 most r ≡ Some (ranks_on s c r)
       ranked_so =
-          by_lt (rank_in s.ranks (xid_of p c)) r
-          (below_both (rank_in s.ranks (xid_of p c)) (rank_of rs c) r (seen.ranks c named) below)
+          by_le (rank_in s.ranks (xid_of p c)) most
+          (within_both (rank_in s.ranks (xid_of p c)) (rank_of rs c) most (seen.ranks c named) below)
         where
-          below_both : (a b k : ℕ) → a ≤ b → b < k → a < k
-          below_both a b k f g = omega arith
+          within_both : (a b k : ℕ) → a ≤ b → b ≤ k → a ≤ k
+          within_both a b k f g = omega arith
 
-          by_lt : (a b : ℕ) → a < b → (if nat_lt a b then Some (ranks_on s c r) else None) ≡ Some (ranks_on s c r)
-          by_lt a b f = rw (is_less a b f) refl
+          by_le : (a b : ℕ) → a ≤ b
+              → (if nat_le 0 a && nat_le a b then Some (ranks_on s c r) else None) ≡ Some (ranks_on s c r)
+          by_le a b f = rw (is_within 0 a (omega arith), is_within a b f) refl
             where
-              is_less : (a b : ℕ) → a < b → nat_lt a b ≡ true
-              is_less a b f = grind arith
+              is_within : (a b : ℕ) → a ≤ b → nat_le a b ≡ true
+              is_within a b f = grind (arith, nat_tests)
 
   -- One record more.
 
@@ -313,13 +309,14 @@ module _ (place : Place) (coordinator : IsCoordinator place.role) where
   after_so rs s seen l = rw seen.boot refl
 
   module _ (rs : List Record) (s : SeenLog) (seen : Seen rs s) where
-    ranked_step : (x : Record) (c : Case) (r : ℕ) → IsNamed c → rank_of rs c < r → r ≤ rank_of (rs ++ x ∷ []) c
+    ranked_step : (x : Record) (c : Case) (most r : ℕ) → IsNamed c → rank_of rs c ≤ most
+        → r ≤ rank_of (rs ++ x ∷ []) c
         → boot_of (rs ++ x ∷ []) ≡ boot_of rs
-        → followed s (in_log p x).parent (in_log p x).entry ≡ ranked s (xid_of p c) r → Stepped rs s x
-    ranked_step x c r named below reached no_boot e = record {
+        → followed s (in_log p x).parent (in_log p x).entry ≡ ranked s (xid_of p c) 0 most r → Stepped rs s x
+    ranked_step x c most r named below reached no_boot e = record {
       then_seen = ranks_on s c r;
-      is = after_so rs s seen (in_log p x) ∙ (e ∙ ranked_so rs s seen c named x r below reached no_boot);
-      seen = seen_so rs s seen c named x r below reached no_boot;
+      is = after_so rs s seen (in_log p x) ∙ (e ∙ ranked_so rs s seen c named x most r below reached no_boot);
+      seen = seen_so rs s seen c named x most r below reached no_boot;
     }
 
     opened_step : (k : ℕ) → boot_of rs < k → Stepped rs s (Opened k)
@@ -345,24 +342,35 @@ module _ (place : Place) (coordinator : IsCoordinator place.role) where
     step : (x : Record) → Fits rs x → Follows rs x → RecordNamed x → Stepped rs s x
     step (Opened k) f g n = opened_step k g
     step (CollectingRecord c ts) f g n =
-        ranked_step (CollectingRecord c ts) c 1 (n c refl) (before_collecting rs c f.1.0 f.1.1.0 f.1.1.1)
+        ranked_step (CollectingRecord c ts) c 0 1 (n c refl) (before_collecting rs c f.1.0 f.1.1.0 f.1.1.1)
         (collected rs c (CollectingRecord c ts) (same_case-refl c)) (boot_behind rs (CollectingRecord c ts)) refl
     step (PrepareRecord c ts) f g n =
-        ranked_step (PrepareRecord c ts) c 2 (n c refl) (before_promise rs c f.1.0 f.1.1)
+        ranked_step (PrepareRecord c ts) c 1 2 (n c refl) (before_promise rs c f.1.0 f.1.1)
         (promised rs c (PrepareRecord c ts) (same_case-refl c)) (boot_behind rs (PrepareRecord c ts)) refl
     step (CommitRecord c ts) f g n =
-        ranked_step (CommitRecord c ts) c 3 (n c refl) (before_decision rs c f.1)
+        ranked_step (CommitRecord c ts) c 2 3 (n c refl) (before_decision rs c f.1)
         (decided rs c (CommitRecord c ts) (first_so (same_case c c) false (same_case-refl c)))
         (boot_behind rs (CommitRecord c ts)) refl
       where
         first_so : (a b : Bool) → a ≡ true → (a || b) ≡ true
         first_so a b e = grind arith
     step (AbortRecord c ts) f g n =
-        ranked_step (AbortRecord c ts) c 3 (n c refl) (before_decision rs c f.1)
+        ranked_step (AbortRecord c ts) c 2 3 (n c refl) (before_decision rs c f.1)
         (decided rs c (AbortRecord c ts) (same_case-refl c)) (boot_behind rs (AbortRecord c ts)) refl
-    step (EndRecord c r) f g n =
-        ranked_step (EndRecord c r) c 4 (n c refl) (before_end rs c g)
-        (ended rs c (EndRecord c r) (same_case-refl c)) (boot_behind rs (EndRecord c r)) refl
+    step (EndRecord c None) f g n =
+        ranked_step (EndRecord c None) c 3 4 (n c refl) (before_end rs c g)
+        (no_more 4 (rank_of (rs ++ EndRecord c None ∷ []) c) (omega arith)
+        (ended rs c (EndRecord c None) (same_case-refl c))) (boot_behind rs (EndRecord c None)) refl
+      where
+        no_more : (a b : ℕ) → a ≤ 6 → 6 ≤ b → a ≤ b
+        no_more a b f g = omega arith
+    step (EndRecord c (Some r)) f g n =
+        ranked_step (EndRecord c (Some r)) c 3 5 (n c refl) (before_end rs c g)
+        (no_more 5 (rank_of (rs ++ EndRecord c (Some r) ∷ []) c) (omega arith)
+        (ended rs c (EndRecord c (Some r)) (same_case-refl c))) (boot_behind rs (EndRecord c (Some r))) refl
+      where
+        no_more : (a b : ℕ) → a ≤ 6 → 6 ≤ b → a ≤ b
+        no_more a b f g = omega arith
     step x f g n = absurd g
 
   follow_on : (rs xs : List Record) → AllFit rs xs → AllFollow rs xs → AllNamed xs → (s : SeenLog) → Seen rs s
