@@ -136,10 +136,14 @@ write_at bytes = write_by (key_at bytes)
 
 -- Lists.
 
+-- a part in front of those that were read behind it
+abbrev pub with_first : {A : Type 0} → A → Front (List A) → Front (List A)
+with_first x o = option_map (λ p. (x ∷ p.0, p.1)) o
+
 -- so many of a kind, one behind the other, and the bytes behind them
 abbrev pub and_more : {A : Type 0} → Front A → (List ℕ → Front (List A)) → Front (List A)
 and_more None more = None
-and_more (Some p) more = option_map (λ q. (p.0 ∷ q.0, q.1)) (more p.1)
+and_more (Some p) more = with_first p.0 (more p.1)
 
 -- so many parts, each read at the front of what the last one left, and the bytes behind the last
 unfoldable pub front_of : {A : Type 0} → (List ℕ → Front A) → ℕ → List ℕ → Front (List A)

@@ -17,7 +17,7 @@ use Rattle.tree_model.specs.declared.records.Reports.{Reports}
 use Rattle.tree_model.specs.declared.records.Write.{Write}
 use Rattle.tree_model.specs.Branches.{branch_parts}
 use Rattle.tree_model.specs.Records.{same_bytes, same_xid}
-use Rattle.log_text.specs.Parts.{Front, Name, all_of, alone, and_more, below_in, case_name, fits_ticket, front_of, key_at, left_at, name_at, name_in, presumption_in, put_of, reports_by, reports_of, ticket_at, ticket_in, tickets_at, tickets_of, txn_in, value_at, write_at, write_by, writes_of, xid_at}
+use Rattle.log_text.specs.Parts.{Front, Name, all_of, alone, and_more, below_in, case_name, fits_ticket, front_of, key_at, left_at, name_at, name_in, presumption_in, put_of, reports_by, reports_of, ticket_at, ticket_in, tickets_at, tickets_of, txn_in, value_at, with_first, write_at, write_by, writes_of, xid_at}
 use Rattle.log_text.specs.Payloads.{key_text, left_text, name_text, reports_text, ticket_text, tickets_text, value_text, write_text, writes_text}
 
 some_is : {A : Type 0} (x y : A) → Some x ≡ Some y → x ≡ y
@@ -141,10 +141,10 @@ AreAsLong text bytes p = length bytes ≡ length (flat_map text p.0) + length p.
 more_long_by : {A : Type 0} (text : A → List ℕ) (bytes : List ℕ) (x : A) (rest : List ℕ)
     (o : Front (List A)) (p : List A × List ℕ) → length bytes ≡ length (text x) + length rest
     → ((q : List A × List ℕ) → o ≡ Some q → AreAsLong text rest q)
-    → option_map (λ (q : List A × List ℕ). (x ∷ q.0, q.1)) o ≡ Some p → AreAsLong text bytes p
+    → with_first x o ≡ Some p → AreAsLong text bytes p
 more_long_by text bytes x rest None p s f e = absurd (cc)
 more_long_by {A = A} text bytes x rest (Some q) p s f e =
-    let is : (x ∷ q.0, q.1) ≡ p = some_is _ _ e in
+    let is : ◌≡◌ {A = List A × List ℕ} (x ∷ q.0, q.1) p = some_is _ _ e in
     omega (
       arith,
       s,
@@ -167,7 +167,7 @@ front_long : {A : Type 0} (at : List ℕ → Front A) (text : A → List ℕ) �
     → AreAsLong text bytes p
 unfolding front_of
 front_long {A = A} at text long zero bytes p e =
-    let is : ([], bytes) ≡ p = some_is _ _ e in
+    let is : ◌≡◌ {A = List A × List ℕ} ([], bytes) p = some_is _ _ e in
     omega (
       arith,
       ap (λ (r : List A × List ℕ). length (flat_map text r.0)) is,

@@ -11,7 +11,7 @@ use Rattle.byteorder.specs.Numbers.{big_from-cons, big_from-lt, big_number-reads
 use Rattle.tree_model.specs.declared.names.Ticket.{Ticket}
 use Rattle.tree_model.specs.declared.records.Reports.{Reports}
 use Rattle.tree_model.specs.declared.records.Write.{Write}
-use Rattle.log_text.specs.Parts.{Front, all_of, alone, and_more, fits_ticket, front_of, key_at, left_at, piece_at, put_of, reports_by, reports_of, ticket_at, ticket_in, tickets_at, tickets_of, value_at, write_at, write_by, writes_of}
+use Rattle.log_text.specs.Parts.{Front, all_of, alone, and_more, fits_ticket, front_of, key_at, left_at, piece_at, put_of, reports_by, reports_of, ticket_at, ticket_in, tickets_at, tickets_of, value_at, with_first, write_at, write_by, writes_of}
 use Rattle.log_text.specs.Payloads.{key_text, left_text, reports_text, ticket_text, tickets_text, value_text, write_text, writes_text}
 use Rattle.log_rules.specs.sound.Written.{AreBytes}
 
@@ -172,13 +172,13 @@ pub record AreCut {A : Type 0} (text : A → List ℕ) (n : ℕ) (xs : List ℕ)
 -- the first was cut, and what is read behind it
 rest_cut : {A : Type 0} (text : A → List ℕ) (xs : List ℕ) (a : A × List ℕ) (n : ℕ) (p : List A × List ℕ)
     (o : Front (List A))
-    → IsCut text xs a → option_map (λ (q : List A × List ℕ). (a.0 ∷ q.0, q.1)) o ≡ Some p
+    → IsCut text xs a → with_first a.0 o ≡ Some p
     → ((q : List A × List ℕ) → o ≡ Some q → AreCut text n a.1 q)
     → AreCut text (suc n) xs p
 rest_cut text xs a n p None cut e more = absurd (none_some p e)
 rest_cut {A} text xs a n p (Some q) cut e more =
     let behind = more q refl in
-    subst (λ (r : List A × List ℕ). AreCut text (suc n) xs r) (some_is (a.0 ∷ q.0, q.1) p e) (record {
+    subst (λ (r : List A × List ℕ). AreCut text (suc n) xs r) (some_is _ p e) (record {
       written = cut.written ∙ ap (λ t. text a.0 ++ t) behind.written
           ∙ sym (append_assoc (text a.0) (flat_map text q.0) q.1);
       counted = ap suc behind.counted;
@@ -202,7 +202,7 @@ pub front_cut : {A : Type 0} (at : List ℕ → Front A) (text : A → List ℕ)
     → AreCut text n xs p
 unfolding front_of
 front_cut {A} at text cuts zero xs p h e =
-    subst (λ (r : List A × List ℕ). AreCut text zero xs r) (some_is ([], xs) p e)
+    subst (λ (r : List A × List ℕ). AreCut text zero xs r) (some_is _ p e)
     (record { written = refl; counted = refl; bytes = h })
 front_cut at text cuts (suc n) xs p h e = first_cut at text cuts n xs p h (at xs) refl e
     (λ us q k g. front_cut at text cuts n us q k g)
@@ -212,7 +212,9 @@ pub alone_is : {A : Type 0} (o : Front A) (x : A) → alone o ≡ Some x → o �
 alone_is None x e = absurd (none_some x e)
 alone_is (Some p) x e =
     let got = passed (length p.1 == 0) p.0 x e in
-    ap (λ y. Some (y, p.1)) got.1 ∙ ap (λ r. Some (x, r)) (empty p.1 got.0)
+    let none : p.1 ≡ [] = empty p.1 got.0 in
+    let one : p.0 ≡ x = got.1 in
+    (λ i. Some (one i, none i))
 
 pub all_cut : {A : Type 0} (at : List ℕ → Front A) (text : A → List ℕ)
     → ((xs : List ℕ) (p : A × List ℕ) → AreBytes xs → at xs ≡ Some p → IsCut text xs p)

@@ -8,7 +8,7 @@ use Rattle.byteorder.specs.Numbers.{big_number-reads_back, length-bytes_high_fir
 use Rattle.tree_model.specs.declared.names.Ticket.{Ticket}
 use Rattle.tree_model.specs.declared.records.Reports.{Reports}
 use Rattle.tree_model.specs.declared.records.Write.{Write}
-use Rattle.log_text.specs.Parts.{Front, all_of, alone, and_more, fits_ticket, front_of, key_at, left_at, piece_at, put_of, reports_by, reports_of, ticket_at, ticket_in, tickets_at, tickets_of, value_at, write_at, write_by, writes_of}
+use Rattle.log_text.specs.Parts.{Front, all_of, alone, and_more, fits_ticket, front_of, key_at, left_at, piece_at, put_of, reports_by, reports_of, ticket_at, ticket_in, tickets_at, tickets_of, value_at, with_first, write_at, write_by, writes_of}
 use Rattle.log_text.specs.Payloads.{key_text, left_text, reports_text, ticket_text, tickets_text, value_text, write_text, writes_text}
 use Rattle.log_rules.specs.sound.Sound.{AreSoundReports, AreSoundTickets, AreSoundWrites, IsSoundKey, IsSoundLeft, IsSoundTicket, IsSoundWrite}
 
@@ -20,10 +20,10 @@ front_back : {A : Type 0} (Sound : A → Type 0) (at : List ℕ → Front A) (te
     → front_of at (length xs) (flat_map text xs ++ rest) ≡ Some (xs, rest)
 unfolding front_of
 front_back Sound at text back [] rest h = refl
-front_back {A = A} Sound at text back (x ∷ xs) rest h =
+front_back Sound at text back (x ∷ xs) rest h =
     ap (λ t. and_more (at t) (front_of at (length xs))) (append_assoc (text x) (flat_map text xs) rest)
     ∙ ap (λ f. and_more f (front_of at (length xs))) (back x (flat_map text xs ++ rest) h.0)
-    ∙ ap (option_map (λ (p : List A × List ℕ). (x ∷ p.0, p.1))) (front_back Sound at text back xs rest h.1)
+    ∙ ap (with_first x) (front_back Sound at text back xs rest h.1)
 
 all_back : {A : Type 0} (Sound : A → Type 0) (at : List ℕ → Front A) (text : A → List ℕ)
     → ((x : A) (rest : List ℕ) → Sound x → at (text x ++ rest) ≡ Some (x, rest))

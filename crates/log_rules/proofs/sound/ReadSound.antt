@@ -26,7 +26,7 @@ use Rattle.tree_model.specs.declared.records.Record.{Record}
 use Rattle.tree_model.specs.declared.records.Record.TheVariants.{Opened, Collecting, Prepare, Commit, Abort, End, Prepared, Committed, RolledBack, Direct, HeurCommit, HeurRollback, Told, Forgot, Base, Pair, Cleared}
 use Rattle.tree_model.specs.declared.records.Reports.{Reports}
 use Rattle.tree_model.specs.declared.records.Write.{Write}
-use Rattle.log_text.specs.Parts.{Front, Name, all_of, and_more, fits_ticket, front_of, key_at, left_at, name_at, name_in, piece_at, put_of, reports_by, reports_of, ticket_at, ticket_in, tickets_at, tickets_of, value_at, write_at, write_by, writes_of, xid_at}
+use Rattle.log_text.specs.Parts.{Front, Name, all_of, and_more, fits_ticket, front_of, key_at, left_at, name_at, name_in, piece_at, put_of, reports_by, reports_of, ticket_at, ticket_in, tickets_at, tickets_of, value_at, with_first, write_at, write_by, writes_of, xid_at}
 use Rattle.log_text.specs.Reading.{alone_record, bare, below, branch_record, case_record, coordinator_record, listing, manager_record, named, of_branch, of_case, of_name, pair_by, pair_of, read_record, told, writing}
 use Rattle.tree_model.specs.LogNames.{unnamed}
 use Rattle.log_rules.specs.sound.Sound.{AreSoundReports, AreSoundTickets, AreSoundWrites, IsSound, IsSoundEntry, IsSoundKey, IsSoundName, IsSoundTicket, IsSoundWrite}
@@ -136,12 +136,12 @@ ticket_sound xs p h e =
 rest_sound : {A : Type 0} (Good : A → Type 0) (a : A × List ℕ) (n : ℕ) (p : List A × List ℕ)
     (o : Front (List A)) → Good a.0
     → ((q : List A × List ℕ) → o ≡ Some q → (length q.0 ≡ n) × AllByRecursion Good q.0)
-    → option_map (λ (q : List A × List ℕ). (a.0 ∷ q.0, q.1)) o ≡ Some p
+    → with_first a.0 o ≡ Some p
     → (length p.0 ≡ suc n) × AllByRecursion Good p.0
 rest_sound Good a n p None is more f = absurd (none_some p f)
 rest_sound {A} Good a n p (Some q) is more f =
     subst (λ (r : List A × List ℕ). (length r.0 ≡ suc n) × AllByRecursion Good r.0)
-    (some_is (a.0 ∷ q.0, q.1) p f)
+    (some_is _ p f)
     (ap suc (more q refl).0, (is, (more q refl).1))
 
 first_sound : {A : Type 0} (at : List ℕ → Front A) (Good : A → Type 0) (n : ℕ) (p : List A × List ℕ)
@@ -162,7 +162,7 @@ front_sound : {A : Type 0} (at : List ℕ → Front A) (Good : A → Type 0)
     → (length p.0 ≡ n) × AllByRecursion Good p.0
 unfolding front_of
 front_sound {A} at Good good rest zero xs p h e =
-    subst (λ (r : List A × List ℕ). (length r.0 ≡ zero) × AllByRecursion Good r.0) (some_is ([], xs) p e)
+    subst (λ (r : List A × List ℕ). (length r.0 ≡ zero) × AllByRecursion Good r.0) (some_is _ p e)
     (refl, tt)
 front_sound at Good good rest (suc n) xs p h e = first_sound at Good n p (at xs) (λ a is. good xs a h is)
     (λ a q is g. front_sound at Good good rest n a.1 q (rest xs a h is) g) e
