@@ -1,6 +1,6 @@
 -- What an input meets at a process: a row of the reaction table, a refusal, or nothing. One dispatch for the
 -- root, a coordinator below it, and a manager.
-use Rattle.std.specs.Prelude.{◌≡◌, ◌+◌, Bool, true, false, ◌&&◌, ◌||◌, if◌then◌else◌, Option, Some, None, List, [], ◌∷◌, ◌++◌}
+use Rattle.std.specs.Prelude.{◌≡◌, ◌+◌, Bool, true, false, ◌&&◌, ◌||◌, if◌then◌else◌, Option, Some, None, is_none, List, [], ◌∷◌, ◌++◌}
 use Rattle.tree_model.specs.declared.names.Case.{Case}
 use Rattle.tree_model.specs.declared.names.ProcessId.{ProcessId}
 use Rattle.tree_model.specs.declared.names.Ticket.{Ticket}
@@ -28,16 +28,18 @@ use Rattle.tree_model.specs.declared.events.StepError.{StepError}
 use Rattle.tree_model.specs.declared.events.StepError.TheVariants.{UnknownTxn, NotAChild, Closed, Failed, NotInDoubt, NothingToForget, NoSuch, Device}
 use Rattle.tree_model.specs.declared.trees.TreeEntry.{TreeEntry}
 use Rattle.tree_model.specs.Names.{same_txn, child_case, root_case, presumed}
-use Rattle.tree_model.specs.Records.{in_list}
+use Rattle.tree_model.specs.LogNames.{own_records}
+use Rattle.tree_model.specs.Records.{in_list, is_reported}
 use Rattle.tree_model.specs.Nodes.{Role, AtRoot, Below, AtLeaf, DataAnswer, Heard, Version, Second, is_child, is_leaf, role_of, ReadsOnly}
 use Rattle.tree_model.specs.Memory.{of_ticket, ticket_of_child}
 use Rattle.tree_model.specs.Standings.{CoordinatorView, ManagerView}
-use Rattle.tree_model.specs.CoordinatorRows.{Seat, Row, ByAct, active_join, active_work, active_commit, active_abort, collecting_abort, prepared_ask, on_vote, on_ack, on_inquiry, on_joined, on_prepare, on_commit, on_abort, post, tells_outcome}
+use Rattle.tree_model.specs.CoordinatorRows.{Seat, Row, ByAct, active_join, active_work, active_commit, active_abort, collecting_abort, prepared_ask, on_vote, on_ack, on_inquiry, on_joined, on_prepare, on_commit, on_abort, post, tells_outcome, unknown_forget}
 use Rattle.tree_model.specs.ManagerRows.{Leaf, LeafRow, prepared_decide, heuristic_forget, untold_ask}
 use Rattle.tree_model.specs.ManagerRows as leaf
 use Rattle.tree_model.specs.Reactions.{Reacts, Refused, Does, row_effect, leaf_effect, sends_only, seat_of, leaf_of, act_is_listed}
 use Rattle.tree_model.specs.Restarts.{is_known}
 use Rattle.tree_model.specs.Views.{begin_effect}
+use Rattle.rec_log.specs.Sights.{records_of}
 use Rattle.core_model.specs.States.{CoreState, parent}
 
 -- the version of the reaction table by which a process handles its inputs
@@ -171,7 +173,16 @@ abbrev pub live_turn : StepError → Standing → Turn
 live_turn e Unknown = Refuses UnknownTxn
 live_turn e _ = Refuses e
 
--- the acts at a coordinator; it has nothing for an operator to decide or to forget
+-- forget: nothing is known of the case, and the root's log reports what was found of it
+abbrev pub clear_turn : Seat → Bool → CoordinatorView → Standing → Turn
+clear_turn s reported v Unknown = if reported then Takes s.own (unknown_forget s v) else Refuses UnknownTxn
+clear_turn s reported v _ = Refuses NothingToForget
+
+-- the records that the process keeps, as it reads them
+abbrev pub kept_records : CoreState → List Record
+kept_records s = own_records s.place (records_of s.log.kept)
+
+-- the acts at a coordinator; it has nothing for an operator to decide
 abbrev pub coordinator_act : CoreState → Act → Turn
 coordinator_act s (Begin p) = begin_turn s p (parent s)
 coordinator_act s (JoinAct c q) = let v = s.view_of c in join_turn (seat_in s c) s.place.tree q v v.standing
@@ -183,7 +194,9 @@ coordinator_act s (AbortAct x) =
     let v = s.view_of (root_case x) in abort_turn (seat_in s (root_case x)) v v.standing
 coordinator_act s (Ask c) = let v = s.view_of c in ask_turn (seat_in s c) v v.standing
 coordinator_act s (Decide c o) = live_turn NotInDoubt (s.view_of c).standing
-coordinator_act s (Forget c) = live_turn NothingToForget (s.view_of c).standing
+coordinator_act s (Forget c) =
+    let v = s.view_of c in
+    clear_turn (seat_in s c) (is_none (parent s) && is_reported (kept_records s) c) v v.standing
 
 -- a vote, in the case that was found for the child
 abbrev pub vote_turn : CoreState → Vote → Ticket → Option Case → Turn

@@ -15,7 +15,7 @@ use Rattle.tree_model.specs.declared.messages.Message.TheVariants.{Join, Work, P
 use Rattle.tree_model.specs.declared.messages.Envelope.{Envelope}
 use Rattle.tree_model.specs.declared.records.Record.{Record}
 use Rattle.tree_model.specs.declared.records.Reports.{Reports}
-use Rattle.tree_model.specs.declared.records.Record.TheVariants.{Collecting as CollectingRecord, Prepare as PrepareRecord, Commit as CommitRecord, Abort as AbortRecord, End as EndRecord}
+use Rattle.tree_model.specs.declared.records.Record.TheVariants.{Collecting as CollectingRecord, Prepare as PrepareRecord, Commit as CommitRecord, Abort as AbortRecord, End as EndRecord, Cleared as ClearedRecord}
 use Rattle.tree_model.specs.declared.standings.Standing.{Standing}
 use Rattle.tree_model.specs.declared.standings.Standing.TheVariants.{Unknown, Active, Collecting, Prepared, Committing, Aborting}
 use Rattle.tree_model.specs.declared.standings.Vote.{Vote}
@@ -453,6 +453,17 @@ unknown_abort ver s v = unknown_abort_by ver s v s.own.txn.presumption
 -- an inquiry without information gets what is presumed
 abbrev pub unknown_inquiry : Seat → Ticket → CoordinatorView → Row
 unknown_inquiry s t v = sends (to_child s (tells_outcome (presumed s.own.txn.presumption)) t ∷ []) v
+
+-- an operator has seen to what the root reported of the case: it is cleared, forced
+abbrev pub unknown_forget : Seat → CoordinatorView → Row
+unknown_forget s v = record {
+  written = forced (ClearedRecord s.own);
+  told = None;
+  messages = [];
+  accepts = [];
+  counts = [];
+  view = v;
+}
 
 -- The table by messages.
 

@@ -1,5 +1,5 @@
 -- What a record says of a case.
-use Rattle.std.specs.Prelude.{Bool, true, false, ◌==◌, ◌&&◌, if◌then◌else◌, ℕ, Option, Some, None, List, [], ◌∷◌, ◌++◌, fold}
+use Rattle.std.specs.Prelude.{Bool, true, false, ◌==◌, ◌&&◌, if◌then◌else◌, ℕ, Option, Some, None, is_some, List, [], ◌∷◌, ◌++◌, fold}
 use Rattle.std.specs.List.{list_any, flat_map}
 use Rattle.std.specs.Ordering.{int_eq}
 use Rattle.xa_xid.specs.Xids.{XidParts}
@@ -123,6 +123,16 @@ decision_after c d _ = d
 -- what an operator decided of the case by these records
 unfoldable pub decision_of : List Record → Case → Option Outcome
 decision_of rs c = fold (decision_after c) None rs
+
+-- the report of the case stands behind one more record: an End with reports sets it up, and Cleared undoes it
+abbrev pub reported_after : Case → Bool → Record → Bool
+reported_after c b (End d rep) = if same_case d c then is_some rep else b
+reported_after c b (Cleared d) = if same_case d c then false else b
+reported_after c b _ = b
+
+-- these records report what was found of the case, and it was not cleared since
+unfoldable pub is_reported : List Record → Case → Bool
+is_reported rs c = fold (reported_after c) false rs
 
 -- a manager's Told record of the case, of either outcome
 abbrev pub is_told : Case → Record → Bool

@@ -107,8 +107,11 @@ impl Said {
             | Record::HeurRollback(_)
             | Record::Told(..) => Said::Waits,
             Record::End(_, Some(_)) => Said::Reported,
+            Record::Cleared(_) => match self {
+                Said::Reported => Said::Over,
+                said => said,
+            },
             Record::End(_, None)
-            | Record::Cleared(_)
             | Record::Committed(_)
             | Record::RolledBack(_)
             | Record::Direct(..)
