@@ -327,8 +327,10 @@ module _ (place : Place) (ls : List LogRecord) (coordinates : IsCoordinator plac
       (is_own place q d) refl
   record_stays (End d None) q rest s h behind = case_stays_alike q d (End d None) rest refl refl s h behind
       (is_own place q d) refl
-  record_stays (End d (Some r)) q rest s h behind = absurd s.1
-  record_stays (Cleared d) q rest s h behind = absurd s.1
+  record_stays (End d (Some r)) q rest s h behind = case_stays_alike q d (End d (Some r)) rest refl refl s.0 h
+      behind (is_own place q d) refl
+  record_stays (Cleared d) q rest s h behind = case_stays_alike q d (Cleared d) rest refl refl s h behind
+      (is_own place q d) refl
   record_stays (Prepared b ws) q rest s h behind = absurd s.1
   record_stays (Committed b) q rest s h behind = absurd s.1
   record_stays (RolledBack b) q rest s h behind = absurd s.1
