@@ -8,13 +8,14 @@ use Rattle.tree_model.specs.declared.events.Input.{Input}
 use Rattle.tree_model.specs.declared.events.StepError.{StepError}
 use Rattle.tree_model.specs.declared.records.Record.{Record}
 use Rattle.tree_model.specs.declared.standings.Standing.{Standing}
+use Rattle.tree_model.specs.declared.standings.Standing.TheVariants.{Heuristic, Unknown}
 use Rattle.tree_model.specs.LogNames.{in_log, parent_of}
 use Rattle.tree_model.specs.Names.{same_case}
 use Rattle.tree_model.specs.NameLaws.{same_case_tells}
 use Rattle.tree_model.specs.Records.{boot_of}
 use Rattle.tree_model.specs.Nodes.{DataAnswer, Effect, Heard, Node, Place, after, entries_written, kept}
 use Rattle.tree_model.specs.Memory.{Memory, active_ticket, memory_of, remembers}
-use Rattle.tree_model.specs.Standings.{CoordinatorView, coordinator_standing, coordinator_view, unknown_branch, view_at as view_by}
+use Rattle.tree_model.specs.Standings.{CoordinatorView, ManagerView, coordinator_standing, coordinator_view, unknown_branch, view_at as view_by}
 use Rattle.tree_model.specs.CoordinatorRows.{Row}
 use Rattle.tree_model.specs.Reactions.{row_effect, sends_only}
 use Rattle.tree_model.specs.SameViews.{SameRow, SameView}
@@ -150,6 +151,9 @@ module _ (n : Node) (s s' : CoreState) (place : Place) (a : DataAnswer)
                 (sym (views_are (after n (heard i) e) c)) (views c);
             branches = λ c. behind.branches c ∙ up.branches c ∙ no_branch n c
                 ∙ sym (no_branch (after n (heard i) e) c);
+            decided = λ c is. absurd (let clash : Unknown ≡ Heuristic =
+                ap (λ (v : ManagerView). v.standing) (sym (behind.branches c ∙ up.branches c ∙ no_branch n c)) ∙ is
+                in cc);
           };
         }
 

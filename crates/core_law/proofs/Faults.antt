@@ -13,6 +13,7 @@ use Rattle.core_model.specs.States.{CoreState, SameCore, logged, parent}
 use Rattle.core_model.specs.Makes.{IsBroken, IsRefused}
 use Rattle.core_model.specs.Turns.{reacted, heard_now}
 use Rattle.core_law.specs.Laws.{BrokenAs}
+use Rattle.tree_model.specs.Standings.{ManagerView}
 use Rattle.core_law.specs.Ties.{ChildrenFit, Stands, StandsUp, view_at}
 use Rattle.core_law.proofs.Managers.{same_view-trans}
 use Rattle.core_law.proofs.Records.{map_append}
@@ -31,6 +32,8 @@ up_same n old new same up =
       views = λ c. same_view-trans (new.view_of c) (old.view_of c) (view_at old.place.role old.place n c)
           (same.rest.views c) (up.views c);
       branches = λ c. same.rest.branches c ∙ up.branches c;
+      decided = λ c is. same.rest.decided c
+          ∙ up.decided c (ap (λ (v : ManagerView). v.standing) (sym (same.rest.branches c)) ∙ is);
     }
 
 pub same_stands : (n : Node) (old new : CoreState) → SameCore old new → Stands n old → Stands n new

@@ -6,6 +6,7 @@ pub mod CascadeViews
 pub mod Cascades
 pub mod Children
 pub mod Coordinators
+pub mod Decisions
 pub mod Elsewhere
 pub mod Faults
 pub mod ManagerSteps
@@ -22,5 +23,6 @@ pub mod Turns
 pub mod OwnRecords
 pub mod Restarting
 pub mod TrimmedLogs
+pub mod TrimmedFolds
 pub mod TrimmedViews
 pub mod Trimming

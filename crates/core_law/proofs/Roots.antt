@@ -214,7 +214,7 @@ module _ (n : Node) (s s' : CoreState) (me : ProcessId) (tree : List TreeEntry) 
         takes (ActInput (WorkAct c q op)) c _ (active_work (seat c) t op (view c))
         (active_work-same (s.view_of c) (view c) (shows c) (seat c) t op)
         (work_of (seat c) (view c) t op) (same (ActInput (WorkAct c q op)) (λ g. refl))
-        ((root_views me tree n x).work a q t op active found).moved
+        ((root_views this_version me tree n x).work a q t op active found).moved
         (λ d apart. ap (λ b. read (kept n) d
         (if b then sends_work (memory d) (ticket_of_child (memory d).accepted q)
         (memory d).phase else memory d))
@@ -254,7 +254,7 @@ module _ (n : Node) (s s' : CoreState) (me : ProcessId) (tree : List TreeEntry) 
         takes (ActInput (CommitAct x)) c _ (active_commit (seat c) (view c))
         (active_commit-same (s.view_of c) (view c) (shows c) (seat c))
         (active_commit_of (seat c) (view c)) (same (ActInput (CommitAct x)) (λ g. refl))
-        ((root_views me tree n x).commit a active).moved
+        ((root_views this_version me tree n x).commit a active).moved
         (λ d apart. ap (λ b. read (kept n) d (if b then asks_votes (memory d) (memory d).phase else memory d))
         apart)
     commit_at x standing.Unknown is = refuses (ActInput (CommitAct x)) _
@@ -275,14 +275,14 @@ module _ (n : Node) (s s' : CoreState) (me : ProcessId) (tree : List TreeEntry) 
         takes (ActInput (AbortAct x)) c _ (active_abort (seat c) (view c))
         (active_abort-same (s.view_of c) (view c) (shows c) (seat c))
         (active_abort_of (seat c) (view c)) (same (ActInput (AbortAct x)) (λ g. refl))
-        ((root_views me tree n x).abort_active a active).moved
+        ((root_views this_version me tree n x).abort_active a active).moved
         (abort_keeps x)
     abort_at x standing.Collecting collects =
         let c = root_case x in
         takes (ActInput (AbortAct x)) c _ (collecting_abort (seat c) ByAct (view c))
         (collecting_abort-same (s.view_of c) (view c) (shows c) (seat c) ByAct)
         (collecting_abort_of (seat c) (view c) ByAct) (same (ActInput (AbortAct x)) (λ g. refl))
-        ((root_views me tree n x).abort_collecting a (fits.alike c) collects).moved (abort_keeps x)
+        ((root_views this_version me tree n x).abort_collecting a (fits.alike c) collects).moved (abort_keeps x)
     abort_at x standing.Unknown is = refuses (ActInput (AbortAct x)) _
     abort_at x standing.Prepared is = refuses (ActInput (AbortAct x)) _
     abort_at x standing.Committing is = refuses (ActInput (AbortAct x)) _
@@ -353,7 +353,7 @@ module _ (n : Node) (s s' : CoreState) (me : ProcessId) (tree : List TreeEntry) 
           | inl one ↦ subst (λ q. SameView (s'.view_of q)
               (coordinator_view place (after n (heard i) f) q)) one.1
               (subst (λ v. SameView (s'.view_of (root_case x)) v)
-              (sym ((root_begins me tree n p a).begun (fits.fresh p))) made.own)
+              (sym ((root_begins this_version me tree n p a).begun (fits.fresh p))) made.own)
           | inr apart ↦ subst (λ v. SameView (s'.view_of c) v)
               (sym (nothing_written n s s' place a (λ m c. refl) (λ m c. refl) i f refl c (keeps c apart.0)))
               (same_view-trans (s'.view_of c) (s.view_of c) (view c) (made.others c apart.0) (shows c))
@@ -395,7 +395,7 @@ module _ (n : Node) (s s' : CoreState) (me : ProcessId) (tree : List TreeEntry) 
         (at_standing (s.view_of c) (view c) (on_joined t (s.view_of c)) (on_joined t (view c)) (shows c)
         (on_joined-same (s.view_of c) (view c) (shows c) t))
         (on_joined_of (seat c) (view c) t (view c).standing) (same i (λ g. refl))
-        ((root_views me tree n x).joined k a t (fits.alike c)).moved
+        ((root_views this_version me tree n x).joined k a t (fits.alike c)).moved
         (λ d apart. ap
         (λ b. read (kept n) d (if b then accepts_ticket (memory d) t (memory d).phase else memory d))
         apart)
@@ -474,33 +474,37 @@ module _ (n : Node) (s s' : CoreState) (me : ProcessId) (tree : List TreeEntry) 
             (shows c)
             (on_vote-same (s.view_of c) (view c) (shows c) (seat c) t w))
             (on_vote_of (seat c) (view c) t w (view c).standing) (same i (λ g. refl))
-            ((root_views me tree n x).vote k a t w (fits.alike c)).moved
+            ((root_views this_version me tree n x).vote k a t w (fits.alike c)).moved
             (λ d apart. vote_keeps place n d (fits.alike d) x t w (strangers x t (Some c) finds d apart))
 
     ack_at : (k : ℕ) (o : Outcome) (fs : List Finding) (x : Txn) (t : Ticket) (found : Option Case)
         → Finds old (Some (x, t)) found
-        → Leads (MessageInput k (Ack (child_case x t) o fs)) (ack_turn old o t found)
+        → Leads (MessageInput k (Ack (child_case x t) o fs)) (ack_turn old o fs t found)
     ack_at k o fs x t None finds =
         let i = MessageInput k (Ack (child_case x t) o fs) in
         says i [] (same i (λ g. refl)) (λ d. ack_keeps place n d (fits.alike d) x t o fs
         (strangers x t None finds d tt))
     ack_at k o fs x t (Some c) finds =
         subst (λ c. Finds old (Some (x, t)) (Some c)
-        → Leads (MessageInput k (Ack (child_case x t) o fs)) (ack_turn old o t (Some c)))
+        → Leads (MessageInput k (Ack (child_case x t) o fs)) (ack_turn old o fs t (Some c)))
         (found_root x t c finds) in_root finds
       where
         in_root : let c = root_case x in Finds old (Some (x, t)) (Some c)
-            → Leads (MessageInput k (Ack (child_case x t) o fs)) (ack_turn old o t (Some c))
+            → Leads (MessageInput k (Ack (child_case x t) o fs)) (ack_turn old o fs t (Some c))
         in_root finds =
             let c = root_case x in
             let i = MessageInput k (Ack (child_case x t) o fs) in
-            takes i c _ (on_ack this_version (seat c) t o [] (view c) (view c).standing)
-            (at_standing (s.view_of c) (view c) (on_ack this_version (seat c) t o [] (s.view_of c))
-            (on_ack this_version (seat c) t o [] (view c))
+            takes i c _ (on_ack this_version (seat c) t o ((view c).found ++ fs) (view c) (view c).standing)
+            (at_standing (s.view_of c) (view c)
+            (on_ack this_version (seat c) t o ((s.view_of c).found ++ fs) (s.view_of c))
+            (on_ack this_version (seat c) t o ((view c).found ++ fs) (view c))
             (shows c)
-            (on_ack-same (s.view_of c) (view c) (shows c) this_version (seat c) t o []))
-            (on_ack_of (seat c) (view c) this_version t o [] (view c).standing) (same i (λ g. refl))
-            ((root_views me tree n x).acknowledgement k a t o fs [] (fits.alike c)).moved
+            (λ st. subst (λ gs. SameRow (on_ack this_version (seat c) t o (gs ++ fs) (s.view_of c) st)
+            (on_ack this_version (seat c) t o ((view c).found ++ fs) (view c) st)) (sym (shows c).found)
+            (on_ack-same (s.view_of c) (view c) (shows c) this_version (seat c) t o ((view c).found ++ fs) st)))
+            (on_ack_of (seat c) (view c) this_version t o ((view c).found ++ fs) (view c).standing)
+            (same i (λ g. refl))
+            ((root_views this_version me tree n x).acknowledgement k a t o fs (fits.alike c)).moved
             (λ d apart. ack_keeps place n d (fits.alike d) x t o fs (strangers x t (Some c) finds d apart))
 
     inquiry_row : (c : Case) (t : Ticket) (v : CoordinatorView) (st : Standing)
@@ -552,7 +556,7 @@ module _ (n : Node) (s s' : CoreState) (me : ProcessId) (tree : List TreeEntry) 
     ack_by : (k : ℕ) (found : Option Case) (o : Outcome) (fs : List Finding) (x : Txn) (t : Option Ticket) → let d : Case =
         record { txn = x; ticket = t } in
         Finds old (asked_of d) found → Leads (MessageInput k (Ack d o fs))
-        (child_turn d (λ t. ack_turn old o t found))
+        (child_turn d (λ t. ack_turn old o fs t found))
     ack_by k found o fs x (Some t) finds = ack_at k o fs x t found finds
     ack_by k found o fs x None finds = let i = MessageInput k (Ack (root_case x) o fs)
         in says i [] (same i (λ g. refl))

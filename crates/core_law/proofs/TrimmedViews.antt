@@ -24,6 +24,7 @@ use Rattle.tree_nodes.proofs.Cases.{viewed}
 use Rattle.tree_nodes.proofs.Orders.{mark_behind, mark_is, other_leaves, same_is}
 use Rattle.tree_nodes.proofs.Tests.{case_is, first_false, second_false}
 use Rattle.tree_nodes.proofs.TrimmedBranches.{trim_forgets}
+use Rattle.core_law.proofs.TrimmedFolds.{others_leave, trims_alike}
 use Rattle.tree_nodes.proofs.Trims.{data_is_other, own_stays}
 
 -- What is said of a case by its own records.
@@ -339,128 +340,21 @@ prepared_mark : (d : Case) (r : Record) → prepares_branch (CaseBranch d) r ≡
 prepared_mark d (Prepared b ws) e m = ap (λ k. if k then Promised else m) e
 prepared_mark d r e m = absurd (cc)
 
-prepared_of : (d : Case) (r : Record) → prepares_branch (CaseBranch d) r ≡ true → is_branch_record d r ≡ true
-prepared_of d (Prepared b ws) e = sym (same_is d b) ∙ e
-prepared_of d r e = absurd (cc)
-
-others_mark : (d : Case) (m : Mark) (rs : List Record)
-    → has (is_branch_record d) rs ≡ false → mark_behind d m rs ≡ m
-unfolding has
-others_mark d m [] e = refl
-others_mark d m (r ∷ rs) e =
-    ap (λ k. mark_behind d k rs) (other_leaves d m r (first_false _ _ e))
-    ∙ others_mark d m rs (second_false _ _ e)
-
-mark_append : (d : Case) (m : Mark) (xs ys : List Record)
-    → mark_behind d m (xs ++ ys) ≡ mark_behind d (mark_behind d m xs) ys
-mark_append d m [] ys = refl
-mark_append d m (x ∷ xs) ys = mark_append d (mark_after (CaseBranch d) m x) xs ys
-
--- what stays of a branch that is open marks it alike, and from its last promise on whatever stood before
-record MarksAlike (d : Case) (ls rs : List Record) : Type 0 where
-  same : (m : Mark) → mark_behind d m ls ≡ mark_behind d m rs
-  anew : has (prepares_branch (CaseBranch d)) rs ≡ true → (m k : Mark)
-      → mark_behind d m ls ≡ mark_behind d k rs
-
-module _ (p : ProcessId) (whole : List Record) (d : Case)
-    (is_there : is_open (mark_of (CaseBranch d) whole) ≡ true) where
-  abbrev after : Mark → Record → Mark
-  after m r = mark_after (CaseBranch d) m r
-
-  abbrev left : List Record → List Record
-  left rs = staying (AtLeaf p) whole rs
-
-  -- behind it the branch promises again
-  again : (r : Record) (rs : List Record) (s : Bool) → has (prepares_branch (CaseBranch d)) rs ≡ true
-      → MarksAlike d (left rs) rs → MarksAlike d (if s then r ∷ left rs else left rs) (r ∷ rs)
-  again r rs true e rest = record {
-    same = λ m. rest.anew e (after m r) (after m r);
-    anew = λ f m k. rest.anew e (after m r) (after k r);
-  }
-  again r rs false e rest = record {
-    same = λ m. rest.anew e m (after m r);
-    anew = λ f m k. rest.anew e m (after k r);
-  }
-
-  -- it is the last promise, or follows it
-  last : (r : Record) (rs : List Record) → has (prepares_branch (CaseBranch d)) rs ≡ false
-      → MarksAlike d (left rs) rs → MarksAlike d (r ∷ left rs) (r ∷ rs)
-  unfolding has
-  last r rs none rest = record {
-    same = λ m. rest.same (after m r);
-    anew = λ f m k. rest.same (after m r)
-        ∙ ap (λ x. mark_behind d x rs) (prepared_mark d r (now f) m ∙ sym (prepared_mark d r (now f) k));
-  }
-    where
-      first_true : (a b : Bool) → (a || b) ≡ true → b ≡ false → a ≡ true
-      first_true a b e f = grind arith
-
-      now : (prepares_branch (CaseBranch d) r || has (prepares_branch (CaseBranch d)) rs) ≡ true
-          → prepares_branch (CaseBranch d) r ≡ true
-      now f = first_true _ _ f none
-
-  -- it is of another branch
-  other : (r : Record) (rs : List Record) (s : Bool) → is_branch_record d r ≡ false
-      → has (prepares_branch (CaseBranch d)) rs ≡ false
-      → MarksAlike d (left rs) rs → MarksAlike d (if s then r ∷ left rs else left rs) (r ∷ rs)
-  unfolding has
-  other r rs s away none rest = record {
-    same = λ m. whichever s m ∙ (rest.same m ∙ ap (λ x. mark_behind d x rs) (sym (other_leaves d m r away)));
-    anew = λ f m k. not_now f;
-  }
-    where
-      whichever : (s : Bool) (m : Mark) → mark_behind d m
-          (if s then r ∷ left rs else left rs) ≡ mark_behind d m (left rs)
-      whichever true m = ap (λ x. mark_behind d x (left rs)) (other_leaves d m r away)
-      whichever false m = refl
-
-      first_true : (a b : Bool) → (a || b) ≡ true → b ≡ false → a ≡ true
-      first_true a b e f = grind arith
-
-      not_now : {A : Type 0} → (prepares_branch (CaseBranch d) r
-          || has (prepares_branch (CaseBranch d)) rs) ≡ true → A
-      not_now f = absurd (let is : is_branch_record d r
-          ≡ true = prepared_of d r (first_true _ _ f none) in cc)
-
-  stays_own : (r : Record) (rs : List Record) → is_branch_record d r ≡ true
-      → has (prepares_branch (CaseBranch d)) rs ≡ false → stays (AtLeaf p) whole rs r ≡ true
-  stays_own r rs of none = own_stays p whole d r rs of ∙ both _ _ is_there none
-    where
-      both : (a b : Bool) → a ≡ true → b ≡ false → (a && not b) ≡ true
-      both a b e f = rw (e, f) refl
-
-  marks_alike : (rs : List Record) → MarksAlike d (left rs) rs
-  unfolding has
-  marks_alike [] = record { same = λ m. refl; anew = λ f m k. absurd (cc) }
-  marks_alike (r ∷ rs) =
-      by_test (has (prepares_branch (CaseBranch d)) rs) refl (is_branch_record d r) refl (marks_alike rs)
-    where
-      by_test : (b : Bool) → has (prepares_branch (CaseBranch d)) rs ≡ b
-          → (o : Bool) → is_branch_record d r ≡ o
-          → MarksAlike d (left rs) rs
-          → MarksAlike d (if stays (AtLeaf p) whole rs r then r ∷ left rs else left rs) (r ∷ rs)
-      by_test true more o is rest = again r rs (stays (AtLeaf p) whole rs r) more rest
-      by_test false none true is rest =
-          subst (λ s. MarksAlike d (if s then r ∷ left rs else left rs) (r ∷ rs))
-          (sym (stays_own r rs is none))
-          (last r rs none rest)
-      by_test false none false is rest = other r rs (stays (AtLeaf p) whole rs r) is none rest
-
 module _ (p : ProcessId) (rs : List Record) (d : Case) where
   open_mark : is_open (mark_of (CaseBranch d) rs) ≡ true
       → mark_of (CaseBranch d) (trimmed (AtLeaf p) rs) ≡ mark_of (CaseBranch d) rs
   unfolding trimmed
   open_mark is_there =
       mark_is d (trimmed (AtLeaf p) rs)
-      ∙ mark_append d Unmarked (Opened (boot_of rs) ∷ staying (AtLeaf p) rs rs) (data_records (AtLeaf p) rs)
-      ∙ others_mark d _ (data_records (AtLeaf p) rs)
-      (data_is_other (is_branch_record d) (λ k v. refl) (λ k. refl) (AtLeaf p) rs)
-      ∙ (marks_alike p rs d is_there rs).same Unmarked ∙ sym (mark_is d rs)
+      ∙ trims_alike p rs d is_there (mark_after (CaseBranch d)) Promised (prepared_mark d)
+      (λ r e m. other_leaves d m r e) Unmarked
+      ∙ sym (mark_is d rs)
 
   over_mark : is_open (mark_of (CaseBranch d) rs) ≡ false
       → mark_of (CaseBranch d) (trimmed (AtLeaf p) rs) ≡ Unmarked
   over_mark over = mark_is d (trimmed (AtLeaf p) rs)
-      ∙ others_mark d Unmarked (trimmed (AtLeaf p) rs) (trim_forgets p d rs over)
+      ∙ others_leave p rs d (mark_after (CaseBranch d)) (λ r e m. other_leaves d m r e) Unmarked
+      (trimmed (AtLeaf p) rs) (trim_forgets p d rs over)
 
 module _ (place : Place) (p : ProcessId) (role : place.role ≡ AtLeaf p) (n : Node) (d : Case)
     (open_fits : (memory_of place n d).phase ≡ Open → mark_of (CaseBranch d) (kept n) ≡ Unmarked) where

@@ -1,11 +1,12 @@
 -- Two processes between which nothing is otherwise meet each input alike.
-use Rattle.std.proofs.Common.{◌≡◌, Bool, true, false, ◌&&◌, ◌||◌, if◌then◌else◌, Option, None, Some, List, [], refl, sym, ap, ◌∙◌}
+use Rattle.std.proofs.Common.{◌≡◌, Bool, true, false, ◌&&◌, ◌||◌, if◌then◌else◌, Option, None, Some, List, [], ◌++◌, refl, sym, ap, ◌∙◌}
 use Rattle.tree_model.specs.declared.names.Case.{Case}
 use Rattle.tree_model.specs.declared.names.ProcessId.{ProcessId}
 use Rattle.tree_model.specs.declared.names.Ticket.{Ticket}
 use Rattle.tree_model.specs.declared.names.Txn.{Txn}
 use Rattle.tree_model.specs.declared.names.Outcome.{Outcome}
 use Rattle.tree_model.specs.declared.messages.Op.{Op}
+use Rattle.tree_model.specs.declared.messages.Finding.{Finding}
 use Rattle.tree_model.specs.declared.messages.Message.{Message}
 use Rattle.tree_model.specs.declared.messages.Message.TheVariants.{Join, Joined, Work, Prepare, Yes, No, Read, Commit, Abort, Ack, Inquire}
 use Rattle.tree_model.specs.declared.standings.Standing.{Standing}
@@ -140,12 +141,16 @@ module _ (s : CoreState) (f g : Case → CoordinatorView) (same : (c : Case) →
       ap (λ st. reacted (Takes c (on_vote (seat_in s c) t w (f c) st))) (same c).standing
       ∙ alike c _ _ (on_vote-same (f c) (g c) (same c) (seat_in s c) t w (g c).standing)
 
-  ack-alike : (o : Outcome) (found : Option Case) (t : Ticket)
-      → reacted (ack_turn (showing s f) o t found) ≡ reacted (ack_turn (showing s g) o t found)
-  ack-alike o None t = refl
-  ack-alike o (Some c) t =
-      ap (λ st. reacted (Takes c (on_ack this_version (seat_in s c) t o [] (f c) st))) (same c).standing
-      ∙ alike c _ _ (on_ack-same (f c) (g c) (same c) this_version (seat_in s c) t o [] (g c).standing)
+  ack-alike : (o : Outcome) (fs : List Finding) (found : Option Case) (t : Ticket)
+      → reacted (ack_turn (showing s f) o fs t found) ≡ reacted (ack_turn (showing s g) o fs t found)
+  ack-alike o fs None t = refl
+  ack-alike o fs (Some c) t =
+      ap (λ gs. reacted (Takes c (on_ack this_version (seat_in s c) t o (gs ++ fs) (f c) (f c).standing)))
+      (same c).found
+      ∙ (ap (λ st. reacted (Takes c (on_ack this_version (seat_in s c) t o ((g c).found ++ fs) (f c) st)))
+      (same c).standing
+      ∙ alike c _ _ (on_ack-same (f c) (g c) (same c) this_version (seat_in s c) t o ((g c).found ++ fs)
+      (g c).standing))
 
   inquiry-alike : (x : Txn) (found : Option Case) (t : Ticket)
       → reacted (inquiry_turn (showing s f) x t found) ≡ reacted (inquiry_turn (showing s g) x t found)
@@ -161,7 +166,7 @@ module _ (s : CoreState) (f g : Case → CoordinatorView) (same : (c : Case) →
   child-says found (Yes d) = child-alike d.ticket _ _ (vote-alike VoteYes found)
   child-says found (No d) = child-alike d.ticket _ _ (vote-alike VoteNo found)
   child-says found (Read d) = child-alike d.ticket _ _ (vote-alike VoteRead found)
-  child-says found (Ack d o fs) = child-alike d.ticket _ _ (ack-alike o found)
+  child-says found (Ack d o fs) = child-alike d.ticket _ _ (ack-alike o fs found)
   child-says found (Inquire d) = child-alike d.ticket _ _ (inquiry-alike d.txn found)
   child-says found (Join d) = refl
   child-says found (Work d i op) = refl
@@ -229,6 +234,7 @@ showing-is s t same =
     let given = sym same.rest.given in
     let tickets : (d : Case) → s.ticket_for d ≡ t.ticket_for d = λ d. sym (same.rest.tickets d) in
     let branches : (c : Case) → s.branch_of c ≡ t.branch_of c = λ c. sym (same.rest.branches c) in
+    let decided : (c : Case) → s.decided_of c ≡ t.decided_of c = λ c. sym (same.rest.decided c) in
     (λ i. record {
       place = place i;
       log = log i;
@@ -238,6 +244,7 @@ showing-is s t same =
       ticket_for = λ d. tickets d i;
       view_of = t.view_of;
       branch_of = λ c. branches c i;
+      decided_of = λ c. decided c i;
     })
 
 pub same_cores_react : (s t : CoreState) (a : DataAnswer) (found : Option Case) (i : Input) → SameCore s t

@@ -39,6 +39,7 @@ stays_alike old new j k m h = record {
   place = h.place;
   boot = h.boot;
   tickets = λ d. h.tickets d ∙ retired_alike j k m d (old.ticket_for d);
+  decided = h.decided;
 }
 
 moves_alike : (old new : CoreState) (j k : ℕ) (m : Message) (turn : Turn)

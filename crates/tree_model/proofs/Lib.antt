@@ -5,6 +5,7 @@ pub mod ManagerViewLaws
 pub mod TicketLaws
 pub mod StandingLaws
 pub mod AckLaws
+pub mod FoundLaws
 pub mod RootRowLaws
 pub mod PhaseLaws
 pub mod RootViewLaws

@@ -397,7 +397,8 @@ ends_with ver s fs =
     let reports = end_reports ver s.parent fs in
     record { entry = EndRecord s.own reports; is_forced = is_some reports } ∷ []
 
--- these still owe an acknowledgement; where there are none, an End record ends the case
+-- these still owe an acknowledgement, and so much was found by now; where there are none, an End record ends the
+-- case
 abbrev pub decided_ack_by : Version → Seat → Outcome → List Ticket → List Finding → CoordinatorView → Row
 decided_ack_by ver s o left fs v =
     if none_of left
@@ -409,7 +410,7 @@ decided_ack_by ver s o left fs v =
       counts = [];
       view = unknown_view;
     }
-    else quiet (record v { owed = left })
+    else quiet (record v { owed = left; found = fs })
 
 -- an acknowledgement that agrees with the decision; the last one that is owed ends the case, with all that was found
 abbrev pub decided_ack : Version → Seat → Outcome → Ticket → List Finding → CoordinatorView → Row

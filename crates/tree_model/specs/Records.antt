@@ -113,6 +113,17 @@ is_decided c CommittedOutcome _ = false
 is_decided c AbortedOutcome (HeurRollback b) = is_branch c b
 is_decided c AbortedOutcome _ = false
 
+-- what an operator decided of the case behind one more record: the last decision behind its last promise counts
+abbrev pub decision_after : Case → Option Outcome → Record → Option Outcome
+decision_after c d (Prepared b ws) = if is_branch c b then None else d
+decision_after c d (HeurCommit b) = if is_branch c b then Some CommittedOutcome else d
+decision_after c d (HeurRollback b) = if is_branch c b then Some AbortedOutcome else d
+decision_after c d _ = d
+
+-- what an operator decided of the case by these records
+unfoldable pub decision_of : List Record → Case → Option Outcome
+decision_of rs c = fold (decision_after c) None rs
+
 -- a manager's Told record of the case, of either outcome
 abbrev pub is_told : Case → Record → Bool
 is_told c (Told b o) = is_branch c b

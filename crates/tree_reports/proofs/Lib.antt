@@ -1,4 +1,5 @@
 pub mod Later
+pub mod LastDecisions
 pub mod Decisions
 pub mod Memories
 pub mod Leaves

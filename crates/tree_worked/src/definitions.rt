@@ -12,7 +12,7 @@ ghost use Rattle.tree_model.specs.declared.names.Case.{Case};
 ghost use Rattle.tree_model.specs.declared.names.Presumption.{Presumption};
 ghost use Rattle.tree_model.specs.declared.names.Txn.{Txn};
 ghost use Rattle.tree_model.specs.LogNames.{ReadsBack};
-ghost use Rattle.tree_model.specs.Nodes.{DataAnswer, Node, Place, place_of};
+ghost use Rattle.tree_model.specs.Nodes.{DataAnswer, Node, Place, Version, place_of};
 ghost use Rattle.tree_model.specs.declared.records.Record.{Record};
 ghost use Rattle.tree_model.specs.Views.{ManagerViews, RootBegins, RootViews};
 ghost use Rattle.tree_model.specs.Records.{has};
@@ -34,16 +34,18 @@ pub fn durable_is_what_was_forced()
         → (q : Record → Bool) → has q (w.at p).durable ≡ was_forced (place_of tree p) q (made_by p es) }
 {}
 
-/// A manager's new view, as its reaction table gives it, is what its extended lists read as.
+/// A manager's new view, as its reaction table of either version gives it, is what its extended lists read as.
 pub fn manager_views_follow_the_table()
-    ensures { (me p : ProcessId) (tree : List TreeEntry) (n : Node) (d : Case) → ManagerViews me p tree n d }
+    ensures { (ver : Version) (me p : ProcessId) (tree : List TreeEntry) (n : Node) (d : Case)
+        → ManagerViews ver me p tree n d }
 {}
 
-/// The root's new view, as its reaction table gives it, is what its extended lists read as.
+/// The root's new view, as its reaction table of either version gives it, is what its extended lists read as.
 pub fn root_views_follow_the_table()
-    ensures rows { (me : ProcessId) (tree : List TreeEntry) (n : Node) (x : Txn) → RootViews me tree n x }
-    ensures begins { (me : ProcessId) (tree : List TreeEntry) (n : Node) (p : Presumption) (a : DataAnswer)
-        → RootBegins me tree n p a }
+    ensures rows { (ver : Version) (me : ProcessId) (tree : List TreeEntry) (n : Node) (x : Txn)
+        → RootViews ver me tree n x }
+    ensures begins { (ver : Version) (me : ProcessId) (tree : List TreeEntry) (n : Node) (p : Presumption)
+        (a : DataAnswer) → RootBegins ver me tree n p a }
 {}
 
 /// What a committed update of a flat tree costs its root and each of its managers, row by row through the

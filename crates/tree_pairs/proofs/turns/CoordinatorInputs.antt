@@ -202,7 +202,7 @@ module _ (s : Seat) where
             [];
         view = unknown_view;
       }
-      else quiet (record v { owed = left }))
+      else quiet (record v { owed = left; found = fs }))
   ends_by x o left fs v true =
       (wrote_one (EndRecord s.own (end_reports x s.parent fs)) _ refl refl, at_last x o fs)
   ends_by x o left fs v false = (wrote_none, tt)

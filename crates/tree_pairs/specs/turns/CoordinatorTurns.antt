@@ -234,6 +234,7 @@ pub data CaseTurn (place : Place) (parent : Option ProcessId) (n : Node) (h : He
       → CaseTurn place parent n h c
       (quiet (record (coordinator_view place n c) {
         owed = other_tickets t (coordinator_view place n c).owed;
+        found = found_below place n c o fs;
       }))
   ends : (t : Ticket) (o : Outcome) (fs : List Finding) → HearsChild place n h c t (λ d. Ack d o fs)
       → Decided o (coordinator_view place n c).standing
