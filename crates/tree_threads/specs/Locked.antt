@@ -1,11 +1,16 @@
 -- What lies under locks.
-use Rattle.std.specs.Prelude.{List}
+use Rattle.std.specs.Prelude.{◌≡◌, List}
 use Rattle.tree_model.specs.declared.names.ProcessId.{ProcessId}
 use Rattle.tree_model.specs.declared.events.Entry.{Entry}
+use Rattle.tree_model.specs.declared.records.LogRecord.{LogRecord}
 use Rattle.tree_model.specs.declared.trees.TreeEntry.{TreeEntry}
 use Rattle.tree_model.specs.Nodes.{Node}
+use Rattle.tree_model.specs.World.{entries_of}
+use Rattle.rec_log.specs.Sights.{records_of}
+use Rattle.core_model.specs.States.{CoreState}
 use Rattle.log_store.specs.declared.memory.MemoryStore.{MemoryStore}
 use Rattle.tree_cut.specs.Cuts.{IsCut}
+use Rattle.tree_cut.specs.Owns.{OwnRun}
 use Rattle.tree_node.specs.declared.node.Node.{Node as Process}
 
 -- the journal is cut by process: it is a run
@@ -18,3 +23,9 @@ pub record SeatedState : Type 0 where
   pub me : ProcessId
   pub own : List Entry
   pub node : Process MemoryStore
+
+-- the log is that of the process, as it stands once it has made just the journal's entries of it
+pub record LeavesLog (tree : List TreeEntry) (xs : List Entry) (q : ProcessId) (log : List LogRecord) : Type 0 where
+  pub core : CoreState
+  pub own : OwnRun tree q (entries_of q xs) core
+  pub log_is : log ≡ records_of core.log.kept

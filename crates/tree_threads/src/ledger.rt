@@ -12,9 +12,43 @@ use crate::pass::Pass;
 use cluster_journal::ClusterJournal;
 use std::alloc::{AllocError, Global};
 use std::marker::{Model, PhantomData};
-use tree_model::{Entry, Envelope};
+use tree_model::{Entry, Envelope, ProcessId};
 use tree_ties::seats::{Place, Seats, Ties};
 use tree_ties::ties::meet;
+
+/// How busy the workers are. No contract speaks of it.
+#[derive(Clone, Copy, PartialEq, Eq)]
+pub(crate) struct Turns {
+    /// So many messages are claimed.
+    claims: usize,
+    /// About so many were sent, and nobody has claimed them.
+    open: usize,
+}
+
+impl Turns {
+    /// So many messages more were sent.
+    pub(crate) fn with_sent(self, sent: usize) -> Turns {
+        Turns {
+            claims: self.claims,
+            open: self.open.saturating_add(sent),
+        }
+    }
+}
+
+/// A worker is woken for so many messages that nobody has claimed.
+const MESSAGES_A_WORKER: usize = 8;
+
+/// A message that somebody delivers now: its number, its receiver, and whether there is more to do than those
+/// who are awake have in hand.
+#[derive(Clone, Copy, PartialEq, Eq)]
+pub struct Claim {
+    /// The number of the message.
+    pub number: u64,
+    /// Its receiver.
+    pub to: ProcessId,
+    /// Whether there is enough to do for one worker more.
+    pub wakes: bool,
+}
 
 /// The journal, and its seat. To a contract it is its entries, each with its caller's number, and the marks of
 /// its messages.
@@ -22,6 +56,7 @@ use tree_ties::ties::meet;
 pub struct Ledger<N: Seats> {
     pub(crate) journal: ClusterJournal,
     pub(crate) seat: Place,
+    pub(crate) turns: Turns,
     pub(crate) name: PhantomData<N>,
 }
 
@@ -46,6 +81,15 @@ impl<N: Seats> Model for Ledger<N> {
         × HasCut N.tree (entries_in l.journal.entries) };
 }
 
+/// Whether more messages are open than those who are awake have in hand. Where a gate holds steps, one is enough.
+fn is_much(turns: Turns, holds: bool) -> bool {
+    if holds {
+        turns.open > 0
+    } else {
+        turns.open / MESSAGES_A_WORKER > turns.claims
+    }
+}
+
 impl<N: Seats> Ledger<N> {
     /// A journal without entries.
     pub fn new(alloc: Global, seat: Place) -> Ledger<N>
@@ -61,6 +105,10 @@ impl<N: Seats> Ledger<N> {
         Ledger {
             journal: ClusterJournal::new(alloc),
             seat,
+            turns: Turns {
+                claims: 0,
+                open: 0,
+            },
             name: PhantomData,
         }
     }
@@ -73,7 +121,7 @@ impl<N: Seats> Ledger<N> {
     }
 
     /// Places every entry, so that its messages are found.
-    pub(crate) fn place(&mut self) -> Result<(), AllocError>
+    pub fn place(&mut self) -> Result<(), AllocError>
         ensures entries { self.new.entries ≡ self.old.entries }
         ensures ok { OnOk result (self.new.late ≡ 0) }
     {
@@ -81,11 +129,55 @@ impl<N: Seats> Ledger<N> {
     }
 
     /// The message with this number, where all entries are placed.
-    pub(crate) fn message(&self, number: u64) -> Option<&Envelope>
+    pub fn message(&self, number: u64) -> Option<&Envelope>
         requires { self.now.late ≡ 0 }
         ensures { option_copied result ≡ sent_as (net_of (entries_in self.now.entries)) number }
     {
         self.journal.message(number)
+    }
+
+    /// Claims the least message that nobody delivers and that was not delivered, if there is one. Where a gate
+    /// holds steps, a worker is to be woken for each that is open. Memory: a growth was refused.
+    pub fn claim(&mut self, holds: bool) -> Result<Option<Claim>, AllocError>
+        ensures { self.new.entries ≡ self.old.entries }
+    {
+        self.place()?;
+        let Some(number) = self.journal.claim() else {
+            self.turns.open = 0;
+            return Ok(None);
+        };
+        self.turns.claims = self.turns.claims.saturating_add(1);
+        self.turns.open = self.turns.open.saturating_sub(1);
+        let wakes = is_much(self.turns, holds);
+        Ok(match self.message(number) {
+            None => None,
+            Some(envelope) => Some(Claim {
+                number,
+                to: envelope.to,
+                wakes,
+            }),
+        })
+    }
+
+    /// A claim has ended.
+    pub fn end_claim(&mut self)
+        ensures { self.new ≡ self.old }
+    {
+        self.turns.claims = self.turns.claims.saturating_sub(1);
+    }
+
+    /// The claim of this message is given back: it is open again, if it was not delivered.
+    pub fn give_back(&mut self, number: u64)
+        ensures { self.new.entries ≡ self.old.entries }
+    {
+        self.journal.give_back(number);
+        self.turns.open = self.turns.open.saturating_add(1);
+        self.end_claim();
+    }
+
+    /// Whether nobody delivers a message.
+    pub fn is_quiet(&self) -> bool {
+        self.turns.claims == 0
     }
 
     /// The journal has every pair of the pass, under its caller's number, and their places rise.
@@ -106,6 +198,7 @@ impl<N: Seats> Ledger<N> {
         let Ledger {
             journal,
             seat: _,
+            turns: _,
             name: _,
         } = self;
         journal.into_entries()

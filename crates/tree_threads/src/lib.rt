@@ -22,8 +22,8 @@ mod seated;
 
 pub use entering::enter;
 pub use errors::PostError;
-pub use ledger::Ledger;
+pub use ledger::{Claim, Ledger};
 pub use making::{Made, make_step};
-pub use marking::{MOST_ENTRIES, Marked, mark};
+pub use marking::{MOST_ENTRIES, Marked, is_same, mark};
 pub use pass::Pass;
-pub use seated::{Gate, Open, Posted, Seated};
+pub use seated::{Gate, Open, Posted, Seated, Turn};

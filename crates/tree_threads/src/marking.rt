@@ -32,7 +32,7 @@ pub struct Marked {
 }
 
 /// Whether these are one process.
-pub(crate) fn is_same(a: ProcessId, b: ProcessId) -> bool
+pub fn is_same(a: ProcessId, b: ProcessId) -> bool
     ensures yes { IsTrue result → a ≡ b }
     ensures no { a ≡ b → IsTrue result }
 {

@@ -8,19 +8,20 @@ ghost use Rattle.tree_model.specs.World.{entries_of};
 ghost use Rattle.tree_cut.specs.Owns.{OwnRun, StandsInRun};
 ghost use Rattle.tree_node.specs.Nodes.{core_of};
 ghost use Rattle.tree_ties.specs.Views.{entries_in, idle_at, worker};
+ghost use Rattle.tree_threads.specs.Locked.{LeavesLog};
 ghost use Rattle.tree_threads.specs.Posts.{PostsOne};
 
 use crate::entering::enter;
 use crate::errors::PostError;
-use crate::ledger::Ledger;
+use crate::ledger::{Claim, Ledger};
 use crate::making::make_step;
 use crate::marking::{is_same, mark};
 use crate::pass::Pass;
 use log_store::MemoryStore;
-use std::alloc::Global;
+use std::alloc::{AllocError, Global};
 use std::marker::{Model, PhantomData};
 use std::sync::{Mutex, Wait};
-use tree_model::{Event, ProcessId, StepError, Txn};
+use tree_model::{Event, LogRecord, ProcessId, StepError, Txn};
 use tree_node::Node;
 use tree_ties::seats::{Place, Seats, Ties};
 use tree_ties::ties::compare;
@@ -45,6 +46,15 @@ impl Gate for Open {
     }
 }
 
+/// Whose event is posted.
+#[derive(Clone, Copy, PartialEq, Eq)]
+pub enum Turn {
+    /// A caller's.
+    Once,
+    /// A worker's, which has a claim and makes another.
+    Worker,
+}
+
 /// What was posted.
 #[derive(Clone, Copy)]
 pub struct Posted {
@@ -52,6 +62,19 @@ pub struct Posted {
     pub place: usize,
     /// The transaction that was begun, if one was.
     pub begun: Option<Txn>,
+    /// A worker's next claim.
+    pub next: Option<Claim>,
+}
+
+/// A worker's claim ends, and it makes the next, if there is one and memory for it.
+fn next_of<N: Seats>(ledger: &mut Ledger<N>, turn: Turn, holds: bool) -> Option<Claim>
+    ensures { ledger.new.entries ≡ ledger.old.entries }
+{
+    if turn == Turn::Once {
+        return None;
+    }
+    ledger.end_claim();
+    ledger.claim(holds).unwrap_or(None)
 }
 
 /// A process and its seat, between two events. To a contract it is its name, its entries, and the process itself.
@@ -102,8 +125,15 @@ impl<N: Seats> Seated<N> {
         }
     }
 
+    /// Its name.
+    pub fn me(&self) -> ProcessId
+        ensures { result ≡ self.now.me }
+    {
+        self.me
+    }
+
     /// Marks, makes and enters an event of this process, under its lock, which the caller has; the journal's is
-    /// taken for the mark and for the entry.
+    /// taken for the mark and for the entry. A worker's claim ends with the entry, and it makes the next there.
     pub fn post<R: Wait, G: Gate>(
         &mut self,
         rt: &R,
@@ -114,6 +144,7 @@ impl<N: Seats> Seated<N> {
         event: Event,
         pass: &mut Pass<N>,
         gate: &G,
+        turn: Turn,
     ) -> Result<Posted, PostError>
         requires { ties.now.shared.table_id ≡ N.table }
         ensures ok { IfOk result (λ r. PostsOne process event pass.old pass.new r.place r.begun) }
@@ -145,6 +176,7 @@ impl<N: Seats> Seated<N> {
             Ok(made) => {
                 let begun = made.begun();
                 gate.before(rt, self.me);
+                let mut ledger = ledger.lock(rt);
                 let place = enter(
                     rt,
                     ties,
@@ -152,11 +184,12 @@ impl<N: Seats> Seated<N> {
                     self.word,
                     &self.node,
                     &mut self.seat,
-                    &mut *ledger.lock(rt),
+                    &mut *ledger,
                     pass,
                     made,
                 );
-                Ok(Posted { place, begun })
+                let next = next_of(&mut *ledger, turn, gate.holds());
+                Ok(Posted { place, begun, next })
             }
         }
     }
@@ -170,5 +203,19 @@ impl<N: Seats> Seated<N> {
         ensures same { (self.new ≡ self.old) × (ledger.new ≡ ledger.old) }
     {
         compare(ties, &mut self.seat, &mut ledger.seat);
+    }
+
+    /// The records of this process's log, as the journal leaves it. Memory: a growth was refused.
+    pub fn left_log(
+        &mut self,
+        ties: &Ties,
+        ledger: &mut Ledger<N>,
+    ) -> Result<Vec<LogRecord>, AllocError>
+        requires { ties.now.shared.table_id ≡ N.table }
+        ensures left { IfOk result (λ log. LeavesLog N.tree (entries_in ledger.old.entries) self.old.me log.items) }
+        ensures same { ledger.new ≡ ledger.old }
+    {
+        compare(ties, &mut self.seat, &mut ledger.seat);
+        self.node.records()
     }
 }

@@ -1,0 +1,12 @@
+//! Floor: engines and program.
+//!
+//! The engine of `rstar run`: a script whose processes run at the same time, and what comes of it.
+#![tactic(auto)]
+
+mod engine;
+mod player;
+mod replay;
+mod told;
+mod trace;
+
+pub use engine::{Output, run_cluster};

@@ -1,0 +1,87 @@
+//! Two processes step at the same time.
+
+use crate::opening::{names, tree};
+use std::alloc::Global;
+use std::marker::Brand;
+use std::sync::Wait;
+use std::sync::atomic::{AtomicBool, Ordering};
+use std::thread;
+use std::thread::Threads;
+use tree_model::{Act, Case, Event, Presumption, ProcessId, Tree};
+use tree_cluster::Cluster;
+use tree_threads::{Gate, Open};
+use tree_ties::seats::{Opened, Seats, open};
+
+/// How often a step that is held looks whether the other was made.
+const TURNS: u32 = 10_000;
+
+/// A gate that holds a step of process 2 until process 3 has stepped.
+#[derive(Drop)]
+struct Meeting {
+    stepped: AtomicBool,
+    met: AtomicBool,
+}
+
+impl Gate for Meeting {
+    fn before<R: Wait>(&self, _rt: &R, process: ProcessId) {
+        if process.0 == 3 {
+            self.stepped.store(true, Ordering::SeqCst);
+        }
+        if process.0 == 2 {
+            for _ in 0..TURNS {
+                if self.stepped.load(Ordering::SeqCst) {
+                    self.met.store(true, Ordering::SeqCst);
+                    return;
+                }
+                thread::yield_now();
+            }
+        }
+    }
+
+    fn holds(&self) -> bool {
+        true
+    }
+}
+
+/// The root invites two managers, and workers deliver: the first's step is held until the second's is made.
+fn meet<N: Seats + Send + Sync, R: Threads + Wait + Sync>(
+    rt: &R,
+    alloc: Global,
+    tree: Tree,
+    opened: Opened,
+    workers: usize,
+) -> Option<bool> {
+    let (cluster, mut passes) = Cluster::<N>::new(alloc, tree, opened, workers).ok()?;
+    let passes = passes.as_mut_slice();
+    let first = passes.first_mut()?;
+    let begin = Event::Act(Act::Begin(Presumption::PresumeAbort));
+    let (_, begun) = cluster.post(rt, begin, first, &Open).ok()?;
+    let case = Case {
+        txn: begun?,
+        ticket: None,
+    };
+    for child in [2, 3] {
+        let join = Event::Act(Act::Join(case, ProcessId(child)));
+        cluster.post(rt, join, first, &Open).ok()?;
+    }
+    let gate = Meeting {
+        stepped: AtomicBool::new(false),
+        met: AtomicBool::new(false),
+    };
+    cluster.run_workers(rt, passes, &gate).ok()?;
+    Some(gate.met.load(Ordering::SeqCst))
+}
+
+/// Whether they met; one worker alone gives up.
+pub fn two_steps_meet<R: Threads + Wait + Sync>(rt: &R, alloc: Global, workers: usize) -> bool {
+    let Ok(tree) = tree(alloc, 2) else {
+        return false;
+    };
+    let Ok(names) = names(alloc, &tree) else {
+        return false;
+    };
+    let Ok(opened) = open(alloc, &names) else {
+        return false;
+    };
+    meet::<Brand, R>(rt, alloc, tree, opened, workers) == Some(workers > 1)
+}

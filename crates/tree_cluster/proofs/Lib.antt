@@ -1,0 +1,4 @@
+mod Apart
+mod Opening
+mod Leaving
+mod Passing
