@@ -12,5 +12,5 @@ told_more n (y ∷ ys) x =
     let here : suc n + length ys ≡ n + suc (length ys) = omega arith in
     ap (λ l. told_in n y.1.reaction.told ++ l) (told_more (suc n) ys x)
     ∙ sym (append_assoc (told_in n y.1.reaction.told) (told_from (suc n) ys)
-        (told_in (suc n + length ys) x.1.reaction.told))
+    (told_in (suc n + length ys) x.1.reaction.told))
     ∙ ap (λ k. (told_in n y.1.reaction.told ++ told_from (suc n) ys) ++ told_in k x.1.reaction.told) here

@@ -11,10 +11,10 @@ use std::io::{Read, Write};
 use std::marker::Brand;
 use std::sync::Wait;
 use std::thread::Threads;
+use tree_cluster::Cluster;
 use tree_engine::{push_refused, refusal};
 use tree_model::{Event, ProcessId, StepError, Tree, TreeEntry};
 use tree_node::copied_tree;
-use tree_cluster::Cluster;
 use tree_threads::{Gate, Pass, PostError};
 use tree_ties::seats::{Opened, Seats, open};
 

@@ -10,3 +10,4 @@ mod told;
 mod trace;
 
 pub use engine::{Output, run_cluster};
+pub use replay::is_replayed;

@@ -4,8 +4,8 @@ use std::alloc::Global;
 use std::sync::{Mutex, Wait};
 use std::thread;
 use std::thread::Threads;
-use tree_model::Event;
 use tree_cluster::{Cluster, Rounds};
+use tree_model::Event;
 use tree_threads::{Gate, Pass, PostError};
 use tree_ties::seats::Seats;
 
@@ -87,10 +87,15 @@ pub(crate) fn play<N: Seats + Send + Sync, R: Threads + Wait + Sync, G: Gate + S
     if threads == 0 {
         return None;
     }
-    thread::for_each_mut(rt, passes, threads, &|place, pass: &mut Pass<N>| {
-        take_part(
-            rt, alloc, cluster, &rounds, events, &refusal, place, pass, gate,
-        )
-    });
+    thread::for_each_mut(
+        rt,
+        passes,
+        threads,
+        &|place, pass: &mut Pass<N>| {
+            take_part(
+                rt, alloc, cluster, &rounds, events, &refusal, place, pass, gate,
+            )
+        },
+    );
     refusal.into_inner()
 }

@@ -70,11 +70,7 @@ fn is_same_log(alloc: Global, a: &[LogRecord], b: &[LogRecord]) -> Result<bool, 
 }
 
 /// Whether these are the same logs.
-fn are_same(
-    alloc: Global,
-    a: &[Vec<LogRecord>],
-    b: &[Vec<LogRecord>],
-) -> Result<bool, AllocError> {
+fn are_same(alloc: Global, a: &[Vec<LogRecord>], b: &[Vec<LogRecord>]) -> Result<bool, AllocError> {
     if a.len() != b.len() {
         return Ok(false);
     }
@@ -87,7 +83,7 @@ fn are_same(
 }
 
 /// Whether a tree on one thread that makes the events of the journal leaves these logs.
-pub(crate) fn is_replayed(
+pub fn is_replayed(
     alloc: Global,
     tree: Tree,
     journal: &[(u64, Entry)],

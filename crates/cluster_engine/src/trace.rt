@@ -2,7 +2,9 @@
 
 use report_io::Failure;
 use std::alloc::{AllocError, Global};
-use trace_lines::{push, push_begun, push_conclusion, push_kept, push_messages, push_number, push_written};
+use trace_lines::{
+    push, push_begun, push_conclusion, push_kept, push_messages, push_number, push_written,
+};
 use tree_model::{Entry, TreeEntry};
 
 /// The line of a process's opening.

@@ -1,16 +1,16 @@
 //! Several callers at the same time.
 
-use crate::opening::{names, tree};
+use crate::opening::{begin, seats, tree};
 use std::alloc::Global;
 use std::marker::Brand;
 use std::sync::Wait;
 use std::sync::atomic::{AtomicU64, Ordering};
 use std::thread;
 use std::thread::Threads;
-use tree_model::{Act, Entry, Event, Presumption, Tree};
 use tree_cluster::Cluster;
-use tree_threads::{Open, Pass};
-use tree_ties::seats::{Opened, Seats, open};
+use tree_model::{Entry, Tree};
+use tree_threads::Pass;
+use tree_ties::seats::{Opened, Seats};
 
 /// So many times each caller begins a transaction.
 const TIMES: u64 = 100;
@@ -23,8 +23,7 @@ fn begin_all<N: Seats, R: Wait>(
     answered: &AtomicU64,
 ) {
     for _ in 0..TIMES {
-        let begin = Event::Act(Act::Begin(Presumption::PresumeAbort));
-        if let Ok((_, Some(_))) = cluster.post(rt, begin, pass, &Open) {
+        if begin(rt, cluster, pass).is_some() {
             answered.fetch_add(1, Ordering::SeqCst);
         }
     }
@@ -50,9 +49,12 @@ fn begin_at_once<N: Seats + Send + Sync, R: Threads + Wait + Sync>(
 ) -> Option<bool> {
     let (cluster, mut passes) = Cluster::<N>::new(alloc, tree, opened, 4).ok()?;
     let answered = AtomicU64::new(0);
-    thread::for_each_mut(rt, passes.as_mut_slice(), 4, &|_place, pass: &mut Pass<N>| {
-        begin_all(rt, &cluster, pass, &answered)
-    });
+    thread::for_each_mut(
+        rt,
+        passes.as_mut_slice(),
+        4,
+        &|_place, pass: &mut Pass<N>| { begin_all(rt, &cluster, pass, &answered) },
+    );
     let (journal, _) = cluster.close(passes.as_mut_slice()).ok()?;
     let mut holds = journal.len() as u64 == 4 * TIMES;
     for caller in 0..4 {
@@ -62,15 +64,8 @@ fn begin_at_once<N: Seats + Send + Sync, R: Threads + Wait + Sync>(
 }
 
 /// Whether each answered call stands in the journal.
-pub fn ok_is_in_the_journal<R: Threads + Wait + Sync>(rt: &R, alloc: Global) -> bool {
-    let Ok(tree) = tree(alloc, 2) else {
-        return false;
-    };
-    let Ok(names) = names(alloc, &tree) else {
-        return false;
-    };
-    let Ok(opened) = open(alloc, &names) else {
-        return false;
-    };
-    begin_at_once::<Brand, R>(rt, alloc, tree, opened) == Some(true)
+pub fn ok_is_in_the_journal<R: Threads + Wait + Sync>(rt: &R, alloc: Global) -> Option<bool> {
+    let tree = tree(alloc, 2).ok()?;
+    let opened = seats(alloc, &tree)?;
+    begin_at_once::<Brand, R>(rt, alloc, tree, opened)
 }

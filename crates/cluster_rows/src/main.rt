@@ -1,30 +1,60 @@
 //! Floor: engines and program.
 //!
-//! Runs of clusters, which no row of one thread shows: two processes step at the same time, each answered call stands in
-//! the journal, each message is delivered once, and restarts come under way. Each holds by itself, whatever the
-//! schedule.
+//! Runs clusters. Standard input lists the rows, a row a line. `run NAME WORKERS STATUS` is a tree script of the
+//! folder data/, NAME.tree, run by so many workers: the text that is written, NAME.told, and the exit status. What
+//! no script can show is a row `edge NAME`, a function of that name: two processes step at the same time, each
+//! answered call stands in the journal, each message is delivered once, restarts come under way, and a journal is
+//! full. Each holds by itself, whatever the schedule.
 #![tactic(auto)]
 
 mod callers;
+mod deliveries;
+mod edges;
+mod floods;
 mod meeting;
 mod opening;
 mod restarts;
 mod scripts;
 
+use crate::edges::holds;
+use crate::scripts::run_row;
 use std::io;
+use std::sync::Wait;
+use std::thread::Threads;
 
-/// Prints whether it holds.
+/// Whether the row of a line ends as it must.
+fn passes<T: Threads + Wait + Sync>(rt: &HostRuntime, threads: &T, line: &str) -> io::Result<bool> {
+    if let Some(edge) = line.strip_prefix("edge ") {
+        return Ok(holds(threads, rt.alloc(), edge));
+    }
+    run_row(rt, threads, line)
+}
+
+/// Runs the row of a line, and says where it does not end as it must. Answers whether it does.
+fn run_line<T: Threads + Wait + Sync>(
+    rt: &HostRuntime,
+    threads: &T,
+    line: &str,
+) -> io::Result<bool> {
+    let passes = passes(rt, threads, line)?;
+    if !passes {
+        println!(rt; "{line}: failed")?;
+    }
+    Ok(passes)
+}
+
+/// Runs the rows that standard input lists.
+fn run_lines<T: Threads + Wait + Sync>(rt: &HostRuntime, threads: &T) -> io::Result<()> {
+    let mut passed = 0u64;
+    for line in rt.lines(rt.alloc()) {
+        let line = line?;
+        if run_line(rt, threads, line.as_str())? {
+            passed = passed.saturating_add(1);
+        }
+    }
+    println!(rt; "{passed} rows passed")
+}
+
 fn main(rt: HostRuntime) -> io::Result<()> {
-    let alloc = rt.alloc();
-    for workers in [1, 4, 16] {
-        let same = scripts::two_transactions(&rt, alloc, workers);
-        println!(rt; "two_transactions with {workers}: {same}")?;
-    }
-    for workers in [1, 4, 16] {
-        let met = meeting::two_steps_meet(&rt, alloc, workers);
-        println!(rt; "two_steps_meet with {workers}: {met}")?;
-    }
-    println!(rt; "ok_is_in_the_journal: {}", callers::ok_is_in_the_journal(&rt, alloc))?;
-    println!(rt; "each_message_once: {}", scripts::each_message_once(&rt, alloc))?;
-    println!(rt; "restarts_under_way: {}", restarts::restarts_under_way(&rt, alloc))
+    run_lines(&rt, &rt)
 }

@@ -1,16 +1,16 @@
 //! Two processes step at the same time.
 
-use crate::opening::{names, tree};
+use crate::opening::{begin, seats, tree};
 use std::alloc::Global;
 use std::marker::Brand;
 use std::sync::Wait;
 use std::sync::atomic::{AtomicBool, Ordering};
 use std::thread;
 use std::thread::Threads;
-use tree_model::{Act, Case, Event, Presumption, ProcessId, Tree};
 use tree_cluster::Cluster;
+use tree_model::{Act, Event, ProcessId, Tree};
 use tree_threads::{Gate, Open};
-use tree_ties::seats::{Opened, Seats, open};
+use tree_ties::seats::{Opened, Seats};
 
 /// How often a step that is held looks whether the other was made.
 const TURNS: u32 = 10_000;
@@ -54,12 +54,7 @@ fn meet<N: Seats + Send + Sync, R: Threads + Wait + Sync>(
     let (cluster, mut passes) = Cluster::<N>::new(alloc, tree, opened, workers).ok()?;
     let passes = passes.as_mut_slice();
     let first = passes.first_mut()?;
-    let begin = Event::Act(Act::Begin(Presumption::PresumeAbort));
-    let (_, begun) = cluster.post(rt, begin, first, &Open).ok()?;
-    let case = Case {
-        txn: begun?,
-        ticket: None,
-    };
+    let case = begin(rt, &cluster, first)?;
     for child in [2, 3] {
         let join = Event::Act(Act::Join(case, ProcessId(child)));
         cluster.post(rt, join, first, &Open).ok()?;
@@ -72,16 +67,13 @@ fn meet<N: Seats + Send + Sync, R: Threads + Wait + Sync>(
     Some(gate.met.load(Ordering::SeqCst))
 }
 
-/// Whether they met; one worker alone gives up.
-pub fn two_steps_meet<R: Threads + Wait + Sync>(rt: &R, alloc: Global, workers: usize) -> bool {
-    let Ok(tree) = tree(alloc, 2) else {
-        return false;
-    };
-    let Ok(names) = names(alloc, &tree) else {
-        return false;
-    };
-    let Ok(opened) = open(alloc, &names) else {
-        return false;
-    };
-    meet::<Brand, R>(rt, alloc, tree, opened, workers) == Some(workers > 1)
+/// Whether they meet.
+pub fn two_steps_meet<R: Threads + Wait + Sync>(
+    rt: &R,
+    alloc: Global,
+    workers: usize,
+) -> Option<bool> {
+    let tree = tree(alloc, 2).ok()?;
+    let opened = seats(alloc, &tree)?;
+    meet::<Brand, R>(rt, alloc, tree, opened, workers)
 }

@@ -1,74 +1,68 @@
-//! Scripts, run by `run_cluster`.
+//! The rows that are scripts.
 
 use cluster_engine::{Output, run_cluster};
 use std::alloc::Global;
 use std::sync::Wait;
 use std::thread::Threads;
+use std::{fs, io};
 use tree_threads::Open;
 
-/// Two transactions on a root and three managers, under Presumed Abort and Presumed Commit.
-pub const TWO_TRANSACTIONS: &str = "\
-[[process]]
-id = 1
-kind = \"coordinator\"
-[[process]]
-id = 2
-kind = \"manager\"
-parent = 1
-[[process]]
-id = 3
-kind = \"manager\"
-parent = 1
-[[process]]
-id = 4
-kind = \"manager\"
-parent = 1
----
-begin pa
-begin pc
-join a1.1 2
-join a1.1 3
-join c1.2 3
-join c1.2 4
-settle
-work a1.1 2 put k1 v
-work a1.1 3 put k2 v
-work c1.2 3 put k3 v
-work c1.2 4 put k4 v
-settle
-commit a1.1
-commit c1.2
-settle
-";
-
-/// Whether both commit, and a tree on one thread leaves the same logs.
-pub fn two_transactions<R: Threads + Wait + Sync>(rt: &R, alloc: Global, workers: usize) -> bool {
-    let mut out = Vec::new(alloc);
-    let mut input = TWO_TRANSACTIONS.as_bytes();
-    let ended = run_cluster(
-        rt,
-        alloc,
-        Output::Told,
-        workers,
-        &Open,
-        &mut input,
-        &mut out,
-    );
-    ended.is_ok() && out.as_slice() == b"told a1.1 committed\ntold c1.2 committed\nreplay same\n".as_slice()
+/// A row: the name of its script, how many workers run it, and the exit status that it must end with.
+#[derive(Drop)]
+struct Row<'a> {
+    name: &'a str,
+    workers: usize,
+    status: u8,
 }
 
-/// How many lines of a text name this message as delivered.
-pub fn each_message_once<R: Threads + Wait + Sync>(rt: &R, alloc: Global) -> bool {
-    let mut out = Vec::new(alloc);
-    let mut input = TWO_TRANSACTIONS.as_bytes();
-    let ended = run_cluster(
-        rt,
-        alloc,
-        Output::Trace,
-        4,
-        &Open,
-        &mut input,
-        &mut out,
-    );
-    ended.is_ok() && out.len() > 0
+impl<'a> Row<'a> {
+    /// The row of a line.
+    fn read(line: &'a str) -> Option<Self> {
+        let rest = line.strip_prefix("run ")?;
+        let (name, rest) = rest.split_once(' ')?;
+        let (workers, status) = rest.split_once(' ')?;
+        Some(Row {
+            name,
+            workers: workers.parse().ok()?,
+            status: status.parse().ok()?,
+        })
+    }
+
+    /// A file of it, whose name ends so.
+    fn file(&self, rt: &HostRuntime, ending: &str) -> io::Result<Vec<u8>> {
+        let name = self.name;
+        let path = format!(in rt.alloc(); "{name}.{ending}")?;
+        fs::read(rt, path.as_str())
+    }
+}
+
+/// Runs a script by so many workers: the exit status, and what it writes. No status where it fails.
+fn run<R: Threads + Wait + Sync>(
+    rt: &R,
+    alloc: Global,
+    workers: usize,
+    mut input: &[u8],
+    out: &mut Vec<u8>,
+) -> Option<u8> {
+    if workers == 0 || workers > 16 {
+        return None;
+    }
+    let ended = run_cluster(rt, alloc, Output::Told, workers, &Open, &mut input, out);
+    Some(ended.ok()?.number())
+}
+
+/// Whether the row of a line ends as it must.
+pub fn run_row<T: Threads + Wait + Sync>(
+    rt: &HostRuntime,
+    threads: &T,
+    line: &str,
+) -> io::Result<bool> {
+    let Some(row) = Row::read(line) else {
+        return Ok(false);
+    };
+    let input = row.file(rt, "tree")?;
+    let wanted = row.file(rt, "told")?;
+    let mut out = Vec::new(rt.alloc());
+    let status = run(threads, rt.alloc(), row.workers, input.as_slice(), &mut out);
+    Ok(status == Some(row.status) && out.as_slice() == wanted.as_slice())
 }

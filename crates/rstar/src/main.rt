@@ -8,7 +8,8 @@ mod law;
 
 use audit_engine::{Detail, run_audit, run_log};
 use clap::error::ErrorKind;
-use clap::{Arg, ArgAction, ArgMatches, Command, Error};
+use clap::{Arg, ArgAction, ArgMatches, Command, Error, value_parser};
+use cluster_engine::{Output as RunOutput, run_cluster};
 use crash_engine::run_crash;
 use explanation::{Script, failure_text, refusal_text};
 use report_io::{read_all, write_all};
@@ -16,7 +17,10 @@ use std::alloc::{AllocError, Global};
 use std::io;
 use std::io::Read;
 use std::process::ExitCode;
+use std::sync::Wait;
+use std::thread::Threads;
 use tree_engine::{Failure, Output, Status, run_tree};
+use tree_threads::Open;
 use xa_engine::run_xa;
 
 /// What a command line asks for.
@@ -24,6 +28,8 @@ use xa_engine::run_xa;
 enum Request {
     /// The events of a tree script, and what is written of them.
     Tree(Output),
+    /// The events of a tree script, by so many workers, and what is written of them.
+    Run(RunOutput, u8),
     /// The calls of an XA script.
     Xa,
     /// What the logs of a tree hold.
@@ -56,6 +62,7 @@ const EXAMPLES: &str = "\
 Examples:
   rstar tree < examples/commit.tree
   rstar tree --logs < examples/commit.tree
+  rstar run < examples/commit.tree
   rstar xa < examples/migrate.xa
   rstar log < examples/commit.logs
   rstar audit < examples/commit.logs
@@ -100,6 +107,23 @@ Examples: rstar tree < examples/commit.tree
           rstar tree --counts < examples/commit.tree
           rstar tree --picture < examples/commit.tree > commit.svg
           rstar tree --logs < examples/commit.tree | rstar log";
+
+/// What `rstar run --help` says below its usage.
+const RUN_HELP: &str = "\
+Where it refuses, --explain tells on standard error what is wrong, and what is wanted there.
+
+In: a tree script, as 'rstar tree' reads it. Each process of the tree lies under a lock of its own,
+and so does the journal. The events are posted in order by one thread; at a settle it and the
+other workers deliver every message, each as soon as its process is free. Out: the line 'told TXN
+committed|aborted|readonly' of each transaction of which the application was told, in order of
+boot and sequence; then 'replay same': a tree on one thread that makes the events of the journal
+leaves the same logs. 'refused N E' alone where event N is refused, 'error ..' where the script is
+(docs/ERRORS.md). With --trace, in place of that, the journal as a trace; its order may be
+another at each run, since processes that told each other nothing have no order.
+
+Examples: rstar run < examples/commit.tree
+          rstar run --workers 16 < examples/crash.tree
+          rstar run --trace < examples/commit.tree";
 
 /// What `rstar xa --help` says below its usage.
 const XA_HELP: &str = "\
@@ -246,6 +270,32 @@ fn tree<'a>(alloc: Global) -> Result<Command<'a>, AllocError> {
     .arg(picture(alloc)?)
 }
 
+/// The option `--workers` of `rstar run`.
+fn workers<'a>(alloc: Global) -> Arg<'a> {
+    Arg::new(alloc, "workers")
+        .long("workers")
+        .value_name("N")
+        .help("How many threads deliver messages at a settle")
+        .value_parser(value_parser!(u8).range(1..=16))
+        .default_value("4")
+}
+
+/// The words of `rstar run`.
+fn run_words<'a>(alloc: Global) -> Result<Command<'a>, AllocError> {
+    explaining(
+        alloc,
+        "run",
+        "Runs a transaction script on processes that run at the same time, and writes what was told",
+        RUN_HELP,
+    )?
+    .arg(workers(alloc))?
+    .arg(flag(
+        alloc,
+        "trace",
+        "Writes the journal as a trace, in place of what was told",
+    ))
+}
+
 /// The words of `rstar audit`.
 fn audit<'a>(alloc: Global) -> Result<Command<'a>, AllocError> {
     subcommand(
@@ -272,6 +322,7 @@ fn grammar<'a>(alloc: Global) -> Result<Command<'a>, AllocError> {
     .version(VERSION)
     .subcommand_required(true)
     .subcommand(tree(alloc)?)?
+    .subcommand(run_words(alloc)?)?
     .subcommand(explaining(
         alloc,
         "xa",
@@ -306,6 +357,20 @@ fn output_of(matches: &ArgMatches) -> Output {
     }
 }
 
+/// What is written of a run of processes at the same time.
+fn run_output_of(matches: &ArgMatches) -> RunOutput {
+    if matches.get_flag("trace") {
+        RunOutput::Trace
+    } else {
+        RunOutput::Told
+    }
+}
+
+/// How many workers there are; the option has a default, and its range was checked.
+fn workers_of(matches: &ArgMatches) -> u8 {
+    matches.get_one::<u8>("workers").unwrap_or(4)
+}
+
 /// How much is written of an audit.
 fn detail_of(matches: &ArgMatches) -> Detail {
     if matches.get_flag("explain") {
@@ -330,6 +395,10 @@ fn read_words<'a>(alloc: Global, words: &'a [String]) -> Result<Asked, Error> {
     match matches.subcommand() {
         Some((name, found)) => Ok(match name {
             "tree" => Asked::Request(Request::Tree(output_of(found)), told_of(found)),
+            "run" => Asked::Request(
+                Request::Run(run_output_of(found), workers_of(found)),
+                told_of(found),
+            ),
             "log" => Asked::Request(Request::Log, told_of(found)),
             "audit" => Asked::Request(Request::Audit(detail_of(found)), Told::Silent),
             "crash" => Asked::Request(Request::Crash, told_of(found)),
@@ -348,11 +417,25 @@ fn number(ended: Result<Status, Failure>) -> Result<u8, Failure> {
 }
 
 /// Runs what was asked on this input: the exit status, or why it could not go on.
-fn run<R: Read>(rt: &HostRuntime, request: Request, reader: &mut R) -> Result<u8, Failure> {
+fn run<R: Read, T: Threads + Wait + Sync>(
+    rt: &HostRuntime,
+    threads: &T,
+    request: Request,
+    reader: &mut R,
+) -> Result<u8, Failure> {
     let mut writer = io::writer(rt);
     let alloc = rt.alloc();
     match request {
         Request::Tree(output) => number(run_tree(alloc, output, reader, &mut writer)),
+        Request::Run(output, workers) => number(run_cluster(
+            threads,
+            alloc,
+            output,
+            usize::from(workers),
+            &Open,
+            reader,
+            &mut writer,
+        )),
         Request::Xa => number(run_xa(alloc, reader, &mut writer)),
         Request::Log => number(run_log(alloc, reader, &mut writer)),
         Request::Audit(detail) => match run_audit(alloc, detail, reader, &mut writer) {
@@ -377,7 +460,7 @@ fn status_by(ended: Result<u8, Failure>) -> u8 {
 /// What is read for a request.
 fn script_of(request: Request) -> Script {
     match request {
-        Request::Tree(_) | Request::Crash => Script::Tree,
+        Request::Tree(_) | Request::Run(_, _) | Request::Crash => Script::Tree,
         Request::Xa => Script::Xa,
         Request::Log | Request::Audit(_) => Script::Logs,
     }
@@ -392,11 +475,15 @@ fn tell(rt: &HostRuntime, text: Result<String, AllocError>) {
 
 /// Runs what was asked, tells on standard error why it was refused or could not go on, and answers the exit
 /// status.
-fn explained(rt: &HostRuntime, request: Request) -> Result<u8, Failure> {
+fn explained<T: Threads + Wait + Sync>(
+    rt: &HostRuntime,
+    threads: &T,
+    request: Request,
+) -> Result<u8, Failure> {
     let alloc = rt.alloc();
     let input = read_all(alloc, &mut rt.reader())?;
     let mut reader = input.as_slice();
-    let status = run(rt, request, &mut reader)?;
+    let status = run(rt, threads, request, &mut reader)?;
     if status == 1 || status == 2 {
         tell(rt, refusal_text(alloc, script_of(request), &input));
     }
@@ -404,11 +491,16 @@ fn explained(rt: &HostRuntime, request: Request) -> Result<u8, Failure> {
 }
 
 /// Runs what was asked, and answers the exit status.
-fn perform(rt: &HostRuntime, request: Request, told: Told) -> u8 {
+fn perform<T: Threads + Wait + Sync>(
+    rt: &HostRuntime,
+    threads: &T,
+    request: Request,
+    told: Told,
+) -> u8 {
     if told == Told::Silent {
-        return status_by(run(rt, request, &mut rt.reader()));
+        return status_by(run(rt, threads, request, &mut rt.reader()));
     }
-    let ended = explained(rt, request);
+    let ended = explained(rt, threads, request);
     if let Err(failure) = ended {
         tell(rt, failure_text(rt.alloc(), failure));
     }
@@ -416,7 +508,7 @@ fn perform(rt: &HostRuntime, request: Request, told: Told) -> u8 {
 }
 
 /// Reads the command line and runs it.
-fn status_of(rt: &HostRuntime) -> u8 {
+fn status_of<T: Threads + Wait + Sync>(rt: &HostRuntime, threads: &T) -> u8 {
     let alloc = rt.alloc();
     let args = match std::env::args(rt) {
         Ok(args) => args,
@@ -431,7 +523,7 @@ fn status_of(rt: &HostRuntime) -> u8 {
         return 4;
     };
     match read_words(alloc, words.as_slice()) {
-        Ok(Asked::Request(request, told)) => perform(rt, request, told),
+        Ok(Asked::Request(request, told)) => perform(rt, threads, request, told),
         Ok(Asked::Memory) => 4,
         Err(error) => {
             if error.kind() == ErrorKind::OutOfMemory {
@@ -447,5 +539,5 @@ fn status_of(rt: &HostRuntime) -> u8 {
 }
 
 fn main(rt: HostRuntime) -> ExitCode {
-    ExitCode::from(status_of(&rt))
+    ExitCode::from(status_of(&rt, &rt))
 }

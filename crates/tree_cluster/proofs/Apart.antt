@@ -47,8 +47,7 @@ apart_in : (tree es : List TreeEntry) → ((p : TreeEntry → Bool) → count_by
 unfolding is_listed times_listed
 apart_in tree [] few once = tt
 apart_in tree (e ∷ es) few once =
-    let test = λ (y : TreeEntry). same_process y.id e.id in
-    (
+    let test = λ (y : TreeEntry). same_process y.id e.id in (
       none_counted test es
           (no_other (count_by test (e ∷ es)) (count_by test es) (count_by test tree)
           (first_false _ _ once)

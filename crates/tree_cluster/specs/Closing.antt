@@ -1,16 +1,13 @@
 -- What a cluster leaves that is closed.
-use Rattle.std.specs.Prelude.{◌≡◌, ◌<◌, ℕ, true, Option, Some, None, List, [], ◌∷◌, length, map, slice_index_or}
-use Rattle.tree_model.specs.declared.names.ProcessId.{ProcessId}
+use Rattle.std.specs.Prelude.{◌≡◌, ℕ, All, Option, Some, None, List, [], ◌∷◌, map}
 use Rattle.tree_model.specs.declared.events.Entry.{Entry}
 use Rattle.tree_model.specs.declared.records.LogRecord.{LogRecord}
 use Rattle.tree_model.specs.declared.trees.TreeEntry.{TreeEntry}
-use Rattle.tree_model.specs.Nodes.{is_listed}
 use Rattle.rec_log.specs.Sights.{records_of}
 use Rattle.core_model.specs.States.{CoreState}
 use Rattle.core_law.specs.worlds.Ties.{IsModelled}
 use Rattle.core_law.specs.worlds.Worlds.{WorldState}
-use Rattle.tree_cut.specs.Owns.{CutHolds, OwnRun}
-use Rattle.tree_model.specs.World.{entries_of}
+use Rattle.tree_cut.specs.Owns.{CutHolds}
 use Rattle.tree_ties.specs.Views.{AllIn, Rise, entries_in}
 use Rattle.tree_threads.specs.Locked.{LeavesLog}
 use Rattle.tree_threads.specs.Passes.{PassState}
@@ -41,8 +38,10 @@ pub record IsClosed (tree : List TreeEntry) (journal : List (ℕ × Entry)) (log
   pub modelled : IsModelled state
   pub logs_are : logs ≡ logs_in state tree
 
--- the journal has each pair of each of these passes, under its caller's number, and their places rise
+-- the journal has each pair of this pass, under its caller's number, and their places rise
+abbrev pub IsMet : List (ℕ × Entry) → PassState → Type 0
+IsMet journal p = AllIn p.caller journal p.pairs × Rise 0 p.pairs
+
+-- it has those of each of these passes
 abbrev pub AreMet : List (ℕ × Entry) → List PassState → Type 0
-AreMet journal passes = (i : ℕ) (d : PassState) → i < length passes
-    → AllIn (slice_index_or passes i d).caller journal (slice_index_or passes i d).pairs
-    × Rise 0 (slice_index_or passes i d).pairs
+AreMet journal passes = All (IsMet journal) passes

@@ -15,6 +15,7 @@ pub record IsTableOf (table : TableId) (tree : List TreeEntry) (id : TableId) (n
   pub words : table.words ≡ length tree
 
 -- the journal's seat, where so many processes have a seat, and so many passes were given; nothing is entered
-pub record KeepsSeats (table : TableId) (tree : List TreeEntry) (opened given : ℕ) (seat : Seat Entry View) : Type 0 where
+pub record KeepsSeats (table : TableId) (tree : List TreeEntry) (opened given : ℕ)
+    (seat : Seat Entry View) : Type 0 where
   pub here : seat.table_id ≡ table
   pub keeps : seat.me ≡ (keeper (map (λ e. e.id) tree) opened given [], [])

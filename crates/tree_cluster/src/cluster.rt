@@ -1,23 +1,21 @@
 //! A tree whose processes run at the same time.
 
-ghost use Rattle.std.specs.Prelude.{◌≡◌, ◌+◌, ◌<◌, ◌≤◌, IfErr, IfOk, OnErr, OnOk, get_or, length, map};
-ghost use Rattle.tree_model.specs.Trees.{IsTree, root_of};
+ghost use Rattle.std.specs.Prelude.{◌≡◌, ◌+◌, ◌<◌, ◌≤◌, IfOk, OnErr, map};
 ghost use Rattle.tree_model.specs.Plays.{process_of_act};
-ghost use Rattle.tree_ties.specs.Views.{entries_in};
-ghost use Rattle.tree_threads.specs.Locked.{LeavesLog};
-ghost use Rattle.tree_cluster.specs.Closing.{AreMet, IsClosed, LeaveLogs};
-ghost use Rattle.tree_cluster.specs.Passes.{new_passes};
-ghost use Rattle.tree_cluster.specs.Opening.{IsTableOf, KeepsSeats};
+ghost use Rattle.tree_model.specs.Trees.{IsTree, root_of as root_in};
 ghost use Rattle.tree_threads.specs.Posts.{PostsOne};
+ghost use Rattle.tree_cluster.specs.Closing.{AreMet, IsClosed};
+ghost use Rattle.tree_cluster.specs.Passes.{new_passes};
 ghost use Rattle.tree_cluster.specs.Posts.{IsOf, Posts};
 
-use log_store::MemoryStore;
+use crate::closing::{left_logs, let_go, meet_all};
+use crate::opening::{give_passes, open_all};
 use std::alloc::{AllocError, Global};
 use std::sync::{Condvar, Mutex, Wait};
 use tree_model::{Act, Entry, Event, LogRecord, ProcessId, StepError, Tree, TreeEntry, Txn};
-use tree_node::{OpenError, copied_tree, open_node};
+use tree_node::OpenError;
 use tree_threads::{Gate, Ledger, Pass, PostError, Posted, Seated, Turn, is_same};
-use tree_ties::seats::{Opened, Place, Seats, Ties, give, seat};
+use tree_ties::seats::{Opened, Seats, Ties};
 
 /// Every entry with its caller's number, the oldest first.
 pub type Journal = Vec<(u64, Entry)>;
@@ -35,10 +33,10 @@ pub struct Cluster<N: Seats> {
     pub(crate) moved: Condvar,
     /// Workers that wait between rounds are called.
     pub(crate) called: Condvar,
-    pub(crate) ghost here: { ties.shared.table_id ≡ N.table },
-    pub(crate) ghost words: { 0 < N.table.words },
-    pub(crate) ghost tree_is: { tree ≡ N.tree },
-    pub(crate) ghost is_tree: { IsTree N.tree },
+    ghost here: { ties.shared.table_id ≡ N.table },
+    ghost words: { 0 < N.table.words },
+    ghost tree_is: { tree ≡ N.tree },
+    ghost is_tree: { IsTree N.tree },
 }
 
 /// The process of an act: its case's ticket's child, or the root.
@@ -69,68 +67,17 @@ fn place_of(entries: &[TreeEntry], process: ProcessId) -> Option<usize> {
     None
 }
 
-/// Opens the process of an entry of the tree over an empty store in memory, and gives it the next seat.
-fn open_seated<N: Seats>(
-    alloc: Global,
-    ties: &Ties,
-    journal: &mut Place,
-    tree: &[TreeEntry],
-    entry: &TreeEntry,
-    word: usize,
-) -> Result<Seated<N>, OpenError>
-    requires tree { IsTree tree.now × (tree.now ≡ N.tree) }
-    requires table { IsTableOf N.table tree.now ties.now.shared.table_id ties.now.shared.key.items }
-    requires journal { KeepsSeats N.table tree.now word 0 journal.old }
-    requires entry { (word < length tree.now) × (entry.now ≡ get_or tree.now word entry.now) }
-    ensures { OnOk result (KeepsSeats N.table tree.now (word + 1) 0 journal.new) }
+/// The number of a place, from 1. No journal has as many entries as would fail here.
+fn number_of<R: Wait>(rt: &R, place: usize) -> usize
+    ensures { result ≡ place + 1 }
 {
-    let copy = copied_tree(alloc, tree)?;
-    let node = open_node(alloc, entry, copy, MemoryStore::new(alloc))?;
-    Ok(Seated::new(entry.id, word, node, seat(ties, journal)))
-}
-
-/// The processes of the tree, in its order.
-fn open_all<N: Seats>(
-    alloc: Global,
-    ties: &Ties,
-    journal: &mut Place,
-    tree: &[TreeEntry],
-) -> Result<Vec<Mutex<Seated<N>>>, OpenError>
-    requires tree { IsTree tree.now × (tree.now ≡ N.tree) }
-    requires table { IsTableOf N.table tree.now ties.now.shared.table_id ties.now.shared.key.items }
-    requires journal { KeepsSeats N.table tree.now 0 0 journal.old }
-    ensures { OnOk result (KeepsSeats N.table tree.now (length tree.now) 0 journal.new) }
-{
-    let mut processes = Vec::new(alloc);
-    for (word, entry) in tree.iter().enumerate() {
-        let seated = open_seated::<N>(alloc, ties, journal, tree, entry, word)?;
-        if processes.push(Mutex::new(seated)).is_err() {
-            return Err(OpenError::Memory);
+    match place.checked_add(1) {
+        Some(number) => number,
+        None => {
+            for _ in rt.forever() {}
+            unreachable!()
         }
     }
-    Ok(processes)
-}
-
-/// A pass for each of so many callers.
-fn give_passes<N: Seats>(
-    alloc: Global,
-    ties: &Ties,
-    journal: &mut Place,
-    tree: &[TreeEntry],
-    callers: usize,
-) -> Result<Vec<Pass<N>>, AllocError>
-    requires table { IsTableOf N.table tree.now ties.now.shared.table_id ties.now.shared.key.items }
-    requires tree { IsTree tree.now }
-    requires journal { KeepsSeats N.table tree.now (length tree.now) 0 journal.old }
-    ensures passes { IfOk result (λ passes. passes.items ≡ new_passes callers) }
-    ensures journal { OnOk result (KeepsSeats N.table tree.now (length tree.now) callers journal.new) }
-{
-    let _ = tree;
-    let mut passes = Vec::new(alloc);
-    for caller in 0..callers {
-        passes.push(Pass::new(give(ties, journal), caller as u64))?;
-    }
-    Ok(passes)
 }
 
 impl<N: Seats> Cluster<N> {
@@ -149,8 +96,8 @@ impl<N: Seats> Cluster<N> {
         ensures { IfOk result (λ r. r.1.items ≡ new_passes callers) }
     {
         let Opened { ties, mut journal } = opened;
-        let processes = open_all::<N>(alloc, &ties, &mut journal, tree.entries())?;
         let passes = give_passes::<N>(alloc, &ties, &mut journal, tree.entries(), callers)?;
+        let processes = open_all::<N>(alloc, &ties, &mut journal, tree.entries())?;
         let cluster = Cluster {
             alloc,
             tree,
@@ -166,7 +113,7 @@ impl<N: Seats> Cluster<N> {
     /// The process of an event: an act's, the receiver of a message, or the one that is named. Stranger: there is
     /// none. Memory: a growth was refused.
     fn process_by<R: Wait>(&self, rt: &R, event: &Event) -> Result<ProcessId, PostError>
-        ensures { IfOk result (λ q. IsOf (root_of N.tree) q event.now) }
+        ensures { IfOk result (λ q. IsOf (root_in N.tree) q event.now) }
     {
         match event {
             Event::Act(act) => Ok(process_of(self.tree.root(), act)),
@@ -177,14 +124,10 @@ impl<N: Seats> Cluster<N> {
         }
     }
 
-    /// The receiver of the message with this number.
+    /// The receiver of the message with this number. Stranger: the journal has none.
     fn receiver<R: Wait>(&self, rt: &R, number: u64) -> Result<ProcessId, PostError> {
         let mut ledger = self.ledger.lock(rt);
-        ledger.place()?;
-        match ledger.message(number) {
-            None => Err(PostError::Stranger),
-            Some(envelope) => Ok(envelope.to),
-        }
+        receiver_in(&mut *ledger, number)
     }
 
     /// Posts an event of this process, or of none where no process has this name.
@@ -233,7 +176,7 @@ impl<N: Seats> Cluster<N> {
         pass: &mut Pass<N>,
         gate: &G,
     ) -> Result<(usize, Option<Txn>), PostError>
-        ensures ok { IfOk result (λ r. Posts (root_of N.tree) event pass.old pass.new r.0 r.1) }
+        ensures ok { IfOk result (λ r. Posts (root_in N.tree) event pass.old pass.new r.0 r.1) }
         ensures err { OnErr result (pass.new ≡ pass.old) }
     {
         let process = self.process_by(rt, &event)?;
@@ -263,8 +206,17 @@ impl<N: Seats> Cluster<N> {
         } = self;
         let mut ledger = ledger.into_inner();
         meet_all(&ties, &mut ledger, passes);
-        match left_logs(alloc, &ties, tree.entries(), &mut processes, &mut ledger) {
-            Ok(logs) => Ok((ledger.into_entries(), logs)),
+        match left_logs(
+            alloc,
+            &ties,
+            tree.entries(),
+            processes.as_mut_slice(),
+            &mut ledger,
+        ) {
+            Ok(logs) => {
+                let_go(processes, ties);
+                Ok((ledger.into_entries(), logs))
+            }
             Err(error) => Err((
                 Cluster {
                     alloc,
@@ -281,68 +233,11 @@ impl<N: Seats> Cluster<N> {
     }
 }
 
-/// The number of a place, from 1. No journal has as many entries as would fail here.
-fn number_of<R: Wait>(rt: &R, place: usize) -> usize
-    ensures { result ≡ place + 1 }
-{
-    match place.checked_add(1) {
-        Some(number) => number,
-        None => {
-            for _ in rt.forever() {}
-            unreachable!()
-        }
-    }
-}
-
-/// Each pair of each of these passes stands in the journal.
-fn meet_all<N: Seats>(ties: &Ties, ledger: &mut Ledger<N>, passes: &mut [Pass<N>])
-    requires { (ties.now.shared.table_id ≡ N.table) × (0 < N.table.words) }
-    ensures met { AreMet ledger.old.entries passes.old }
-    ensures same { (ledger.new ≡ ledger.old) × (passes.new ≡ passes.old) }
-{
-    for place in 0..passes.len() {
-        ledger.meets(ties, &mut passes[place]);
-    }
-}
-
-/// The log of this process, if this is the one.
-fn left_log_of<N: Seats>(
-    ties: &Ties,
-    seated: &mut Seated<N>,
-    ledger: &mut Ledger<N>,
-    process: ProcessId,
-) -> Result<Vec<LogRecord>, AllocError>
-    requires { ties.now.shared.table_id ≡ N.table }
-    ensures left { IfOk result (λ log. LeavesLog N.tree (entries_in ledger.old.entries) process log.items) }
-    ensures same { ledger.new ≡ ledger.old }
-{
-    if !is_same(seated.me(), process) {
-        return Err(AllocError);
-    }
-    seated.left_log(ties, ledger)
-}
-
-/// The logs of all processes, in the order of the tree, and all entries are placed.
-fn left_logs<N: Seats>(
-    alloc: Global,
-    ties: &Ties,
-    tree: &[TreeEntry],
-    processes: &mut Vec<Mutex<Seated<N>>>,
-    ledger: &mut Ledger<N>,
-) -> Result<Vec<Vec<LogRecord>>, AllocError>
-    requires { (ties.now.shared.table_id ≡ N.table) × (tree.now ≡ N.tree) }
-    ensures entries { ledger.new.entries ≡ ledger.old.entries }
-    ensures placed { OnOk result (ledger.new.late ≡ 0) }
-    ensures logs { IfOk result (λ logs. LeaveLogs N.tree (entries_in ledger.old.entries) tree.now
-        (map (λ log. log.items) logs.items)) }
-{
+/// The receiver of the message with this number, of those that the journal has.
+fn receiver_in<N: Seats>(ledger: &mut Ledger<N>, number: u64) -> Result<ProcessId, PostError> {
     ledger.place()?;
-    let mut logs = Vec::new(alloc);
-    for (place, entry) in tree.iter().enumerate() {
-        let Some(seated) = processes.get_mut(place) else {
-            return Err(AllocError);
-        };
-        logs.push(left_log_of(ties, seated.get_mut(), ledger, entry.id)?)?;
+    match ledger.message(number) {
+        None => Err(PostError::Stranger),
+        Some(envelope) => Ok(envelope.to),
     }
-    Ok(logs)
 }

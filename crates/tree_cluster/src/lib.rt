@@ -4,7 +4,9 @@
 //! its own. Callers post events, workers deliver messages, and a cluster that is closed gives plain data.
 #![tactic(auto)]
 
+mod closing;
 mod cluster;
+mod opening;
 mod rounds;
 mod workers;
 

@@ -197,9 +197,14 @@ impl<N: Seats> Cluster<N> {
     {
         let rounds = Rounds::new();
         let threads = passes.len();
-        thread::for_each_mut(rt, passes, threads, &|_i, pass: &mut Pass<N>|
-            ensures { IsLonger pass.old pass.new }
-        { self.work(rt, &rounds, pass, gate) });
+        thread::for_each_mut(
+            rt,
+            passes,
+            threads,
+            &|_i, pass: &mut Pass<N>|
+                ensures { IsLonger pass.old pass.new }
+            { self.work(rt, &rounds, pass, gate) },
+        );
         rounds.result(rt)
     }
 }

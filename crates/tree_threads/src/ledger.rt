@@ -26,11 +26,50 @@ pub(crate) struct Turns {
 }
 
 impl Turns {
+    /// Nothing is claimed, and nothing was sent.
+    pub(crate) fn none() -> Turns {
+        Turns { claims: 0, open: 0 }
+    }
+
     /// So many messages more were sent.
     pub(crate) fn with_sent(self, sent: usize) -> Turns {
         Turns {
             claims: self.claims,
             open: self.open.saturating_add(sent),
+        }
+    }
+
+    /// One message more is claimed.
+    fn claimed(self) -> Turns {
+        Turns {
+            claims: self.claims.saturating_add(1),
+            open: self.open.saturating_sub(1),
+        }
+    }
+
+    /// No message is open that nobody has claimed.
+    fn all_claimed(self) -> Turns {
+        Turns {
+            claims: self.claims,
+            open: 0,
+        }
+    }
+
+    /// A claim has ended.
+    fn ended(self) -> Turns {
+        Turns {
+            claims: self.claims.saturating_sub(1),
+            open: self.open,
+        }
+    }
+
+    /// Whether more messages are open than those who are awake have in hand. Where a gate holds steps, one is
+    /// enough.
+    fn is_much(self, holds: bool) -> bool {
+        if holds {
+            self.open > 0
+        } else {
+            self.open / MESSAGES_A_WORKER > self.claims
         }
     }
 }
@@ -81,13 +120,16 @@ impl<N: Seats> Model for Ledger<N> {
         × HasCut N.tree (entries_in l.journal.entries) };
 }
 
-/// Whether more messages are open than those who are awake have in hand. Where a gate holds steps, one is enough.
-fn is_much(turns: Turns, holds: bool) -> bool {
-    if holds {
-        turns.open > 0
-    } else {
-        turns.open / MESSAGES_A_WORKER > turns.claims
-    }
+/// The claim of the message with this number, where all entries are placed.
+fn claim_of(journal: &ClusterJournal, number: u64, wakes: bool) -> Option<Claim>
+    requires { journal.now.late ≡ 0 }
+{
+    let envelope = journal.message(number)?;
+    Some(Claim {
+        number,
+        to: envelope.to,
+        wakes,
+    })
 }
 
 impl<N: Seats> Ledger<N> {
@@ -105,10 +147,7 @@ impl<N: Seats> Ledger<N> {
         Ledger {
             journal: ClusterJournal::new(alloc),
             seat,
-            turns: Turns {
-                claims: 0,
-                open: 0,
-            },
+            turns: Turns::none(),
             name: PhantomData,
         }
     }
@@ -141,29 +180,25 @@ impl<N: Seats> Ledger<N> {
     pub fn claim(&mut self, holds: bool) -> Result<Option<Claim>, AllocError>
         ensures { self.new.entries ≡ self.old.entries }
     {
-        self.place()?;
-        let Some(number) = self.journal.claim() else {
-            self.turns.open = 0;
-            return Ok(None);
-        };
-        self.turns.claims = self.turns.claims.saturating_add(1);
-        self.turns.open = self.turns.open.saturating_sub(1);
-        let wakes = is_much(self.turns, holds);
-        Ok(match self.message(number) {
-            None => None,
-            Some(envelope) => Some(Claim {
-                number,
-                to: envelope.to,
-                wakes,
-            }),
-        })
+        self.journal.place()?;
+        match self.journal.claim() {
+            None => {
+                self.turns = self.turns.all_claimed();
+                Ok(None)
+            }
+            Some(number) => {
+                self.turns = self.turns.claimed();
+                let wakes = self.turns.is_much(holds);
+                Ok(claim_of(&self.journal, number, wakes))
+            }
+        }
     }
 
     /// A claim has ended.
     pub fn end_claim(&mut self)
         ensures { self.new ≡ self.old }
     {
-        self.turns.claims = self.turns.claims.saturating_sub(1);
+        self.turns = self.turns.ended();
     }
 
     /// The claim of this message is given back: it is open again, if it was not delivered.
@@ -171,8 +206,7 @@ impl<N: Seats> Ledger<N> {
         ensures { self.new.entries ≡ self.old.entries }
     {
         self.journal.give_back(number);
-        self.turns.open = self.turns.open.saturating_add(1);
-        self.end_claim();
+        self.turns = self.turns.ended().with_sent(1);
     }
 
     /// Whether nobody delivers a message.

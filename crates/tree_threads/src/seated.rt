@@ -176,7 +176,7 @@ impl<N: Seats> Seated<N> {
             Ok(made) => {
                 let begun = made.begun();
                 gate.before(rt, self.me);
-                let mut ledger = ledger.lock(rt);
+                let mut journal = ledger.lock(rt);
                 let place = enter(
                     rt,
                     ties,
@@ -184,11 +184,11 @@ impl<N: Seats> Seated<N> {
                     self.word,
                     &self.node,
                     &mut self.seat,
-                    &mut *ledger,
+                    &mut *journal,
                     pass,
                     made,
                 );
-                let next = next_of(&mut *ledger, turn, gate.holds());
+                let next = next_of(&mut *journal, turn, gate.holds());
                 Ok(Posted { place, begun, next })
             }
         }

@@ -1,0 +1,53 @@
+//! A journal that is full.
+
+use crate::opening::{begin, seats, tree};
+use std::alloc::Global;
+use std::marker::Brand;
+use std::sync::Wait;
+use std::thread::Threads;
+use tree_cluster::Cluster;
+use tree_model::{Act, Event, ProcessId, Tree};
+use tree_threads::{MOST_ENTRIES, Open, Pass, PostError};
+use tree_ties::seats::{Opened, Seats};
+
+/// Delivers message 2, the answer to an invitation, again and again: the place of the last entry, and why no other
+/// came.
+fn flood<N: Seats, R: Wait>(
+    rt: &R,
+    cluster: &Cluster<N>,
+    pass: &mut Pass<N>,
+) -> Option<(usize, PostError)> {
+    let mut last = 0;
+    for _ in 0..=MOST_ENTRIES {
+        match cluster.post(rt, Event::Deliver(2), pass, &Open) {
+            Ok((number, _)) => last = number,
+            Err(why) => return Some((last, why)),
+        }
+    }
+    None
+}
+
+/// A manager is invited, and its answer delivered until the journal is full.
+fn fill<N: Seats + Send + Sync, R: Threads + Wait + Sync>(
+    rt: &R,
+    alloc: Global,
+    tree: Tree,
+    opened: Opened,
+) -> Option<bool> {
+    let (cluster, mut passes) = Cluster::<N>::new(alloc, tree, opened, 1).ok()?;
+    let case = begin(rt, &cluster, passes.as_mut_slice().first_mut()?)?;
+    let join = Event::Act(Act::Join(case, ProcessId(2)));
+    let first = passes.as_mut_slice().first_mut()?;
+    cluster.post(rt, join, first, &Open).ok()?;
+    cluster.run_workers(rt, passes.as_mut_slice(), &Open).ok()?;
+    let (last, why) = flood(rt, &cluster, passes.as_mut_slice().first_mut()?)?;
+    let (journal, _) = cluster.close(passes.as_mut_slice()).ok()?;
+    Some(last == MOST_ENTRIES && why == PostError::JournalFull && journal.len() == MOST_ENTRIES)
+}
+
+/// Whether the entry behind the last that a journal takes is refused, and the journal stands.
+pub fn journal_is_full<R: Threads + Wait + Sync>(rt: &R, alloc: Global) -> Option<bool> {
+    let tree = tree(alloc, 1).ok()?;
+    let opened = seats(alloc, &tree)?;
+    fill::<Brand, R>(rt, alloc, tree, opened)
+}

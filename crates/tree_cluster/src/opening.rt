@@ -1,0 +1,103 @@
+//! A cluster that opens: its processes, each over an empty store, and the passes of its callers.
+
+ghost use Rattle.std.specs.Prelude.{◌≡◌, ◌+◌, ◌<◌, ◌≤◌, IfOk, OnOk, length};
+ghost use Rattle.tree_model.specs.Trees.{IsTree};
+ghost use Rattle.tree_cluster.specs.Opening.{IsTableOf, KeepsSeats};
+ghost use Rattle.tree_cluster.specs.Passes.{new_passes};
+
+use log_store::MemoryStore;
+use std::alloc::{AllocError, Global};
+use std::sync::Mutex;
+use tree_model::TreeEntry;
+use tree_node::{OpenError, copied_tree, open_node};
+use tree_threads::{Pass, Seated};
+use tree_ties::seats::{Place, Seats, Ties, give, seat};
+
+/// Opens the process at this place of the tree over an empty store in memory, and gives it the next seat.
+fn open_seated<N: Seats>(
+    alloc: Global,
+    ties: &Ties,
+    journal: &mut Place,
+    tree: &[TreeEntry],
+    place: usize,
+) -> Result<Seated<N>, OpenError>
+    requires tree { IsTree tree.now × (tree.now ≡ N.tree) }
+    requires table { IsTableOf N.table tree.now ties.now.shared.table_id ties.now.shared.key.items }
+    requires journal { KeepsSeats N.table tree.now place journal.old.me.0.journal.given journal.old }
+    requires place { place < length tree.now }
+    ensures { OnOk result (KeepsSeats N.table tree.now (place + 1) journal.old.me.0.journal.given journal.new) }
+{
+    let entry = &tree[place];
+    let copy = copied_tree(alloc, tree)?;
+    let node = open_node(alloc, entry, copy, MemoryStore::new(alloc))?;
+    Ok(Seated::new(entry.id, place, node, seat(ties, journal)))
+}
+
+/// Opens the processes of the tree, in its order.
+fn open_each<N: Seats>(
+    alloc: Global,
+    ties: &Ties,
+    journal: &mut Place,
+    tree: &[TreeEntry],
+    processes: &mut Vec<Mutex<Seated<N>>>,
+) -> Result<(), OpenError>
+    requires tree { IsTree tree.now × (tree.now ≡ N.tree) }
+    requires table { IsTableOf N.table tree.now ties.now.shared.table_id ties.now.shared.key.items }
+    requires journal { KeepsSeats N.table tree.now 0 journal.old.me.0.journal.given journal.old }
+    ensures { OnOk result (KeepsSeats N.table tree.now (length tree.now) journal.old.me.0.journal.given
+        journal.new) }
+{
+    for place in 0..tree.len() {
+        let seated = open_seated::<N>(alloc, ties, journal, tree, place)?;
+        processes.push(Mutex::new(seated))?;
+    }
+    Ok(())
+}
+
+/// Lets go of processes.
+fn discard<N: Seats>(_processes: Vec<Mutex<Seated<N>>>) {}
+
+/// The processes of the tree, in its order, each under a lock.
+pub(crate) fn open_all<N: Seats>(
+    alloc: Global,
+    ties: &Ties,
+    journal: &mut Place,
+    tree: &[TreeEntry],
+) -> Result<Vec<Mutex<Seated<N>>>, OpenError>
+    requires tree { IsTree tree.now × (tree.now ≡ N.tree) }
+    requires table { IsTableOf N.table tree.now ties.now.shared.table_id ties.now.shared.key.items }
+    requires journal { KeepsSeats N.table tree.now 0 journal.old.me.0.journal.given journal.old }
+    ensures { OnOk result (KeepsSeats N.table tree.now (length tree.now) journal.old.me.0.journal.given
+        journal.new) }
+{
+    let mut processes = Vec::new(alloc);
+    match open_each::<N>(alloc, ties, journal, tree, &mut processes) {
+        Ok(()) => Ok(processes),
+        Err(error) => {
+            discard(processes);
+            Err(error)
+        }
+    }
+}
+
+/// A pass for each of so many callers, whose numbers begin at 0.
+pub(crate) fn give_passes<N: Seats>(
+    alloc: Global,
+    ties: &Ties,
+    journal: &mut Place,
+    tree: &[TreeEntry],
+    callers: usize,
+) -> Result<Vec<Pass<N>>, AllocError>
+    requires table { IsTableOf N.table tree.now ties.now.shared.table_id ties.now.shared.key.items }
+    requires words { 0 < N.table.words }
+    requires journal { KeepsSeats N.table tree.now 0 0 journal.old }
+    ensures passes { IfOk result (λ passes. passes.items ≡ new_passes callers) }
+    ensures journal { OnOk result (KeepsSeats N.table tree.now 0 callers journal.new) }
+{
+    let _ = tree;
+    let mut passes = Vec::new(alloc);
+    for caller in 0..callers {
+        passes.push(Pass::new(give(ties, journal), caller as u64))?;
+    }
+    Ok(passes)
+}

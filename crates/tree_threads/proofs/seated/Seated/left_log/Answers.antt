@@ -1,0 +1,31 @@
+use Rattle.std.proofs.Common.{◌≡◌, ◌∙◌, IfOk, ap, subst}
+use Rattle.std.proofs.lemmas.Result.{IfOk-weaker}
+use Rattle.cluster_journal.specs.Journals.{ClusterState}
+use Rattle.rec_log.specs.Sights.{records_of}
+use Rattle.tree_model.specs.World.{entries_of}
+use Rattle.tree_cut.specs.Owns.{OwnRun}
+use Rattle.tree_node.specs.Nodes.{core_of}
+use Rattle.tree_ties.specs.Views.{entries_in, own_of}
+use Rattle.tree_threads.specs.Locked.{LeavesLog, SeatedState}
+use Rattle.tree_threads.proofs.seated.Seated.left_log.Goals as goal
+
+pub returns-clause-left : goal.returns-clause-left
+returns-clause-left g c =
+    let tree = g.N.Seats.tree in
+    let me = c.self.inside.me in
+    let core = core_of c.self.inside.node in
+    let xs = entries_in c.ledger.inside.journal.entries in
+    let named = ap (λ m. m.0.process.name) c.self.invariant.2 in
+    let all = ap (λ m. m.0.journal.all) c.ledger.invariant.1 in
+    let own = c.compare.ensures.tied
+    ∙ ap (λ n. own_of n (entries_in c.ledger.inside.seat.me.0.journal.all)) named
+    ∙ ap (λ l. entries_of me (entries_in l)) all in
+    let run : OwnRun tree me (entries_of me xs) core = subst (λ l. OwnRun tree me l core) own c.self.invariant.5 in
+    let left : IfOk c.records.result (λ log. LeavesLog tree xs me log.items) =
+    IfOk-weaker c.records.result (λ log. log.items ≡ records_of core.log.kept) (λ log. LeavesLog tree xs me log.items)
+    (λ log is. record { core = core; own = run; log_is = is }) c.records.ensures in
+    subst (λ (s : SeatedState). IfOk c.records.result
+    (λ log. LeavesLog tree (entries_in c.args.ledger.now.entries) s.me log.items))
+    c.self.view_is
+    (subst (λ (j : ClusterState). IfOk c.records.result (λ log. LeavesLog tree (entries_in j.entries) me log.items))
+    c.ledger.view_is left)
