@@ -1,22 +1,28 @@
 //! The engine of `rstar run`.
 
-use crate::player::{Refusal, play};
-use crate::replay::is_replayed;
-use crate::told::push_told;
-use crate::trace::push_trace;
+ghost use Rattle.std.specs.Prelude.{◌≡◌, ◌<◌, ◌≤◌, ℕ, List, IfErr, IfOk};
+ghost use Rattle.std.specs.Io.KnownBytes.{Appends, Keeps};
+ghost use Rattle.report_io.specs.declared.status.Status.{Status as AnyStatus};
+ghost use Rattle.report_io.specs.Streams.{IsInput, WritesFront};
+ghost use Rattle.tree_model.specs.Trees.{IsTree};
+ghost use Rattle.tree_cluster.specs.Opening.{SeatsTree};
+ghost use Rattle.cluster_engine.specs.Reports.{IsClusterReport, Writes};
+
+use crate::ending::{refused_line, run_text};
+use crate::player::play;
 use link_script::{ScriptError, read};
 use report_io::{Failure, Status, read_all, write_all};
-use std::alloc::{AllocError, Global};
+use std::alloc::Global;
 use std::io::{Read, Write};
 use std::marker::Brand;
 use std::sync::Wait;
 use std::thread::Threads;
-use tree_cluster::Cluster;
-use tree_engine::{push_refused, refusal};
-use tree_model::{Event, ProcessId, StepError, Tree, TreeEntry};
+use tree_cluster::{Cluster, seats};
+use tree_engine::refusal;
+use tree_model::{Event, Tree};
 use tree_node::copied_tree;
-use tree_threads::{Gate, Pass, PostError};
-use tree_ties::seats::{Opened, Seats, open};
+use tree_threads::Gate;
+use tree_ties::seats::{Opened, Seats};
 
 /// What is written of a run.
 #[derive(Clone, Copy, PartialEq, Eq)]
@@ -29,8 +35,12 @@ pub enum Output {
 
 /// Reads a tree script, posts its events to processes that run at the same time, and writes what the application
 /// was told, in order of boot and sequence; then whether a tree on one thread that makes the events of the journal
-/// leaves the same logs. A settle delivers every message by so many workers. A refused event is the only line; so
-/// is one that says why the script is refused.
+/// leaves the same logs. Or it writes the journal, as a trace. A settle delivers every message by so many workers.
+/// A refused event is the only line; so is one that says why the script is refused.
+///
+/// What is told is that of a journal which is a run of the script's tree in the model, of which the headline
+/// holds. After a failed read, or where memory is refused, nothing was written; after a failed write, a beginning
+/// of the text. The call may wait.
 pub fn run_cluster<R: Threads + Wait + Sync, G: Gate + Sync, I: Read, W: Write>(
     rt: &R,
     alloc: Global,
@@ -39,7 +49,20 @@ pub fn run_cluster<R: Threads + Wait + Sync, G: Gate + Sync, I: Read, W: Write>(
     gate: &G,
     reader: &mut I,
     writer: &mut W,
-) -> Result<Status, Failure> {
+) -> Result<Status, Failure>
+    requires { (0 < workers) × (workers ≤ 16) }
+    ensures written { IfOk result (λ status. (input : List ℕ) × (text : List ℕ)
+        × IsInput (I.remaining reader.old) input × IsClusterReport output status input text
+        × Appends (W.contents writer.old) (W.contents writer.new) text) }
+    ensures cut { IfErr result (λ e. e ≡ Failure.Write → (input : List ℕ)
+        × (text : List ℕ) × (status : AnyStatus)
+        × IsInput (I.remaining reader.old) input × IsClusterReport output status input text
+        × WritesFront (W.contents writer.old) (W.contents writer.new) text) }
+    ensures unread { IfErr result (λ e. e ≡ Failure.Read
+        → Keeps (W.contents writer.old) (W.contents writer.new)) }
+    ensures memory { IfErr result (λ e. e ≡ Failure.Memory
+        → Keeps (W.contents writer.old) (W.contents writer.new)) }
+{
     let input = read_all(alloc, reader)?;
     let (text, status) = report(rt, alloc, output, workers, gate, &input)?;
     match write_all(writer, &text) {
@@ -56,21 +79,16 @@ fn report<R: Threads + Wait + Sync, G: Gate + Sync>(
     workers: usize,
     gate: &G,
     input: &[u8],
-) -> Result<(Vec<u8>, Status), Failure> {
+) -> Result<(Vec<u8>, Status), Failure>
+    requires { (0 < workers) × (workers ≤ 16) }
+    ensures report { IfOk result (λ r. IsClusterReport output r.1 input.now r.0.items) }
+    ensures memory { IfErr result (λ e. e ≡ Failure.Memory) }
+{
     match read(alloc, input) {
         Ok((tree, events)) => run_script(rt, alloc, output, workers, gate, tree, &events),
         Err(ScriptError::Fault(fault)) => Ok((refusal(alloc, fault)?, Status::Refused)),
         Err(ScriptError::Memory) => Err(Failure::Memory),
     }
-}
-
-/// The names of the processes, in the order of the tree.
-fn names_of(alloc: Global, entries: &[TreeEntry]) -> Result<Vec<ProcessId>, AllocError> {
-    let mut names = Vec::new(alloc);
-    for entry in entries {
-        names.push(entry.id)?;
-    }
-    Ok(names)
 }
 
 /// Opens a table of seats for the tree, and runs the events over it.
@@ -82,14 +100,18 @@ fn run_script<R: Threads + Wait + Sync, G: Gate + Sync>(
     gate: &G,
     tree: Tree,
     events: &[Event],
-) -> Result<(Vec<u8>, Status), Failure> {
-    let names = names_of(alloc, tree.entries())?;
-    let opened = open(alloc, &names)?;
-    run_named::<Brand, R, G>(rt, alloc, output, workers, gate, tree, opened, events)
+) -> Result<(Vec<u8>, Status), Failure>
+    requires workers { (0 < workers) × (workers ≤ 16) }
+    requires tree { IsTree tree }
+    ensures text { IfOk result (λ r. Writes output r.1 tree r.0.items) }
+    ensures memory { IfErr result (λ e. e ≡ Failure.Memory) }
+{
+    let opened = seats(alloc, &tree)?;
+    run_seated::<Brand, R, G>(rt, alloc, output, workers, gate, tree, opened, events)
 }
 
-/// Runs these events on the tree.
-fn run_named<N: Seats + Send + Sync, R: Threads + Wait + Sync, G: Gate + Sync>(
+/// Runs these events on the tree, whose processes have seats at this table.
+fn run_seated<N: Seats + Send + Sync, R: Threads + Wait + Sync, G: Gate + Sync>(
     rt: &R,
     alloc: Global,
     output: Output,
@@ -98,54 +120,24 @@ fn run_named<N: Seats + Send + Sync, R: Threads + Wait + Sync, G: Gate + Sync>(
     tree: Tree,
     opened: Opened,
     events: &[Event],
-) -> Result<(Vec<u8>, Status), Failure> {
+) -> Result<(Vec<u8>, Status), Failure>
+    requires workers { (0 < workers) × (workers ≤ 16) }
+    requires seats { SeatsTree N.table N.tree tree opened.ties.shared.table_id opened.ties.shared.key.items }
+    ensures text { IfOk result (λ r. Writes output r.1 tree r.0.items) }
+    ensures memory { IfErr result (λ e. e ≡ Failure.Memory) }
+{
     let copy = copied_tree(alloc, tree.entries())?;
     let Ok((cluster, mut passes)) = Cluster::<N>::new(alloc, copy, opened, workers) else {
         return Err(Failure::Memory);
     };
-    let refusal = play(rt, alloc, &cluster, passes.as_mut_slice(), events, gate);
-    finish(alloc, output, cluster, passes.as_mut_slice(), tree, refusal)
-}
-
-/// The number of a refusal as it is printed: a step's, or 9 for what the journal has not, or 10 where it is full.
-fn refusal_number(why: PostError) -> Option<u8> {
-    match why {
-        PostError::Stranger => Some(StepError::NoSuch.number()),
-        PostError::JournalFull => Some(10),
-        PostError::Step(error) => Some(error.number()),
-        PostError::Memory => None,
+    match play(rt, alloc, &cluster, passes.as_mut_slice(), events, gate) {
+        None => run_text(alloc, output, cluster, passes.as_mut_slice(), tree),
+        Some((made, why)) => {
+            let_go(cluster);
+            refused_line(alloc, made, why)
+        }
     }
 }
 
-/// Closes the cluster, and tells how the run ended.
-fn finish<N: Seats>(
-    alloc: Global,
-    output: Output,
-    cluster: Cluster<N>,
-    passes: &mut [Pass<N>],
-    tree: Tree,
-    refusal: Refusal,
-) -> Result<(Vec<u8>, Status), Failure> {
-    let mut out = Vec::new(alloc);
-    if let Some((made, why)) = refusal {
-        let Some(number) = refusal_number(why) else {
-            return Err(Failure::Memory);
-        };
-        push_refused(alloc, &mut out, made as u64 + 1, number)?;
-        return Ok((out, Status::Stopped));
-    }
-    let Ok((journal, logs)) = cluster.close(passes) else {
-        return Err(Failure::Memory);
-    };
-    if output == Output::Trace {
-        push_trace(&mut out, tree.entries(), &journal)?;
-        return Ok((out, Status::Ended));
-    }
-    push_told(alloc, &mut out, &journal)?;
-    if is_replayed(alloc, tree, &journal, &logs)? {
-        out.extend_from_slice(b"replay same\n")?;
-        return Ok((out, Status::Ended));
-    }
-    out.extend_from_slice(b"replay different\n")?;
-    Ok((out, Status::Stopped))
-}
+/// Lets go of a cluster.
+fn let_go<N: Seats>(_cluster: Cluster<N>) {}

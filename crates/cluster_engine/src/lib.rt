@@ -3,6 +3,7 @@
 //! The engine of `rstar run`: a script whose processes run at the same time, and what comes of it.
 #![tactic(auto)]
 
+mod ending;
 mod engine;
 mod player;
 mod replay;

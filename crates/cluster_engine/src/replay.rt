@@ -1,10 +1,13 @@
 //! The journal once more, on one thread.
 
+ghost use Rattle.std.specs.Prelude.{◌≡◌, IfErr};
+ghost use Rattle.tree_model.specs.Trees.{IsTree};
+
 use log_store::MemoryStore;
 use log_text::Frame;
 use report_io::Failure;
 use std::alloc::{AllocError, Global};
-use tree_model::{Entry, Event, Happening, Input, LogRecord, Tree};
+use tree_model::{Entry, Event, Happening, Input, LogRecord, StepError, Tree};
 use tree_world::World;
 
 /// How many bytes the first so many of these take.
@@ -37,12 +40,14 @@ fn make_all(
     alloc: Global,
     world: &mut World<MemoryStore>,
     journal: &[(u64, Entry)],
-) -> Result<bool, Failure> {
-    for (_, entry) in journal {
-        let event = event_of(alloc, world, entry)?;
+) -> Result<bool, Failure>
+    ensures { IfErr result (λ e. e ≡ Failure.Memory) }
+{
+    for place in 0..journal.len() {
+        let event = event_of(alloc, world, &journal[place].1)?;
         match world.apply(event) {
             Ok(()) => {}
-            Err(tree_model::StepError::Memory) => return Err(Failure::Memory),
+            Err(StepError::Memory) => return Err(Failure::Memory),
             Err(_) => return Ok(false),
         }
     }
@@ -82,18 +87,36 @@ fn are_same(alloc: Global, a: &[Vec<LogRecord>], b: &[Vec<LogRecord>]) -> Result
     Ok(true)
 }
 
+/// Makes the events of the journal. Whether none was refused, and the tree leaves these logs.
+fn leaves(
+    alloc: Global,
+    world: &mut World<MemoryStore>,
+    journal: &[(u64, Entry)],
+    logs: &[Vec<LogRecord>],
+) -> Result<bool, Failure>
+    ensures { IfErr result (λ e. e ≡ Failure.Memory) }
+{
+    if !make_all(alloc, world, journal)? {
+        return Ok(false);
+    }
+    let left = world.logs()?;
+    Ok(are_same(alloc, &left, logs)?)
+}
+
 /// Whether a tree on one thread that makes the events of the journal leaves these logs.
 pub fn is_replayed(
     alloc: Global,
     tree: Tree,
     journal: &[(u64, Entry)],
     logs: &[Vec<LogRecord>],
-) -> Result<bool, Failure> {
+) -> Result<bool, Failure>
+    requires { IsTree tree }
+    ensures { IfErr result (λ e. e ≡ Failure.Memory) }
+{
     let Ok(mut world) = World::new(alloc, tree) else {
         return Err(Failure::Memory);
     };
-    let made = make_all(alloc, &mut world, journal)?;
-    let left = world.logs()?;
+    let same = leaves(alloc, &mut world, journal, logs);
     world.close();
-    Ok(made && are_same(alloc, &left, logs)?)
+    same
 }

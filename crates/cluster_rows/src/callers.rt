@@ -1,13 +1,15 @@
 //! Several callers at the same time.
 
-use crate::opening::{begin, seats, tree};
+ghost use Rattle.tree_cluster.specs.Opening.{SeatsTree};
+
+use crate::opening::{begin, tree};
 use std::alloc::Global;
 use std::marker::Brand;
 use std::sync::Wait;
 use std::sync::atomic::{AtomicU64, Ordering};
 use std::thread;
 use std::thread::Threads;
-use tree_cluster::Cluster;
+use tree_cluster::{Cluster, seats};
 use tree_model::{Entry, Tree};
 use tree_threads::Pass;
 use tree_ties::seats::{Opened, Seats};
@@ -46,7 +48,9 @@ fn begin_at_once<N: Seats + Send + Sync, R: Threads + Wait + Sync>(
     alloc: Global,
     tree: Tree,
     opened: Opened,
-) -> Option<bool> {
+) -> Option<bool>
+    requires { SeatsTree N.table N.tree tree opened.ties.shared.table_id opened.ties.shared.key.items }
+{
     let (cluster, mut passes) = Cluster::<N>::new(alloc, tree, opened, 4).ok()?;
     let answered = AtomicU64::new(0);
     thread::for_each_mut(
@@ -65,7 +69,7 @@ fn begin_at_once<N: Seats + Send + Sync, R: Threads + Wait + Sync>(
 
 /// Whether each answered call stands in the journal.
 pub fn ok_is_in_the_journal<R: Threads + Wait + Sync>(rt: &R, alloc: Global) -> Option<bool> {
-    let tree = tree(alloc, 2).ok()?;
-    let opened = seats(alloc, &tree)?;
+    let tree = tree(alloc, 2)?;
+    let opened = seats(alloc, &tree).ok()?;
     begin_at_once::<Brand, R>(rt, alloc, tree, opened)
 }

@@ -1,11 +1,13 @@
 //! Workers deliver each message, and none twice.
 
-use crate::opening::{begin, seats, tree};
+ghost use Rattle.tree_cluster.specs.Opening.{SeatsTree};
+
+use crate::opening::{begin, deliver_by, tree};
 use std::alloc::{AllocError, Global};
 use std::marker::Brand;
 use std::sync::Wait;
 use std::thread::Threads;
-use tree_cluster::Cluster;
+use tree_cluster::{Cluster, seats};
 use tree_model::{Act, Case, Entry, Event, Happening, Input, ProcessId, Tree};
 use tree_threads::{Open, Pass};
 use tree_ties::seats::{Opened, Seats};
@@ -57,16 +59,18 @@ fn deliver_all<N: Seats + Send + Sync, R: Threads + Wait + Sync>(
     tree: Tree,
     opened: Opened,
     workers: usize,
-) -> Option<bool> {
+) -> Option<bool>
+    requires { SeatsTree N.table N.tree tree opened.ties.shared.table_id opened.ties.shared.key.items }
+{
     let (cluster, mut passes) = Cluster::<N>::new(alloc, tree, opened, workers).ok()?;
     for _ in 0..20u32 {
         let case = begin(rt, &cluster, passes.as_mut_slice().first_mut()?)?;
         invite(rt, &cluster, passes.as_mut_slice().first_mut()?, case);
-        cluster.run_workers(rt, passes.as_mut_slice(), &Open).ok()?;
+        deliver_by(rt, &cluster, passes.as_mut_slice(), &Open)?;
         let commit = Event::Act(Act::Commit(case.txn));
         let first = passes.as_mut_slice().first_mut()?;
         cluster.post(rt, commit, first, &Open).ok()?;
-        cluster.run_workers(rt, passes.as_mut_slice(), &Open).ok()?;
+        deliver_by(rt, &cluster, passes.as_mut_slice(), &Open)?;
     }
     let (journal, _) = cluster.close(passes.as_mut_slice()).ok()?;
     let counts = times_delivered(alloc, &journal).ok()?;
@@ -79,7 +83,7 @@ pub fn each_message_once<R: Threads + Wait + Sync>(
     alloc: Global,
     workers: usize,
 ) -> Option<bool> {
-    let tree = tree(alloc, MANAGERS).ok()?;
-    let opened = seats(alloc, &tree)?;
+    let tree = tree(alloc, MANAGERS)?;
+    let opened = seats(alloc, &tree).ok()?;
     deliver_all::<Brand, R>(rt, alloc, tree, opened, workers)
 }

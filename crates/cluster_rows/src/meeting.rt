@@ -1,13 +1,15 @@
 //! Two processes step at the same time.
 
-use crate::opening::{begin, seats, tree};
+ghost use Rattle.tree_cluster.specs.Opening.{SeatsTree};
+
+use crate::opening::{begin, deliver_by, tree};
 use std::alloc::Global;
 use std::marker::Brand;
 use std::sync::Wait;
 use std::sync::atomic::{AtomicBool, Ordering};
 use std::thread;
 use std::thread::Threads;
-use tree_cluster::Cluster;
+use tree_cluster::{Cluster, seats};
 use tree_model::{Act, Event, ProcessId, Tree};
 use tree_threads::{Gate, Open};
 use tree_ties::seats::{Opened, Seats};
@@ -50,7 +52,9 @@ fn meet<N: Seats + Send + Sync, R: Threads + Wait + Sync>(
     tree: Tree,
     opened: Opened,
     workers: usize,
-) -> Option<bool> {
+) -> Option<bool>
+    requires { SeatsTree N.table N.tree tree opened.ties.shared.table_id opened.ties.shared.key.items }
+{
     let (cluster, mut passes) = Cluster::<N>::new(alloc, tree, opened, workers).ok()?;
     let passes = passes.as_mut_slice();
     let first = passes.first_mut()?;
@@ -63,7 +67,7 @@ fn meet<N: Seats + Send + Sync, R: Threads + Wait + Sync>(
         stepped: AtomicBool::new(false),
         met: AtomicBool::new(false),
     };
-    cluster.run_workers(rt, passes, &gate).ok()?;
+    deliver_by(rt, &cluster, passes, &gate)?;
     Some(gate.met.load(Ordering::SeqCst))
 }
 
@@ -73,7 +77,7 @@ pub fn two_steps_meet<R: Threads + Wait + Sync>(
     alloc: Global,
     workers: usize,
 ) -> Option<bool> {
-    let tree = tree(alloc, 2).ok()?;
-    let opened = seats(alloc, &tree)?;
+    let tree = tree(alloc, 2)?;
+    let opened = seats(alloc, &tree).ok()?;
     meet::<Brand, R>(rt, alloc, tree, opened, workers)
 }

@@ -1,14 +1,16 @@
 //! Restarts under way.
 
+ghost use Rattle.tree_cluster.specs.Opening.{SeatsTree};
+
 use crate::deliveries::{MANAGERS, invite};
-use crate::opening::{begin, seats, tree};
+use crate::opening::{begin, deliver_by, tree};
 use cluster_engine::is_replayed;
 use std::alloc::Global;
 use std::marker::Brand;
 use std::sync::Wait;
 use std::thread;
 use std::thread::Threads;
-use tree_cluster::Cluster;
+use tree_cluster::{Cluster, seats};
 use tree_model::{Act, Event, ProcessId, Tree};
 use tree_node::copied_tree;
 use tree_threads::{Open, Pass};
@@ -41,10 +43,10 @@ fn commit_all<N: Seats + Send + Sync, R: Threads + Wait + Sync>(
         let first = passes.first_mut()?;
         let case = begin(rt, cluster, first)?;
         invite(rt, cluster, first, case);
-        cluster.run_workers(rt, passes, &Open).ok()?;
+        deliver_by(rt, cluster, passes, &Open)?;
         let commit = Event::Act(Act::Commit(case.txn));
         let _ = cluster.post(rt, commit, passes.first_mut()?, &Open);
-        cluster.run_workers(rt, passes, &Open).ok()?;
+        deliver_by(rt, cluster, passes, &Open)?;
     }
     Some(true)
 }
@@ -55,11 +57,12 @@ fn restart_under_way<N: Seats + Send + Sync, R: Threads + Wait + Sync>(
     alloc: Global,
     tree: Tree,
     opened: Opened,
-) -> Option<bool> {
+) -> Option<bool>
+    requires { SeatsTree N.table N.tree tree opened.ties.shared.table_id opened.ties.shared.key.items }
+{
     let copy = copied_tree(alloc, tree.entries()).ok()?;
     let (cluster, mut passes) = Cluster::<N>::new(alloc, copy, opened, 5).ok()?;
-    let (workers, other) = passes.as_mut_slice().split_at_mut(4);
-    let caller = other.first_mut()?;
+    let (caller, workers) = passes.as_mut_slice().split_first_mut()?;
     let (committed, restarted) = thread::join_mut(
         rt,
         &mut || commit_all(rt, &cluster, workers),
@@ -72,7 +75,7 @@ fn restart_under_way<N: Seats + Send + Sync, R: Threads + Wait + Sync>(
 
 /// Whether the journal, run again on one thread, leaves the same logs.
 pub fn restarts_under_way<R: Threads + Wait + Sync>(rt: &R, alloc: Global) -> Option<bool> {
-    let tree = tree(alloc, MANAGERS).ok()?;
-    let opened = seats(alloc, &tree)?;
+    let tree = tree(alloc, MANAGERS)?;
+    let opened = seats(alloc, &tree).ok()?;
     restart_under_way::<Brand, R>(rt, alloc, tree, opened)
 }

@@ -5,6 +5,7 @@ ghost use Rattle.tree_model.specs.Plays.{process_of_act};
 ghost use Rattle.tree_model.specs.Trees.{IsTree, root_of as root_in};
 ghost use Rattle.tree_threads.specs.Posts.{PostsOne};
 ghost use Rattle.tree_cluster.specs.Closing.{AreMet, IsClosed};
+ghost use Rattle.tree_cluster.specs.Opening.{SeatsTree};
 ghost use Rattle.tree_cluster.specs.Passes.{new_passes};
 ghost use Rattle.tree_cluster.specs.Posts.{IsOf, Posts};
 
@@ -89,9 +90,7 @@ impl<N: Seats> Cluster<N> {
         opened: Opened,
         callers: usize,
     ) -> Result<(Cluster<N>, Vec<Pass<N>>), OpenError>
-        requires tree { IsTree tree × (tree ≡ N.tree) }
-        requires table { opened.ties.shared.table_id ≡ N.table }
-        requires names { opened.ties.shared.key.items ≡ map (λ e. e.id) tree }
+        requires seats { SeatsTree N.table N.tree tree opened.ties.shared.table_id opened.ties.shared.key.items }
         requires callers { (0 < callers) × (callers ≤ 64) }
         ensures { IfOk result (λ r. r.1.items ≡ new_passes callers) }
     {

@@ -11,4 +11,5 @@ mod rounds;
 mod workers;
 
 pub use cluster::{Cluster, Journal};
+pub use opening::seats;
 pub use rounds::Rounds;

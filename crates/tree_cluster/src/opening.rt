@@ -2,16 +2,37 @@
 
 ghost use Rattle.std.specs.Prelude.{◌≡◌, ◌+◌, ◌<◌, ◌≤◌, IfOk, OnOk, length};
 ghost use Rattle.tree_model.specs.Trees.{IsTree};
-ghost use Rattle.tree_cluster.specs.Opening.{IsTableOf, KeepsSeats};
+ghost use Rattle.tree_cluster.specs.Opening.{IsTableOf, KeepsSeats, names_of};
 ghost use Rattle.tree_cluster.specs.Passes.{new_passes};
 
 use log_store::MemoryStore;
 use std::alloc::{AllocError, Global};
 use std::sync::Mutex;
-use tree_model::TreeEntry;
+use tree_model::{ProcessId, Tree, TreeEntry};
 use tree_node::{OpenError, copied_tree, open_node};
 use tree_threads::{Pass, Seated};
-use tree_ties::seats::{Place, Seats, Ties, give, seat};
+use tree_ties::seats::{Opened, Place, Seats, Ties, give, open, seat};
+
+/// The names of the processes, in the order of the tree.
+fn names(alloc: Global, tree: &[TreeEntry]) -> Result<Vec<ProcessId>, AllocError>
+    ensures { IfOk result (λ names. names.items ≡ names_of tree.now) }
+{
+    let mut names = Vec::new(alloc);
+    for entry in tree {
+        names.push(entry.id)?;
+    }
+    Ok(names)
+}
+
+/// A table of seats for the processes of a tree, and the journal's seat. It takes the place of no other: what a
+/// cluster keeps is tied at one table alone.
+pub fn seats(alloc: Global, tree: &Tree) -> Result<Opened, AllocError>
+    requires { IsTree tree.now }
+    ensures { IfOk result (λ opened. opened.ties.shared.key.items ≡ names_of tree.now) }
+{
+    let names = names(alloc, tree.entries())?;
+    open(alloc, &names)
+}
 
 /// Opens the process at this place of the tree over an empty store in memory, and gives it the next seat.
 fn open_seated<N: Seats>(
