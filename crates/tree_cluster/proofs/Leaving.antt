@@ -1,5 +1,6 @@
 -- What all processes leave stands for one run.
-use Rattle.std.proofs.Common.{◌≡◌, ◌∙◌, sym, ap, subst, refl, ℕ, Bool, true, false, if◌then◌else◌, ◌||◌, inl, inr, Option, Some, None, is_some, List, [], ◌∷◌, ◌++◌, map}
+use Rattle.std.proofs.Common.{◌≡◌, ◌∙◌, ◌+◌, ◌<◌, sym, ap, subst, refl, ℕ, Bool, true, false, if◌then◌else◌, ◌||◌, inl, inr, Option, Some, None, is_some, List, [], ◌∷◌, ◌++◌, map, length, get_or, take}
+use Rattle.std.proofs.lemmas.List.{take_more}
 use Rattle.tree_model.specs.declared.names.ProcessId.{ProcessId}
 use Rattle.tree_model.specs.declared.events.Entry.{Entry}
 use Rattle.tree_model.specs.declared.records.LogRecord.{LogRecord}
@@ -8,18 +9,17 @@ use Rattle.tree_model.specs.Names.{same_process}
 use Rattle.tree_model.specs.NameLaws.{same_process_tells}
 use Rattle.tree_model.specs.Nodes.{is_listed}
 use Rattle.tree_model.specs.Trees.{IsTree}
-use Rattle.tree_model.specs.World.{entries_of}
+use Rattle.tree_model.specs.World.{entries_of, made_by}
 use Rattle.manager_model.specs.Data.{no_data}
 use Rattle.core_model.specs.States.{CoreState}
 use Rattle.core_law.specs.worlds.Worlds.{WorldState}
-use Rattle.tree_cut.specs.Cuts.{net_of}
-use Rattle.tree_cut.specs.Owns.{OwnRun}
-use Rattle.tree_cut.proofs.Cuts.{self}
-use Rattle.tree_cut.proofs.Owns.{cuts_hold, ends_modelled}
+use Rattle.tree_cut.specs.Cuts.{IsCut, net_of}
+use Rattle.tree_cut.specs.Owns.{CutHolds, OwnRun}
+use Rattle.tree_cut.proofs.Cuts.{runs_are_cut, self}
+use Rattle.tree_cut.proofs.Owns.{ends_modelled}
 use Rattle.tree_ties.specs.Views.{entries_in}
 use Rattle.tree_cluster.specs.Closing.{IsClosed, LeaveLogs, log_by}
 use Rattle.tree_threads.specs.Locked.{LeavesLog}
-use Rattle.tree_threads.specs.Locked.{HasCut}
 use Rattle.tree_cluster.proofs.Apart.{Apart, tree_apart}
 
 module _ (tree : List TreeEntry) (xs : List Entry) where
@@ -89,13 +89,23 @@ module _ (tree : List TreeEntry) (xs : List Entry) where
       or_true true c h = refl
       or_true false c h = h
 
+-- a run of the whole tree falls apart by process
+cut_of : (tree : List TreeEntry) (xs : List Entry) (h : CutHolds tree xs) → IsCut tree xs h.world.at
+cut_of tree xs h = record {
+  moves = λ q. made_by q h.moves;
+  made = λ q. (runs_are_cut tree h.moves h.world h.is_run q).0;
+  shown = λ q. (runs_are_cut tree h.moves h.world h.is_run q).1 ∙ ap (entries_of q) h.are_entries;
+  given = h.given;
+}
+
 -- a closed cluster
 pub closes : (tree : List TreeEntry) (journal : List (ℕ × Entry)) (logs : List (List LogRecord)) → IsTree tree
-    → HasCut tree (entries_in journal) → LeaveLogs tree (entries_in journal) tree logs
+    → CutHolds tree (entries_in journal) → LeaveLogs tree (entries_in journal) tree logs
     → IsClosed tree journal logs
-closes tree journal logs is_tree has left =
+closes tree journal logs is_tree run left =
     let xs = entries_in journal in
     let at = core_in tree xs tree logs left in
+    let cut = cut_of tree xs run in
     let s : WorldState = record {
       tree = tree;
       node_at = at;
@@ -105,12 +115,12 @@ closes tree journal logs is_tree has left =
       entries = xs;
     } in
     record {
-      run = cuts_hold tree xs has.left is_tree has.cut;
+      run = run;
       state = s;
       tree_is = refl;
       entries_are = refl;
-      modelled = ends_modelled s has.left is_tree (record {
-        cut = has.cut;
+      modelled = ends_modelled s run.world.at is_tree (record {
+        cut = cut;
         net = refl;
         listed = listed_in tree xs tree logs left;
         own = own_in tree xs tree logs left;
@@ -127,3 +137,11 @@ leave_more tree xs [] [] e l h one = (one, tt)
 leave_more tree xs [] (k ∷ ls) e l h one = absurd h
 leave_more tree xs (d ∷ es) [] e l h one = absurd h
 leave_more tree xs (d ∷ es) (k ∷ ls) e l h one = (h.0, leave_more tree xs es ls e l h.1 one)
+
+-- the log of the process at this place, behind those before it
+pub leave_at : (tree : List TreeEntry) (xs : List Entry) (es : List TreeEntry) (ls more : List (List LogRecord)) (i : ℕ)
+    (e : TreeEntry) (l : List LogRecord) → i < length es → e ≡ get_or es i e → more ≡ ls ++ l ∷ []
+    → LeavesLog tree xs e.id l → LeaveLogs tree xs (take i es) ls → LeaveLogs tree xs (take (i + 1) es) more
+leave_at tree xs es ls more i e l lt is pushed one h =
+    rw (take_more es i e lt, ← is) (subst (λ ms. LeaveLogs tree xs (take i es ++ e ∷ []) ms) (sym pushed)
+    (leave_more tree xs (take i es) ls e l h one))
