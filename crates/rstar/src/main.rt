@@ -5,11 +5,12 @@
 #![tactic(auto)]
 
 mod law;
+mod running;
 
+use crate::running::Run;
 use audit_engine::{Detail, run_audit, run_log};
 use clap::error::ErrorKind;
-use clap::{Arg, ArgAction, ArgMatches, Command, Error, value_parser};
-use cluster_engine::{Output as RunOutput, run_cluster};
+use clap::{Arg, ArgAction, ArgMatches, Command, Error};
 use crash_engine::run_crash;
 use explanation::{Script, failure_text, refusal_text};
 use report_io::{read_all, write_all};
@@ -20,7 +21,6 @@ use std::process::ExitCode;
 use std::sync::Wait;
 use std::thread::Threads;
 use tree_engine::{Failure, Output, Status, run_tree};
-use tree_threads::Open;
 use xa_engine::run_xa;
 
 /// What a command line asks for.
@@ -28,8 +28,8 @@ use xa_engine::run_xa;
 enum Request {
     /// The events of a tree script, and what is written of them.
     Tree(Output),
-    /// The events of a tree script, by so many workers, and what is written of them.
-    Run(RunOutput, u8),
+    /// The events of a tree script, on processes that run at the same time.
+    Run(Run),
     /// The calls of an XA script.
     Xa,
     /// What the logs of a tree hold.
@@ -107,23 +107,6 @@ Examples: rstar tree < examples/commit.tree
           rstar tree --counts < examples/commit.tree
           rstar tree --picture < examples/commit.tree > commit.svg
           rstar tree --logs < examples/commit.tree | rstar log";
-
-/// What `rstar run --help` says below its usage.
-const RUN_HELP: &str = "\
-Where it refuses, --explain tells on standard error what is wrong, and what is wanted there.
-
-In: a tree script, as 'rstar tree' reads it. Each process of the tree lies under a lock of its own,
-and so does the journal. The events are posted in order by one thread; at a settle it and the
-other workers deliver every message, each as soon as its process is free. Out: the line 'told TXN
-committed|aborted|readonly' of each transaction of which the application was told, in order of
-boot and sequence; then 'replay same': a tree on one thread that makes the events of the journal
-leaves the same logs. 'refused N E' alone where event N is refused, 'error ..' where the script is
-(docs/ERRORS.md). With --trace, in place of that, the journal as a trace; its order may be
-another at each run, since processes that told each other nothing have no order.
-
-Examples: rstar run < examples/commit.tree
-          rstar run --workers 16 < examples/crash.tree
-          rstar run --trace < examples/commit.tree";
 
 /// What `rstar xa --help` says below its usage.
 const XA_HELP: &str = "\
@@ -270,32 +253,6 @@ fn tree<'a>(alloc: Global) -> Result<Command<'a>, AllocError> {
     .arg(picture(alloc)?)
 }
 
-/// The option `--workers` of `rstar run`.
-fn workers<'a>(alloc: Global) -> Arg<'a> {
-    Arg::new(alloc, "workers")
-        .long("workers")
-        .value_name("N")
-        .help("How many threads deliver messages at a settle")
-        .value_parser(value_parser!(u8).range(1..=16))
-        .default_value("4")
-}
-
-/// The words of `rstar run`.
-fn run_words<'a>(alloc: Global) -> Result<Command<'a>, AllocError> {
-    explaining(
-        alloc,
-        "run",
-        "Runs a transaction script on processes that run at the same time, and writes what was told",
-        RUN_HELP,
-    )?
-    .arg(workers(alloc))?
-    .arg(flag(
-        alloc,
-        "trace",
-        "Writes the journal as a trace, in place of what was told",
-    ))
-}
-
 /// The words of `rstar audit`.
 fn audit<'a>(alloc: Global) -> Result<Command<'a>, AllocError> {
     subcommand(
@@ -322,7 +279,7 @@ fn grammar<'a>(alloc: Global) -> Result<Command<'a>, AllocError> {
     .version(VERSION)
     .subcommand_required(true)
     .subcommand(tree(alloc)?)?
-    .subcommand(run_words(alloc)?)?
+    .subcommand(running::words(alloc)?)?
     .subcommand(explaining(
         alloc,
         "xa",
@@ -357,20 +314,6 @@ fn output_of(matches: &ArgMatches) -> Output {
     }
 }
 
-/// What is written of a run of processes at the same time.
-fn run_output_of(matches: &ArgMatches) -> RunOutput {
-    if matches.get_flag("trace") {
-        RunOutput::Trace
-    } else {
-        RunOutput::Told
-    }
-}
-
-/// How many workers there are; the option has a default, and its range was checked.
-fn workers_of(matches: &ArgMatches) -> u8 {
-    matches.get_one::<u8>("workers").unwrap_or(4)
-}
-
 /// How much is written of an audit.
 fn detail_of(matches: &ArgMatches) -> Detail {
     if matches.get_flag("explain") {
@@ -395,10 +338,7 @@ fn read_words<'a>(alloc: Global, words: &'a [String]) -> Result<Asked, Error> {
     match matches.subcommand() {
         Some((name, found)) => Ok(match name {
             "tree" => Asked::Request(Request::Tree(output_of(found)), told_of(found)),
-            "run" => Asked::Request(
-                Request::Run(run_output_of(found), workers_of(found)),
-                told_of(found),
-            ),
+            "run" => Asked::Request(Request::Run(running::asked(found)), told_of(found)),
             "log" => Asked::Request(Request::Log, told_of(found)),
             "audit" => Asked::Request(Request::Audit(detail_of(found)), Told::Silent),
             "crash" => Asked::Request(Request::Crash, told_of(found)),
@@ -427,15 +367,7 @@ fn run<R: Read, T: Threads + Wait + Sync>(
     let alloc = rt.alloc();
     match request {
         Request::Tree(output) => number(run_tree(alloc, output, reader, &mut writer)),
-        Request::Run(output, workers) => number(run_cluster(
-            threads,
-            alloc,
-            output,
-            usize::from(workers),
-            &Open,
-            reader,
-            &mut writer,
-        )),
+        Request::Run(run) => number(running::start(threads, alloc, run, reader, &mut writer)),
         Request::Xa => number(run_xa(alloc, reader, &mut writer)),
         Request::Log => number(run_log(alloc, reader, &mut writer)),
         Request::Audit(detail) => match run_audit(alloc, detail, reader, &mut writer) {
@@ -460,7 +392,7 @@ fn status_by(ended: Result<u8, Failure>) -> u8 {
 /// What is read for a request.
 fn script_of(request: Request) -> Script {
     match request {
-        Request::Tree(_) | Request::Run(_, _) | Request::Crash => Script::Tree,
+        Request::Tree(_) | Request::Run(_) | Request::Crash => Script::Tree,
         Request::Xa => Script::Xa,
         Request::Log | Request::Audit(_) => Script::Logs,
     }
