@@ -1,6 +1,8 @@
 -- What a journal tells, entry by entry.
-use Rattle.std.proofs.Common.{◌≡◌, ◌∙◌, ◌+◌, ap, sym, refl, ℕ, suc, List, [], ◌∷◌, ◌++◌, length, append-nil, append_assoc, arith}
+use Rattle.std.proofs.Common.{◌≡◌, ◌∙◌, ◌+◌, ◌<◌, ap, sym, refl, ℕ, suc, List, [], ◌∷◌, ◌++◌, length, get_or, take, append-nil, append_assoc, arith}
+use Rattle.std.proofs.lemmas.List.{length-take-le, take_more}
 use Rattle.tree_model.specs.declared.events.Entry.{Entry}
+use Rattle.cluster_engine.specs.declared.told.ToldPlace.{ToldPlace}
 use Rattle.cluster_engine.specs.Told.{told_from, told_in}
 
 pub told_more : (n : ℕ) (xs : List (ℕ × Entry)) (x : ℕ × Entry)
@@ -14,3 +16,18 @@ told_more n (y ∷ ys) x =
     ∙ sym (append_assoc (told_in n y.1.reaction.told) (told_from (suc n) ys)
     (told_in (suc n + length ys) x.1.reaction.told))
     ∙ ap (λ k. (told_in n y.1.reaction.told ++ told_from (suc n) ys) ++ told_in k x.1.reaction.told) here
+
+-- what is told up to the next entry
+pub told_next : (xs : List (ℕ × Entry)) (i : ℕ) (x : ℕ × Entry) (old new : List ToldPlace) → i < length xs
+    → x ≡ get_or xs i x → new ≡ old ++ told_in i x.1.reaction.told → old ≡ told_from 0 (take i xs)
+    → new ≡ told_from 0 (take (i + 1) xs)
+told_next xs i x old new lt is pushed so =
+    let here : i ≡ 0 + length (take i xs) = sym (length-take-le i xs (omega arith)) ∙ zero_plus (length (take i xs)) in
+    let next : take i xs ++ x ∷ [] ≡ take (i + 1) xs =
+    ap (λ (y : ℕ × Entry). take i xs ++ y ∷ []) is ∙ sym (take_more xs i x lt) in
+    pushed ∙ ap (λ l. l ++ told_in i x.1.reaction.told) so
+    ∙ ap (λ k. told_from 0 (take i xs) ++ told_in k x.1.reaction.told) here
+    ∙ sym (told_more 0 (take i xs) x) ∙ ap (told_from 0) next
+  where
+    zero_plus : (n : ℕ) → n ≡ 0 + n
+    zero_plus n = omega arith

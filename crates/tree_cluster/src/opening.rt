@@ -70,7 +70,9 @@ fn open_each<N: Seats>(
 {
     for place in 0..tree.len() {
         let seated = open_seated::<N>(alloc, ties, journal, tree, place)?;
-        processes.push(Mutex::new(seated))?;
+        if processes.push(Mutex::new(seated)).is_err() {
+            return Err(OpenError::Memory);
+        }
     }
     Ok(())
 }
