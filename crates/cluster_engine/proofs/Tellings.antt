@@ -18,16 +18,15 @@ told_more n (y ∷ ys) x =
     ∙ ap (λ k. (told_in n y.1.reaction.told ++ told_from (suc n) ys) ++ told_in k x.1.reaction.told) here
 
 -- what is told up to the next entry
-pub told_next : (xs : List (ℕ × Entry)) (i : ℕ) (x : ℕ × Entry) (old new : List ToldPlace) → i < length xs
-    → x ≡ get_or xs i x → new ≡ old ++ told_in i x.1.reaction.told → old ≡ told_from 0 (take i xs)
+pub told_next : (xs : List (ℕ × Entry)) (i : ℕ) (d : ℕ × Entry) (old new : List ToldPlace) → i < length xs
+    → new ≡ old ++ told_in i (get_or xs i d).1.reaction.told → old ≡ told_from 0 (take i xs)
     → new ≡ told_from 0 (take (i + 1) xs)
-told_next xs i x old new lt is pushed so =
+told_next xs i d old new lt pushed so =
+    let x = get_or xs i d in
     let here : i ≡ 0 + length (take i xs) = sym (length-take-le i xs (omega arith)) ∙ zero_plus (length (take i xs)) in
-    let next : take i xs ++ x ∷ [] ≡ take (i + 1) xs =
-    ap (λ (y : ℕ × Entry). take i xs ++ y ∷ []) is ∙ sym (take_more xs i x lt) in
     pushed ∙ ap (λ l. l ++ told_in i x.1.reaction.told) so
     ∙ ap (λ k. told_from 0 (take i xs) ++ told_in k x.1.reaction.told) here
-    ∙ sym (told_more 0 (take i xs) x) ∙ ap (told_from 0) next
+    ∙ sym (told_more 0 (take i xs) x) ∙ ap (told_from 0) (sym (take_more xs i d lt))
   where
     zero_plus : (n : ℕ) → n ≡ 0 + n
     zero_plus n = omega arith

@@ -1,4 +1,4 @@
 mod Apart
-mod Opening
+mod Seating
 mod Leaving
 mod Passing
