@@ -35,7 +35,7 @@ pub(crate) fn saying(entry: &Record) -> Option<(Case, Stage)>
         Record::Prepare(case, _) => Some((*case, Stage::Doubt)),
         Record::Commit(case, _) => Some((*case, Stage::Ended(Outcome::Committed))),
         Record::Abort(case, _) => Some((*case, Stage::Ended(Outcome::Aborted))),
-        Record::End(case) => Some((*case, Stage::Over)),
+        Record::End(case, _) | Record::Cleared(case) => Some((*case, Stage::Over)),
         Record::Prepared(branch, _) | Record::HeurCommit(branch) | Record::HeurRollback(branch) => {
             of_branch(branch, Stage::Doubt)
         }

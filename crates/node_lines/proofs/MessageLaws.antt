@@ -1,6 +1,7 @@
 -- Texts of messages: what is read is spelled so, and what is spelled so is read.
 use Rattle.std.proofs.Common.{◌≡◌, ◌^◌, ◌<◌, ℕ, true, false, cond, eqb, Option, Some, None, List, [], ◌∷◌, ◌++◌, refl, ap, sym, subst, ◌∙◌, arith, inl, inr, codes, append_assoc}
 use Rattle.std.specs.Fmt.{decimal}
+use Rattle.std.proofs.lemmas.List.{append-nil}
 use Rattle.std.proofs.lemmas.Bool.{cases_eq}
 use Rattle.std.proofs.lemmas.Bool.Decides.{nat_tests}
 use Rattle.spellings.specs.Numerals.{number_at}
@@ -12,11 +13,12 @@ use Rattle.tree_model.specs.declared.names.Outcome.{Outcome}
 use Rattle.tree_model.specs.declared.names.Outcome.TheVariants.{Committed, Aborted}
 use Rattle.tree_model.specs.declared.names.Case.{Case}
 use Rattle.tree_model.specs.declared.names.Ticket.{Ticket}
+use Rattle.tree_model.specs.declared.messages.Finding.{Finding}
 use Rattle.tree_model.specs.declared.messages.Op.{Op}
 use Rattle.tree_model.specs.declared.messages.Envelope.{Envelope}
 use Rattle.tree_model.specs.declared.messages.Message.{Message}
 use Rattle.tree_model.specs.declared.messages.Message.TheVariants.{Join, Joined, Work, Prepare, Yes, No, Read, Commit, Abort, Ack, Inquire}
-use Rattle.tree_model.specs.Texts.{case_text, ticket_text, op_text, outcome_word, message_text, envelope_text}
+use Rattle.tree_model.specs.Texts.{case_text, ticket_text, op_text, outcome_word, message_text, findings_text, envelope_text}
 use Rattle.link_script.specs.Names.{after_at, process_at, case_at, ticket_at}
 use Rattle.link_script.specs.Spellings.{process_text, FitsProcess, FitsCase, FitsOp, FitsTicket, ReadIsSpelled, SpelledIsRead}
 use Rattle.link_script.proofs.Misses.{bind_some, misses, misses_append, misses_without, decimal_misses, same_tells, blank, IsMark}
@@ -73,6 +75,11 @@ ending_takes w o h =
     (same_tells w (codes "abort") is))
     (λ _ none. absurd cc))
 
+-- behind an acknowledgement that found nothing stands nothing
+ack_text : (t : List ℕ) → t ≡ t ++ findings_text []
+unfolding findings_text
+ack_text t = sym (append-nil t)
+
 ack_takes : (root : ProcessId) (rest : List ℕ) (m : Message) → ack_at root rest ≡ Some m
     → Text root (codes "ACK " ++ rest) m
 unfolding ack_at
@@ -81,10 +88,11 @@ ack_takes root rest m h =
     let b = bind_some (case_at root a.0.0) _ m a.2 in
     let c = bind_some (ending_at a.0.1) _ m b.2 in
     let case = case_takes root a.0.0 b.0 b.1 in
-    subst (λ (x : Message). Text root (codes "ACK " ++ rest) x) (some_is (Ack b.0 c.0) m c.2) (
+    subst (λ (x : Message). Text root (codes "ACK " ++ rest) x) (some_is (Ack b.0 c.0 []) m c.2) (
       two_words (codes "ACK ") rest a.0.0 a.0.1 (case_text b.0) (outcome_word c.0)
-          (cut_takes 32 rest a.0 a.1) case.0 (ending_takes a.0.1 c.0 c.1),
-      case.1,
+          (cut_takes 32 rest a.0 a.1) case.0 (ending_takes a.0.1 c.0 c.1)
+          ∙ ack_text (codes "ACK " ++ case_text b.0 ++ codes " " ++ outcome_word c.0),
+      record { case_fits = case.1; nothing_found = refl },
     )
 
 work_takes : (root : ProcessId) (rest : List ℕ) (m : Message) → work_at root rest ≡ Some m
@@ -183,7 +191,7 @@ unfolding prepare_at
 prepare_again root c n f g = rw (case_cut root c (decimal n) f, case_again root c f, number_again n g) refl
 
 ack_again : (root : ProcessId) (c : Case) (o : Outcome) → FitsCase root c
-    → ack_at root (case_text c ++ 32 ∷ outcome_word o) ≡ Some (Ack c o)
+    → ack_at root (case_text c ++ 32 ∷ outcome_word o) ≡ Some (Ack c o [])
 unfolding ack_at
 ack_again root c Committed f = rw (case_cut root c (codes "commit") f, case_again root c f) refl
 ack_again root c Aborted f = rw (case_cut root c (codes "abort") f, case_again root c f) refl
@@ -209,6 +217,15 @@ text_by : (root : ProcessId) (word rest : List ℕ) (m : Message) → misses 32 
     → message_at root (word ++ 32 ∷ rest) ≡ Some m
 unfolding message_at
 text_by root word rest m free h = rw (cut_again 32 word rest (misses_without 32 word free)) h
+
+found_nothing : (root : ProcessId) (c : Case) (o : Outcome) → FitsCase root c
+    → message_at root (message_text (Ack c o [])) ≡ Some (Ack c o [])
+unfolding plain_at
+found_nothing root c o f =
+    ap (message_at root) (sym (ack_text (codes "ACK " ++ case_text c ++ codes " " ++ outcome_word o))
+    ∙ two_form (codes "ACK ") (case_text c) (outcome_word o))
+    ∙ text_by root (codes "ACK") (case_text c ++ 32 ∷ outcome_word o) (Ack c o []) refl
+    (ack_again root c o f)
 
 pub message_again : (root : ProcessId) → SpelledIsRead (message_at root) message_text (FitsMessage root)
 unfolding plain_at
@@ -236,10 +253,9 @@ message_again root (Commit c) f = text_by root (codes "COMMIT") (case_text c) (C
     (rw (case_again root c f) refl)
 message_again root (Abort c) f = text_by root (codes "ABORT") (case_text c) (Abort c) refl
     (rw (case_again root c f) refl)
-message_again root (Ack c o) f =
-    ap (message_at root) (two_form (codes "ACK ") (case_text c) (outcome_word o))
-    ∙ text_by root (codes "ACK") (case_text c ++ 32 ∷ outcome_word o) (Ack c o) refl
-    (ack_again root c o f)
+message_again root (Ack c o fs) f =
+    subst (λ (gs : List Finding). message_at root (message_text (Ack c o gs)) ≡ Some (Ack c o gs))
+    (sym f.nothing_found) (found_nothing root c o f.case_fits)
 message_again root (Inquire c) f = text_by root (codes "INQUIRE") (case_text c) (Inquire c) refl
     (rw (case_again root c f) refl)
 

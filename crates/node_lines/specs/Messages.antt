@@ -1,5 +1,5 @@
 -- Reading the text of a message from left to right.
-use Rattle.std.specs.Prelude.{ℕ, List, codes, Option, Some, None, if◌then◌else◌}
+use Rattle.std.specs.Prelude.{ℕ, List, [], codes, Option, Some, None, if◌then◌else◌}
 use Rattle.spellings.specs.Numerals.{number_at}
 use Rattle.spellings.specs.Words.{cut_at}
 use Rattle.tree_model.specs.declared.names.Case.{Case}
@@ -46,13 +46,13 @@ ending_at word =
     else if same word (codes "abort") then Some Aborted
     else None
 
--- `ACK`: a case, and the outcome
+-- `ACK`: a case, and the outcome; it found nothing
 unfoldable pub ack_at : ProcessId → List ℕ → Option Message
 ack_at root rest = do
   p ← cut_at 32 rest
   case ← case_at root p.0
   outcome ← ending_at p.1
-  Some (Ack case outcome)
+  Some (Ack case outcome [])
 
 -- a word that a case alone follows
 abbrev pub of_case : (Case → Message) → ProcessId → List ℕ → Option Message

@@ -1,9 +1,10 @@
 -- Which messages have a text that is read back, and a line.
-use Rattle.std.specs.Prelude.{◌<◌, ◌^◌, ℕ, List}
+use Rattle.std.specs.Prelude.{◌≡◌, ◌<◌, ◌^◌, ℕ, List, []}
 use Rattle.tree_model.specs.declared.names.Case.{Case}
 use Rattle.tree_model.specs.declared.names.ProcessId.{ProcessId}
 use Rattle.tree_model.specs.declared.names.Ticket.{Ticket}
 use Rattle.tree_model.specs.declared.messages.Envelope.{Envelope}
+use Rattle.tree_model.specs.declared.messages.Finding.{Finding}
 use Rattle.tree_model.specs.declared.messages.Message.{Message}
 use Rattle.tree_model.specs.declared.messages.Message.TheVariants.{Join, Joined, Work, Prepare, Yes, No, Read, Commit, Abort, Ack, Inquire}
 use Rattle.tree_model.specs.declared.messages.Op.{Op}
@@ -26,6 +27,11 @@ pub record FitsPrepare (root : ProcessId) (c : Case) (count : ℕ) : Type 0 wher
   pub case_fits : FitsCase root c
   pub count_fits : count < 2 ^ 64
 
+-- what an `ACK` names has a spelling, and it found nothing
+pub record FitsAck (root : ProcessId) (c : Case) (fs : List Finding) : Type 0 where
+  pub case_fits : FitsCase root c
+  pub nothing_found : fs ≡ []
+
 -- what a message names has a spelling, and it is of a transaction of this root
 abbrev pub FitsMessage : ProcessId → Message → Type 0
 FitsMessage root (Join c) = FitsCase root c
@@ -37,7 +43,7 @@ FitsMessage root (No c) = FitsCase root c
 FitsMessage root (Read c) = FitsCase root c
 FitsMessage root (Commit c) = FitsCase root c
 FitsMessage root (Abort c) = FitsCase root c
-FitsMessage root (Ack c o) = FitsCase root c
+FitsMessage root (Ack c o fs) = FitsAck root c fs
 FitsMessage root (Inquire c) = FitsCase root c
 
 -- a message has a line: its number, its sender and its receiver have a spelling, and so has what it names

@@ -17,7 +17,7 @@ use script_words::{Task, task_of};
 use spellings::numeral::number_of;
 use spellings::word::cut;
 use std::alloc::{AllocError, Global};
-use tree_model::{Case, Message, Outcome, ProcessId};
+use tree_model::{Case, Findings, Message, Outcome, ProcessId};
 
 /// The message of a transaction of this root that a text is; None where it is the text of no message.
 #[tactic(auto, unfolding(crate::specs::Messages::message_at))]
@@ -27,13 +27,13 @@ pub fn message_of(alloc: Global, root: ProcessId, text: &str) -> Result<Option<M
     match cut(text, ' ') {
         None => Ok(None),
         Some(("WORK", rest)) => work_of(alloc, root, rest),
-        Some((word, rest)) => Ok(plain_of(root, word, rest)),
+        Some((word, rest)) => Ok(plain_of(alloc, root, word, rest)),
     }
 }
 
 /// The message of a text but a work's, by its first word and the rest.
 #[tactic(auto, unfolding(crate::specs::Messages::plain_at))]
-fn plain_of(root: ProcessId, word: &str, rest: &str) -> Option<Message>
+fn plain_of(alloc: Global, root: ProcessId, word: &str, rest: &str) -> Option<Message>
     ensures { result ≡ plain_at root word.now rest.now }
 {
     match word {
@@ -45,7 +45,7 @@ fn plain_of(root: ProcessId, word: &str, rest: &str) -> Option<Message>
         "READ" => Some(Message::Read(case_of(root, rest)?)),
         "COMMIT" => Some(Message::Commit(case_of(root, rest)?)),
         "ABORT" => Some(Message::Abort(case_of(root, rest)?)),
-        "ACK" => ack_of(root, rest),
+        "ACK" => ack_of(alloc, root, rest),
         "INQUIRE" => Some(Message::Inquire(case_of(root, rest)?)),
         _ => None,
     }
@@ -71,14 +71,15 @@ fn prepare_of(root: ProcessId, rest: &str) -> Option<Message>
     Some(Message::Prepare(case, count))
 }
 
+/// An acknowledgement that found nothing, as each one is that this version sends.
 #[tactic(auto, unfolding(crate::specs::Messages::ack_at))]
-fn ack_of(root: ProcessId, rest: &str) -> Option<Message>
+fn ack_of(alloc: Global, root: ProcessId, rest: &str) -> Option<Message>
     ensures { result ≡ ack_at root rest.now }
 {
     let (case, outcome) = cut(rest, ' ')?;
     let case = case_of(root, case)?;
     let outcome = ending_of(outcome)?;
-    Some(Message::Ack(case, outcome))
+    Some(Message::Ack(case, outcome, Findings::new(alloc)))
 }
 
 /// The outcome that a word of an acknowledgement names.

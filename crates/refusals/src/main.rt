@@ -2,16 +2,19 @@
 //!
 //! Runs scripts, and each of them again and again with one allocation refused: the first, the second, and so
 //! on, until a run meets none. What is refused changes nothing, and what is asked once more is done. Standard
-//! input lists the names of tree scripts, a line each.
+//! input lists the scripts, a line each: `tree NAME` or `xa NAME`.
 //!
 //! The refusal comes from outside (`tools/refuse.c`, preloaded). Without it each script is run once.
 #![tactic(auto)]
 
+mod calls;
 mod refuser;
 mod trees;
 
+use crate::calls::sweep_requests;
 use crate::refuser::Refuser;
 use crate::trees::sweep_events;
+use std::alloc::Global;
 use std::{fs, io};
 
 /// What the runs of a script met.
@@ -30,20 +33,59 @@ impl Met {
     }
 
     /// These, and those of another sweep.
-    fn add(&mut self, other: Met) {
+    pub(crate) fn add(&mut self, other: Met) {
         self.runs = self.runs.saturating_add(other.runs);
         self.refusals = self.refusals.saturating_add(other.refusals);
     }
 }
 
-/// What the runs of the script of this name met. None where one of them goes wrong.
-fn sweep_line(rt: &HostRuntime, refuser: &mut Refuser, line: &str) -> io::Result<Option<Met>> {
-    let path = format!(in rt.alloc(); "{line}.tree")?;
-    let input = fs::read(rt, path.as_str())?;
-    Ok(sweep_events(rt.alloc(), refuser, input.as_slice()))
+/// The scripts that can be run.
+#[derive(Clone, Copy)]
+enum Program {
+    Tree,
+    Xa,
 }
 
-/// Runs the script that a line names, and says what its runs met.
+impl Program {
+    /// The program of a line that begins with this word.
+    fn of(word: &str) -> Option<Program> {
+        match word {
+            "tree" => Some(Program::Tree),
+            "xa" => Some(Program::Xa),
+            _ => None,
+        }
+    }
+
+    fn ending(self) -> &'static str {
+        match self {
+            Program::Tree => "tree",
+            Program::Xa => "xa",
+        }
+    }
+
+    /// Runs a script with each allocation refused in turn. None where one of these runs goes wrong.
+    fn sweep(self, alloc: Global, refuser: &mut Refuser, input: &[u8]) -> Option<Met> {
+        match self {
+            Program::Tree => sweep_events(alloc, refuser, input),
+            Program::Xa => sweep_requests(alloc, refuser, input),
+        }
+    }
+}
+
+/// What the runs of the script of a line met. None where the line names no script, or a run goes wrong.
+fn sweep_line(rt: &HostRuntime, refuser: &mut Refuser, line: &str) -> io::Result<Option<Met>> {
+    let Some((word, name)) = line.split_once(' ') else {
+        return Ok(None);
+    };
+    let Some(program) = Program::of(word) else {
+        return Ok(None);
+    };
+    let path = format!(in rt.alloc(); "{name}.{}", program.ending())?;
+    let input = fs::read(rt, path.as_str())?;
+    Ok(program.sweep(rt.alloc(), refuser, input.as_slice()))
+}
+
+/// Runs the script of a line, and says what its runs met.
 fn run_line(rt: &HostRuntime, refuser: &mut Refuser, line: &str, all: &mut Met) -> io::Result<()> {
     match sweep_line(rt, refuser, line)? {
         None => println!(rt; "{line}: failed"),

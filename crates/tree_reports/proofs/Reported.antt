@@ -94,7 +94,7 @@ opened_none : {A : Type 0} (c : Case) (t : Ticket) → has (reports_mixed c t) (
 unfolding has
 opened_none c t e = absurd (cc)
 
-reports_hold : (tree : List TreeEntry) (es : List Made) (w : World) → IsRun tree es w → ReportsHold tree w
+pub reports_hold : (tree : List TreeEntry) (es : List Made) (w : World) → IsRun tree es w → ReportsHold tree w
 reports_hold tree _ _ opens =
     record { forced = λ q role up c. has-nil _; reported = λ q role c t e. opened_none c t e }
 reports_hold tree _ _ (makes es w m e w' run stands made) =

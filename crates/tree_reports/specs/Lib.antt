@@ -1,1 +1,3 @@
 pub mod Findings
+pub mod Mismatches
+pub mod SinceOpened

@@ -1,9 +1,11 @@
 //! The laws of findings and reports.
-ghost use Rattle.std.specs.Prelude.{List};
+ghost use Rattle.std.specs.Prelude.{List, ℕ};
+ghost use Rattle.tree_model.specs.Nodes.{Second};
 ghost use Rattle.tree_model.specs.Trees.{IsTree};
-ghost use Rattle.tree_model.specs.World.{IsRun, Made, World};
+ghost use Rattle.tree_model.specs.World.{IsRun, IsRunBy, Made, World};
 ghost use Rattle.tree_model.specs.declared.trees.TreeEntry.{TreeEntry};
 ghost use Rattle.tree_reports.specs.Findings.{AllSayTrue, MixedHadMismatch};
+ghost use Rattle.tree_reports.specs.Mismatches.{AllReportTruly};
 
 /// In every run, whichever version makes each step, who is reported as mixed by an acknowledgement was decided by its
 /// operator against the outcome that is acknowledged, in the forced front of its log.
@@ -16,4 +18,14 @@ pub fn mixed_was_decided()
 pub fn reported_had_mismatch()
     ensures { (tree : List TreeEntry) (es : List Made) (w : World) → IsTree tree → IsRun tree es w
         → MixedHadMismatch tree w }
+{}
+
+/// Reported mismatches: in every run of every tree, each End that a root appends since the tree was opened last, by the
+/// second version, reports truly, also where its device fails. Who is reported as mixed has had a mismatch; and each
+/// mismatch that stands, whose ticket and each ticket above it is named in a decision of the case that accepted it, is
+/// reported as mixed, or lies at or below a ticket that is reported as unreported. Which version made the run before
+/// the tree was opened last does not matter.
+pub fn mismatches_are_reported()
+    ensures { (tree : List TreeEntry) (before : ℕ) (es : List Made) (w : World) → IsTree tree
+        → (run : IsRunBy tree Second before es w) → AllReportTruly tree Second before es w run }
 {}

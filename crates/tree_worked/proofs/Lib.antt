@@ -1,2 +1,3 @@
 pub mod RowLaws
 pub mod SecondLaws
+pub mod Histories

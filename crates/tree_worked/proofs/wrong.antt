@@ -7,3 +7,5 @@ pub mod UnderCommit
 pub mod Boots
 pub mod Harming
 pub mod Harms
+pub mod SecondPlayed
+pub mod Reporting

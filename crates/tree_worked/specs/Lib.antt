@@ -4,3 +4,4 @@ pub mod DoubtRuns
 pub mod SecondPlays
 pub mod SecondRuns
 pub mod wrong
+pub mod Histories

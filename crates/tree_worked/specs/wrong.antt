@@ -1,2 +1,3 @@
 pub mod WrongSteps
 pub mod WrongBodies
+pub mod WrongReports

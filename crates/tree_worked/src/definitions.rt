@@ -1,6 +1,6 @@
 //! Laws of the definitions, each on a function with an empty body.
 
-ghost use Rattle.std.specs.Prelude.{◌≡◌, ◌↔◌, true, ℕ, List};
+ghost use Rattle.std.specs.Prelude.{◌≡◌, ◌↔◌, Bool, true, ℕ, List};
 ghost use Rattle.tree_model.specs.declared.names.Ticket.{Ticket};
 ghost use Rattle.tree_model.specs.Names.{same_case, same_process, same_ticket, same_txn};
 ghost use Rattle.tree_model.specs.Texts.{TellsCases, TellsTickets};
@@ -15,6 +15,8 @@ ghost use Rattle.tree_model.specs.LogNames.{ReadsBack};
 ghost use Rattle.tree_model.specs.Nodes.{DataAnswer, Node, Place, place_of};
 ghost use Rattle.tree_model.specs.declared.records.Record.{Record};
 ghost use Rattle.tree_model.specs.Views.{ManagerViews, RootBegins, RootViews};
+ghost use Rattle.tree_model.specs.Records.{has};
+ghost use Rattle.tree_worked.specs.Histories.{was_forced};
 ghost use Rattle.tree_model.specs.World.{IsRun, Made, World, made_by, net_by, node_by};
 
 /// A run is told process by process: each process is what its own moves make of it, and the net is the
@@ -24,6 +26,12 @@ pub fn processes_are_their_moves()
         → IsRun tree es w → (p : ProcessId)
         → w.at p ≡ node_by (place_of tree p) (made_by p es) }
     ensures net { (tree : List TreeEntry) (es : List Made) (w : World) → IsRun tree es w → w.net ≡ net_by es }
+{}
+
+/// The history of forced records has each record that was ever in the forced front of the process, and no other.
+pub fn durable_is_what_was_forced()
+    ensures { (tree : List TreeEntry) (es : List Made) (w : World) → IsRun tree es w → (p : ProcessId)
+        → (q : Record → Bool) → has q (w.at p).durable ≡ was_forced (place_of tree p) q (made_by p es) }
 {}
 
 /// A manager's new view, as its reaction table gives it, is what its extended lists read as.

@@ -1,6 +1,8 @@
 //! Each wrong step breaks the world's invariant, and right steps behind it lead to a world without the
 //! headline.
 ghost use Rattle.tree_worked.specs.wrong.WrongBodies as wrong;
+ghost use Rattle.tree_worked.specs.wrong.WrongReports as reports;
+ghost use Rattle.tree_worked.specs.wrong.WrongReports.{BreaksReports, HarmsReports};
 ghost use Rattle.tree_worked.specs.wrong.WrongSteps.{Breaks, Harms};
 
 /// For each wrong body there are a tree and a run of it that reaches a world in which the wrong body's step
@@ -28,4 +30,18 @@ pub fn wrong_steps_harm()
     ensures trim_drops_commit { Harms wrong.trim_drops_commit }
     ensures told_drops_decision { Harms wrong.told_drops_decision }
     ensures commits_on_votes_so_far { Harms wrong.commits_on_votes_so_far }
+{}
+
+/// Of the second version, for each wrong body that reports too little there are a tree and a run of it that reaches a world
+/// in which the wrong body's step breaks the invariant of reports: so no proof can let the body pass.
+pub fn wrong_reports()
+    ensures acknowledges_before_children { BreaksReports reports.acknowledges_before_children }
+    ensures unknown_reports_nothing { BreaksReports reports.unknown_reports_nothing }
+{}
+
+/// Behind each of these wrong steps right ones lead to an End of the root that does not report truly: a mismatch stands of
+/// which it says nothing.
+pub fn wrong_reports_harm()
+    ensures acknowledges_before_children { HarmsReports reports.acknowledges_before_children }
+    ensures unknown_reports_nothing { HarmsReports reports.unknown_reports_nothing }
 {}

@@ -1,0 +1,3 @@
+pub mod Follows
+pub mod Names
+pub mod Ranks

@@ -1,0 +1,19 @@
+//! The order of the logs that runs leave.
+ghost use Rattle.std.specs.Prelude.{◌≡◌, true, List};
+ghost use Rattle.std.specs.List.{list_all};
+ghost use Rattle.tree_model.specs.declared.names.ProcessId.{ProcessId};
+ghost use Rattle.tree_model.specs.declared.trees.TreeEntry.{TreeEntry};
+ghost use Rattle.tree_model.specs.LogNames.{is_own_record, parent_of};
+ghost use Rattle.tree_model.specs.Nodes.{IsCoordinator, kept, place_of, role_of};
+ghost use Rattle.tree_model.specs.World.{IsRun, Made, World};
+ghost use Rattle.ordered_logs.specs.Orders.{AreOrdered, NamesFit};
+
+/// In every run the records of a coordinator's log may follow one another: an Opened of a higher boot, and of each case
+/// Collecting, Prepare, a decision and End in this order, each at most once. It asks that the cases are the process's own, and
+/// that their numbers fit the bytes of an XID.
+pub fn coordinators_write_in_order()
+    ensures { (tree : List TreeEntry) (es : List Made) (w : World) → IsRun tree es w → (q : ProcessId)
+        → IsCoordinator (role_of tree q) → list_all (is_own_record (place_of tree q)) (kept (w.at q)) ≡ true
+        → NamesFit (parent_of (role_of tree q)) (kept (w.at q))
+        → AreOrdered (parent_of (role_of tree q)) (kept (w.at q)) }
+{}
