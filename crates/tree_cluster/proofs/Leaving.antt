@@ -18,8 +18,9 @@ use Rattle.tree_cut.specs.Owns.{CutHolds, OwnRun}
 use Rattle.tree_cut.proofs.Cuts.{runs_are_cut, self}
 use Rattle.tree_cut.proofs.Owns.{ends_modelled}
 use Rattle.tree_ties.specs.Views.{entries_in}
-use Rattle.tree_cluster.specs.Closing.{IsClosed, LeaveLogs, log_by}
 use Rattle.tree_threads.specs.Locked.{LeavesLog}
+use Rattle.tree_threads.specs.Passes.{PassState}
+use Rattle.tree_cluster.specs.Closing.{AreMet, IsClosed, LeaveLogs, log_by}
 use Rattle.tree_cluster.proofs.Apart.{Apart, tree_apart}
 
 module _ (tree : List TreeEntry) (xs : List Entry) where
@@ -145,3 +146,17 @@ pub leave_at : (tree : List TreeEntry) (xs : List Entry) (es : List TreeEntry) (
 leave_at tree xs es ls more i e l lt is pushed one h =
     rw (take_more es i e lt, ← is) (subst (λ ms. LeaveLogs tree xs (take i es ++ e ∷ []) ms) (sym pushed)
     (leave_more tree xs (take i es) ls e l h one))
+
+-- what a cluster leaves that has met its passes, placed its entries and gathered its logs
+pub closed : (tree listed : List TreeEntry) (met left placed journal : List (ℕ × Entry))
+    (logs : List (List LogRecord)) (passes : List PassState) → IsTree tree → listed ≡ tree → left ≡ met
+    → placed ≡ left → journal ≡ placed → CutHolds tree (entries_in journal)
+    → LeaveLogs tree (entries_in left) listed logs → AreMet met passes
+    → IsClosed tree journal logs × AreMet journal passes
+closed tree listed met left placed journal logs passes is_tree same behind stay given run logged meets =
+    let all : left ≡ journal = sym (given ∙ stay) in (
+      closes tree journal logs is_tree run
+          (subst (λ xs. LeaveLogs tree (entries_in xs) tree logs) all
+          (subst (λ es. LeaveLogs tree (entries_in left) es logs) same logged)),
+      subst (λ xs. AreMet xs passes) (sym behind ∙ all) meets,
+    )

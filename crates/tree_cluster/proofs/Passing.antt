@@ -1,8 +1,8 @@
 -- A pass gets longer.
-use Rattle.std.proofs.Common.{◌≡◌, ◌∙◌, ap, sym, refl, ℕ, Result, Ok, Err, IfOk, OnErr, Option, List, [], ◌∷◌, ◌++◌, append-nil, append_assoc}
-use Rattle.tree_model.specs.declared.names.Txn.{Txn}
+use Rattle.std.proofs.Common.{◌≡◌, ◌∙◌, ◌+◌, ap, sym, refl, ℕ, zero, suc, List, [], ◌∷◌, ◌++◌, length, add-one, append-nil, append_assoc, length-append, arith}
+use Rattle.tree_model.specs.declared.events.Entry.{Entry}
 use Rattle.tree_threads.specs.Passes.{NotesOne, PassState}
-use Rattle.tree_cluster.specs.Passes.{IsLonger}
+use Rattle.tree_cluster.specs.Passes.{IsLonger, new_pass, new_passes}
 
 pub as_long : (p : PassState) → IsLonger p p
 as_long p = record { caller = refl; more = []; pairs = sym (append-nil p.pairs) }
@@ -20,3 +20,17 @@ same_longer a b same = record {
   more = [];
   pairs = ap (λ p. p.pairs) same ∙ sym (append-nil a.pairs);
 }
+
+pub noted_longer : (a b : PassState) (place : ℕ) (x : Entry) → NotesOne a b place x → IsLonger a b
+noted_longer a b place x n = record { caller = n.caller; more = (place, x) ∷ []; pairs = n.pairs }
+
+-- so many new passes
+pub passes_more : (n : ℕ) → new_passes (n + 1) ≡ new_passes n ++ new_pass n ∷ []
+passes_more n = ap new_passes (add-one n)
+
+pub passes_long : (n : ℕ) → length (new_passes n) ≡ n
+passes_long zero = refl
+passes_long (suc n) =
+    let more : length (new_passes n ++ new_pass n ∷ []) ≡ length (new_passes n) + 1 =
+    length-append (new_passes n) (new_pass n ∷ []) in
+    let all = passes_long n in omega (arith, more, all)

@@ -1,6 +1,6 @@
 -- Seats of a cluster that opens.
-use Rattle.std.proofs.Common.{◌≡◌, ◌∙◌, ◌+◌, ◌<◌, ap, sym, subst, refl, ℕ, zero, suc, false, Option, Some, List, [], ◌∷◌, length, map, get_or, slice_get, arith}
-use Rattle.std.proofs.lemmas.List.{length-map}
+use Rattle.std.proofs.Common.{◌≡◌, ◌∙◌, ◌+◌, ◌<◌, ap, sym, subst, refl, ℕ, zero, suc, false, Option, Some, List, [], ◌∷◌, ◌++◌, length, map, get_or, slice_get, take, arith}
+use Rattle.std.proofs.lemmas.List.{length-map, map-append, take_more}
 use Rattle.atomic_table.specs.Seated.{TableId}
 use Rattle.atomic_table.specs.declared.shared.Seat.{Seat}
 use Rattle.tree_model.specs.declared.names.ProcessId.{ProcessId}
@@ -130,3 +130,30 @@ seats_opened table meant tree id names journal s sits keeps = record {
 pub some_words : (table : TableId) (tree : List TreeEntry) (id : TableId) (names : List ProcessId) → IsTree tree
     → IsTableOf table tree id names → 0 < table.words
 some_words table tree id names t is = subst (λ n. 0 < n) (sym is.words) (tree_has_one tree t)
+
+-- the next process's name
+pub names_next : (tree : List TreeEntry) (i : ℕ) (e : TreeEntry) (old new : List ProcessId) → i < length tree
+    → e ≡ get_or tree i e → new ≡ old ++ e.id ∷ [] → old ≡ names_of (take i tree)
+    → new ≡ names_of (take (i + 1) tree)
+names_next tree i e old new lt is pushed so =
+    rw (take_more tree i e lt, ← is, map-append (λ (x : TreeEntry). x.id) (take i tree) (e ∷ []))
+    (pushed ∙ ap (λ l. l ++ e.id ∷ []) so)
+
+-- the journal's seat has so many seats given
+pub opened_is : (table : TableId) (tree : List TreeEntry) (opened given : ℕ) (journal : Seat Entry View)
+    → KeepsSeats table tree opened given journal → journal.me.0.journal.opened ≡ opened
+opened_is table tree opened given journal k = ap (λ m. m.0.journal.opened) k.keeps
+
+-- there is a name for the next
+pub has_name : (table : TableId) (tree : List TreeEntry) (id : TableId) (names : List ProcessId) (place given : ℕ)
+    (journal : Seat Entry View) → IsTableOf table tree id names → KeepsSeats table tree place given journal
+    → place < length tree → journal.me.0.journal.opened < length names
+has_name table tree id names place given journal t k lt =
+    subst (λ n. n < length names) (sym (opened_is table tree place given journal k))
+    (as_many table tree id names place t lt)
+
+-- there are words
+pub any_words : (table : TableId) (tree : List TreeEntry) (id : TableId) (names : List ProcessId) (place : ℕ)
+    → IsTableOf table tree id names → place < length tree → (0 < table.words) × (place < table.words)
+any_words table tree id names place t lt =
+    let many : table.words ≡ length tree = t.words in (omega (arith, many, lt), omega (arith, many, lt))
