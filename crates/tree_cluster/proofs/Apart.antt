@@ -2,6 +2,7 @@
 use Rattle.std.proofs.Common.{◌≡◌, ◌≢◌, ◌∙◌, sym, ap, subst, refl, ℕ, zero, suc, ◌+◌, ◌<◌, ◌≤◌, Bool, true, false, cond, if◌then◌else◌, ◌||◌, nat_lt, inl, inr, Option, Some, None, List, [], ◌∷◌, ◌++◌, length, map, get_or, slice_get, arith}
 use Rattle.std.specs.List.{count_by, list_any}
 use Rattle.std.proofs.lemmas.Bool.Decides.{nat_tests}
+use Rattle.std.proofs.lemmas.List.Folds.{list_any_at}
 use Rattle.std.proofs.lemmas.List.Sums.{sum_by-append}
 use Rattle.tree_model.specs.declared.names.ProcessId.{ProcessId}
 use Rattle.tree_model.specs.declared.trees.TreeEntry.{TreeEntry}
@@ -11,12 +12,19 @@ use Rattle.tree_model.specs.Nodes.{is_listed, role_by, role_of}
 use Rattle.tree_model.specs.Trees.{IsTree, lists_twice, times_listed}
 use Rattle.tree_cut.proofs.Cuts.{self}
 use Rattle.tree_ties.specs.Rule.{AreApart}
-use Rattle.tree_world.proofs.StorePlaces.{listed_at}
 
 -- none of these processes is listed behind its own place
 abbrev pub Apart : List TreeEntry → Type 0
 Apart [] = Unit {0}
 Apart (e ∷ es) = (is_listed es e.id ≡ false) × Apart es
+
+-- a process is listed at its place
+pub listed_at : (tree : List TreeEntry) (i : ℕ) (e : TreeEntry) → i < length tree
+    → e ≡ get_or tree i e → is_listed tree e.id ≡ true
+unfolding is_listed
+listed_at tree i e lt is =
+    list_any_at (λ y. same_process y.id e.id) tree i e lt
+    (ap (λ (y : TreeEntry). same_process y.id e.id) (sym is) ∙ self e.id)
 
 one_more : (p : TreeEntry → Bool) (x : TreeEntry) (es : List TreeEntry)
     → count_by p (x ∷ es) ≡ (0 + cond (p x) 1 0) + count_by p es

@@ -1,6 +1,7 @@
 -- What all processes leave stands for one run.
-use Rattle.std.proofs.Common.{◌≡◌, ◌∙◌, ◌+◌, ◌<◌, sym, ap, subst, refl, ℕ, Bool, true, false, if◌then◌else◌, ◌||◌, inl, inr, Option, Some, None, is_some, List, [], ◌∷◌, ◌++◌, map, length, get_or, take}
-use Rattle.std.proofs.lemmas.List.{take_more}
+use Rattle.std.proofs.Common.{◌≡◌, ◌∙◌, ◌+◌, ◌<◌, sym, ap, subst, refl, ℕ, Bool, true, false, if◌then◌else◌, ◌||◌, inl, inr, Option, Some, None, is_some, List, [], ◌∷◌, ◌++◌, map, length, get_or, take, All, slice_set}
+use Rattle.std.proofs.lemmas.List.{set-get_or, take_more}
+use Rattle.std.proofs.lemmas.List.Elements.{All-push}
 use Rattle.tree_model.specs.declared.names.ProcessId.{ProcessId}
 use Rattle.tree_model.specs.declared.events.Entry.{Entry}
 use Rattle.tree_model.specs.declared.records.LogRecord.{LogRecord}
@@ -20,7 +21,7 @@ use Rattle.tree_cut.proofs.Owns.{ends_modelled}
 use Rattle.tree_ties.specs.Views.{entries_in}
 use Rattle.tree_threads.specs.Locked.{LeavesLog}
 use Rattle.tree_threads.specs.Passes.{PassState}
-use Rattle.tree_cluster.specs.Closing.{AreMet, IsClosed, LeaveLogs, log_by}
+use Rattle.tree_cluster.specs.Closing.{AreMet, IsClosed, IsMet, LeaveLogs, log_by}
 use Rattle.tree_cluster.proofs.Apart.{Apart, tree_apart}
 
 module _ (tree : List TreeEntry) (xs : List Entry) where
@@ -160,3 +161,15 @@ closed tree listed met left placed journal logs passes is_tree same behind stay 
           (subst (λ es. LeaveLogs tree (entries_in left) es logs) same logged)),
       subst (λ xs. AreMet xs passes) (sym behind ∙ all) meets,
     )
+
+-- passes of which one is put back as it was
+pub same_put : (ps : List PassState) (i : ℕ) (item new : PassState) → new ≡ item → item ≡ get_or ps i item
+    → slice_set ps i new ≡ ps
+same_put ps i item new same is = ap (slice_set ps i) (same ∙ is) ∙ set-get_or ps i item
+
+-- one pass more is met
+pub met_more : (journal : List (ℕ × Entry)) (ps : List PassState) (i : ℕ) (item : PassState) → i < length ps
+    → item ≡ get_or ps i item → All (IsMet journal) (take i ps) → IsMet journal item
+    → All (IsMet journal) (take (i + 1) ps)
+met_more journal ps i item lt is met one =
+    rw (take_more ps i item lt, ← is) (All-push (IsMet journal) (take i ps) item met one)

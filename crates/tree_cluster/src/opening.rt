@@ -1,6 +1,6 @@
 //! A cluster that opens: its processes, each over an empty store, and the passes of its callers.
 
-ghost use Rattle.std.specs.Prelude.{◌≡◌, ◌+◌, ◌<◌, ◌≤◌, IfOk, OnOk, length};
+ghost use Rattle.std.specs.Prelude.{◌≡◌, ◌+◌, ◌<◌, ◌≤◌, IfOk, OnOk, get_or, length};
 ghost use Rattle.tree_model.specs.Trees.{IsTree};
 ghost use Rattle.tree_cluster.specs.Opening.{IsTableOf, KeepsSeats, names_of};
 ghost use Rattle.tree_cluster.specs.Passes.{new_passes};
@@ -34,21 +34,22 @@ pub fn seats(alloc: Global, tree: &Tree) -> Result<Opened, AllocError>
     open(alloc, &names)
 }
 
-/// Opens the process at this place of the tree over an empty store in memory, and gives it the next seat.
+/// Opens the process of the entry at this place of the tree over an empty store in memory, and gives it the next
+/// seat.
 fn open_seated<N: Seats>(
     alloc: Global,
     ties: &Ties,
     journal: &mut Place,
     tree: &[TreeEntry],
+    entry: &TreeEntry,
     place: usize,
 ) -> Result<Seated<N>, OpenError>
     requires tree { IsTree tree.now × (tree.now ≡ N.tree) }
     requires table { IsTableOf N.table tree.now ties.now.shared.table_id ties.now.shared.key.items }
     requires journal { KeepsSeats N.table tree.now place journal.old.me.0.journal.given journal.old }
-    requires place { place < length tree.now }
+    requires entry { (place < length tree.now) × (entry.now ≡ get_or tree.now place entry.now) }
     ensures { OnOk result (KeepsSeats N.table tree.now (place + 1) journal.old.me.0.journal.given journal.new) }
 {
-    let entry = &tree[place];
     let copy = copied_tree(alloc, tree)?;
     let node = open_node(alloc, entry, copy, MemoryStore::new(alloc))?;
     Ok(Seated::new(entry.id, place, node, seat(ties, journal)))
@@ -69,7 +70,7 @@ fn open_each<N: Seats>(
         journal.new) }
 {
     for place in 0..tree.len() {
-        let seated = open_seated::<N>(alloc, ties, journal, tree, place)?;
+        let seated = open_seated::<N>(alloc, ties, journal, tree, &tree[place], place)?;
         if processes.push(Mutex::new(seated)).is_err() {
             return Err(OpenError::Memory);
         }

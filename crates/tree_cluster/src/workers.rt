@@ -166,6 +166,7 @@ impl<N: Seats> Cluster<N> {
 
     /// Delivers messages in each round, until all is done. A worker leaves where the call that leads it does not
     /// begin, since then both may be one thread's.
+    #[tactic(auto, using(crate::proofs::Passing::as_long))]
     pub fn serve<R: Wait, G: Gate>(&self, rt: &R, rounds: &Rounds, pass: &mut Pass<N>, gate: &G)
         ensures { IsLonger pass.old pass.new }
     {
