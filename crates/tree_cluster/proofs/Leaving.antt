@@ -35,7 +35,7 @@ module _ (tree : List TreeEntry) (xs : List Entry) where
 
   listed_in : (es : List TreeEntry) (ls : List (List LogRecord)) (h : LeaveLogs tree xs es ls)
       (q : ProcessId) → is_some (core_in es ls h q) ≡ is_listed es q
-  unfolding is_listed
+  unfolding is_listed core_in
   listed_in [] [] h q = refl
   listed_in [] (l ∷ ls) h q = absurd h
   listed_in (e ∷ es) [] h q = absurd h
@@ -51,6 +51,7 @@ module _ (tree : List TreeEntry) (xs : List Entry) where
 
   own_in : (es : List TreeEntry) (ls : List (List LogRecord)) (h : LeaveLogs tree xs es ls)
       (q : ProcessId) (c : CoreState) → core_in es ls h q ≡ Some c → OwnRun tree q (entries_of q xs) c
+  unfolding core_in
   own_in [] [] h q c at = absurd (cc)
   own_in [] (l ∷ ls) h q c at = absurd h
   own_in (e ∷ es) [] h q c at = absurd h
@@ -69,7 +70,7 @@ module _ (tree : List TreeEntry) (xs : List Entry) where
       (f : ProcessId → Option CoreState) → Apart es
       → ((q : ProcessId) → is_listed es q ≡ true → f q ≡ core_in es ls h q)
       → ls ≡ map (λ e. log_by (f e.id)) es
-  unfolding is_listed
+  unfolding is_listed core_in same_process
   logs_in [] [] h f apart agree = refl
   logs_in [] (l ∷ ls) h f apart agree = absurd h
   logs_in (e ∷ es) [] h f apart agree = absurd h
@@ -163,13 +164,11 @@ closed tree listed met left placed journal logs passes is_tree same behind stay 
     )
 
 -- passes of which one is put back as it was
-pub same_put : (ps : List PassState) (i : ℕ) (item new : PassState) → new ≡ item → item ≡ get_or ps i item
-    → slice_set ps i new ≡ ps
-same_put ps i item new same is = ap (slice_set ps i) (same ∙ is) ∙ set-get_or ps i item
+pub same_put : (ps : List PassState) (i : ℕ) (d new : PassState) → new ≡ get_or ps i d → slice_set ps i new ≡ ps
+same_put ps i d new same = ap (slice_set ps i) same ∙ set-get_or ps i d
 
 -- one pass more is met
-pub met_more : (journal : List (ℕ × Entry)) (ps : List PassState) (i : ℕ) (item : PassState) → i < length ps
-    → item ≡ get_or ps i item → All (IsMet journal) (take i ps) → IsMet journal item
-    → All (IsMet journal) (take (i + 1) ps)
-met_more journal ps i item lt is met one =
-    rw (take_more ps i item lt, ← is) (All-push (IsMet journal) (take i ps) item met one)
+pub met_more : (journal : List (ℕ × Entry)) (ps : List PassState) (i : ℕ) (d : PassState) → i < length ps
+    → All (IsMet journal) (take i ps) → IsMet journal (get_or ps i d) → All (IsMet journal) (take (i + 1) ps)
+met_more journal ps i d lt met one =
+    rw (take_more ps i d lt) (All-push (IsMet journal) (take i ps) (get_or ps i d) met one)

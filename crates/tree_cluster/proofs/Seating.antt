@@ -1,5 +1,5 @@
 -- Seats of a cluster that opens.
-use Rattle.std.proofs.Common.{◌≡◌, ◌∙◌, ◌+◌, ◌<◌, ap, sym, subst, refl, ℕ, zero, suc, false, Option, Some, List, [], ◌∷◌, ◌++◌, length, map, get_or, slice_get, take, arith}
+use Rattle.std.proofs.Common.{◌≡◌, ◌∙◌, ◌+◌, ◌<◌, ap, sym, subst, refl, ℕ, zero, suc, Bool, true, false, Option, Some, List, [], ◌∷◌, ◌++◌, length, map, get_or, slice_get, take, arith}
 use Rattle.std.proofs.lemmas.List.{length-map, map-append, take_more}
 use Rattle.atomic_table.specs.Seated.{TableId}
 use Rattle.atomic_table.specs.declared.shared.Seat.{Seat}
@@ -29,10 +29,10 @@ opened_own tree i e s t lt is o =
 
 -- a tree has a process
 pub tree_has_one : (tree : List TreeEntry) → IsTree tree → 0 < length tree
-tree_has_one [] t = absurd (is_empty t.not_empty)
+tree_has_one [] t = absurd (never t.not_empty)
   where
-    is_empty : (0 == 0) ≡ false → ⊥
-    is_empty h = cc
+    never : true ≡ false → ⊥
+    never h = cc
 tree_has_one (e ∷ es) t = omega arith
 
 named_at : (tree : List TreeEntry) (i : ℕ) (e : TreeEntry) → i < length tree → e ≡ get_or tree i e
@@ -157,3 +157,18 @@ pub any_words : (table : TableId) (tree : List TreeEntry) (id : TableId) (names 
     → IsTableOf table tree id names → place < length tree → (0 < table.words) × (place < table.words)
 any_words table tree id names place t lt =
     let many : table.words ≡ length tree = t.words in (omega (arith, many, lt), omega (arith, many, lt))
+
+-- so many passes were given as the journal's seat says
+pub regiven : (table : TableId) (tree : List TreeEntry) (opened given : ℕ) (seat : Seat Entry View)
+    → KeepsSeats table tree opened given seat → KeepsSeats table tree opened seat.me.0.journal.given seat
+regiven table tree opened given seat k = record {
+  here = k.here;
+  keeps = k.keeps ∙ ap (λ n. (keeper (names_of tree) opened n [], [])) (sym (ap (λ m. m.0.journal.given) k.keeps));
+}
+
+-- nothing is entered
+pub keeps_none : (table : TableId) (tree : List TreeEntry) (opened given : ℕ) (seat : Seat Entry View)
+    → KeepsSeats table tree opened given seat
+    → seat.me ≡ (keeper seat.me.0.journal.names seat.me.0.journal.opened seat.me.0.journal.given [], [])
+keeps_none table tree opened given seat k =
+    k.keeps ∙ sym (ap (λ m. (keeper m.0.journal.names m.0.journal.opened m.0.journal.given [], [])) k.keeps)

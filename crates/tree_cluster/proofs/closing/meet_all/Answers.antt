@@ -1,4 +1,4 @@
-use Rattle.std.proofs.Common.{◌≡◌, ◌∙◌, All, arith, get_or, subst}
+use Rattle.std.proofs.Common.{◌∙◌, All, arith, get_or, subst}
 use Rattle.std.proofs.lemmas.List.{take_all}
 use Rattle.cluster_journal.specs.Journals.{ClusterState}
 use Rattle.tree_cluster.specs.Closing.{IsMet}
@@ -10,12 +10,13 @@ loop-pass-preserved g c =
     let inv = c.loop-pass.invariant in
     let i = c.loop-pass.pass-index in
     let p = c.pass-item.result in
-    let is = subst (λ ps. p ≡ get_or ps i p) inv.passes c.pass-item.is in
     record {
       ledger = c.meets.ensures.same.0 ∙ inv.ledger;
-      passes = same_put c.loop-pass.passes i p c.meets.new.pass c.meets.ensures.same.1 c.pass-item.is ∙ inv.passes;
-      met = met_more c.args.ledger.now.entries c.args.passes.now i p (omega arith) is inv.met
-          (subst (λ (s : ClusterState). IsMet s.entries p) inv.ledger c.meets.ensures.met);
+      passes = same_put c.loop-pass.passes i p c.meets.new.pass c.meets.ensures.same.1 ∙ inv.passes;
+      met = met_more c.args.ledger.now.entries c.args.passes.now i p (omega arith) inv.met
+          (subst (λ ps. IsMet c.args.ledger.now.entries (get_or ps i p)) inv.passes
+          (subst (λ (s : ClusterState). IsMet s.entries (get_or c.loop-pass.passes i p)) inv.ledger
+          c.meets.ensures.met));
     }
 
 pub returns-clause-met : goal.returns-clause-met
