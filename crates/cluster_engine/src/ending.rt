@@ -20,7 +20,8 @@ use tree_model::{LogRecord, StepError, Tree};
 use tree_threads::{Pass, PostError};
 use tree_ties::seats::Seats;
 
-/// The number of a refusal as it is printed: a step's, or 9 for what the journal has not, or 10 where it is full.
+/// The number of a refusal as it is printed: a step's, or 9 for what the journal has not, or 10 where it is
+/// full.
 fn refusal_number(why: PostError) -> Option<u8> {
     match why {
         PostError::Stranger => Some(StepError::NoSuch.number()),

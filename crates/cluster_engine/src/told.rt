@@ -7,8 +7,8 @@ use std::alloc::{AllocError, Global};
 use trace_lines::push_conclusion;
 use tree_model::{Entry, Told};
 
-/// Where an entry told something: the boot and the number of its transaction, and the place of the entry. They
-/// are sorted in this order.
+/// Where an entry told something: the boot and the number of its transaction, and the place of the entry.
+/// They are sorted in this order.
 #[derive(Clone, Copy, PartialEq, Eq, PartialOrd, Ord)]
 pub struct ToldPlace {
     /// The boot of the transaction's root.

@@ -37,8 +37,8 @@ fn push_opened(alloc: Global, out: &mut Vec<u8>, tree: &[TreeEntry]) -> Result<(
     Ok(())
 }
 
-/// The lines of an entry, before which so many messages were sent. How many were with its own. 2^64 messages are
-/// taken for want of memory.
+/// The lines of an entry, before which so many messages were sent. How many were with its own. 2^64
+/// messages are taken for want of memory.
 #[tactic(auto, unfolding(trace_lines::specs::Trace::entry_text))]
 fn push_entry(out: &mut Vec<u8>, sent: u64, entry: &Entry) -> Result<u64, Failure>
     ensures sent { IfOk result (λ next. next ≡ sent + length entry.now.reaction.messages) }

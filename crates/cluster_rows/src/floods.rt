@@ -12,8 +12,8 @@ use tree_model::{Act, Event, ProcessId, Tree};
 use tree_threads::{MOST_ENTRIES, Open, Pass, PostError};
 use tree_ties::seats::{Opened, Seats};
 
-/// Delivers message 2, the answer to an invitation, again and again: the place of the last entry, and why no other
-/// came.
+/// Delivers message 2, the answer to an invitation, again and again: the place of the last entry, and why
+/// no other came.
 fn flood<N: Seats, R: Wait>(
     rt: &R,
     cluster: &Cluster<N>,

@@ -45,8 +45,8 @@ pub fn tree(alloc: Global, managers: u32) -> Option<Tree>
     }
 }
 
-/// Delivers all messages, by as many workers as there are passes. None where a delivery was refused, or there are
-/// no passes, or more than 16.
+/// Delivers all messages, by as many workers as there are passes. None where a delivery was refused, or
+/// there are no passes, or more than 16.
 pub fn deliver_by<N: Seats + Send + Sync, R: Threads + Wait + Sync, G: Gate + Sync>(
     rt: &R,
     cluster: &Cluster<N>,
