@@ -4,13 +4,16 @@
 //! what `rstar audit` says of the logs which `rstar tree --logs` leaves is true.
 #![tactic(auto)]
 
+mod explainer;
 mod law;
+mod node;
 
 use audit_engine::{Detail, run_audit, run_log};
 use clap::error::ErrorKind;
 use clap::{Arg, ArgAction, ArgMatches, Command, Error};
 use crash_engine::run_crash;
 use explanation::{Script, failure_text, refusal_text};
+use node::NodeWords;
 use report_io::{read_all, write_all};
 use std::alloc::{AllocError, Global};
 use std::io;
@@ -42,9 +45,11 @@ enum Told {
 }
 
 /// What was read of a command line.
-#[derive(Clone, Copy, PartialEq, Eq)]
-enum Asked {
+#[derive(Clone, Copy)]
+enum Asked<'a> {
     Request(Request, Told),
+    /// A process of a tree, as a program of its own.
+    Node(NodeWords<'a>),
     Memory,
 }
 
@@ -60,10 +65,11 @@ Examples:
   rstar log < examples/commit.logs
   rstar audit < examples/commit.logs
   rstar crash < examples/commit.tree
+  rstar node tree.toml 1 1.log --new
 
 Exit status: 0 the script was run to its end, 1 it was refused, 2 an event was refused,
 3 an audit found a mismatch, or a run of crash ends with one or a case in doubt, 4 reading,
-writing or memory failed.";
+writing or memory failed, or of 'rstar node' the device of the log.";
 
 /// What `rstar tree --help` says below its usage.
 const TREE_HELP: &str = "\
@@ -176,6 +182,31 @@ of events: of three processes some 1,000 events take ten seconds, and some 2,500
 Examples: rstar crash < examples/commit.tree
           rstar crash < examples/operator.tree";
 
+/// What `rstar node --help` says below its usage.
+const NODE_HELP: &str = "\
+TREE is a file with the processes as TOML, ME the number of one of them, LOG the file of its
+log; with --new it is made, and without it a log that is missing is not begun anew. One process
+has a log at a time. Where it does not start, standard error tells why; with --explain also
+what is wrong with each line that it refuses.
+
+In, a line each, answered in order, each before the next is read:
+  begin pa|pc, join, work, commit, abort, ask, heur, forget    as 'rstar tree --help' has them
+  N F->T MESSAGE                       a message to this process, as another node wrote it; N is
+                                       passed over
+  trim                                 the log
+  doubt                                a line 'doubt CASE' for each case in doubt here
+  outcome TXN                          'outcome TXN committed', 'aborted', 'open' or 'unknown', as
+                                       far as the log tells
+Out: what the process did, as a trace has it, and then 'ok'; 'refused E' (docs/ERRORS.md; 9 what
+is for another process); 'error' where the line is the line of nothing. What an answer rests on
+is on the disk before it is written. Whoever carries the messages reads '->T' and may lose,
+repeat and reorder them, and may not alter one or invent one. At the end of the input the status
+is 0. Where the device or memory fails it ends at once, with no answer to the line, and goes on
+when it is started again.
+
+Examples: rstar node tree.toml 1 1.log --new
+          rstar node tree.toml 1 1.log";
+
 /// A flag of this name, and what help says of it.
 fn flag<'a>(alloc: Global, name: &'a str, help: &'a str) -> Arg<'a> {
     Arg::new(alloc, name)
@@ -261,6 +292,33 @@ fn audit<'a>(alloc: Global) -> Result<Command<'a>, AllocError> {
     ))
 }
 
+/// A word that has to stand there, and what help says of it.
+fn word<'a>(alloc: Global, name: &'a str, help: &'a str) -> Arg<'a> {
+    Arg::new(alloc, name)
+        .help(help)
+        .required(true)
+        .action(ArgAction::Set)
+}
+
+/// The words of `rstar node`.
+fn node_grammar<'a>(alloc: Global) -> Result<Command<'a>, AllocError> {
+    subcommand(
+        alloc,
+        "node",
+        "Runs one process of a tree over a log in a file: lines in, lines out",
+        NODE_HELP,
+    )
+    .arg(word(alloc, "TREE", "The file of the processes"))?
+    .arg(word(alloc, "ME", "The number of the process"))?
+    .arg(word(alloc, "LOG", "The file of its log"))?
+    .arg(flag(alloc, "new", "Makes the log, which must not be there yet"))?
+    .arg(flag(
+        alloc,
+        "explain",
+        "Tells on standard error what is wrong with each line that is refused",
+    ))
+}
+
 /// The words after the program's name, and what help says of them.
 fn grammar<'a>(alloc: Global) -> Result<Command<'a>, AllocError> {
     subcommand(
@@ -290,7 +348,8 @@ fn grammar<'a>(alloc: Global) -> Result<Command<'a>, AllocError> {
         "crash",
         "Tries a crash of each process behind each event of a script, and tells what stays in doubt",
         CRASH_HELP,
-    )?)
+    )?)?
+    .subcommand(node_grammar(alloc)?)
 }
 
 /// What is written of a tree script.
@@ -324,8 +383,19 @@ fn told_of(matches: &ArgMatches) -> Told {
     }
 }
 
+/// The words of `rstar node`, each of which has to stand there.
+fn node_of<'a>(matches: &ArgMatches<'a>) -> Option<NodeWords<'a>> {
+    Some(NodeWords {
+        tree: matches.get_str("TREE")?,
+        me: matches.get_str("ME")?,
+        log: matches.get_str("LOG")?,
+        is_new: matches.get_flag("new"),
+        is_explained: matches.get_flag("explain"),
+    })
+}
+
 /// What these words ask for, the program's name first.
-fn read_words<'a>(alloc: Global, words: &'a [String]) -> Result<Asked, Error> {
+fn read_words<'a>(alloc: Global, words: &'a [String]) -> Result<Asked<'a>, Error> {
     let matches = grammar(alloc)?.try_get_matches_from(words)?;
     match matches.subcommand() {
         Some((name, found)) => Ok(match name {
@@ -333,6 +403,10 @@ fn read_words<'a>(alloc: Global, words: &'a [String]) -> Result<Asked, Error> {
             "log" => Asked::Request(Request::Log, told_of(found)),
             "audit" => Asked::Request(Request::Audit(detail_of(found)), Told::Silent),
             "crash" => Asked::Request(Request::Crash, told_of(found)),
+            "node" => match node_of(found) {
+                Some(words) => Asked::Node(words),
+                None => Asked::Memory,
+            },
             _ => Asked::Request(Request::Xa, told_of(found)),
         }),
         None => Ok(Asked::Memory),
@@ -432,6 +506,7 @@ fn status_of(rt: &HostRuntime) -> u8 {
     };
     match read_words(alloc, words.as_slice()) {
         Ok(Asked::Request(request, told)) => perform(rt, request, told),
+        Ok(Asked::Node(words)) => node::run(rt, words),
         Ok(Asked::Memory) => 4,
         Err(error) => {
             if error.kind() == ErrorKind::OutOfMemory {

@@ -1,0 +1,171 @@
+-- What comes of a line.
+use Rattle.std.proofs.Common.{◌≡◌, ◌∙◌, ◌+◌, ℕ, Bool, true, false, cond, Result, Ok, Err, List, inl, refl, ap, sym, subst}
+use Rattle.std.specs.Prelude.{IfOk, OnErr, OnOk, length}
+use Rattle.std.specs.Str.{IsUtf8}
+use Rattle.tree_model.specs.declared.names.ProcessId.{ProcessId}
+use Rattle.tree_model.specs.declared.events.Input.{Input}
+use Rattle.tree_model.specs.declared.events.Input.TheVariants.{Act as ActInput, Message as MessageInput}
+use Rattle.tree_model.specs.declared.events.Reaction.{Reaction}
+use Rattle.tree_model.specs.declared.events.StepError.{StepError}
+use Rattle.tree_model.specs.declared.events.StepError.TheVariants.{Memory, NoSuch}
+use Rattle.tree_model.specs.Errors.{step_error_number}
+use Rattle.tree_model.specs.Names.{same_process}
+use Rattle.tree_model.specs.Plays.{process_of_act}
+use Rattle.core_model.specs.States.{CoreState}
+use Rattle.core_model.specs.Turns.{no_answer}
+use Rattle.core_law.specs.worlds.Worlds.{HandlesInput}
+use Rattle.manager_model.specs.Data.{ManagerData}
+use Rattle.tree_node.specs.Nodes.{NotHandled}
+use Rattle.tree_node.specs.Restarts.{NoTrim}
+use Rattle.tree_node.proofs.Same.{rests, same_core}
+use Rattle.node_lines.specs.declared.asked.Asked.{Asked}
+use Rattle.node_lines.specs.declared.asked.Asked.TheVariants as asked
+use Rattle.node_lines.specs.Asked.{asked_at}
+use Rattle.node_engine.specs.Answers.{Answers, AnswersFor, AnswersInput, AnswersLine, AnswersTrim, IsRefusal, NodeState, Shows, Takes, TakesFor, TakesIf, TakesInput, TakesLine, TakesTrim, Tells}
+use Rattle.node_answers.specs.Texts.{refused_text}
+
+-- the same node, whose process keeps this
+abbrev pub moved : NodeState → CoreState → ManagerData → NodeState
+moved s core d = record s { core = core; holdings = d }
+
+-- Inputs.
+
+module _ {A E : Type 0} (items : A → List ℕ) (old : NodeState) (core : CoreState) (d : ManagerData)
+    (input : Input) where
+  pub shown_ok : (reaction : Reaction) (new : NodeState) (r : Result A E)
+      → HandlesInput old.core core old.holdings d input reaction
+      → IfOk r (λ text. Shows (moved old core d) new reaction (items text))
+      → IfOk r (λ text. AnswersInput old new input (items text))
+  shown_ok reaction new (Ok text) handles h = record {
+    seat = record { root = ap (λ (n : NodeState). n.root) h.after; me = ap (λ (n : NodeState). n.me) h.after };
+    end = Ok reaction;
+    took = subst (λ (n : NodeState). HandlesInput old.core n.core old.holdings n.holdings input reaction)
+        (sym h.after) handles;
+    told = (h.told, ap (λ (n : NodeState). n.sent) h.after);
+  }
+  shown_ok reaction new (Err e) handles h = tt
+
+  pub shown_err : (reaction : Reaction) (new : NodeState) (r : Result A E)
+      → HandlesInput old.core core old.holdings d input reaction
+      → OnErr r (new ≡ moved old core d) → OnErr r (TakesInput old new input)
+  shown_err reaction new (Ok text) handles h = tt
+  shown_err reaction new (Err e) handles h = record {
+    seat = record { root = ap (λ (n : NodeState). n.root) h; me = ap (λ (n : NodeState). n.me) h };
+    end = Ok reaction;
+    took = subst (λ (n : NodeState). HandlesInput old.core n.core old.holdings n.holdings input reaction)
+        (sym h) handles;
+  }
+
+  pub refused_ok : (e : StepError) (r : Result A E)
+      → NotHandled old.core core old.holdings d input e
+      → IfOk r (λ text. items text ≡ refused_text (step_error_number e)) → OnOk r (IsRefusal e)
+      → IfOk r (λ text. AnswersInput old (moved old core d) input (items text))
+  refused_ok e (Ok text) refuses told refusal = record {
+    seat = record { root = refl; me = refl };
+    end = Err e;
+    took = refuses;
+    told = (told, refl, refusal);
+  }
+  refused_ok e (Err f) refuses told refusal = tt
+
+  pub refused_err : (e : StepError) (r : Result A E)
+      → NotHandled old.core core old.holdings d input e
+      → OnErr r (TakesInput old (moved old core d) input)
+  refused_err e (Ok text) refuses = tt
+  refused_err e (Err f) refuses =
+      record { seat = record { root = refl; me = refl }; end = Err e; took = refuses }
+
+-- Trims.
+
+module _ {A E : Type 0} (items : A → List ℕ) (old : NodeState) (core : CoreState) (d : ManagerData) where
+  pub trim_refused_ok : (e : StepError) (r : Result A E) → NoTrim old.core core old.holdings d e
+      → IfOk r (λ text. items text ≡ refused_text (step_error_number e)) → OnOk r (IsRefusal e)
+      → IfOk r (λ text. AnswersTrim old (moved old core d) (items text))
+  trim_refused_ok e (Ok text) refuses told refusal = record {
+    seat = record { root = refl; me = refl };
+    sent = refl;
+    end = Err e;
+    took = refuses;
+    told = (told, refusal);
+  }
+  trim_refused_ok e (Err f) refuses told refusal = tt
+
+  pub trim_refused_err : (e : StepError) (r : Result A E) → NoTrim old.core core old.holdings d e
+      → OnErr r (TakesTrim old (moved old core d))
+  trim_refused_err e (Ok text) refuses = tt
+  trim_refused_err e (Err f) refuses =
+      record { seat = record { root = refl; me = refl }; end = Err e; took = refuses }
+
+-- Whose they are.
+
+-- a process that was found is tested
+pub process_tested : (p q me : ProcessId) (b d : Bool) → p ≡ q → b ≡ same_process p me → b ≡ d
+    → same_process q me ≡ d
+process_tested p q me b d is test so = ap (λ (x : ProcessId). same_process x me) (sym is) ∙ (sym test ∙ so)
+
+module _ {A E : Type 0} (items : A → List ℕ) (p : ProcessId) (old new : NodeState) (input : Input) where
+  pub mine_ok : (r : Result A E) → same_process p old.me ≡ true
+      → IfOk r (λ text. AnswersInput old new input (items text))
+      → IfOk r (λ text. AnswersFor p old new input (items text))
+  mine_ok r is h = rw is h
+
+  pub mine_err : (r : Result A E) → same_process p old.me ≡ true → OnErr r (TakesInput old new input)
+      → OnErr r (TakesFor p old new input)
+  mine_err r is h = rw is h
+
+  pub others_ok : (r : Result A E) → same_process p old.me ≡ false → new ≡ old
+      → IfOk r (λ text. items text ≡ refused_text (step_error_number NoSuch))
+      → IfOk r (λ text. AnswersFor p old new input (items text))
+  others_ok (Ok text) is same told = rw is (same, told)
+  others_ok (Err e) is same told = tt
+
+  pub others_err : (r : Result A E) → same_process p old.me ≡ false → new ≡ old
+      → OnErr r (TakesFor p old new input)
+  others_err (Ok text) is same = tt
+  others_err (Err e) is same = rw is same
+
+-- Nothing is made where memory is refused before.
+
+if_nothing : (b : Bool) (s : NodeState) (i : Input) → TakesIf b s s i
+if_nothing true s i = record {
+  seat = record { root = refl; me = refl };
+  end = Err Memory;
+  took = record { answer = no_answer; not_made = same_core s.core; keeps = λ e. rests s.holdings };
+}
+if_nothing false s i = refl
+
+pub takes_nothing : (a : Asked) (s : NodeState) → Takes a s s
+takes_nothing asked.Nothing s = refl
+takes_nothing (asked.Act a) s = if_nothing (same_process (process_of_act s.root a) s.me) s (ActInput a)
+takes_nothing (asked.Message n e) s = if_nothing (same_process e.to s.me) s (MessageInput n e.message)
+takes_nothing asked.Trim s = record {
+  seat = record { root = refl; me = refl };
+  end = Err Memory;
+  took = (same_core s.core, rests s.holdings);
+}
+takes_nothing asked.Doubt s = refl
+takes_nothing (asked.Outcome x) s = refl
+takes_nothing asked.Unknown s = refl
+
+-- Lines.
+
+pub on_err : {A E : Type 0} (P : Type 0) (r : Result A E) → P → OnErr r P
+on_err P (Ok a) h = tt
+on_err P (Err e) h = h
+
+module _ {A E : Type 0} (items : A → List ℕ) (line : List ℕ) (a : Asked) (old new : NodeState)
+    (r : Result A E) (text : IsUtf8 line) (is : a ≡ asked_at old.root line) where
+  pub line_answered : IfOk r (λ t. Answers a old new (items t)) → IfOk r (λ t. AnswersLine line old new (items t))
+  line_answered h = by_result r h
+    where
+      by_result : (q : Result A E) → IfOk q (λ t. Answers a old new (items t))
+          → IfOk q (λ t. AnswersLine line old new (items t))
+      by_result (Ok t) g = record { asked = a; asks = inl (text, is); answers = g }
+      by_result (Err e) g = tt
+
+  pub line_taken : OnErr r (Takes a old new) → OnErr r (TakesLine line old new)
+  line_taken h = by_result r h
+    where
+      by_result : (q : Result A E) → OnErr q (Takes a old new) → OnErr q (TakesLine line old new)
+      by_result (Ok t) g = tt
+      by_result (Err e) g = record { asked = a; asks = inl (text, is); takes = g }

@@ -1,0 +1,126 @@
+-- What a node has answered, line by line.
+use Rattle.std.proofs.Common.{◌≡◌, ◌∙◌, ℕ, Option, Some, None, List, [], ◌∷◌, ◌++◌, Result, Ok, Err, refl, sym, ap, subst, append_assoc}
+use Rattle.std.specs.Prelude.{OnOk}
+use Rattle.std.specs.List.{AllByRecursion, flat_map}
+use Rattle.std.specs.Io.KnownBytes.{Appends, Consumes, IsAtEnd}
+use Rattle.std.proofs.lemmas.List.{append-nil}
+use Rattle.std.proofs.lemmas.Grind.{flat_map-append}
+use Rattle.tree_model.specs.declared.events.Reaction.{Reaction}
+use Rattle.node_engine.specs.Answers.{AnswersLine, NodeState, Shows}
+use Rattle.node_engine.specs.Runs.{IsPiece, Known, ReadsAll, Served, Serves, Stand, line_of}
+
+consumes_on : (a b c : Known) (xs ys : List ℕ) → Consumes a b xs → Consumes b c ys → Consumes a c (xs ++ ys)
+consumes_on None b c xs ys h k = tt
+consumes_on (Some x) None c xs ys h k = absurd h
+consumes_on (Some x) (Some y) None xs ys h k = absurd k
+consumes_on (Some x) (Some y) (Some z) xs ys h k =
+    h ∙ ap (λ (t : List ℕ). xs ++ t) k ∙ sym (append_assoc xs ys z)
+
+appends_on : (a b c : Known) (xs ys : List ℕ) → Appends a b xs → Appends b c ys → Appends a c (xs ++ ys)
+appends_on None b c xs ys h k = tt
+appends_on (Some x) None c xs ys h k = absurd h
+appends_on (Some x) (Some y) None xs ys h k = absurd k
+appends_on (Some x) (Some y) (Some z) xs ys h k =
+    k ∙ ap (λ (t : List ℕ). t ++ ys) h ∙ append_assoc x xs ys
+
+-- one line more is answered
+serves_on : (old mid new : NodeState) (pieces : List (List ℕ)) (text : List ℕ) (piece more : List ℕ)
+    → Serves old pieces mid text → AnswersLine (line_of piece) mid new more
+    → Serves old (pieces ++ piece ∷ []) new (text ++ more)
+serves_on old mid new [] text piece more h k = (
+  new,
+  more,
+  [],
+  subst (λ (s : NodeState). AnswersLine (line_of piece) s new more) h.0 k,
+  (refl, refl),
+  ap (λ (t : List ℕ). t ++ more) h.1 ∙ sym (append-nil more),
+)
+serves_on old mid new (p ∷ pieces) text piece more (at, first, rest, answers, serves, is) k = (
+  at,
+  first,
+  rest ++ more,
+  answers,
+  serves_on at mid new pieces rest piece more serves k,
+  ap (λ (t : List ℕ). t ++ more) is ∙ append_assoc first rest more,
+)
+
+all_on : (pieces : List (List ℕ)) (piece : List ℕ) → AllByRecursion IsPiece pieces → IsPiece piece
+    → AllByRecursion IsPiece (pieces ++ piece ∷ [])
+all_on [] piece h k = (k, tt)
+all_on (p ∷ pieces) piece h k = (h.0, all_on pieces piece h.1 k)
+
+joined : (pieces : List (List ℕ)) (piece : List ℕ)
+    → flat_map (λ p. p) pieces ++ piece ≡ flat_map (λ p. p) (pieces ++ piece ∷ [])
+joined pieces piece = sym (flat_map-append (λ (p : List ℕ). p) pieces (piece ∷ [])
+    ∙ ap (λ (t : List ℕ). flat_map (λ p. p) pieces ++ t) (append-nil piece))
+
+pub served_more : (start : Stand) (opening : Reaction) (before now : Stand) (piece text : List ℕ)
+    → IsPiece piece → Consumes before.left now.left piece
+    → AnswersLine (line_of piece) before.state now.state text → Appends before.held now.held text
+    → Served start opening before → Served start opening now
+served_more start opening before now piece text line took answers written h = record {
+  opened = h.opened;
+  first = h.first;
+  shows = h.shows;
+  pieces = h.pieces ++ piece ∷ [];
+  rest = h.rest ++ text;
+  serves = serves_on h.opened before.state now.state h.pieces h.rest piece text h.serves answers;
+  lines = all_on h.pieces piece h.lines line;
+  took = subst (λ (t : List ℕ). Consumes start.left now.left t) (joined h.pieces piece)
+      (consumes_on start.left before.left now.left (flat_map (λ p. p) h.pieces) piece h.took took);
+  written = subst (λ (t : List ℕ). Appends start.held now.held t) (append_assoc h.first h.rest text)
+      (appends_on start.held before.held now.held (h.first ++ h.rest) text h.written written);
+}
+
+-- the reader has nothing left
+pub served_still : (start : Stand) (opening : Reaction) (before now : Stand) → now.state ≡ before.state
+    → now.held ≡ before.held → Consumes before.left now.left []
+    → Served start opening before → Served start opening now
+served_still start opening before now state held took h = record {
+  opened = h.opened;
+  first = h.first;
+  shows = h.shows;
+  pieces = h.pieces;
+  rest = h.rest;
+  serves = subst (λ (s : NodeState). Serves h.opened h.pieces s h.rest) (sym state) h.serves;
+  lines = h.lines;
+  took = subst (λ (t : List ℕ). Consumes start.left now.left t) (append-nil (flat_map (λ p. p) h.pieces))
+      (consumes_on start.left before.left now.left (flat_map (λ p. p) h.pieces) [] h.took took);
+  written = subst (λ (w : Known). Appends start.held w (h.first ++ h.rest)) (sym held) h.written;
+}
+
+all_read : (a b c : Known) (xs : List ℕ) → Consumes a b xs → IsAtEnd b → Consumes b c [] → ReadsAll a c
+all_read None b c xs h end k = tt
+all_read (Some x) None c xs h end k = absurd h
+all_read (Some x) (Some y) None xs h end k = absurd k
+all_read (Some x) (Some y) (Some z) xs h end k = ap (λ (t : List ℕ). Some t) (sym k ∙ end)
+
+pub served_all : (start : Stand) (opening : Reaction) (before now : Stand) → IsAtEnd before.left
+    → Consumes before.left now.left [] → Served start opening before → ReadsAll start.left now.left
+served_all start opening before now end took h =
+    all_read start.left before.left now.left (flat_map (λ p. p) h.pieces) h.took end took
+
+-- a process that has just told what it did
+nothing_taken : (a : Known) → Consumes a a []
+nothing_taken None = tt
+nothing_taken (Some x) = refl
+
+pub served_first : (start now : Stand) (opening : Reaction) (text : List ℕ)
+    → Shows start.state now.state opening text → now.left ≡ start.left → Appends start.held now.held text
+    → Served start opening now
+served_first start now opening text shows left written = record {
+  opened = now.state;
+  first = text;
+  shows = shows;
+  pieces = [];
+  rest = [];
+  serves = (refl, refl);
+  lines = tt;
+  took = subst (λ (l : Known). Consumes start.left l []) (sym left) (nothing_taken start.left);
+  written = subst (λ (t : List ℕ). Appends start.held now.held t) (sym (append-nil text)) written;
+}
+
+-- what comes of an answer, where there is one
+pub on_ok : {A E : Type 0} (P Q : Type 0) (r : Result A E) → (P → Q) → OnOk r P → OnOk r Q
+on_ok P Q (Ok a) f h = f h
+on_ok P Q (Err e) f h = tt

@@ -1,0 +1,34 @@
+use Rattle.std.proofs.Common.{true, false, refl}
+use Rattle.tree_model.specs.declared.events.Input.TheVariants.{Act as ActInput}
+use Rattle.tree_model.specs.Plays.{process_of_act}
+use Rattle.node_engine.specs.Answers.{state_of}
+use Rattle.node_engine.proofs.Answering.{mine_err, mine_ok, others_err, others_ok, process_tested}
+use Rattle.node_engine.proofs.serving.Serving.act.Goals as goal
+
+pub returns-then-is-clause-ok : goal.returns-then-is-clause-ok
+returns-then-is-clause-ok g c =
+    mine_ok (λ text. text.items) (process_of_act c.args.self.now.root c.args.act.now) (state_of c.args.self.now)
+    (state_of c.make.new.self) (ActInput c.args.act.now) c.make.result
+    (process_tested c.process_of.result (process_of_act c.args.self.now.root c.args.act.now) c.args.self.now.me
+    c.is.result true c.process_of.ensures c.is.ensures c.if-is.true) c.make.ensures.ok
+
+pub returns-then-is-clause-err : goal.returns-then-is-clause-err
+returns-then-is-clause-err g c =
+    mine_err (λ text. text.items) (process_of_act c.args.self.now.root c.args.act.now) (state_of c.args.self.now)
+    (state_of c.make.new.self) (ActInput c.args.act.now) c.make.result
+    (process_tested c.process_of.result (process_of_act c.args.self.now.root c.args.act.now) c.args.self.now.me
+    c.is.result true c.process_of.ensures c.is.ensures c.if-is.true) c.make.ensures.err
+
+pub returns-else-is-clause-ok : goal.returns-else-is-clause-ok
+returns-else-is-clause-ok g c =
+    others_ok (λ text. text.items) (process_of_act c.args.self.now.root c.args.act.now) (state_of c.args.self.now)
+    (state_of c.args.self.now) (ActInput c.args.act.now) c.refusal.result
+    (process_tested c.process_of.result (process_of_act c.args.self.now.root c.args.act.now) c.args.self.now.me
+    c.is.result false c.process_of.ensures c.is.ensures c.if-is.false) refl c.refusal.ensures.text
+
+pub returns-else-is-clause-err : goal.returns-else-is-clause-err
+returns-else-is-clause-err g c =
+    others_err (λ text. text.items) (process_of_act c.args.self.now.root c.args.act.now) (state_of c.args.self.now)
+    (state_of c.args.self.now) (ActInput c.args.act.now) c.refusal.result
+    (process_tested c.process_of.result (process_of_act c.args.self.now.root c.args.act.now) c.args.self.now.me
+    c.is.result false c.process_of.ensures c.is.ensures c.if-is.false) refl

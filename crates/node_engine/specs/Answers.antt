@@ -1,0 +1,193 @@
+-- What a node makes of a line, and what it answers.
+use Rattle.std.specs.Prelude.{◌≡◌, ◌+◌, ◌⊎◌, ⊤, ℕ, Bool, true, false, Result, Ok, Err, List, [], ◌++◌, length}
+use Rattle.std.specs.Str.{IsUtf8}
+use Rattle.tree_model.specs.declared.names.ProcessId.{ProcessId}
+use Rattle.tree_model.specs.declared.events.Input.{Input}
+use Rattle.tree_model.specs.declared.events.Input.TheVariants.{Act as ActInput, Message as MessageInput}
+use Rattle.tree_model.specs.declared.events.Reaction.{Reaction}
+use Rattle.tree_model.specs.declared.events.StepError.{StepError}
+use Rattle.tree_model.specs.declared.events.StepError.TheVariants.{Memory, Device, NoSuch}
+use Rattle.tree_model.specs.declared.records.LogRecord.{LogRecord}
+use Rattle.tree_model.specs.Errors.{step_error_number}
+use Rattle.tree_model.specs.Names.{same_process}
+use Rattle.tree_model.specs.Plays.{process_of_act}
+use Rattle.rec_log.specs.Sights.{records_of}
+use Rattle.core_model.specs.States.{CoreState}
+use Rattle.core_law.specs.worlds.Worlds.{HandlesInput}
+use Rattle.manager_model.specs.Data.{ManagerData}
+use Rattle.tree_node.specs.declared.node.Node.{Node}
+use Rattle.tree_node.specs.Nodes.{NotHandled, core_of, data_of}
+use Rattle.tree_node.specs.Restarts.{NoTrim, TrimsNode}
+use Rattle.node_lines.specs.declared.asked.Asked.{Asked}
+use Rattle.node_lines.specs.declared.asked.Asked.TheVariants as asked
+use Rattle.node_lines.specs.Asked.{asked_at}
+use Rattle.node_engine.specs.declared.failure.NodeFailure.{NodeFailure}
+use Rattle.node_engine.specs.declared.failure.NodeFailure.TheVariants as failure
+use Rattle.node_engine.specs.declared.serving.Serving.{Serving}
+use Rattle.log_news.specs.Doubts.{doubts_in}
+use Rattle.log_news.specs.News.{news_in}
+use Rattle.node_answers.specs.Texts.{doubts_text, error_text, news_text, ok_text, refused_text, shown_text, trimmed_text}
+
+-- the root of the tree, and the process; what it keeps and, at a manager, its data; and how many messages it
+-- sent since it opened
+pub record NodeState : Type 0 where
+  pub root : ProcessId
+  pub me : ProcessId
+  pub core : CoreState
+  pub holdings : ManagerData
+  pub sent : ℕ
+
+-- what a node is
+abbrev pub state_of : {L : Type 0} → Serving L → NodeState
+state_of s = record {
+  root = s.root;
+  me = s.me;
+  core = core_of s.node;
+  holdings = data_of s.node;
+  sent = s.sent;
+}
+
+-- the node of a process of a tree with this root, which has sent nothing yet
+abbrev pub opened : {L : Type 0} → ProcessId → ProcessId → Node L → NodeState
+opened root me node = record {
+  root = root;
+  me = me;
+  core = core_of node;
+  holdings = data_of node;
+  sent = 0;
+}
+
+-- the same process, in the same tree
+pub record SameSeat (old new : NodeState) : Type 0 where
+  pub root : new.root ≡ old.root
+  pub me : new.me ≡ old.me
+
+-- the lines of a reaction are told, and its messages are sent; nothing else is otherwise
+pub record Shows (old new : NodeState) (reaction : Reaction) (text : List ℕ) : Type 0 where
+  pub after : new ≡ record old { sent = old.sent + length reaction.messages }
+  pub told : text ≡ shown_text old.me.0 old.sent reaction
+
+-- nothing is otherwise, and this is told
+abbrev pub Tells : NodeState → NodeState → List ℕ → List ℕ → Type 0
+Tells old new text told = (new ≡ old) × (text ≡ told)
+
+-- a refusal that is told: the device did not fail, and memory was not refused
+abbrev pub IsRefusal : StepError → Type 0
+IsRefusal Memory = ⊥
+IsRefusal Device = ⊥
+IsRefusal e = ⊤
+
+-- a failure of the process's own, behind which a line is not answered
+abbrev pub IsUnanswered : NodeFailure → Type 0
+IsUnanswered failure.Memory = ⊤
+IsUnanswered failure.Device = ⊤
+IsUnanswered _ = ⊥
+
+-- Inputs.
+
+-- the process handled an input, or refused it
+abbrev pub Took : NodeState → NodeState → Input → Result Reaction StepError → Type 0
+Took old new input (Ok reaction) = HandlesInput old.core new.core old.holdings new.holdings input reaction
+Took old new input (Err e) = NotHandled old.core new.core old.holdings new.holdings input e
+
+-- what is told of an input, and how many messages are sent then
+abbrev pub ToldOf : NodeState → NodeState → List ℕ → Result Reaction StepError → Type 0
+ToldOf old new text (Ok reaction) =
+    (text ≡ shown_text old.me.0 old.sent reaction) × (new.sent ≡ old.sent + length reaction.messages)
+ToldOf old new text (Err e) =
+    (text ≡ refused_text (step_error_number e)) × (new.sent ≡ old.sent) × IsRefusal e
+
+-- an input was handled or refused, and that is not told
+pub record TakesInput (old new : NodeState) (input : Input) : Type 0 where
+  pub seat : SameSeat old new
+  pub end : Result Reaction StepError
+  pub took : Took old new input end
+
+-- an input was handled or refused, and that is told
+pub record AnswersInput (old new : NodeState) (input : Input) (text : List ℕ) : Type 0 where
+  pub seat : SameSeat old new
+  pub end : Result Reaction StepError
+  pub took : Took old new input end
+  pub told : ToldOf old new text end
+
+-- an input of this process, or of another, which is refused: there is no such process here
+abbrev pub AnswersIf : Bool → NodeState → NodeState → Input → List ℕ → Type 0
+AnswersIf true old new input text = AnswersInput old new input text
+AnswersIf false old new input text = Tells old new text (refused_text (step_error_number NoSuch))
+
+-- an input that is for this process p or is not
+abbrev pub AnswersFor : ProcessId → NodeState → NodeState → Input → List ℕ → Type 0
+AnswersFor p old new input text = AnswersIf (same_process p old.me) old new input text
+
+-- the same, where it is not told
+abbrev pub TakesIf : Bool → NodeState → NodeState → Input → Type 0
+TakesIf true old new input = TakesInput old new input
+TakesIf false old new input = new ≡ old
+
+abbrev pub TakesFor : ProcessId → NodeState → NodeState → Input → Type 0
+TakesFor p old new input = TakesIf (same_process p old.me) old new input
+
+-- Trims.
+
+-- the log was trimmed, or the trim was refused
+abbrev pub Trimmed : NodeState → NodeState → Result ℕ StepError → Type 0
+Trimmed old new (Ok remain) = TrimsNode old.core new.core old.holdings new.holdings remain
+Trimmed old new (Err e) = NoTrim old.core new.core old.holdings new.holdings e
+
+-- what is told of a trim
+abbrev pub ToldOfTrim : NodeState → List ℕ → Result ℕ StepError → Type 0
+ToldOfTrim old text (Ok remain) = text ≡ trimmed_text old.me.0 remain
+ToldOfTrim old text (Err e) = (text ≡ refused_text (step_error_number e)) × IsRefusal e
+
+-- the log was trimmed or not, and that is not told
+pub record TakesTrim (old new : NodeState) : Type 0 where
+  pub seat : SameSeat old new
+  pub end : Result ℕ StepError
+  pub took : Trimmed old new end
+
+-- the log was trimmed or not, and that is told
+pub record AnswersTrim (old new : NodeState) (text : List ℕ) : Type 0 where
+  pub seat : SameSeat old new
+  pub sent : new.sent ≡ old.sent
+  pub end : Result ℕ StepError
+  pub took : Trimmed old new end
+  pub told : ToldOfTrim old text end
+
+-- Lines.
+
+-- the records of the node's log
+abbrev pub records_at : NodeState → List LogRecord
+records_at s = records_of s.core.log.kept
+
+-- what was asked is answered
+abbrev pub Answers : Asked → NodeState → NodeState → List ℕ → Type 0
+Answers asked.Nothing old new text = Tells old new text []
+Answers (asked.Act a) old new text = AnswersFor (process_of_act old.root a) old new (ActInput a) text
+Answers (asked.Message n e) old new text = AnswersFor e.to old new (MessageInput n e.message) text
+Answers asked.Trim old new text = AnswersTrim old new text
+Answers asked.Doubt old new text = Tells old new text (doubts_text (doubts_in (records_at old)) ++ ok_text)
+Answers (asked.Outcome x) old new text = Tells old new text (news_text x (news_in (records_at old) x) ++ ok_text)
+Answers asked.Unknown old new text = Tells old new text error_text
+
+-- what was asked is made or not, and not answered
+abbrev pub Takes : Asked → NodeState → NodeState → Type 0
+Takes (asked.Act a) old new = TakesFor (process_of_act old.root a) old new (ActInput a)
+Takes (asked.Message n e) old new = TakesFor e.to old new (MessageInput n e.message)
+Takes asked.Trim old new = TakesTrim old new
+Takes _ old new = new ≡ old
+
+-- what a line asks; one that is no text asks nothing that a node knows
+abbrev pub Asks : ProcessId → List ℕ → Asked → Type 0
+Asks root line a = (IsUtf8 line × (a ≡ asked_at root line)) ⊎ ((IsUtf8 line → ⊥) × (a ≡ asked.Unknown))
+
+-- a line is answered
+pub record AnswersLine (line : List ℕ) (old new : NodeState) (text : List ℕ) : Type 0 where
+  pub asked : Asked
+  pub asks : Asks old.root line asked
+  pub answers : Answers asked old new text
+
+-- a line is made or not, and not answered
+pub record TakesLine (line : List ℕ) (old new : NodeState) : Type 0 where
+  pub asked : Asked
+  pub asks : Asks old.root line asked
+  pub takes : Takes asked old new

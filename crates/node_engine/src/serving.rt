@@ -1,0 +1,249 @@
+//! A node: what it makes of a line.
+
+ghost use Rattle.std.specs.Prelude.{◌≡◌, ◌++◌, IfErr, IfOk, OnErr, OnOk};
+ghost use Rattle.tree_model.specs.Errors.{step_error_number};
+ghost use Rattle.tree_model.specs.Names.{same_process};
+ghost use Rattle.tree_model.specs.Plays.{process_of_act};
+ghost use Rattle.tree_node.specs.Nodes.{core_of, data_of};
+ghost use Rattle.core_model.specs.Inputs.{input_of};
+ghost use Rattle.node_engine.specs.Answers.{
+  Answers,
+  AnswersFor,
+  AnswersInput,
+  AnswersLine,
+  AnswersTrim,
+  IsRefusal,
+  IsUnanswered,
+  Shows,
+  Takes,
+  TakesFor,
+  TakesInput,
+  TakesLine,
+  TakesTrim,
+  opened,
+  records_at,
+  state_of,
+};
+ghost use Rattle.tree_model.specs.declared.events.Input.TheVariants.{Act as ActInput, Message as MessageInput};
+ghost use Rattle.log_news.specs.Doubts.{doubts_in};
+ghost use Rattle.log_news.specs.News.{news_in};
+ghost use Rattle.node_answers.specs.Texts.{doubts_text, news_text, ok_text, refused_text as text_of_refusal};
+
+use crate::failure::NodeFailure;
+use core_model::InputRef;
+use log_news::{doubts_of, news_of};
+use log_store::LogStore;
+use node_answers::{doubt_text, error_text, outcome_text, refused_text, shown_text, trimmed_text};
+use node_lines::{Asked, asked_of};
+use std::alloc::Global;
+use std::str;
+use tree_model::{Act, Envelope, ProcessId, Reaction, StepError, Txn};
+use tree_node::Node;
+
+/// A process of a tree that answers lines. Its messages are numbered from 1, from where it opened.
+#[derive(Drop)]
+pub struct Serving<L: LogStore> {
+    pub(crate) alloc: Global,
+    pub(crate) root: ProcessId,
+    pub(crate) me: ProcessId,
+    pub(crate) node: Node<L>,
+    pub(crate) sent: u64,
+}
+
+/// The process of an act: its case's ticket's child, or the root.
+fn process_of(root: ProcessId, act: &Act) -> ProcessId
+    ensures { result ≡ process_of_act root act.now }
+{
+    match act {
+        Act::Begin(_) => root,
+        Act::Join(case, _)
+        | Act::Work(case, _, _)
+        | Act::Ask(case)
+        | Act::Decide(case, _)
+        | Act::Forget(case) => match case.ticket {
+            None => case.txn.root,
+            Some(ticket) => ticket.child,
+        },
+        Act::Commit(txn) | Act::Abort(txn) => txn.root,
+    }
+}
+
+/// The answer to what is refused. Behind a failed device, or without memory, there is none.
+fn refusal(alloc: Global, error: StepError) -> Result<Vec<u8>, NodeFailure>
+    ensures text { IfOk result (λ text. text.items ≡ text_of_refusal (step_error_number error)) }
+    ensures refusal { OnOk result (IsRefusal error) }
+    ensures why { IfErr result IsUnanswered }
+{
+    match error {
+        StepError::Memory => Err(NodeFailure::Memory),
+        StepError::Device => Err(NodeFailure::Device),
+        _ => Ok(refused_text(alloc, error.number())?),
+    }
+}
+
+impl<L: LogStore> Serving<L> {
+    /// The process `me` of a tree with this root, which has sent nothing yet.
+    pub fn new(alloc: Global, root: ProcessId, me: ProcessId, node: Node<L>) -> Self
+        ensures { state_of result ≡ opened root me node }
+    {
+        Serving {
+            alloc,
+            root,
+            me,
+            node,
+            sent: 0,
+        }
+    }
+
+    /// The process.
+    pub fn node(&self) -> &Node<L>
+        ensures core { core_of result.now ≡ (state_of self.now).core }
+        ensures holdings { data_of result.now ≡ (state_of self.now).holdings }
+    {
+        &self.node
+    }
+
+    /// The lines of a reaction that was made.
+    pub fn show(&mut self, reaction: &Reaction) -> Result<Vec<u8>, NodeFailure>
+        ensures ok { IfOk result (λ text. Shows (state_of self.old) (state_of self.new) reaction.now text.items) }
+        ensures err { OnErr result (state_of self.new ≡ state_of self.old) }
+        ensures why { IfErr result (λ e. e ≡ NodeFailure.Memory) }
+    {
+        let count = reaction.messages.as_slice().len() as u64;
+        let Some(sent) = self.sent.checked_add(count) else {
+            return Err(NodeFailure::Memory);
+        };
+        let text = shown_text(self.alloc, self.me, self.sent, reaction)?;
+        self.sent = sent;
+        Ok(text)
+    }
+
+    /// The answer to an input.
+    fn make(&mut self, input: InputRef<'_>) -> Result<Vec<u8>, NodeFailure>
+        ensures ok { IfOk result (λ text.
+            AnswersInput (state_of self.old) (state_of self.new) (input_of input.entry) text.items) }
+        ensures err { OnErr result (TakesInput (state_of self.old) (state_of self.new) (input_of input.entry)) }
+        ensures why { IfErr result IsUnanswered }
+    {
+        match self.node.handle(input) {
+            Ok(reaction) => self.show(&reaction),
+            Err(error) => refusal(self.alloc, error),
+        }
+    }
+
+    /// Whether it is this process.
+    #[tactic(auto, unfolding(tree_model::specs::Names::same_process))]
+    fn is(&self, process: ProcessId) -> bool
+        ensures { result ≡ same_process process self.now.me }
+    {
+        process == self.me
+    }
+
+    /// The answer to an act, which is refused where it is another process's.
+    fn act(&mut self, act: &Act) -> Result<Vec<u8>, NodeFailure>
+        ensures ok { IfOk result (λ text.
+            AnswersFor (process_of_act self.old.root act.now) (state_of self.old) (state_of self.new)
+            (ActInput act.now) text.items) }
+        ensures err { OnErr result (TakesFor (process_of_act self.old.root act.now)
+            (state_of self.old) (state_of self.new) (ActInput act.now)) }
+        ensures why { IfErr result IsUnanswered }
+    {
+        if self.is(process_of(self.root, act)) {
+            self.make(InputRef::Act(act))
+        } else {
+            refusal(self.alloc, StepError::NoSuch)
+        }
+    }
+
+    /// The answer to a message with its number, which is refused where it is for another process.
+    fn hear(&mut self, number: u64, envelope: &Envelope) -> Result<Vec<u8>, NodeFailure>
+        ensures ok { IfOk result (λ text. AnswersFor envelope.now.to (state_of self.old) (state_of self.new)
+            (MessageInput number envelope.now.message) text.items) }
+        ensures err { OnErr result (TakesFor envelope.now.to (state_of self.old) (state_of self.new)
+            (MessageInput number envelope.now.message)) }
+        ensures why { IfErr result IsUnanswered }
+    {
+        if self.is(envelope.to) {
+            self.make(InputRef::Message(number, &envelope.message))
+        } else {
+            refusal(self.alloc, StepError::NoSuch)
+        }
+    }
+
+    /// The answer to a trim.
+    #[tactic(auto, using(crate::proofs::Answering::trim_refused_ok, crate::proofs::Answering::trim_refused_err))]
+    fn trim(&mut self) -> Result<Vec<u8>, NodeFailure>
+        ensures ok { IfOk result (λ text. AnswersTrim (state_of self.old) (state_of self.new) text.items) }
+        ensures err { OnErr result (TakesTrim (state_of self.old) (state_of self.new)) }
+        ensures why { IfErr result IsUnanswered }
+    {
+        match self.node.trim_sound() {
+            Ok(remain) => Ok(trimmed_text(self.alloc, self.me, remain)?),
+            Err(error) => refusal(self.alloc, error),
+        }
+    }
+
+    /// A line for each case in doubt.
+    fn doubt(&self) -> Result<Vec<u8>, NodeFailure>
+        ensures ok { IfOk result (λ text. text.items
+            ≡ doubts_text (doubts_in (records_at (state_of self.now))) ++ ok_text) }
+        ensures why { IfErr result IsUnanswered }
+    {
+        let records = self.node.records()?;
+        let cases = doubts_of(self.alloc, &records)?;
+        Ok(doubt_text(self.alloc, &cases)?)
+    }
+
+    /// The line of how a transaction ended.
+    fn tell(&self, txn: &Txn) -> Result<Vec<u8>, NodeFailure>
+        ensures ok { IfOk result (λ text. text.items
+            ≡ news_text txn.now (news_in (records_at (state_of self.now)) txn.now) ++ ok_text) }
+        ensures why { IfErr result IsUnanswered }
+    {
+        let records = self.node.records()?;
+        let news = news_of(&records, txn);
+        Ok(outcome_text(self.alloc, *txn, news)?)
+    }
+
+    /// The answer to what was asked.
+    fn answer_asked(&mut self, asked: &Asked) -> Result<Vec<u8>, NodeFailure>
+        ensures ok { IfOk result (λ text.
+            Answers asked.now (state_of self.old) (state_of self.new) text.items) }
+        ensures err { OnErr result (Takes asked.now (state_of self.old) (state_of self.new)) }
+        ensures why { IfErr result IsUnanswered }
+    {
+        match asked {
+            Asked::Nothing => Ok(Vec::new(self.alloc)),
+            Asked::Act(act) => self.act(act),
+            Asked::Message(number, envelope) => self.hear(*number, envelope),
+            Asked::Trim => self.trim(),
+            Asked::Doubt => self.doubt(),
+            Asked::Outcome(txn) => self.tell(txn),
+            Asked::Unknown => Ok(error_text(self.alloc)?),
+        }
+    }
+
+    /// The answer to a line of text.
+    fn answer_text(&mut self, line: &str) -> Result<Vec<u8>, NodeFailure>
+        ensures ok { IfOk result (λ text.
+            AnswersLine line.now (state_of self.old) (state_of self.new) text.items) }
+        ensures err { OnErr result (TakesLine line.now (state_of self.old) (state_of self.new)) }
+        ensures why { IfErr result IsUnanswered }
+    {
+        let asked = asked_of(self.alloc, self.root, line)?;
+        self.answer_asked(&asked)
+    }
+
+    /// The answer to a line, without its end. One that is no text is the line of nothing.
+    pub fn answer(&mut self, line: &[u8]) -> Result<Vec<u8>, NodeFailure>
+        ensures ok { IfOk result (λ text.
+            AnswersLine line.now (state_of self.old) (state_of self.new) text.items) }
+        ensures err { OnErr result (TakesLine line.now (state_of self.old) (state_of self.new)) }
+        ensures why { IfErr result IsUnanswered }
+    {
+        match str::from_utf8(line) {
+            Ok(line) => self.answer_text(line),
+            Err(_) => Ok(error_text(self.alloc)?),
+        }
+    }
+}

@@ -1,0 +1,111 @@
+//! Starting a node over a log.
+
+ghost use Rattle.std.specs.Prelude.{◌≡◌, false, IfErr, IfOk, length};
+ghost use Rattle.std.specs.List.{list_all};
+ghost use Rattle.tree_node.specs.Reopenings.{kind_by};
+ghost use Rattle.node_engine.specs.Starts.{IsStart, NamesOthers, NoStart, is_own_record};
+
+use crate::serving::Serving;
+use inquire_core::is_own;
+use log_store::{LogStore, MemoryStore};
+use rec_log::{OpenError, RecLog};
+use std::alloc::{AllocError, Global};
+use thiserror::Error;
+use tree_model::{Kind, LogRecord, ProcessId, Reaction, Tree, TreeEntry};
+use tree_node::{ReopenError, copied_tree, reopen_node};
+
+/// Why no node was started.
+#[derive(Clone, Copy, Debug, PartialEq, Eq, Error)]
+pub enum StartError {
+    /// The log has a record of another process's, or of another tree's.
+    #[error("it is the log of another process")]
+    Stranger,
+    /// The process does not go on over the log.
+    #[error("{0}")]
+    Reopen(ReopenError),
+}
+
+impl From<AllocError> for StartError {
+    ghost use Rattle.tree_node.specs.declared.reopening.ReopenError.TheVariants.{Memory};
+    ghost use Rattle.node_engine.specs.declared.starting.StartError.TheVariants.{Reopen};
+    ghost use Rattle.std.specs.Prelude.{◌≡◌};
+
+    ghost from_gives = { λ _ e. e ≡ Reopen Memory };
+
+    fn from(_e: AllocError) -> StartError {
+        StartError::Reopen(ReopenError::Memory)
+    }
+}
+
+/// The kind of the log of a process of this kind below this parent: the root's is a coordinator's.
+fn kind_of(kind: Kind, parent: Option<ProcessId>) -> Kind
+    ensures { result ≡ kind_by kind parent }
+{
+    match (kind, parent) {
+        (Kind::Manager, Some(_)) => Kind::Manager,
+        _ => Kind::Coordinator,
+    }
+}
+
+/// Whether a record names no case, or one of the process's own.
+fn names_own(me: ProcessId, parent: Option<ProcessId>, tree: &Tree, kept: &LogRecord) -> bool
+    ensures { result ≡ is_own_record me parent tree.now kept.now }
+{
+    match kept.entry.case() {
+        None => true,
+        Some(case) => is_own(me, parent, tree, kept.parent, &case),
+    }
+}
+
+/// Whether each of these records does.
+fn name_own(me: ProcessId, parent: Option<ProcessId>, tree: &Tree, records: &[LogRecord]) -> bool
+    ensures { result ≡ list_all (is_own_record me parent tree.now) records.now }
+{
+    records
+        .iter()
+        .all(|record| names_own(me, parent, tree, record))
+}
+
+/// Whether the log that these bytes are is the process's own, as far as its records tell; bytes that are none
+/// name nobody.
+fn is_own_log(
+    alloc: Global,
+    tree: &Tree,
+    entry: &TreeEntry,
+    bytes: &[u8],
+) -> Result<bool, AllocError>
+    ensures { IfOk result (λ own. own ≡ false → NamesOthers tree.now entry.now bytes.now) }
+{
+    let copy = MemoryStore::from_bytes(Vec::from_slice(alloc, bytes)?);
+    match RecLog::open(copy, kind_of(entry.kind, entry.parent), alloc) {
+        Ok(log) => {
+            let records = log.records(alloc)?;
+            Ok(name_own(entry.id, entry.parent, tree, &records))
+        }
+        Err((OpenError::Memory, _)) => Err(AllocError),
+        Err((_, _)) => Ok(true),
+    }
+}
+
+/// The process of an entry as a node, over the log in a store, and what it did as it opened (`reopen_node`).
+/// Stranger: the log has a record of a case that is not the process's own in this tree; nothing was written.
+/// Behind a refusal the store is let go.
+pub fn start<L: LogStore + Drop>(
+    alloc: Global,
+    tree: &Tree,
+    entry: &TreeEntry,
+    store: L,
+) -> Result<(Serving<L>, Reaction), StartError>
+    ensures ok { IfOk result (λ made. IsStart tree.now entry.now
+        (L.bytes store) (L.forced store) (L.failures store) made.0 made.1) }
+    ensures err { IfErr result (NoStart L.bytes L.forced L.failures tree.now entry.now store) }
+{
+    if !is_own_log(alloc, tree, entry, store.bytes())? {
+        return Err(StartError::Stranger);
+    }
+    let copy = copied_tree(alloc, tree.entries())?;
+    match reopen_node(alloc, entry, copy, store) {
+        Ok((node, opening)) => Ok((Serving::new(alloc, tree.root(), entry.id, node), opening)),
+        Err(error) => Err(StartError::Reopen(error)),
+    }
+}

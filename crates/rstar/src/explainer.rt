@@ -1,0 +1,115 @@
+//! What a node refuses, in sentences.
+
+use crate::tell;
+use line_faults::{Script, finding_of};
+use node_engine::Witness;
+use std::alloc::{AllocError, Global};
+use std::str;
+
+/// The lines that a node takes.
+const LINES: &str =
+    "begin, join, work, commit, abort, ask, heur and forget as `rstar tree` has them, \
+                     N F->T MESSAGE as another node wrote it, trim, doubt or outcome TXN";
+
+/// Tells on standard error of each line that a node refuses, if it is to.
+#[derive(Drop)]
+pub struct Explainer {
+    rt: HostRuntime,
+    tells: bool,
+    line: u64,
+}
+
+impl Explainer {
+    pub fn new(rt: &HostRuntime, tells: bool) -> Self {
+        Explainer {
+            rt: *rt,
+            tells,
+            line: 0,
+        }
+    }
+}
+
+/// Why a step is refused by this number (docs/ERRORS.md).
+fn reason(number: &str) -> &'static str {
+    match number {
+        "3" => "no such case is live here: it was decided, or forgotten, or never begun",
+        "4" => "it is no child that can take this",
+        "5" => "the case is closed: commit or abort was asked before, or PREPARE came",
+        "6" => "the process has failed: start it again",
+        "7" => "the case is not in doubt here",
+        "8" => "no operator decided it: there is nothing to forget",
+        "9" => "it is for another process than this one",
+        _ => "it is refused",
+    }
+}
+
+/// A text that a terminal can show, at most 80 characters of it.
+fn shown(alloc: Global, text: &str) -> Result<String, AllocError> {
+    let mut out = String::new(alloc);
+    for c in text.chars().take(80) {
+        out.push(if c.is_control() { '?' } else { c })?;
+    }
+    Ok(out)
+}
+
+/// Whether a line begins with a word of scripts that nodes do not take.
+fn is_of_scripts(line: &str) -> bool {
+    ["deliver", "settle", "restart", "trim"]
+        .iter()
+        .any(|word: &&str| -> bool { line.starts_with(*word) })
+}
+
+/// What is wrong with the line of nothing.
+fn fault(alloc: Global, line: &str) -> Result<String, AllocError> {
+    if is_of_scripts(line) || line.starts_with(|c: char| -> bool { c.is_ascii_digit() }) {
+        return format!(in alloc; "a node takes no such line\nwanted: {LINES}\n");
+    }
+    match finding_of(alloc, Script::Tree, line)? {
+        None => format!(in alloc; "a node takes no such line\nwanted: {LINES}\n"),
+        Some(finding) => {
+            let fault = finding.fault;
+            format!(in alloc; "{fault}\nwanted: {LINES}\n")
+        }
+    }
+}
+
+/// What is told of a line with its answer; nothing of one that was not refused.
+fn told(
+    alloc: Global,
+    number: u64,
+    line: &[u8],
+    answer: &[u8],
+) -> Result<Option<String>, AllocError> {
+    let Ok(answer) = str::from_utf8(answer) else {
+        return Ok(None);
+    };
+    let text = match str::from_utf8(line) {
+        Ok(text) => text,
+        Err(_) => "",
+    };
+    let shown = shown(alloc, text)?;
+    if answer == "error\n" {
+        let fault = fault(alloc, text)?;
+        return Ok(Some(format!(in alloc; "line {number}: {shown}\n{fault}")?));
+    }
+    match answer.strip_prefix("refused ") {
+        None => Ok(None),
+        Some(rest) => {
+            let error = rest.trim_end();
+            let why = reason(error);
+            Ok(Some(format!(in alloc; "line {number}: {shown}\nrefused {error}: {why}\n")?))
+        }
+    }
+}
+
+impl Witness for Explainer {
+    fn see(&mut self, line: &[u8], answer: &[u8]) {
+        self.line = self.line.saturating_add(1);
+        if !self.tells {
+            return;
+        }
+        if let Ok(Some(text)) = told(self.rt.alloc(), self.line, line, answer) {
+            tell(&self.rt, Ok(text));
+        }
+    }
+}
