@@ -1,0 +1,175 @@
+-- What the programs of a tree come to stands for a run.
+use Rattle.std.proofs.Common.{◌≡◌, ◌∙◌, ◌⊎◌, ap, sym, subst, refl, inl, inr, ℕ, Bool, true, false, if◌then◌else◌, Option, Some, None, option_map, is_some, List, [], ◌++◌}
+use Rattle.tree_model.specs.declared.names.ProcessId.{ProcessId}
+use Rattle.tree_model.specs.declared.trees.TreeEntry.{TreeEntry}
+use Rattle.tree_model.specs.Names.{same_process}
+use Rattle.tree_model.specs.Nodes.{Node}
+use Rattle.tree_model.specs.Trees.{IsTree}
+use Rattle.tree_model.specs.World.{InputStands, Made, World, opened_world}
+use Rattle.core_model.specs.States.{CoreState}
+use Rattle.manager_model.specs.Data.{ManagerData}
+use Rattle.core_law.specs.Ties.{Stands}
+use Rattle.core_law.specs.worlds.Worlds.{WorldState}
+use Rattle.core_law.specs.worlds.Runs.{IsOpened}
+use Rattle.core_law.specs.worlds.Ties.{FollowsBehindFaults, GoesOnBehindFaults, StandsAt, entered_of}
+use Rattle.core_law.specs.worlds.Modelled.{KeepsHeadline}
+use Rattle.core_law.proofs.worlds.Events.{GoesOnIn, then_on, waits}
+use Rattle.core_law.proofs.worlds.Faults.{input_fails_on, restart_fails_on, trim_fails_on}
+use Rattle.core_law.proofs.worlds.Journals.{entered_hides, entered_shows, opened_behind_faults}
+use Rattle.core_law.proofs.worlds.Processes.{as_the_model}
+use Rattle.core_law.proofs.worlds.Restarts.{restart_goes_on, trim_goes_on}
+use Rattle.core_law.proofs.worlds.Steps.{step_goes_on}
+use Rattle.core_law.proofs.worlds.Unchanged.{same_by}
+use Rattle.core_law.proofs.worlds.Whole.{modelled_behind_faults}
+use Rattle.node_lives.specs.Lives.{BeginsAnew, LifeStep, Lives, LivesAreRuns, StepsGoOn, begin_breaks, begins, begins_anew, breaks, counted, counted_at, makes, more, none, rests, trim_breaks, trims}
+
+-- How many failures were counted makes no difference to what a process stands for.
+
+pub stands_counted : (m : Node) (c : CoreState) (n : ℕ) → Stands m c → Stands m (counted c n)
+stands_counted m c n h = record {
+  forced = h.forced;
+  unforced = h.unforced;
+  failed = h.failed;
+  up = λ runs.
+      let u = h.up runs in
+      record {
+        boot = u.boot;
+        begun = u.begun;
+        given = u.given;
+        tickets = u.tickets;
+        views = u.views;
+        branches = u.branches;
+      };
+}
+
+-- the process that another is but for the count, or that it is
+counted_is : (b : Bool) (o : Option CoreState) (n : ℕ) (c : CoreState)
+    → (if b then option_map (λ d. counted d n) o else o) ≡ Some c
+    → (d : CoreState) × (o ≡ Some d) × ((counted d n ≡ c) ⊎ (d ≡ c))
+counted_is true None n c h = absurd (cc)
+counted_is true (Some d) n c h = (d, refl, inl (let is : counted d n ≡ c = cc in is))
+counted_is false o n c h = (c, h, inr refl)
+
+counted_is_some : (b : Bool) (o : Option CoreState) (n : ℕ)
+    → is_some (if b then option_map (λ d. counted d n) o else o) ≡ is_some o
+counted_is_some true None n = refl
+counted_is_some true (Some d) n = refl
+counted_is_some false o n = refl
+
+module _ (q : ProcessId) (n : ℕ) (es : List Made) (w : World) (s : WorldState) where
+  counted_stands : (p : ProcessId) (d c : CoreState) → StandsAt w s p d → (counted d n ≡ c) ⊎ (d ≡ c)
+      → StandsAt w (counted_at q n s) p c
+  counted_stands p d c h (inl is) = subst (λ x. StandsAt w (counted_at q n s) p x) is
+      (record { place = h.place; stands = stands_counted (w.at p) d n h.stands })
+  counted_stands p d c h (inr is) = subst (λ x. StandsAt w (counted_at q n s) p x) is
+      (record { place = h.place; stands = h.stands })
+
+  pub counts_alike : FollowsBehindFaults es w s → FollowsBehindFaults es w (counted_at q n s)
+  counts_alike f = record {
+    follows = record {
+      is_run = f.follows.is_run;
+      shown = f.follows.shown;
+      net = f.follows.net;
+      nodes = λ p c there.
+          let d = counted_is (same_process q p) (s.node_at p) n c there in
+          let h = f.follows.nodes p d.0 d.1 in
+          let here = counted_stands p d.0 c (record { place = h.place; stands = h.stands }) d.2 in
+          record { place = here.place; stands = here.stands };
+      listed = λ p. counted_is_some (same_process q p) (s.node_at p) n ∙ f.follows.listed p;
+    };
+    shown = f.shown;
+  }
+
+-- A manager's data make no difference to it.
+
+held_so : (es : List Made) (w : World) (t : WorldState) (d : ProcessId → ManagerData)
+    → FollowsBehindFaults es w (record t { data_at = d }) → FollowsBehindFaults es w t
+held_so es w t d f = record {
+  follows = record {
+    is_run = f.follows.is_run;
+    shown = f.follows.shown;
+    net = f.follows.net;
+    nodes = λ p c there.
+        let h = f.follows.nodes p c there in
+        record { place = h.place; stands = h.stands };
+    listed = f.follows.listed;
+  };
+  shown = f.shown;
+}
+
+pub anew : (q : ProcessId) (n : ℕ) (es : List Made) (w : World) (s t : WorldState) → FollowsBehindFaults es w s
+    → BeginsAnew s t q n → FollowsBehindFaults es w t
+anew q n es w s t f h =
+    held_so es w t s.data_at
+    (same_by entered_of es w (counted_at q n s) (record t { data_at = s.data_at }) (counts_alike q n es w s f)
+    (record {
+      tree = h.tree;
+      nodes = h.nodes;
+      holdings = λ p. record { writes = λ x. refl; holders = λ k. refl };
+      net = h.net;
+      delivered = h.delivered;
+      entries = h.entries;
+    }))
+
+-- Steps.
+
+module _ (tree : List TreeEntry) (is_tree : IsTree tree) where
+  abbrev On : List Made → World → WorldState → Type 0
+  On = GoesOnIn entered_of tree
+
+  pub step_on : (s t : WorldState) (es : List Made) (w : World) → s.tree ≡ tree → FollowsBehindFaults es w s
+      → LifeStep s t → On es w t
+  step_on s t es w is f (rests same) =
+      waits entered_of tree es w t (same_by entered_of es w s t f same) (same.tree ∙ is)
+  step_on s t es w is f (makes q i marked sent h) = record {
+    goes_on_so = step_goes_on entered_of entered_shows as_the_model es w s t q i marked
+        (subst IsTree (sym is) is_tree) f (subst (λ net. InputStands net q i) f.follows.net sent) h;
+    tree_stays = h.moves.tree ∙ is;
+  }
+  step_on s t es w is f (breaks q i sent h) = record {
+    goes_on_so = input_fails_on entered_of entered_hides es w s t f q i
+        (subst (λ net. InputStands net q i) f.follows.net sent) h;
+    tree_stays = h.moves.tree ∙ is;
+  }
+  step_on s t es w is f (trims q h) = record {
+    goes_on_so = trim_goes_on entered_of entered_shows es w s t f q (subst IsTree (sym is) is_tree) h;
+    tree_stays = h.moves.tree ∙ is;
+  }
+  step_on s t es w is f (trim_breaks q h) = record {
+    goes_on_so = trim_fails_on entered_of entered_hides es w s t f q (subst IsTree (sym is) is_tree) h;
+    tree_stays = h.moves.tree ∙ is;
+  }
+  step_on s t es w is f (begins q n keep h) = record {
+    goes_on_so = restart_goes_on entered_of entered_shows es w (counted_at q n s) t
+        (counts_alike q n es w s f) q (subst IsTree (sym is) is_tree) (Some keep) h;
+    tree_stays = h.moves.tree ∙ is;
+  }
+  step_on s t es w is f (begin_breaks q n keep h) = record {
+    goes_on_so = restart_fails_on entered_of entered_hides es w (counted_at q n s) t
+        (counts_alike q n es w s f) q (subst IsTree (sym is) is_tree) (Some keep) h;
+    tree_stays = h.moves.tree ∙ is;
+  }
+  step_on s t es w is f (begins_anew q n h) =
+      waits entered_of tree es w t (anew q n es w s t f h) (h.tree ∙ is)
+
+  lives_on : (s : WorldState) (es : List Made) (w : World) → s.tree ≡ tree → FollowsBehindFaults es w s
+      → (t : WorldState) → Lives s t → On es w t
+  lives_on s es w is f _ none = waits entered_of tree es w s f is
+  lives_on s es w is f _ (more r t before step) =
+      let first = lives_on s es w is f r before in
+      then_on entered_of tree es w r t first
+      (λ es' w' g. step_on r t es' w' first.tree_stays g step)
+
+pub steps_so : StepsGoOn
+steps_so s t es w is_tree f step = (step_on s.tree is_tree s t es w refl f step).goes_on_so
+
+pub lives_so : LivesAreRuns
+lives_so tree s t is_tree opened lives =
+    let start = opened_behind_faults tree s opened in
+    let end = lives_on tree is_tree s [] opened_world opened.tree_is start t lives in
+    let on = end.goes_on_so in
+    let follows = on.follows in
+    record {
+      run = record { moves = on.later ++ []; world = on.world; follows = follows };
+      headline = modelled_behind_faults t (on.later ++ []) on.world (subst IsTree (sym end.tree_stays) is_tree) follows;
+    }
