@@ -1,0 +1,3 @@
+pub mod Starts
+pub mod Lines
+pub mod Steps

@@ -1,0 +1,216 @@
+-- A node that starts over the file of one before it is a step of one of the tree's programs.
+use Rattle.std.proofs.Common.{◌≡◌, ◌∙◌, ap, sym, subst, refl, inl, inr, ℕ, Bool, true, false, cond, if◌then◌else◌, Option, Some, None, List, [], ◌∷◌, ◌++◌, option_map, find}
+use Rattle.tree_model.specs.declared.names.Case.{Case}
+use Rattle.tree_model.specs.declared.names.Kind.{Kind}
+use Rattle.tree_model.specs.declared.names.ProcessId.{ProcessId}
+use Rattle.tree_model.specs.declared.records.LogRecord.{LogRecord}
+use Rattle.tree_model.specs.declared.events.Reaction.{Reaction}
+use Rattle.tree_model.specs.declared.records.Record.{Record}
+use Rattle.tree_model.specs.declared.records.Record.TheVariants.{Opened}
+use Rattle.tree_model.specs.declared.trees.TreeEntry.{TreeEntry}
+use Rattle.tree_model.specs.Names.{same_process}
+use Rattle.tree_model.specs.NameLaws.{same_process_tells}
+use Rattle.tree_model.specs.LogNames.{own_records}
+use Rattle.tree_model.specs.Nodes.{AtLeaf, AtRoot, Below, Place, Role, place_of, role_by, role_of}
+use Rattle.tree_model.specs.Records.{boot_of, cases_in}
+use Rattle.tree_model.specs.Restarts.{reopens}
+use Rattle.tree_model.specs.SameViews.{SameView}
+use Rattle.tree_model.specs.Standings.{CoordinatorView}
+use Rattle.tree_model.proofs.LogNameLaws.{reads_back}
+use Rattle.log_rules.specs.order.Logs.{Whole}
+use Rattle.rec_log.specs.Sights.{LogSight, left_by, records_of}
+use Rattle.core_model.specs.States.{CoreState, SameCore, forced_sight, logged}
+use Rattle.core_model.specs.Opening.{IsOpened as OpensAt, first_opened}
+use Rattle.core_model.specs.Restarting.{LeftSo, ReadOff, Restarts, read_of, recorded_branch_at, recorded_view_at, restarted_log}
+use Rattle.core_law.specs.Steps.{restart_of}
+use Rattle.core_law.specs.worlds.Worlds.{RestartsData, SameNode, WorldState}
+use Rattle.manager_model.specs.Data.{ManagerData}
+use Rattle.tree_node.specs.Reopenings.{ReopensAs, kind_by}
+use Rattle.tree_node.proofs.Reopened.{all_left}
+use Rattle.node_lives.specs.Lives.{LifeStep, counted, counted_at, counted_log}
+use Rattle.node_lives.specs.Lives as lives
+use Rattle.node_law.specs.Nodes.{Keeps, Started, StartedFirst}
+use Rattle.node_law.proofs.Lines.{same_as_it_is, same_here}
+
+-- Where a listed process sits.
+
+-- its role is that of its entry
+listed_role : (tree : List TreeEntry) (q : ProcessId) (e : TreeEntry)
+    → find (λ x. same_process x.id q) tree ≡ Some e → role_of tree q ≡ role_by e.kind e.parent
+unfolding role_of
+listed_role [] q e h = absurd (cc)
+listed_role (x ∷ xs) q e h = by_test (same_process x.id q) (λ found. listed_role xs q e found) h
+  where
+    by_test : (b : Bool)
+        → (find (λ y. same_process y.id q) xs ≡ Some e → role_of xs q ≡ role_by e.kind e.parent)
+        → cond b (Some x) (find (λ y. same_process y.id q) xs) ≡ Some e
+        → (if b then role_by x.kind x.parent else role_of xs q) ≡ role_by e.kind e.parent
+    by_test true behind found = let is : x ≡ e = cc in ap (λ (y : TreeEntry). role_by y.kind y.parent) is
+    by_test false behind found = behind found
+
+abbrev seat : List TreeEntry → TreeEntry → Place
+seat tree e = record { me = e.id; role = role_by e.kind e.parent; tree = tree }
+
+listed_place : (tree : List TreeEntry) (e : TreeEntry) → find (λ x. same_process x.id e.id) tree ≡ Some e
+    → place_of tree e.id ≡ seat tree e
+listed_place tree e h =
+    ap (λ (r : Role). record { me = e.id; role = r; tree = tree }) (listed_role tree e.id e h)
+
+-- What was read of one file is one list of records.
+
+same_records : (a b : List LogRecord) (m n : ℕ) → Whole a m ≡ Whole b n → a ≡ b
+same_records a b m n e = cc
+
+-- The moved process.
+
+counted_is : (q : ProcessId) (n : ℕ) (s : WorldState) (c : CoreState) → s.node_at q ≡ Some c
+    → (counted_at q n s).node_at q ≡ Some (counted c n)
+counted_is q n s c stood = elim (same_process_tells q q) [
+  | inl t ↦ rw (t.0, stood) refl
+  | inr z ↦ absurd (z.1 refl)
+]
+
+counted_others : (q : ProcessId) (n : ℕ) (s : WorldState) (p : ProcessId) → same_process q p ≡ false
+    → (counted_at q n s).node_at p ≡ s.node_at p
+counted_others q n s p away = rw away refl
+
+-- what each process is sits where the tree has it
+abbrev pub IsPlaced : WorldState → Type 0
+IsPlaced s = (q : ProcessId) (c : CoreState) → s.node_at q ≡ Some c → c.place ≡ place_of s.tree q
+
+pub started : (s t : WorldState) → IsPlaced s → Started s t → LifeStep s t
+started s t placed h =
+    let q = h.entry.id in
+    let r = h.reopens in
+    let before = counted h.before h.failures in
+    let at : h.before.place ≡ seat s.tree h.entry = placed q h.before h.was ∙ listed_place s.tree h.entry h.listed in
+    let left : left_by h.before.log h.keeps.keep ≡ records_of r.log.sight.kept =
+    same_records _ _ h.keeps.torn r.opens.torn (sym h.keeps.read ∙ r.opens.read) in
+    lives.begins q h.failures h.keeps.keep (record {
+      before = before;
+      behind = h.new.core;
+      keep = h.keeps.keep;
+      reaction = h.opening;
+      moves = record {
+        tree = h.alone.tree;
+        stood = counted_is q h.failures s h.before h.was;
+        stands = ap (λ p. t.node_at p) (sym h.same) ∙ h.is.core;
+        others = λ p away. h.alone.others p away ∙ sym (counted_others q h.failures s p away);
+        others_data = h.alone.others_data;
+      };
+      keeps = refl;
+      restarts = r.restarts before (record { place_is = at; failures_are = refl }) h.keeps.keep left;
+      holdings =
+          subst (λ (d : ManagerData). RestartsData h.before.place.role (left_by h.before.log h.keeps.keep) d)
+          (sym (ap (λ p. t.data_at p) (sym h.same) ∙ h.is.holdings))
+          (subst (λ (ls : List LogRecord). RestartsData h.before.place.role ls h.new.holdings) (sym left)
+          (subst (λ (p : Place). RestartsData p.role (records_of r.log.sight.kept) h.new.holdings) (sym at)
+          r.holdings));
+      enters = record { net = h.entered.net; delivered = h.entered.delivered; entries = h.entered.entries };
+    })
+
+-- A log without a record.
+
+reopens_none : (role : Role) → reopens role [] ≡ Opened 1 ∷ []
+unfolding boot_of cases_in
+reopens_none AtRoot = refl
+reopens_none (Below p) = refl
+reopens_none (AtLeaf p) = refl
+
+none_read : (place : Place) → own_records place [] ≡ []
+unfolding own_records
+none_read place = refl
+
+restarted_none : (old : CoreState) → restarted_log old 0 ≡ left_by old.log 0
+    ++ logged old (reopens old.place.role (read_of old (left_by old.log 0)))
+restarted_none old = refl
+
+-- the restart of a process that left no record
+module _ (old new : CoreState) (none : left_by old.log 0 ≡ []) where
+  log_none : restarted_log old 0 ≡ first_opened ∷ []
+  log_none =
+      ap (λ (ls : List LogRecord). ls ++ logged old (reopens old.place.role (read_of old ls))) none
+      ∙ (ap (λ (rs : List Record). logged old (reopens old.place.role rs)) (none_read old.place)
+      ∙ ap (λ (rs : List Record). logged old rs) (reopens_none old.place.role))
+
+  read_none : read_of old (restarted_log old 0) ≡ Opened 1 ∷ []
+  read_none = ap (λ (ls : List LogRecord). read_of old ls) log_none ∙ reads_back old.place (Opened 1 ∷ []) refl
+
+alike : (v w u : CoordinatorView) → SameView v u → SameView w u → SameView v w
+alike v w u h k = record {
+  standing = h.standing ∙ sym k.standing;
+  accepted = h.accepted ∙ sym k.accepted;
+  voted = λ o t. h.voted o t ∙ sym (k.voted o t);
+  worked = λ t. h.worked t ∙ sym (k.worked t);
+  promised = h.promised ∙ sym k.promised;
+  named = λ t. h.named t ∙ sym (k.named t);
+  owed = λ t. h.owed t ∙ sym (k.owed t);
+}
+
+-- two processes that have opened and heard nothing are the same, but for the counts of failures
+module _ (c d : CoreState) (m n : ℕ) (place : Place) where
+  same_opened : OpensAt c place m → OpensAt d place n → SameCore (counted c n) d
+  same_opened h k =
+      let at : d.place ≡ c.place = k.place_is ∙ sym h.place_is in
+      record {
+        log = k.log ∙ sym (ap (λ (l : LogSight). counted_log l n) h.log);
+        rest = record {
+          place = at;
+          boot = k.read.boot ∙ sym h.read.boot;
+          begun = k.read.begun ∙ sym h.read.begun;
+          given = k.read.given ∙ sym h.read.given;
+          tickets = λ x. k.read.tickets x ∙ sym (h.read.tickets x);
+          views = λ x. alike (d.view_of x) (c.view_of x) (recorded_view_at c.place.role (Opened 1 ∷ []) x)
+              (subst (λ (p : Place). SameView (d.view_of x) (recorded_view_at p.role (Opened 1 ∷ []) x)) at
+              (k.read.views x))
+              (h.read.views x);
+          branches = λ x. k.read.branches x
+              ∙ (ap (λ (p : Place). recorded_branch_at p.role (Opened 1 ∷ []) x) at ∙ sym (h.read.branches x));
+        };
+      }
+
+-- a process that sits there, and left no record
+abbrev nobody : CoreState → ℕ → CoreState
+nobody c n = record c { log = forced_sight [] n }
+
+-- what goes on over a log without a record has opened and heard nothing
+opens_again : (old new : CoreState) (place : Place) (n : ℕ) (reaction : Reaction) → old.place ≡ place
+    → old.log.failures ≡ n → left_by old.log 0 ≡ [] → Restarts old 0 new reaction → OpensAt new place n
+opens_again old new place n reaction at count none r = record {
+  place_is = r.place ∙ at;
+  log = r.log ∙ (ap (λ (ls : List LogRecord). forced_sight ls old.log.failures) (log_none old new none)
+      ∙ ap (λ (k : ℕ). forced_sight (first_opened ∷ []) k) count);
+  read = subst (λ (rs : List Record). ReadOff new rs) (read_none old new none) r.read;
+}
+
+pub started_first : (s t : WorldState) → StartedFirst s t → LifeStep s t
+started_first s t h =
+    let q = h.entry.id in
+    let r = h.reopens in
+    let n = h.failures in
+    let old = nobody h.before n in
+    let at : h.before.place ≡ seat s.tree h.entry =
+    h.heard_nothing.place_is ∙ listed_place s.tree h.entry h.listed in
+    let none : left_by old.log 0 ≡ [] = all_left [] n in
+    let empty : [] ≡ records_of r.log.sight.kept = same_records _ _ h.torn r.opens.torn (sym h.empty ∙ r.opens.read) in
+    let restarts : Restarts old 0 h.new.core h.opening =
+    r.restarts old (record { place_is = at; failures_are = refl }) 0 (none ∙ empty) in
+    let opened : OpensAt h.new.core (place_of s.tree q) n =
+    opens_again old h.new.core (place_of s.tree q) n h.opening h.heard_nothing.place_is refl none restarts in
+    let same : SameCore (counted h.before n) h.new.core =
+    same_opened h.before h.new.core h.counted n (place_of s.tree q) h.heard_nothing opened in
+    let stood = counted_is q n s h.before h.was in
+    let stands : t.node_at q ≡ Some h.new.core = ap (λ p. t.node_at p) (sym h.same) ∙ h.is.core in
+    lives.begins_anew q n (record {
+      tree = h.alone.tree;
+      nodes = λ p. elim (same_process_tells q p) [
+        | inl y ↦ subst (λ x. SameNode ((counted_at q n s).node_at x) (t.node_at x)) y.1
+            (subst (λ o. SameNode o (t.node_at q)) (sym stood)
+            (subst (λ o. SameNode (Some (counted h.before n)) o) (sym stands) same))
+        | inr z ↦ subst (λ o. SameNode o (t.node_at p)) (sym (counted_others q n s p z.0))
+            (subst (λ o. SameNode (s.node_at p) o) (sym (h.alone.others p z.0)) (same_as_it_is (s.node_at p)))
+      ];
+      net = h.silent.net;
+      delivered = h.silent.delivered;
+      entries = h.silent.entries;
+    })

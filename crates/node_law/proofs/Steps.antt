@@ -1,0 +1,59 @@
+-- What the nodes of a tree come to stands for a run.
+use Rattle.std.proofs.Common.{◌≡◌, ◌∙◌, sym, subst, refl, ℕ, Some, List, [], ◌++◌}
+use Rattle.tree_model.specs.declared.trees.TreeEntry.{TreeEntry}
+use Rattle.tree_model.specs.Trees.{IsTree}
+use Rattle.tree_model.specs.World.{Made, World, opened_world}
+use Rattle.core_law.specs.worlds.Worlds.{WorldState}
+use Rattle.core_law.specs.worlds.Ties.{FollowsBehindFaults, entered_of}
+use Rattle.core_law.proofs.worlds.Events.{GoesOnIn, then_on, waits}
+use Rattle.core_law.proofs.worlds.Journals.{opened_behind_faults}
+use Rattle.core_law.proofs.worlds.Whole.{modelled_behind_faults}
+use Rattle.node_lives.specs.Lives.{LifeStep}
+use Rattle.node_lives.specs.Lives as lives
+use Rattle.node_lives.proofs.Lives.{step_on}
+use Rattle.node_law.specs.Nodes.{NodeStep, NodeSteps, NodesAreRuns, StepsGoOn, answers, ends_in_start, ends_in_trim, ends_unanswered, ends_within, more, none, starts, starts_first}
+use Rattle.node_law.proofs.Lines.{answered, unanswered}
+use Rattle.node_law.proofs.Starts.{IsPlaced, started, started_first}
+
+-- a step of a node is a step of one of the tree's programs
+step_lives : (s t : WorldState) → IsPlaced s → NodeStep s t → LifeStep s t
+step_lives s t placed (answers h) = answered s t h
+step_lives s t placed (ends_unanswered h) = unanswered s t h
+step_lives s t placed (ends_within q i sent h) = lives.breaks q i sent h
+step_lives s t placed (ends_in_trim q h) = lives.trim_breaks q h
+step_lives s t placed (starts h) = started s t placed h
+step_lives s t placed (starts_first h) = started_first s t h
+step_lives s t placed (ends_in_start q n keep h) = lives.begin_breaks q n keep h
+
+placed_by : (s : WorldState) (es : List Made) (w : World) → FollowsBehindFaults es w s → IsPlaced s
+placed_by s es w f = λ q c there. (f.follows.nodes q c there).place
+
+module _ (tree : List TreeEntry) (is_tree : IsTree tree) where
+  abbrev On : List Made → World → WorldState → Type 0
+  On = GoesOnIn entered_of tree
+
+  node_on : (s t : WorldState) (es : List Made) (w : World) → s.tree ≡ tree → FollowsBehindFaults es w s
+      → NodeStep s t → On es w t
+  node_on s t es w is f step = step_on tree is_tree s t es w is f (step_lives s t (placed_by s es w f) step)
+
+  nodes_on : (s : WorldState) (es : List Made) (w : World) → s.tree ≡ tree → FollowsBehindFaults es w s
+      → (t : WorldState) → NodeSteps s t → On es w t
+  nodes_on s es w is f _ none = waits entered_of tree es w s f is
+  nodes_on s es w is f _ (more r t before step) =
+      let first = nodes_on s es w is f r before in
+      then_on entered_of tree es w r t first
+      (λ es' w' g. node_on r t es' w' first.tree_stays g step)
+
+pub steps_so : StepsGoOn
+steps_so s t es w is_tree f step = (node_on s.tree is_tree s t es w refl f step).goes_on_so
+
+pub nodes_so : NodesAreRuns
+nodes_so tree s t is_tree opened steps =
+    let start = opened_behind_faults tree s opened in
+    let end = nodes_on tree is_tree s [] opened_world opened.tree_is start t steps in
+    let on = end.goes_on_so in
+    record {
+      run = record { moves = on.later ++ []; world = on.world; follows = on.follows };
+      headline = modelled_behind_faults t (on.later ++ []) on.world
+          (subst IsTree (sym end.tree_stays) is_tree) on.follows;
+    }

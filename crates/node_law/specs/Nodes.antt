@@ -1,0 +1,212 @@
+-- A tree each process of which is a node, a program of its own over a log in a file.
+use Rattle.std.specs.Prelude.{◌≡◌, ⊤, ℕ, Bool, true, false, Option, Some, Result, Ok, Err, List, [], find, slice_get}
+use Rattle.tree_model.specs.declared.names.Kind.{Kind}
+use Rattle.tree_model.specs.declared.names.ProcessId.{ProcessId}
+use Rattle.tree_model.specs.declared.messages.Envelope.{Envelope}
+use Rattle.tree_model.specs.declared.events.Happening.{Happening}
+use Rattle.tree_model.specs.declared.events.Happening.TheVariants.{Input as Handles, Trim as Trimming}
+use Rattle.tree_model.specs.declared.events.Input.{Input}
+use Rattle.tree_model.specs.declared.events.Input.TheVariants.{Act as ActInput, Message as MessageInput}
+use Rattle.tree_model.specs.declared.events.Reaction.{Reaction}
+use Rattle.tree_model.specs.declared.events.StepError.{StepError}
+use Rattle.tree_model.specs.declared.trees.TreeEntry.{TreeEntry}
+use Rattle.tree_model.specs.Names.{same_process}
+use Rattle.tree_model.specs.Nodes.{place_of}
+use Rattle.tree_model.specs.Plays.{process_of_act}
+use Rattle.tree_model.specs.Trees.{IsTree, root_of}
+use Rattle.tree_model.specs.World.{InputStands, Made, World}
+use Rattle.log_rules.specs.order.Logs.{Whole, read_log}
+use Rattle.rec_log.specs.Sights.{left_by}
+use Rattle.core_model.specs.States.{CoreState}
+use Rattle.core_model.specs.Opening.{IsOpened as OpensAt}
+use Rattle.core_law.specs.Steps.{restart_of, trim_reaction}
+use Rattle.core_law.specs.worlds.Worlds.{DeviceFails, Enters, RestartFails, TrimFails, WorldState}
+use Rattle.core_law.specs.worlds.Runs.{IsOpened}
+use Rattle.core_law.specs.worlds.Ties.{FollowsBehindFaults, GoesOnBehindFaults}
+use Rattle.core_law.specs.worlds.Modelled.{KeepsHeadline}
+use Rattle.tree_node.specs.Reopenings.{ReopensAs, kind_by}
+use Rattle.node_lines.specs.declared.asked.Asked.{Asked}
+use Rattle.node_lines.specs.declared.asked.Asked.TheVariants as asked
+use Rattle.node_engine.specs.Answers.{Answers, AnswersIf, AnswersLine, NodeState, Takes, TakesIf, TakesLine}
+use Rattle.node_lives.specs.Lives.{counted_at}
+
+-- Where the nodes are.
+
+-- a process of the tree is this node
+pub record Sits (s : WorldState) (n : NodeState) : Type 0 where
+  pub root : n.root ≡ root_of s.tree
+  pub core : s.node_at n.me ≡ Some n.core
+  pub holdings : s.data_at n.me ≡ n.holdings
+
+-- of the processes this one alone moves
+pub record MovesAlone (s t : WorldState) (q : ProcessId) : Type 0 where
+  pub tree : t.tree ≡ s.tree
+  pub others : (p : ProcessId) → same_process q p ≡ false → t.node_at p ≡ s.node_at p
+  pub others_data : (p : ProcessId) → same_process q p ≡ false → t.data_at p ≡ s.data_at p
+
+-- nothing was sent, and no step was entered
+pub record Silent (s t : WorldState) : Type 0 where
+  pub net : t.net ≡ s.net
+  pub delivered : t.delivered ≡ s.delivered
+  pub entries : t.entries ≡ s.entries
+
+-- Lines.
+
+-- The net alters and invents nothing: a message that a node hears is one that was sent, whatever number it has.
+-- It may come late, again, or never.
+abbrev pub WasSent : List Envelope → Asked → Type 0
+WasSent net (asked.Message n e) = (place : ℕ) × (slice_get net place ≡ Some e)
+WasSent net _ = ⊤
+
+-- The reaction to an input is entered, and its messages are sent; of a refusal nothing is.
+abbrev pub EntersEnd : WorldState → WorldState → ProcessId → Happening → Result Reaction StepError → Type 0
+EntersEnd s t q h (Ok reaction) = Enters s t q h reaction s.delivered
+EntersEnd s t q h (Err e) = Silent s t
+
+-- the same of a trim
+abbrev pub EntersTrim : WorldState → WorldState → ProcessId → Result ℕ StepError → Type 0
+EntersTrim s t q (Ok remain) = Enters s t q Trimming (trim_reaction remain) s.delivered
+EntersTrim s t q (Err e) = Silent s t
+
+module _ (s t : WorldState) (old new : NodeState) where
+  -- what is entered of an input that is answered: of one for another process nothing
+  abbrev pub EntersAnswer : (mine : Bool) (input : Input) (text : List ℕ)
+      → AnswersIf mine old new input text → Type 0
+  EntersAnswer true input text h = EntersEnd s t old.me (Handles input) h.end
+  EntersAnswer false input text h = Silent s t
+
+  -- of an answer to what was asked
+  abbrev pub EntersAnswered : (a : Asked) (text : List ℕ) → Answers a old new text → Type 0
+  EntersAnswered asked.Nothing text h = Silent s t
+  EntersAnswered (asked.Act a) text h =
+      EntersAnswer (same_process (process_of_act old.root a) old.me) (ActInput a) text h
+  EntersAnswered (asked.Message n e) text h =
+      EntersAnswer (same_process e.to old.me) (MessageInput n e.message) text h
+  EntersAnswered asked.Trim text h = EntersTrim s t old.me h.end
+  EntersAnswered asked.Doubt text h = Silent s t
+  EntersAnswered (asked.Outcome x) text h = Silent s t
+  EntersAnswered asked.Unknown text h = Silent s t
+
+  -- of an input that was made or not, and is not answered
+  abbrev pub EntersTake : (mine : Bool) (input : Input) → TakesIf mine old new input → Type 0
+  EntersTake true input h = EntersEnd s t old.me (Handles input) h.end
+  EntersTake false input h = Silent s t
+
+  -- of what was asked, and is not answered
+  abbrev pub EntersTaken : (a : Asked) → Takes a old new → Type 0
+  EntersTaken asked.Nothing h = Silent s t
+  EntersTaken (asked.Act a) h =
+      EntersTake (same_process (process_of_act old.root a) old.me) (ActInput a) h
+  EntersTaken (asked.Message n e) h = EntersTake (same_process e.to old.me) (MessageInput n e.message) h
+  EntersTaken asked.Trim h = EntersTrim s t old.me h.end
+  EntersTaken asked.Doubt h = Silent s t
+  EntersTaken (asked.Outcome x) h = Silent s t
+  EntersTaken asked.Unknown h = Silent s t
+
+-- A node answered a line, as `run_node` says: what it answers is what it did, and what it sent stands in it.
+pub record Answered (s t : WorldState) : Type 0 where
+  pub old : NodeState
+  pub new : NodeState
+  pub was : Sits s old
+  pub same : new.me ≡ old.me
+  pub is : Sits t new
+  pub alone : MovesAlone s t old.me
+  pub line : List ℕ
+  pub text : List ℕ
+  pub answers : AnswersLine line old new text
+  pub sent : WasSent s.net answers.asked
+  pub entered : EntersAnswered s t old new answers.asked text answers.answers
+
+-- A node made a line or not, and ended before it answered, as `run_node` says; what it would have sent is lost.
+pub record Unanswered (s t : WorldState) : Type 0 where
+  pub old : NodeState
+  pub new : NodeState
+  pub was : Sits s old
+  pub same : new.me ≡ old.me
+  pub is : Sits t new
+  pub alone : MovesAlone s t old.me
+  pub line : List ℕ
+  pub takes : TakesLine line old new
+  pub sent : WasSent s.net takes.asked
+  pub entered : EntersTaken s t old new takes.asked takes.takes
+
+-- Starts.
+
+-- The file kept what was forced: what a node left of its log stands in it, the forced records, and of the others
+-- so many as stand whole within some bytes. Behind them may stand a torn tail.
+pub record Keeps (p : Kind) (c : CoreState) (bytes : List ℕ) : Type 0 where
+  pub keep : ℕ
+  pub torn : ℕ
+  pub read : read_log p bytes ≡ Whole (left_by c.log keep) torn
+
+-- A node started over the file that one before it left, as `start` says.
+pub record Started (s t : WorldState) : Type 0 where
+  pub entry : TreeEntry
+  pub listed : find (λ e. same_process e.id entry.id) s.tree ≡ Some entry
+  pub before : CoreState
+  pub was : s.node_at entry.id ≡ Some before
+  pub new : NodeState
+  pub same : new.me ≡ entry.id
+  pub is : Sits t new
+  pub alone : MovesAlone s t entry.id
+  pub bytes : List ℕ
+  pub keeps : Keeps (kind_by entry.kind entry.parent) before bytes
+  pub forced : ℕ
+  pub failures : ℕ
+  pub opening : Reaction
+  pub reopens : ReopensAs s.tree entry bytes forced failures new.core new.holdings opening
+  pub entered : Enters s t entry.id (restart_of before keeps.keep) opening s.delivered
+
+-- A node started over a file that was just made, or in which no record came to be forced.
+pub record StartedFirst (s t : WorldState) : Type 0 where
+  pub entry : TreeEntry
+  pub listed : find (λ e. same_process e.id entry.id) s.tree ≡ Some entry
+  pub before : CoreState
+  pub was : s.node_at entry.id ≡ Some before
+  pub counted : ℕ
+  pub heard_nothing : OpensAt before (place_of s.tree entry.id) counted
+  pub new : NodeState
+  pub same : new.me ≡ entry.id
+  pub is : Sits t new
+  pub alone : MovesAlone s t entry.id
+  pub bytes : List ℕ
+  pub torn : ℕ
+  pub empty : read_log (kind_by entry.kind entry.parent) bytes ≡ Whole [] torn
+  pub forced : ℕ
+  pub failures : ℕ
+  pub opening : Reaction
+  pub reopens : ReopensAs s.tree entry bytes forced failures new.core new.holdings opening
+  pub silent : Silent s t
+
+-- Steps.
+
+-- A step of one of the nodes. One that ends within a line, within a trim or within its start leaves what a failure of
+-- the device there leaves, as far as its file goes: a front of what it appended, of which some is forced.
+pub data NodeStep (s t : WorldState) : Type 0 where
+  answers : Answered s t → NodeStep s t
+  ends_unanswered : Unanswered s t → NodeStep s t
+  ends_within : (q : ProcessId) (i : Input) → InputStands s.net q i → DeviceFails s t q i → NodeStep s t
+  ends_in_trim : (q : ProcessId) → TrimFails s t q → NodeStep s t
+  starts : Started s t → NodeStep s t
+  starts_first : StartedFirst s t → NodeStep s t
+  ends_in_start : (q : ProcessId) (failures keep : ℕ)
+      → RestartFails (counted_at q failures s) t q (Some keep) → NodeStep s t
+
+-- such steps, one after another, of whichever nodes
+pub data NodeSteps (start : WorldState) : WorldState → Type 0 where
+  none : NodeSteps start start
+  more : (s t : WorldState) → NodeSteps start s → NodeStep s t → NodeSteps start t
+
+-- The laws.
+
+-- what a step of a node makes of a tree that stands for a run stands for one that goes on
+abbrev pub StepsGoOn : Type 0
+StepsGoOn = (s t : WorldState) (es : List Made) (w : World) → IsTree s.tree → FollowsBehindFaults es w s
+    → NodeStep s t → GoesOnBehindFaults es w t
+
+-- What the nodes of a tree come to, whichever end and start, and whatever the net loses, repeats and reorders, is a
+-- run of the model, of which the headline holds. A process whose node was not started yet has opened and heard
+-- nothing.
+abbrev pub NodesAreRuns : Type 0
+NodesAreRuns = (tree : List TreeEntry) (s t : WorldState) → IsTree tree → IsOpened s tree → NodeSteps s t
+    → KeepsHeadline t
