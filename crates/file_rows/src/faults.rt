@@ -72,24 +72,37 @@ fn reads(alloc: Global, text: &[u8], safe: &Safe) -> bool {
     }
 }
 
-/// How much of what is not safe is left.
-const KEPT: [usize; 5] = [0, 40, 71, 73, 200];
+/// What stands behind a front that is left, where anything does.
+const BEHIND: [u8; 2] = [0, 165];
 
-/// How many ends read so: of what is not safe a front is left, and behind it nothing, or zeros.
+/// Whether a front of the file reads so, with nothing behind it, with zeros, and with other bytes.
+fn front_reads(alloc: Global, held: &[u8], keep: usize, safe: &Safe) -> Result<bool, AllocError> {
+    let keep = keep.min(held.len());
+    let mut text = Vec::from_slice(alloc, &held[..keep])?;
+    if !reads(alloc, &text, safe) {
+        return Ok(false);
+    }
+    for byte in BEHIND {
+        text.truncate(keep);
+        for _ in keep..held.len() {
+            text.push(byte)?;
+        }
+        if !reads(alloc, &text, safe) {
+            return Ok(false);
+        }
+    }
+    Ok(true)
+}
+
+/// How many ends read so: of what is not safe each front is left, byte by byte.
 fn ends(alloc: Global, file: &FakeFile, safe: &Safe) -> Result<Option<u64>, AllocError> {
     let mut count = 0u64;
     let held = file.held.as_slice();
-    for kept in KEPT {
-        let keep = held.len().min(file.safe.saturating_add(kept));
-        let mut text = Vec::from_slice(alloc, &held[..keep])?;
-        let cut = reads(alloc, &text, safe);
-        for _ in keep..held.len() {
-            text.push(0)?;
-        }
-        if !cut || !reads(alloc, &text, safe) {
+    for keep in file.safe..held.len().saturating_add(1) {
+        if !front_reads(alloc, held, keep, safe)? {
             return Ok(None);
         }
-        count = count.saturating_add(2);
+        count = count.saturating_add(3);
     }
     Ok(Some(count))
 }
@@ -123,7 +136,7 @@ fn fault(alloc: Global, calls: u64, part: usize) -> Result<Option<u64>, AllocErr
 pub fn run(alloc: Global) -> Option<u64> {
     let mut count = 0u64;
     for calls in 0..9 {
-        for part in [0, 72, 80] {
+        for part in [0, 1, 71, 72, 73, 80] {
             match fault(alloc, calls, part) {
                 Ok(Some(found)) => count = count.saturating_add(found),
                 _ => return None,
