@@ -1,0 +1,4 @@
+mod Apart
+mod Seating
+mod Leaving
+mod Passing

@@ -1,0 +1,35 @@
+use Rattle.std.proofs.Common.{◌≡◌, [], subst, true}
+use Rattle.tree_model.specs.Nodes.{is_listed}
+use Rattle.tree_model.specs.Trees.{IsTree}
+use Rattle.tree_cut.specs.Owns.{OwnRun}
+use Rattle.tree_node.specs.Nodes.{core_of}
+use Rattle.tree_node.specs.Openings.{OpenedAs}
+use Rattle.tree_cluster.proofs.Seating.{any_words, has_name, keeps_journal, opened_own, sits_at}
+use Rattle.tree_cluster.proofs.Apart.{listed_at}
+use Rattle.tree_cluster.proofs.opening.open_seated.Goals as goal
+
+pub seat-requires-clause-here : goal.seat-requires-clause-here
+seat-requires-clause-here g c =
+    let words = any_words _ _ _ _ _ c.requires.table c.requires.entry.0 in
+    sits_at _ _ _ _ _ _ c.requires.table.here c.requires.journal words.0
+
+pub seat-requires-clause-journal : goal.seat-requires-clause-journal
+seat-requires-clause-journal g c = keeps_journal _ _ _ _ _ c.requires.journal
+
+pub seat-requires-clause-word : goal.seat-requires-clause-word
+seat-requires-clause-word g c = has_name _ _ _ _ _ _ _ c.requires.table c.requires.journal c.requires.entry.0
+
+pub new-requires-2-clause-tree : goal.new-requires-2-clause-tree
+new-requires-2-clause-tree g c =
+    let listed = listed_at c.args.tree.now c.args.place c.args.entry.now c.requires.entry.0 c.requires.entry.1 in (
+      subst IsTree c.requires.tree.1 c.requires.tree.0,
+      subst (λ t. is_listed t c.args.entry.now.id ≡ true) c.requires.tree.1 listed,
+    )
+
+pub new-requires-2-clause-own : goal.new-requires-2-clause-own
+new-requires-2-clause-own g c =
+    let e = c.args.entry.now in
+    let core = core_of c.in_ok-node.node in
+    let opened = subst (λ t. OpenedAs t e core) c.in_ok-copy.ensures c.in_ok-node.ensures.ok in
+    subst (λ t. OwnRun t e.id [] core) c.requires.tree.1
+    (opened_own c.args.tree.now c.args.place e core c.requires.tree.0 c.requires.entry.0 c.requires.entry.1 opened)

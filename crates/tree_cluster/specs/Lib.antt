@@ -1,0 +1,4 @@
+pub mod Passes
+pub mod Posts
+pub mod Closing
+pub mod Opening

@@ -1,0 +1,35 @@
+-- A cluster that opens.
+use Rattle.std.specs.Prelude.{◌≡◌, ℕ, List, [], length, map}
+use Rattle.atomic_table.specs.Seated.{TableId}
+use Rattle.atomic_table.specs.declared.shared.Seat.{Seat}
+use Rattle.tree_model.specs.declared.names.ProcessId.{ProcessId}
+use Rattle.tree_model.specs.declared.events.Entry.{Entry}
+use Rattle.tree_model.specs.declared.trees.TreeEntry.{TreeEntry}
+use Rattle.tree_model.specs.Trees.{IsTree}
+use Rattle.tree_ties.specs.declared.views.View.{View}
+use Rattle.tree_ties.specs.Views.{keeper}
+
+-- the names of the processes, in the order of the tree
+abbrev pub names_of : List TreeEntry → List ProcessId
+names_of tree = map (λ e. e.id) tree
+
+-- The table, of which these are the number and the names, is the one that is meant; its names are those of a tree's
+-- processes, and the tree is the one that is meant.
+pub record SeatsTree (table : TableId) (meant tree : List TreeEntry) (id : TableId)
+    (names : List ProcessId) : Type 0 where
+  pub is_tree : IsTree tree
+  pub tree_is : tree ≡ meant
+  pub here : id ≡ table
+  pub names_are : names ≡ names_of tree
+
+-- the table is this one, and has the names of the tree's processes, a word for each
+pub record IsTableOf (table : TableId) (tree : List TreeEntry) (id : TableId) (names : List ProcessId) : Type 0 where
+  pub here : id ≡ table
+  pub names_are : names ≡ names_of tree
+  pub words : table.words ≡ length tree
+
+-- the journal's seat, where so many processes have a seat, and so many passes were given; nothing is entered
+pub record KeepsSeats (table : TableId) (tree : List TreeEntry) (opened given : ℕ)
+    (seat : Seat Entry View) : Type 0 where
+  pub here : seat.table_id ≡ table
+  pub keeps : seat.me ≡ (keeper (names_of tree) opened given [], [])

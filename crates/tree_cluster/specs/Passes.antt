@@ -1,0 +1,19 @@
+-- What callers' passes show.
+use Rattle.std.specs.Prelude.{◌≡◌, ℕ, zero, suc, List, [], ◌∷◌, ◌++◌}
+use Rattle.tree_model.specs.declared.events.Entry.{Entry}
+use Rattle.tree_threads.specs.Passes.{PassState}
+
+-- the pass has more pairs, or as many
+pub record IsLonger (old new : PassState) : Type 0 where
+  pub caller : new.caller ≡ old.caller
+  pub more : List (ℕ × Entry)
+  pub pairs : new.pairs ≡ old.pairs ++ more
+
+-- the pass of this caller, of which nothing is noted
+abbrev pub new_pass : ℕ → PassState
+new_pass caller = record { caller = caller; pairs = [] }
+
+-- so many of them; their callers' numbers begin at 0
+abbrev pub new_passes : ℕ → List PassState
+new_passes zero = []
+new_passes (suc n) = new_passes n ++ new_pass n ∷ []

@@ -1,0 +1,242 @@
+//! A tree whose processes run at the same time.
+
+ghost use Rattle.std.specs.Prelude.{◌≡◌, ◌+◌, ◌<◌, ◌≤◌, IfOk, OnErr, map};
+ghost use Rattle.tree_model.specs.Plays.{process_of_act};
+ghost use Rattle.tree_model.specs.Trees.{IsTree, root_of as root_in};
+ghost use Rattle.tree_threads.specs.Posts.{PostsOne};
+ghost use Rattle.tree_cluster.specs.Closing.{AreMet, IsClosed};
+ghost use Rattle.tree_cluster.specs.Opening.{SeatsTree};
+ghost use Rattle.tree_cluster.specs.Passes.{new_passes};
+ghost use Rattle.tree_cluster.specs.Posts.{IsOf, Posts};
+
+use crate::closing::{left_logs, let_go, meet_all};
+use crate::opening::{give_passes, open_all};
+use std::alloc::{AllocError, Global};
+use std::sync::{Condvar, Mutex, Wait};
+use tree_model::{Act, Entry, Event, LogRecord, ProcessId, StepError, Tree, TreeEntry, Txn};
+use tree_node::OpenError;
+use tree_threads::{Gate, Ledger, Pass, PostError, Posted, Seated, Turn, is_same};
+use tree_ties::seats::{Opened, Seats, Ties};
+
+/// Every entry with its caller's number, the oldest first.
+pub type Journal = Vec<(u64, Entry)>;
+
+/// A tree whose processes run at the same time, each under a lock of its own, and the journal under one of its
+/// own. Its callers have passes. Its table of seats and its tree are those that `N` names.
+#[derive(Drop)]
+pub struct Cluster<N: Seats> {
+    pub(crate) alloc: Global,
+    pub(crate) tree: Tree,
+    pub(crate) ties: Ties,
+    pub(crate) processes: Vec<Mutex<Seated<N>>>,
+    pub(crate) ledger: Mutex<Ledger<N>>,
+    /// A message was sent, or no claim is left.
+    pub(crate) moved: Condvar,
+    /// Workers that wait between rounds are called.
+    pub(crate) called: Condvar,
+    ghost here: { ties.shared.table_id ≡ N.table },
+    ghost words: { 0 < N.table.words },
+    ghost tree_is: { tree ≡ N.tree },
+    ghost is_tree: { IsTree N.tree },
+}
+
+/// The process of an act: its case's ticket's child, or the root.
+fn process_of(root: ProcessId, act: &Act) -> ProcessId
+    ensures { result ≡ process_of_act root act.now }
+{
+    match act {
+        Act::Begin(_) => root,
+        Act::Join(case, _)
+        | Act::Work(case, _, _)
+        | Act::Ask(case)
+        | Act::Decide(case, _)
+        | Act::Forget(case) => match case.ticket {
+            None => case.txn.root,
+            Some(ticket) => ticket.child,
+        },
+        Act::Commit(txn) | Act::Abort(txn) => txn.root,
+    }
+}
+
+/// The place of a process in the tree.
+fn place_of(entries: &[TreeEntry], process: ProcessId) -> Option<usize> {
+    for (place, entry) in entries.iter().enumerate() {
+        if is_same(entry.id, process) {
+            return Some(place);
+        }
+    }
+    None
+}
+
+/// The number of a place, from 1. No journal has as many entries as would fail here.
+fn number_of<R: Wait>(rt: &R, place: usize) -> usize
+    ensures { result ≡ place + 1 }
+{
+    match place.checked_add(1) {
+        Some(number) => number,
+        None => {
+            for _ in rt.forever() {}
+            unreachable!()
+        }
+    }
+}
+
+impl<N: Seats> Cluster<N> {
+    /// A tree that has opened, and a pass for each of so many callers, whose numbers begin at 0. The table has
+    /// the names of the tree's processes, in the order of the tree.
+    pub fn new(
+        alloc: Global,
+        tree: Tree,
+        opened: Opened,
+        callers: usize,
+    ) -> Result<(Cluster<N>, Vec<Pass<N>>), OpenError>
+        requires seats { SeatsTree N.table N.tree tree opened.ties.shared.table_id opened.ties.shared.key.items }
+        requires callers { (0 < callers) × (callers ≤ 64) }
+        ensures { IfOk result (λ r. r.1.items ≡ new_passes callers) }
+    {
+        let Opened { ties, mut journal } = opened;
+        let passes = give_passes::<N>(alloc, &ties, &mut journal, tree.entries(), callers)?;
+        let processes = open_all::<N>(alloc, &ties, &mut journal, tree.entries())?;
+        let cluster = Cluster {
+            alloc,
+            tree,
+            ties,
+            processes,
+            ledger: Mutex::new(Ledger::new(alloc, journal)),
+            moved: Condvar::new(),
+            called: Condvar::new(),
+        };
+        Ok((cluster, passes))
+    }
+
+    /// The process of an event: an act's, the receiver of a message, or the one that is named. Stranger: there is
+    /// none. Memory: a growth was refused.
+    fn process_by<R: Wait>(&self, rt: &R, event: &Event) -> Result<ProcessId, PostError>
+        ensures { IfOk result (λ q. IsOf (root_in N.tree) q event.now) }
+    {
+        match event {
+            Event::Act(act) => Ok(process_of(self.tree.root(), act)),
+            Event::Deliver(number) => self.receiver(rt, *number),
+            Event::Settle => Err(PostError::Stranger),
+            Event::Restart(process, _) => Ok(*process),
+            Event::Trim(process) => Ok(*process),
+        }
+    }
+
+    /// The receiver of the message with this number. Stranger: the journal has none.
+    fn receiver<R: Wait>(&self, rt: &R, number: u64) -> Result<ProcessId, PostError> {
+        let mut ledger = self.ledger.lock(rt);
+        receiver_in(&mut *ledger, number)
+    }
+
+    /// Posts an event of this process, or of none where no process has this name.
+    pub(crate) fn post_at<R: Wait, G: Gate>(
+        &self,
+        rt: &R,
+        process: ProcessId,
+        event: Event,
+        pass: &mut Pass<N>,
+        gate: &G,
+        turn: Turn,
+    ) -> Result<Posted, PostError>
+        ensures ok { IfOk result (λ r. PostsOne process event pass.old pass.new r.place r.begun) }
+        ensures err { OnErr result (pass.new ≡ pass.old) }
+    {
+        let Some(place) = place_of(self.tree.entries(), process) else {
+            return Err(PostError::Step(StepError::NoSuch));
+        };
+        let Some(seated) = self.processes.get(place) else {
+            return Err(PostError::Step(StepError::NoSuch));
+        };
+        let mut seated = seated.lock(rt);
+        seated.post(
+            rt,
+            self.alloc,
+            &self.ties,
+            &self.ledger,
+            process,
+            event,
+            pass,
+            gate,
+            turn,
+        )
+    }
+
+    /// Posts an event. At Ok the pass has one pair more, of the entry of this event and its place; the place is
+    /// answered from 1, and the transaction that was begun, if one was.
+    ///
+    /// Stranger: a settle, or a message that the journal has not. JournalFull: the journal has 1,000,000 entries
+    /// or more. Step: the process refused it, or there is none of its name. Memory: a growth was refused. Behind
+    /// a refusal the pass is as before.
+    pub fn post<R: Wait, G: Gate>(
+        &self,
+        rt: &R,
+        event: Event,
+        pass: &mut Pass<N>,
+        gate: &G,
+    ) -> Result<(usize, Option<Txn>), PostError>
+        ensures ok { IfOk result (λ r. Posts (root_in N.tree) event pass.old pass.new r.0 r.1) }
+        ensures err { OnErr result (pass.new ≡ pass.old) }
+    {
+        let process = self.process_by(rt, &event)?;
+        let posted = self.post_at(rt, process, event, pass, gate, Turn::Once)?;
+        self.moved.notify_one();
+        Ok((number_of(rt, posted.place), posted.begun))
+    }
+
+    /// The journal, which is a run, with the caller's number beside each entry; and the logs that this run
+    /// leaves, in the order of the tree. The journal has each pair of each of these passes, under its caller's
+    /// number. Memory: a growth was refused, and the cluster goes on.
+    pub fn close(
+        self,
+        passes: &mut [Pass<N>],
+    ) -> Result<(Journal, Vec<Vec<LogRecord>>), (Cluster<N>, AllocError)>
+        ensures ok { IfOk result (λ r. IsClosed N.tree r.0.items (map (λ log. log.items) r.1.items)
+            × AreMet r.0.items passes.old) }
+    {
+        let Cluster {
+            alloc,
+            tree,
+            ties,
+            mut processes,
+            ledger,
+            moved,
+            called,
+        } = self;
+        let mut ledger = ledger.into_inner();
+        meet_all(&ties, &mut ledger, passes);
+        match left_logs(
+            alloc,
+            &ties,
+            tree.entries(),
+            processes.as_mut_slice(),
+            &mut ledger,
+        ) {
+            Ok(logs) => {
+                let_go(processes, ties);
+                Ok((ledger.into_entries(), logs))
+            }
+            Err(error) => Err((
+                Cluster {
+                    alloc,
+                    tree,
+                    ties,
+                    processes,
+                    ledger: Mutex::new(ledger),
+                    moved,
+                    called,
+                },
+                error,
+            )),
+        }
+    }
+}
+
+/// The receiver of the message with this number, of those that the journal has.
+fn receiver_in<N: Seats>(ledger: &mut Ledger<N>, number: u64) -> Result<ProcessId, PostError> {
+    ledger.place()?;
+    match ledger.message(number) {
+        None => Err(PostError::Stranger),
+        Some(envelope) => Ok(envelope.to),
+    }
+}

@@ -1,0 +1,78 @@
+//! What the workers of one call share.
+
+use std::sync::atomic::{AtomicBool, Ordering};
+use std::sync::{Mutex, Wait};
+use tree_threads::PostError;
+
+/// What the workers of one call, or of one run of a script, share: whether they are to deliver now, whether all
+/// is done, and the first refusal. It changes under the journal's lock alone, so that no wake is lost.
+#[derive(Drop)]
+pub struct Rounds {
+    begun: AtomicBool,
+    open: AtomicBool,
+    done: AtomicBool,
+    stopped: AtomicBool,
+    why: Mutex<Option<PostError>>,
+}
+
+impl Rounds {
+    /// Nothing is delivered yet.
+    pub fn new() -> Rounds {
+        Rounds {
+            begun: AtomicBool::new(false),
+            open: AtomicBool::new(false),
+            done: AtomicBool::new(false),
+            stopped: AtomicBool::new(false),
+            why: Mutex::new(None),
+        }
+    }
+
+    /// Whether the call that leads them has begun.
+    pub(crate) fn has_begun(&self) -> bool {
+        self.begun.load(Ordering::SeqCst)
+    }
+
+    pub(crate) fn begin(&self) {
+        self.begun.store(true, Ordering::SeqCst);
+    }
+
+    /// Whether messages are to be delivered now.
+    pub(crate) fn is_open(&self) -> bool {
+        self.open.load(Ordering::SeqCst)
+    }
+
+    pub(crate) fn set_open(&self, open: bool) {
+        self.open.store(open, Ordering::SeqCst);
+    }
+
+    /// Whether there is nothing more to come.
+    pub(crate) fn is_done(&self) -> bool {
+        self.done.load(Ordering::SeqCst)
+    }
+
+    pub(crate) fn finish(&self) {
+        self.done.store(true, Ordering::SeqCst);
+    }
+
+    /// Whether a delivery was refused.
+    pub(crate) fn is_stopped(&self) -> bool {
+        self.stopped.load(Ordering::SeqCst)
+    }
+
+    /// A delivery was refused. The first refusal is kept.
+    pub(crate) fn stop<R: Wait>(&self, rt: &R, why: PostError) {
+        let mut kept = self.why.lock(rt);
+        if kept.is_none() {
+            *kept = Some(why);
+        }
+        self.stopped.store(true, Ordering::SeqCst);
+    }
+
+    /// How the deliveries ended.
+    pub(crate) fn result<R: Wait>(&self, rt: &R) -> Result<(), PostError> {
+        match *self.why.lock(rt) {
+            None => Ok(()),
+            Some(why) => Err(why),
+        }
+    }
+}

@@ -1,0 +1,222 @@
+//! Workers: they deliver the messages of the journal.
+
+ghost use Rattle.std.specs.Prelude.{◌≡◌, ◌<◌, ◌≤◌, ℕ, length, slice_index_or};
+ghost use Rattle.tree_threads.specs.Passes.{PassState as AnyPass};
+ghost use Rattle.tree_cluster.specs.Passes.{IsLonger};
+
+use crate::cluster::Cluster;
+use crate::rounds::Rounds;
+use std::sync::Wait;
+use std::thread;
+use std::thread::Threads;
+use tree_model::Event;
+use tree_threads::{Claim, Gate, Pass, PostError, Turn};
+use tree_ties::seats::Seats;
+
+/// A worker that is served looks so often whether the call that leads it has begun.
+const LOOKS: u32 = 10_000;
+
+impl<N: Seats> Cluster<N> {
+    /// The least message that is open; or none, once all are delivered or a delivery was refused. It waits while
+    /// others deliver.
+    fn next_claim<R: Wait>(&self, rt: &R, rounds: &Rounds, holds: bool) -> Option<Claim> {
+        for _ in rt.forever() {
+            let mut ledger = self.ledger.lock(rt);
+            if rounds.is_stopped() {
+                return None;
+            }
+            match ledger.claim(holds) {
+                Ok(Some(claim)) => return Some(claim),
+                Ok(None) => {}
+                Err(_) => {
+                    rounds.stop(rt, PostError::Memory);
+                    return None;
+                }
+            }
+            if ledger.is_quiet() {
+                return None;
+            }
+            let _ = self.moved.wait(rt, ledger);
+        }
+        unreachable!()
+    }
+
+    /// Delivers a message that is claimed. Gives the next claim, if there is an open message.
+    fn deliver<R: Wait, G: Gate>(
+        &self,
+        rt: &R,
+        rounds: &Rounds,
+        claim: Claim,
+        pass: &mut Pass<N>,
+        gate: &G,
+    ) -> Option<Claim>
+        ensures { IsLonger pass.old pass.new }
+    {
+        if claim.wakes {
+            self.moved.notify_one();
+            self.called.notify_one();
+        }
+        let event = Event::Deliver(claim.number);
+        match self.post_at(rt, claim.to, event, pass, gate, Turn::Worker) {
+            Ok(posted) => {
+                if posted.next.is_none() {
+                    self.moved.notify_all();
+                }
+                posted.next
+            }
+            Err(why) => {
+                self.stop(rt, rounds, claim, why);
+                None
+            }
+        }
+    }
+
+    /// A delivery was refused: its claim is given back, and the workers stop.
+    fn stop<R: Wait>(&self, rt: &R, rounds: &Rounds, claim: Claim, why: PostError) {
+        let mut ledger = self.ledger.lock(rt);
+        ledger.give_back(claim.number);
+        rounds.stop(rt, why);
+        drop(ledger);
+        self.moved.notify_all();
+        self.called.notify_all();
+    }
+
+    /// Delivers messages from this one on, until none is open or a delivery was refused.
+    fn deliver_from<R: Wait, G: Gate>(
+        &self,
+        rt: &R,
+        rounds: &Rounds,
+        first: Claim,
+        pass: &mut Pass<N>,
+        gate: &G,
+    )
+        ensures { IsLonger pass.old pass.new }
+    {
+        let mut claim = first;
+        for _ in rt.forever() {
+            match self.deliver(rt, rounds, claim, pass, gate) {
+                None => return,
+                Some(next) => claim = next,
+            }
+        }
+    }
+
+    /// Delivers messages until every one is delivered, or a delivery was refused.
+    fn work<R: Wait, G: Gate>(&self, rt: &R, rounds: &Rounds, pass: &mut Pass<N>, gate: &G)
+        ensures { IsLonger pass.old pass.new }
+    {
+        for _ in rt.forever() {
+            match self.next_claim(rt, rounds, gate.holds()) {
+                None => return,
+                Some(claim) => self.deliver_from(rt, rounds, claim, pass, gate),
+            }
+        }
+    }
+
+    /// Delivers every message, as the call that leads the workers, and calls those that are served to help.
+    pub fn settle<R: Wait, G: Gate>(
+        &self,
+        rt: &R,
+        rounds: &Rounds,
+        pass: &mut Pass<N>,
+        gate: &G,
+    ) -> Result<(), PostError>
+        ensures { IsLonger pass.old pass.new }
+    {
+        rounds.set_open(true);
+        self.work(rt, rounds, pass, gate);
+        rounds.set_open(false);
+        rounds.result(rt)
+    }
+
+    /// The call that leads the workers has begun.
+    pub fn lead(&self, rounds: &Rounds) {
+        rounds.begin();
+    }
+
+    /// There is nothing more to come: the workers that are served go.
+    pub fn dismiss<R: Wait>(&self, rt: &R, rounds: &Rounds) {
+        let ledger = self.ledger.lock(rt);
+        rounds.finish();
+        drop(ledger);
+        self.called.notify_all();
+    }
+
+    /// A message to deliver in an open round; or none, once all is done.
+    fn next_call<R: Wait>(&self, rt: &R, rounds: &Rounds, holds: bool) -> Option<Claim> {
+        for _ in rt.forever() {
+            let mut ledger = self.ledger.lock(rt);
+            if rounds.is_done() || rounds.is_stopped() {
+                return None;
+            }
+            if rounds.is_open() {
+                match ledger.claim(holds) {
+                    Ok(Some(claim)) => return Some(claim),
+                    Ok(None) => {}
+                    Err(_) => {
+                        rounds.stop(rt, PostError::Memory);
+                        return None;
+                    }
+                }
+            }
+            let _ = self.called.wait(rt, ledger);
+        }
+        unreachable!()
+    }
+
+    /// Delivers messages in each round, until all is done. A worker leaves where the call that leads it does not
+    /// begin, since then both may be one thread's.
+    #[tactic(auto, using(crate::proofs::Passing::as_long))]
+    pub fn serve<R: Wait, G: Gate>(&self, rt: &R, rounds: &Rounds, pass: &mut Pass<N>, gate: &G)
+        ensures { IsLonger pass.old pass.new }
+    {
+        if !has_begun(rounds) {
+            return;
+        }
+        for _ in rt.forever() {
+            match self.next_call(rt, rounds, gate.holds()) {
+                None => return,
+                Some(claim) => self.deliver_from(rt, rounds, claim, pass, gate),
+            }
+        }
+    }
+
+    /// Delivers every message of the journal that was not delivered, by as many workers as there are passes, the
+    /// calling thread among them; where a thread cannot be made, its worker comes after another. At the first
+    /// refusal the workers stop, and it is answered.
+    pub fn run_workers<R: Threads + Wait + Sync, G: Gate + Sync>(
+        &self,
+        rt: &R,
+        passes: &mut [Pass<N>],
+        gate: &G,
+    ) -> Result<(), PostError>
+    where
+        N: Send + Sync,
+        requires { (0 < length passes.old) × (length passes.old ≤ 16) }
+        ensures { (i : ℕ) (d : AnyPass) → i < length passes.old
+            → IsLonger (slice_index_or passes.old i d) (slice_index_or passes.new i d) }
+    {
+        let rounds = Rounds::new();
+        let threads = passes.len();
+        thread::for_each_mut(
+            rt,
+            passes,
+            threads,
+            &|_i, pass: &mut Pass<N>|
+                ensures { IsLonger pass.old pass.new }
+            { self.work(rt, &rounds, pass, gate) },
+        );
+        rounds.result(rt)
+    }
+}
+
+/// Whether the call that leads the workers begins.
+fn has_begun(rounds: &Rounds) -> bool {
+    for _ in 0..LOOKS {
+        if rounds.has_begun() {
+            return true;
+        }
+        thread::yield_now();
+    }
+    false
+}
