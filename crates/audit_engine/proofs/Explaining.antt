@@ -1,5 +1,5 @@
 -- The text of what is explained, piece by piece.
-use Rattle.std.proofs.Common.{◌≡◌, ◌∙◌, ℕ, true, if◌then◌else◌, List, [], ◌++◌, codes, IfOk, Result, Ok, Err, sym, ap, append_assoc}
+use Rattle.std.proofs.Common.{◌≡◌, ◌∙◌, ℕ, true, false, if◌then◌else◌, List, [], ◌++◌, codes, IfOk, Result, Ok, Err, sym, ap, append-nil, append_assoc}
 use Rattle.std.specs.List.{flat_map}
 use Rattle.std.specs.Fmt.{decimal}
 use Rattle.tree_model.specs.declared.names.Case.{Case}
@@ -18,7 +18,7 @@ use Rattle.audit_engine.specs.declared.steps.Found.{Found}
 use Rattle.audit_engine.specs.declared.steps.Found.TheVariants.{Nothing}
 use Rattle.audit_engine.specs.declared.steps.Step.{Step}
 use Rattle.audit_engine.specs.Audits.{detailed_text, explained_text, report_text}
-use Rattle.audit_engine.specs.Explanations.{do_text, explained_line, explanation_text, found_text, is_explained, mend_text, steps_of, steps_text, told_part}
+use Rattle.audit_engine.specs.Explanations.{do_text, explained_line, explanation_text, found_text, is_explained, mend_text, reports_text, steps_of, steps_text, told_part, why_text}
 use Rattle.audit_engine.specs.Lines.{count_text, line_text, lines_text}
 use Rattle.audit_engine.specs.declared.detail.Detail.{Detail}
 use Rattle.audit_engine.specs.declared.detail.Detail.TheVariants as detail
@@ -66,14 +66,23 @@ explanation_pushed tree logs l old a b d ss told steps does is =
     (steps_text l.case.txn.presumption (steps_of tree logs l.case l.decision))
     (do_text l.mismatch l.case (steps_of tree logs l.case l.decision))))
 
-pub line_explained : (tree : List TreeEntry) (logs : Logs) (l : Line)
-    (old mid new : List ℕ) → is_explained l ≡ true
-    → mid ≡ old ++ line_text l → new ≡ mid ++ explanation_text tree logs l
-    → new ≡ old ++ explained_line tree logs l
-line_explained tree logs l old mid new is line why =
-    why ∙ ap (λ t. t ++ explanation_text tree logs l) line
-    ∙ append_assoc old (line_text l) (explanation_text tree logs l)
-    ∙ ap (λ b. old ++ (line_text l ++ (if b then explanation_text tree logs l else []))) (sym is)
+-- why a case stands so is told just where it is explained
+pub why_pushed : (tree : List TreeEntry) (logs : Logs) (l : Line) (old new : List ℕ) → is_explained l ≡ true
+    → new ≡ old ++ explanation_text tree logs l → new ≡ old ++ why_text tree logs l
+why_pushed tree logs l old new is why =
+    why ∙ ap (λ b. old ++ (if b then explanation_text tree logs l else [])) (sym is)
+
+pub none_pushed : (tree : List TreeEntry) (logs : Logs) (l : Line) (old : List ℕ) → is_explained l ≡ false
+    → old ≡ old ++ why_text tree logs l
+none_pushed tree logs l old is =
+    sym (append-nil old) ∙ ap (λ b. old ++ (if b then explanation_text tree logs l else [])) (sym is)
+
+pub line_explained : (tree : List TreeEntry) (logs : Logs) (l : Line) (old mid why new : List ℕ)
+    → mid ≡ old ++ line_text l → why ≡ mid ++ why_text tree logs l
+    → new ≡ why ++ reports_text tree l.case l.reports → new ≡ old ++ explained_line tree logs l
+line_explained tree logs l old mid why new line because reported =
+    three old mid why new (line_text l) (why_text tree logs l) (reports_text tree l.case l.reports)
+    line because reported
 
 pub all_explained : (tree : List TreeEntry) (logs : Logs) (r : Report)
     (none mid new : List ℕ) (ls : List Line)

@@ -11,6 +11,7 @@
 //! | `Begins` | a transaction, at the root |
 //! | `Issues` | a fresh ticket for a case of the parent, and its case |
 //! | `Takes` | a row of the reaction table at a live case: its record, its view, its messages |
+//! | `Clears` | Cleared, where the log of the root reports what was found of the case |
 //! | `Answers`, `Repeats`, `Presumes`, `Nothing` | messages at most |
 //!
 //! Room for a record is made before the row, and the row frames its record before it changes the case. So

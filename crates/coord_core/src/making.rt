@@ -3,9 +3,10 @@
 ghost use Rattle.std.specs.Prelude.{◌≡◌, ◌+◌, ◌<◌, ◌^◌, false, true, None, IfErr, IfOk};
 ghost use Rattle.live_table.specs.Tables.{AreApart, live_value};
 ghost use Rattle.tree_model.specs.declared.events.Input.{Input as AnyInput};
+ghost use Rattle.tree_model.specs.Records.{is_reported};
 ghost use Rattle.core_model.specs.Inputs.{input_of};
 ghost use Rattle.core_model.specs.States.{HasNumbers};
-ghost use Rattle.core_model.specs.Turns.{Takes, no_answer};
+ghost use Rattle.core_model.specs.Turns.{Takes, kept_records, no_answer};
 ghost use Rattle.core_model.specs.Makes.{Makes, NotMade};
 ghost use Rattle.coord_table.specs.Cases.{FitsGiven, ticket_in, view_in};
 ghost use Rattle.coord_table.specs.Asks.{Accepts, is_for_any, is_of_root};
@@ -19,10 +20,13 @@ use crate::coordinator::Coordinator;
 use crate::saying::{began, joined, nothing, presumes};
 use crate::turn::Turn;
 use crate::writing::write_down;
+use coord_rows::clears;
 use coord_table::{Asked, answer, take};
 use core_log::make_room;
 use core_model::InputRef;
+use inquire_core::is_reported;
 use log_store::LogStore;
+use std::alloc::AllocError;
 use tree_model::{Case, Presumption, ProcessId, Reaction, StepError, Ticket, Txn};
 
 impl<L: LogStore> Coordinator<L> {
@@ -39,6 +43,7 @@ impl<L: LogStore> Coordinator<L> {
             Turn::Begins(presumption) => self.begins(presumption),
             Turn::Issues(parent, case) => self.issues(parent, case),
             Turn::Takes(key, case, asked) => self.takes(key, case, asked),
+            Turn::Clears(case) => self.clears(case),
             Turn::Answers(case, asked) => self.answers(case, asked),
             Turn::Repeats(parent, case, ticket) => self.repeats(parent, case, ticket),
             Turn::Presumes(txn, ticket) => self.presumes(txn, ticket),
@@ -107,6 +112,37 @@ impl<L: LogStore> Coordinator<L> {
             return Err(StepError::Device);
         }
         Ok(effect.reaction())
+    }
+
+    /// Whether the records of the log report what was found of a case of the root, and it was not cleared
+    /// since. It goes through them once.
+    fn is_reported(&self, case: &Case) -> Result<bool, AllocError>
+        ensures { IfOk result (λ reported. reported ≡ is_reported (kept_records (state self.now)) case.now) }
+    {
+        let records = self.log.records(self.alloc)?;
+        Ok(is_reported(&records, case))
+    }
+
+    /// What is reported of the root's case is cleared, forced. UnknownTxn: nothing is reported. Memory:
+    /// nothing changed. Device: the device failed under the record.
+    fn clears(&mut self, case: Case) -> Result<Reaction, StepError>
+        requires root { self.old.parent ≡ None }
+        requires up { self.old.log.sight.failed ≡ false }
+        ensures ok { IfOk result (λ reaction. (i : AnyInput) → RetiresNone i
+            → Turned (state self.old) (state self.new) i
+            (meant self.old (turn.Clears case)) reaction) }
+        ensures err { IfErr result (Stopped (state self.old) (state self.new)
+            (meant self.old (turn.Clears case))) }
+    {
+        if !self.is_reported(&case)? {
+            return Err(StepError::UnknownTxn);
+        }
+        make_room(&mut self.log)?;
+        let effect = clears(self.alloc, self.seat(case))?;
+        match write_down(&mut self.log, self.parent, &effect.written) {
+            Ok(()) => Ok(effect.reaction()),
+            Err(_) => Err(StepError::Device),
+        }
     }
 
     /// What is said of a case that is not live. Memory: nothing changed, as nothing does.

@@ -20,7 +20,7 @@ use Rattle.core_law.proofs.worlds.Processes.{as_the_model}
 use Rattle.core_law.proofs.worlds.Restarts.{restart_goes_on, trim_goes_on}
 use Rattle.core_law.proofs.worlds.Steps.{step_goes_on}
 use Rattle.core_law.proofs.worlds.Unchanged.{same_by}
-use Rattle.core_law.proofs.worlds.Whole.{modelled_behind_faults}
+use Rattle.core_law.proofs.worlds.Whole.{keeps_headline}
 use Rattle.node_lives.specs.Lives.{BeginsAnew, LifeStep, Lives, LivesAreRuns, StepsGoOn, begin_breaks, begins, begins_anew, breaks, counted, counted_at, makes, more, none, rests, trim_breaks, trims}
 
 -- How many failures were counted makes no difference to what a process stands for.
@@ -39,6 +39,7 @@ stands_counted m c n h = record {
         tickets = u.tickets;
         views = u.views;
         branches = u.branches;
+        decided = u.decided;
       };
 }
 
@@ -68,6 +69,7 @@ module _ (q : ProcessId) (n : ℕ) (es : List Made) (w : World) (s : WorldState)
   counts_alike f = record {
     follows = record {
       is_run = f.follows.is_run;
+      by_this = f.follows.by_this;
       shown = f.follows.shown;
       net = f.follows.net;
       nodes = λ p c there.
@@ -87,6 +89,7 @@ held_so : (es : List Made) (w : World) (t : WorldState) (d : ProcessId → Manag
 held_so es w t d f = record {
   follows = record {
     is_run = f.follows.is_run;
+    by_this = f.follows.by_this;
     shown = f.follows.shown;
     net = f.follows.net;
     nodes = λ p c there.
@@ -168,8 +171,7 @@ lives_so tree s t is_tree opened lives =
     let start = opened_behind_faults tree s opened in
     let end = lives_on tree is_tree s [] opened_world opened.tree_is start t lives in
     let on = end.goes_on_so in
-    let follows = on.follows in
-    record {
-      run = record { moves = on.later ++ []; world = on.world; follows = follows };
-      headline = modelled_behind_faults t (on.later ++ []) on.world (subst IsTree (sym end.tree_stays) is_tree) follows;
-    }
+    keeps_headline t (record {
+      is_tree = subst IsTree (sym end.tree_stays) is_tree;
+      run = record { moves = on.later ++ []; world = on.world; follows = on.follows };
+    })

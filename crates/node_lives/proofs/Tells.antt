@@ -29,7 +29,7 @@ use Rattle.tree_model.specs.Trees.{IsTree}
 use Rattle.tree_model.specs.World.{IsRun, Made, Move, World, entry_of, journal_of, makes, opens, put_at, world_makes}
 use Rattle.tree_model.proofs.RunLaws.{makes_at}
 use Rattle.tree_pairs.specs.readings.ReadingOf.{is_told_of_txn}
-use Rattle.tree_pairs.specs.turns.CoordinatorTurns.{CaseTurn, rests, invites, accepts, sends_work, finds_nobody, asks_for_votes, gives_up, counts_vote, reads_only, commits, promises, hears_no, aborts, passes_commit, passes_abort, repeats_yes, asks, refuses, acknowledges, waits_for_acks, ends, answers, CoordinatorTurn, does_nothing, of_case, begins, gives_again, gives_fresh, presumes}
+use Rattle.tree_pairs.specs.turns.CoordinatorTurns.{CaseTurn, rests, invites, accepts, sends_work, finds_nobody, asks_for_votes, gives_up, counts_vote, reads_only, commits, promises, hears_no, aborts, passes_commit, passes_abort, repeats_yes, asks, refuses, acknowledges, waits_for_acks, ends, clears, answers, CoordinatorTurn, does_nothing, of_case, begins, gives_again, gives_fresh, presumes}
 use Rattle.tree_pairs.specs.turns.LeafTurns.{LeafTurn}
 use Rattle.tree_pairs.specs.turns.LeafTurns as leaf
 use Rattle.tree_pairs.specs.turns.Steps.{StepOf, TurnAt, handled, failed_in, passed, failed_passing, reopened, failed_reopening, trimmed, failed_trimming, heard_in}
@@ -99,6 +99,7 @@ module _ (place : Place) (n : Node) (h : Heard) where
   row_tells parent c _ (acknowledges o fs i e) a g = absurd (cc)
   row_tells parent c _ (waits_for_acks t o fs i e f k) a g = absurd (cc)
   row_tells parent c _ (ends t o fs i e f k) a g = absurd (cc)
+  row_tells parent c _ (clears i e f b) a g = absurd (cc)
   row_tells parent c _ (answers t o i e) a g = absurd (cc)
 
   -- what an input told, of which case

@@ -8,7 +8,7 @@ use Rattle.tree_model.specs.declared.names.Ticket.{Ticket}
 use Rattle.tree_model.specs.declared.records.Branch.TheVariants.{Case as CaseBranch}
 use Rattle.tree_model.specs.declared.records.LogRecord.{LogRecord}
 use Rattle.tree_model.specs.declared.records.Record.{Record}
-use Rattle.tree_model.specs.declared.records.Record.TheVariants.{Opened, Collecting, Prepare, Commit, Abort, End}
+use Rattle.tree_model.specs.declared.records.Record.TheVariants.{Opened, Collecting, Prepare, Commit, Abort, End, Cleared}
 use Rattle.tree_model.specs.declared.trees.TreeEntry.{TreeEntry}
 use Rattle.tree_model.specs.Branches.{FitsBelow}
 use Rattle.tree_model.specs.LogNames.{below_of, in_log, parent_of, ticket_parent}
@@ -61,6 +61,8 @@ fits_of p (Prepare c ts) h = name_fits p c h.0
 fits_of p (Commit c ts) h = name_fits p c h.0
 fits_of p (Abort c ts) h = name_fits p c h.0
 fits_of p (End c None) h = name_fits p c h
+fits_of p (End c (Some r)) h = name_fits p c h.0
+fits_of p (Cleared c) h = name_fits p c h
 fits_of p r h = absurd h.1
 
 all_fit_of : (p : Option ProcessId) (rs : List Record) → CanStand (map (in_log p) rs) → NamesFit p rs

@@ -18,10 +18,10 @@ returns-in_ok-acknowledges-clause-ok g c =
       manager = g.M.ResourceManager.sight c.self.inside.manager;
     } in
     let key = c.requires.at.0 in
-    let x = c.requires.at.1 in
+    let x = c.args.xid.now in
     let at : IsAt s.table key c.args.case (decided x (Some c.args.told)) =
     subst (λ v. IsAt v.table key c.args.case (decided x (Some c.args.told)))
-    (sym c.self.view_is) c.requires.at.2 in
+    (sym c.self.view_is) c.requires.at.1 in
     let kept : IsKept s.table = subst (λ v. IsKept v.table) (sym c.self.view_is) c.requires.kept in
     let same : same_outcome c.args.told c.args.outcome ≡ true = search rules in
     subst (λ v. Hears (seen g.M.ResourceManager.sight v) (seen g.M.ResourceManager.sight v)
@@ -41,10 +41,10 @@ returns-else-is_same-clause-ok g c =
       manager = g.M.ResourceManager.sight c.self.inside.manager;
     } in
     let key = c.requires.at.0 in
-    let x = c.requires.at.1 in
+    let x = c.args.xid.now in
     let at : IsAt s.table key c.args.case (decided x (Some c.args.told)) =
     subst (λ v. IsAt v.table key c.args.case (decided x (Some c.args.told)))
-    (sym c.self.view_is) c.requires.at.2 in
+    (sym c.self.view_is) c.requires.at.1 in
     let kept : IsKept s.table = subst (λ v. IsKept v.table) (sym c.self.view_is) c.requires.kept in
     let other : same_outcome c.args.told c.args.outcome ≡ false = search rules in
     subst (λ v. Hears (seen g.M.ResourceManager.sight v) (seen g.M.ResourceManager.sight v)
