@@ -1,0 +1,3 @@
+pub mod Tellings
+pub mod Reporting
+pub mod Tracing

@@ -1,0 +1,156 @@
+//! A node over a file of the system.
+
+use file_store::{FileStore, HostFile, OpenError, create, open};
+use link_script::read_tree;
+use node_engine::{Nobody, Serving, run_node, start};
+use std::fs;
+use tree_model::{ProcessId, Reaction, Tree};
+
+const LOG: &str = "node_rows.log";
+
+const TREE: &str = "\
+[[process]]
+id = 1
+kind = \"coordinator\"
+[[process]]
+id = 4
+kind = \"manager\"
+parent = 1
+";
+
+const FIRST: &str = "\
+begin pc
+join c1.1 4
+1 4->1 JOINED c1.1 4.1.1
+commit c1.1
+2 4->1 YES c1.1@4.1.1
+7 1->4 COMMIT c1.1@4.1.1
+what is this
+";
+
+const FIRST_SAID: &str = "\
+log 1 Opened 1 forced
+ok
+begin c1.1
+ok
+1 1->4 JOIN c1.1
+ok
+ok
+log 1 Collecting c1.1 forced
+2 1->4 PREPARE c1.1@4.1.1 0
+ok
+log 1 Commit c1.1 forced
+told c1.1 committed
+3 1->4 COMMIT c1.1@4.1.1
+ok
+refused 9
+error
+";
+
+const SECOND: &str = "\
+outcome c1.1
+doubt
+begin pa
+trim
+";
+
+const SECOND_SAID: &str = "\
+log 1 Opened 2 forced
+ok
+outcome c1.1 committed
+ok
+ok
+begin a2.1
+ok
+trim 1 1
+ok
+";
+
+type Node = Serving<FileStore<HostFile>>;
+
+/// Lets a node go. One function does it: what letting go of one means is proved once, and not at each way out.
+fn let_go(_node: Node) {}
+
+/// Whether a node writes just this as it opened and answers these lines.
+fn answers(rt: &HostRuntime, node: &mut Node, opening: &Reaction, lines: &str, said: &str) -> bool {
+    let mut out = Vec::new(rt.alloc());
+    let ended = run_node(
+        rt.alloc(),
+        node,
+        opening,
+        &mut lines.as_bytes(),
+        &mut out,
+        &mut Nobody,
+    );
+    ended.is_ok() && out.as_slice() == said.as_bytes()
+}
+
+/// Whether a node over this store writes just this as it opens and answers these lines.
+fn serves(
+    rt: &HostRuntime,
+    tree: &Tree,
+    store: FileStore<HostFile>,
+    lines: &str,
+    said: &str,
+) -> bool {
+    let Some(entry) = tree.entry(ProcessId(1)) else {
+        return false;
+    };
+    match start(rt.alloc(), tree, entry, store) {
+        Err(_) => false,
+        Ok((mut node, opening)) => {
+            let answers = answers(rt, &mut node, &opening, lines, said);
+            let_go(node);
+            answers
+        }
+    }
+}
+
+/// Whether the log is refused to another process, by name.
+fn refuses(rt: &HostRuntime, tree: &Tree, store: FileStore<HostFile>) -> bool {
+    let Some(entry) = tree.entry(ProcessId(4)) else {
+        return false;
+    };
+    match start(rt.alloc(), tree, entry, store) {
+        Err(_) => true,
+        Ok((node, _)) => {
+            let_go(node);
+            false
+        }
+    }
+}
+
+fn made(rt: &HostRuntime) -> Result<FileStore<HostFile>, OpenError> {
+    create(rt, rt.alloc(), LOG)
+}
+
+fn opened(rt: &HostRuntime) -> Result<FileStore<HostFile>, OpenError> {
+    open(rt, rt.alloc(), LOG)
+}
+
+/// Says what does not hold of a node over a file, or that all does.
+pub fn run(rt: &HostRuntime) -> &'static str {
+    let _ = fs::remove_file(rt, LOG);
+    let Ok(tree) = read_tree(rt.alloc(), TREE) else {
+        return "the tree is not read";
+    };
+    let Ok(store) = made(rt) else {
+        return "the log is not made";
+    };
+    if !serves(rt, &tree, store, FIRST, FIRST_SAID) {
+        return "the first node says otherwise";
+    }
+    let Ok(store) = opened(rt) else {
+        return "the log is not opened";
+    };
+    if !refuses(rt, &tree, store) {
+        return "another process has the log";
+    }
+    let Ok(store) = opened(rt) else {
+        return "the log is not opened again";
+    };
+    if !serves(rt, &tree, store, SECOND, SECOND_SAID) {
+        return "the second node says otherwise";
+    }
+    "as it must"
+}
