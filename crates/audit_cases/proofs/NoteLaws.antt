@@ -1,6 +1,6 @@
 -- The pass over the records of a log notes what the definitions say of them.
 use Rattle.std.proofs.Common.{◌≡◌, ◌∙◌, Bool, true, false, if◌then◌else◌, List, [], ◌∷◌, ◌++◌, Option, Some, None, fold, refl, sym, ap}
-use Rattle.std.proofs.lemmas.Grind.{flat_map-append}
+use Rattle.std.proofs.lemmas.Grind.{flat_map-append, fold-append}
 use Rattle.std.proofs.lemmas.List.{append-nil}
 use Rattle.std.specs.List.{flat_map}
 use Rattle.tree_model.specs.declared.names.Case.{Case}
@@ -8,13 +8,14 @@ use Rattle.tree_model.specs.declared.names.Ticket.{Ticket}
 use Rattle.tree_model.specs.declared.records.Branch.TheVariants.{Case as CaseBranch, Foreign}
 use Rattle.tree_model.specs.declared.records.Record.{Record}
 use Rattle.tree_model.specs.declared.records.Record.TheVariants.{Opened, Collecting, Prepare, Commit, Abort, End, Prepared, Committed, RolledBack, Direct, HeurCommit, HeurRollback, Told, Forgot, Base, Pair, Cleared}
+use Rattle.tree_model.specs.declared.records.Reports.{Reports}
 use Rattle.tree_model.specs.Names.{same_case}
 use Rattle.tree_model.specs.Records.{cases_in, named_by, named_in, record_case}
 use Rattle.tree_headline.specs.auditor.Audits.{since_promise}
 use Rattle.inquire_core.proofs.CaseTables.{IsSaying, next_table, one_then, said, same_table}
 use Rattle.inquire_core.proofs.Summaries.{is_of}
 use Rattle.audit_cases.specs.Kinds.{kinds_after, kinds_of}
-use Rattle.audit_cases.specs.Notes.{log_notes_of, no_note, no_notes, note_after, note_in, note_of, noted, noted_by, notes_of, promised_by, promised_in, tickets_in}
+use Rattle.audit_cases.specs.Notes.{log_notes_of, no_note, no_notes, note_after, note_in, note_of, noted, noted_by, notes_of, promised_by, promised_in, reported_behind, reported_in, reports_behind, tickets_in}
 use Rattle.audit_cases.proofs.KindLaws.{kinds_behind, no_kinds_of}
 
 -- One more record.
@@ -57,6 +58,43 @@ named_more c rs r =
     flat_map-append (named_in c) rs (r ∷ []) ∙ ap
     (λ ts. flat_map (named_in c) rs ++ ts) (append-nil (named_in c r))
 
+same_either : (b : Bool) (rep : Option Reports) → rep ≡ (if b then rep else rep)
+same_either true rep = refl
+same_either false rep = refl
+
+reports_by : (c : Case) (rep : Option Reports) (r : Record)
+    → reported_behind c rep r ≡ (if is_of c r then reports_behind rep r else rep)
+reports_by c rep (Collecting d ts) = same_either (same_case d c) rep
+reports_by c rep (Prepare d ts) = same_either (same_case d c) rep
+reports_by c rep (Commit d ts) = same_either (same_case d c) rep
+reports_by c rep (Abort d ts) = same_either (same_case d c) rep
+reports_by c rep (End d found) = refl
+reports_by c rep (Cleared d) = refl
+reports_by c rep (Opened n) = refl
+reports_by c rep (Base n) = refl
+reports_by c rep (Pair k v) = refl
+reports_by c rep (Prepared (CaseBranch d) ws) = same_either (same_case d c) rep
+reports_by c rep (Prepared (Foreign x) ws) = refl
+reports_by c rep (Committed (CaseBranch d)) = same_either (same_case d c) rep
+reports_by c rep (Committed (Foreign x)) = refl
+reports_by c rep (RolledBack (CaseBranch d)) = same_either (same_case d c) rep
+reports_by c rep (RolledBack (Foreign x)) = refl
+reports_by c rep (Direct (CaseBranch d) ws) = same_either (same_case d c) rep
+reports_by c rep (Direct (Foreign x) ws) = refl
+reports_by c rep (HeurCommit (CaseBranch d)) = same_either (same_case d c) rep
+reports_by c rep (HeurCommit (Foreign x)) = refl
+reports_by c rep (HeurRollback (CaseBranch d)) = same_either (same_case d c) rep
+reports_by c rep (HeurRollback (Foreign x)) = refl
+reports_by c rep (Told (CaseBranch d) o) = same_either (same_case d c) rep
+reports_by c rep (Told (Foreign x) o) = refl
+reports_by c rep (Forgot (CaseBranch d)) = same_either (same_case d c) rep
+reports_by c rep (Forgot (Foreign x)) = refl
+
+reports_more : (c : Case) (rs : List Record) (r : Record)
+    → reported_in (rs ++ r ∷ []) c ≡ reported_behind c (reported_in rs c) r
+unfolding reported_in
+reports_more c rs r = fold-append (reported_behind c) None rs (r ∷ [])
+
 -- what is noted of a case behind one more record
 note_more : (rs : List Record) (c : Case) (r : Record)
     → note_of (rs ++ r ∷ []) c ≡ (if is_of c r then note_after (note_of rs c) r else note_of rs c)
@@ -64,6 +102,7 @@ note_more rs c r =
     (λ i. record {
       kinds = kinds_behind rs c r i;
       named = (named_more c rs r ∙ ap (λ ts. named_by c rs ++ ts) (tickets_by c r)) i;
+      reports = (reports_more c rs r ∙ reports_by c (reported_in rs c) r) i;
     })
     ∙ by_test (is_of c r)
   where
@@ -72,17 +111,19 @@ note_more rs c r =
           kinds = if b then kinds_after (kinds_of c (since_promise c rs)) r
               else kinds_of c (since_promise c rs);
           named = named_by c rs ++ (if b then tickets_in r else []);
+          reports = if b then reports_behind (reported_in rs c) r else reported_in rs c;
         }
         ≡ (if b then note_after (note_of rs c) r else note_of rs c)
     by_test true = refl
     by_test false = λ i. record {
       kinds = kinds_of c (since_promise c rs);
       named = append-nil (named_by c rs) i;
+      reports = reported_in rs c;
     }
 
 note_nothing : (c : Case) → note_of [] c ≡ no_note
-unfolding named_by
-note_nothing c = λ i. record { kinds = no_kinds_of c i; named = [] }
+unfolding named_by reported_in
+note_nothing c = λ i. record { kinds = no_kinds_of c i; named = []; reports = None }
 
 -- The pass.
 

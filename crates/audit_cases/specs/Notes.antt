@@ -1,5 +1,5 @@
 -- What the records of a log say of each case to an audit, noted record by record.
-use Rattle.std.specs.Prelude.{◌≡◌, ⊤, Bool, true, false, if◌then◌else◌, Option, Some, None, unwrap_or, List, [], ◌∷◌, ◌++◌, map}
+use Rattle.std.specs.Prelude.{◌≡◌, ⊤, Bool, true, false, if◌then◌else◌, Option, Some, None, unwrap_or, List, [], ◌∷◌, ◌++◌, map, fold}
 use Rattle.std.specs.List.{flat_map}
 use Rattle.std.specs.Map.{lookup}
 use Rattle.indexmap.specs.IndexMap.{insert_entry}
@@ -10,7 +10,9 @@ use Rattle.tree_model.specs.declared.names.Ticket.{Ticket}
 use Rattle.tree_model.specs.declared.records.Branch.TheVariants.{Case as CaseBranch}
 use Rattle.tree_model.specs.declared.records.Record.{Record}
 use Rattle.tree_model.specs.declared.records.Record.TheVariants.{Collecting, Prepare, Commit, Abort, End, Prepared, Cleared}
+use Rattle.tree_model.specs.declared.records.Reports.{Reports}
 use Rattle.tree_model.specs.declared.trees.TreeEntry.{TreeEntry}
+use Rattle.tree_model.specs.Names.{same_case}
 use Rattle.tree_model.specs.Nodes.{Place, Role, AtLeaf, role_by}
 use Rattle.tree_model.specs.Records.{cases_in, has_case, named_by, record_case}
 use Rattle.tree_headline.specs.auditor.Audits.{since_promise}
@@ -41,18 +43,37 @@ IsRecordAt Manager r = is_coordinators r ≡ false
 
 -- What is noted of a case.
 
--- which records it has, a manager's from the last Prepared on, and the tickets that its records name
+-- which records it has, a manager's from the last Prepared on, the tickets that its records name, and what its
+-- End reports that was not cleared
 pub record CaseNote : Type 0 where
   pub kinds : Kinds
   pub named : List Ticket
+  pub reports : Option Reports
 
 -- what is noted without a record
 abbrev pub no_note : CaseNote
-no_note = record { kinds = no_kinds; named = [] }
+no_note = record { kinds = no_kinds; named = []; reports = None }
+
+-- what is reported behind one more record of the case: an End says what, and Cleared undoes it
+abbrev pub reports_behind : Option Reports → Record → Option Reports
+reports_behind rep (End c found) = found
+reports_behind rep (Cleared c) = None
+reports_behind rep _ = rep
+
+-- what is reported of a case behind one more record
+abbrev pub reported_behind : Case → Option Reports → Record → Option Reports
+reported_behind c rep (End d found) = if same_case d c then found else rep
+reported_behind c rep (Cleared d) = if same_case d c then None else rep
+reported_behind c rep _ = rep
+
+-- what these records report of a case
+unfoldable pub reported_in : List Record → Case → Option Reports
+reported_in rs c = fold (reported_behind c) None rs
 
 -- what these records say of a case
 abbrev pub note_of : List Record → Case → CaseNote
-note_of rs c = record { kinds = kinds_of c (since_promise c rs); named = named_by c rs }
+note_of rs c =
+    record { kinds = kinds_of c (since_promise c rs); named = named_by c rs; reports = reported_in rs c }
 
 -- the tickets that a record names
 abbrev pub tickets_in : Record → List Ticket
@@ -64,7 +85,11 @@ tickets_in _ = []
 
 -- what is noted behind one more record of the case
 abbrev pub note_after : CaseNote → Record → CaseNote
-note_after n r = record { kinds = kinds_after n.kinds r; named = n.named ++ tickets_in r }
+note_after n r = record {
+  kinds = kinds_after n.kinds r;
+  named = n.named ++ tickets_in r;
+  reports = reports_behind n.reports r;
+}
 
 -- The order.
 

@@ -7,20 +7,24 @@ ghost use Rattle.tree_model.specs.LogNames.{own_by};
 ghost use Rattle.tree_model.specs.Nodes.{role_by};
 ghost use Rattle.tree_model.specs.Records.{record_case};
 ghost use Rattle.inquire_core.specs.Readings.{same};
-ghost use Rattle.audit_cases.specs.Notes.{IsRecordAt, last_places as last_places_of, listed_in, no_note, no_notes, note_after, noted, noted_of, place_at, promised_in, tickets_in};
+ghost use Rattle.audit_cases.specs.Notes.{IsRecordAt, last_places as last_places_of, listed_in, no_note, no_notes, note_after, noted, noted_of, place_at, promised_in, reports_behind, tickets_in};
 
 use crate::kinds::Kinds;
 use indexmap::{IndexMap, IndexSet};
 use inquire_core::is_own;
 use std::alloc::{AllocError, Global};
 use std::marker::Model;
-use tree_model::{Branch, Case, Kind, LogRecord, ProcessId, Record, Ticket, Tree, TreeEntry};
+use tree_model::{
+    Branch, Case, Kind, LogRecord, ProcessId, Record, Reports, Ticket, Tree, TreeEntry,
+};
 
-/// What is noted of a case: which records it has, and the tickets that they name.
+/// What is noted of a case: which records it has, the tickets that they name, and what its End reports that was not
+/// cleared.
 #[derive(Drop)]
 pub struct Noted {
     kinds: Kinds,
     named: Vec<Ticket>,
+    reports: Option<Reports>,
 }
 
 impl Model for Noted {
@@ -28,7 +32,7 @@ impl Model for Noted {
 
     ghost Value = { CaseNote };
 
-    ghost view = { λ n. record { kinds = n.kinds; named = n.named.items } };
+    ghost view = { λ n. record { kinds = n.kinds; named = n.named.items; reports = n.reports } };
 }
 
 /// What is noted of each case of a process, in order of the first records, and the cases of its Prepared, one
@@ -61,6 +65,22 @@ fn tickets_of(record: &Record) -> &[Ticket]
     }
 }
 
+/// One record more: an End says what is reported, and Cleared undoes it.
+fn note_reports(
+    alloc: Global,
+    reports: &mut Option<Reports>,
+    record: &Record,
+) -> Result<(), AllocError>
+    ensures { OnOk result (reports.new ≡ reports_behind reports.old record.now) }
+{
+    match record {
+        Record::End(_, Some(found)) => *reports = Some(found.copied(alloc)?),
+        Record::End(_, None) | Record::Cleared(_) => *reports = None,
+        _ => (),
+    }
+    Ok(())
+}
+
 impl Noted {
     /// No records. It takes no memory.
     fn nothing(alloc: Global) -> Noted
@@ -69,13 +89,15 @@ impl Noted {
         Noted {
             kinds: Kinds::none(),
             named: Vec::new(alloc),
+            reports: None,
         }
     }
 
     /// One record more of the case.
-    fn note(&mut self, record: &Record) -> Result<(), AllocError>
+    fn note(&mut self, alloc: Global, record: &Record) -> Result<(), AllocError>
         ensures { OnOk result (self.new ≡ note_after self.old record.now) }
     {
+        note_reports(alloc, &mut self.reports, record)?;
         self.named.extend_from_slice(tickets_of(record))?;
         self.kinds.note(record);
         Ok(())
@@ -94,6 +116,16 @@ impl Noted {
     {
         &self.named
     }
+
+    /// What its End reports that was not cleared.
+    pub fn reports(&self, alloc: Global) -> Result<Option<Reports>, AllocError>
+        ensures { IfOk result (λ reports. reports ≡ self.now.reports) }
+    {
+        match &self.reports {
+            None => Ok(None),
+            Some(reports) => Ok(Some(reports.copied(alloc)?)),
+        }
+    }
 }
 
 /// One record more of a case.
@@ -106,10 +138,10 @@ fn note_of(
     ensures { OnOk result (cases.new.entries ≡ noted_of cases.old.entries case record.now) }
 {
     match cases.get_mut(&case) {
-        Some(note) => note.note(record)?,
+        Some(note) => note.note(alloc, record)?,
         None => {
             let mut note = Noted::nothing(alloc);
-            note.note(record)?;
+            note.note(alloc, record)?;
             let _ = cases.insert(case, note)?;
         }
     }

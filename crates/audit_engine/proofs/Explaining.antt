@@ -1,5 +1,5 @@
 -- The text of what is explained, piece by piece.
-use Rattle.std.proofs.Common.{◌≡◌, ◌∙◌, ℕ, true, if◌then◌else◌, List, [], ◌++◌, codes, IfOk, Result, Ok, Err, sym, ap, append_assoc}
+use Rattle.std.proofs.Common.{◌≡◌, ◌∙◌, ℕ, true, false, if◌then◌else◌, List, [], ◌++◌, codes, IfOk, Result, Ok, Err, sym, ap, append-nil, append_assoc}
 use Rattle.std.specs.List.{flat_map}
 use Rattle.std.specs.Fmt.{decimal}
 use Rattle.tree_model.specs.declared.names.Case.{Case}
@@ -18,18 +18,13 @@ use Rattle.audit_engine.specs.declared.steps.Found.{Found}
 use Rattle.audit_engine.specs.declared.steps.Found.TheVariants.{Nothing}
 use Rattle.audit_engine.specs.declared.steps.Step.{Step}
 use Rattle.audit_engine.specs.Audits.{detailed_text, explained_text, report_text}
-use Rattle.audit_engine.specs.Explanations.{do_text, explained_line, explanation_text, found_text, is_explained, mend_text, steps_of, steps_text, told_part}
+use Rattle.audit_engine.specs.Explanations.{do_text, explained_line, explanation_text, found_text, is_explained, mend_text, reports_text, steps_of, steps_text, told_part, why_text}
 use Rattle.audit_engine.specs.Lines.{count_text, line_text, lines_text}
 use Rattle.audit_engine.specs.declared.detail.Detail.{Detail}
 use Rattle.audit_engine.specs.declared.detail.Detail.TheVariants as detail
-use Rattle.audit_engine.proofs.Texts.{four, three}
+use Rattle.audit_engine.proofs.Texts.{five, four, three}
 
 -- Lines of several pieces.
-
-five : (old a b c d e x y z w v : List ℕ) → a ≡ old ++ x → b ≡ a ++ y → c ≡ b ++ z → d ≡ c ++ w → e ≡ d ++ v
-    → e ≡ old ++ (x ++ y ++ z ++ w ++ v)
-five old a b c d e x y z w v f g h i j =
-    j ∙ ap (λ t. t ++ v) (four old a b c d x y z w f g h i) ∙ simp append_assoc
 
 pub mend_pushed : (c : Case) (old a b d e f : List ℕ) → a ≡ old ++ codes "  do: put the data of "
     → b ≡ a ++ decimal (process_of c).0 → d ≡ b ++ codes " right, then forget " → e ≡ d ++ case_text c
@@ -66,14 +61,23 @@ explanation_pushed tree logs l old a b d ss told steps does is =
     (steps_text l.case.txn.presumption (steps_of tree logs l.case l.decision))
     (do_text l.mismatch l.case (steps_of tree logs l.case l.decision))))
 
-pub line_explained : (tree : List TreeEntry) (logs : Logs) (l : Line)
-    (old mid new : List ℕ) → is_explained l ≡ true
-    → mid ≡ old ++ line_text l → new ≡ mid ++ explanation_text tree logs l
-    → new ≡ old ++ explained_line tree logs l
-line_explained tree logs l old mid new is line why =
-    why ∙ ap (λ t. t ++ explanation_text tree logs l) line
-    ∙ append_assoc old (line_text l) (explanation_text tree logs l)
-    ∙ ap (λ b. old ++ (line_text l ++ (if b then explanation_text tree logs l else []))) (sym is)
+-- why a case stands so is told just where it is explained
+pub why_pushed : (tree : List TreeEntry) (logs : Logs) (l : Line) (old new : List ℕ) → is_explained l ≡ true
+    → new ≡ old ++ explanation_text tree logs l → new ≡ old ++ why_text tree logs l
+why_pushed tree logs l old new is why =
+    why ∙ ap (λ b. old ++ (if b then explanation_text tree logs l else [])) (sym is)
+
+pub none_pushed : (tree : List TreeEntry) (logs : Logs) (l : Line) (old : List ℕ) → is_explained l ≡ false
+    → old ≡ old ++ why_text tree logs l
+none_pushed tree logs l old is =
+    sym (append-nil old) ∙ ap (λ b. old ++ (if b then explanation_text tree logs l else [])) (sym is)
+
+pub line_explained : (tree : List TreeEntry) (logs : Logs) (l : Line) (old mid why new : List ℕ)
+    → mid ≡ old ++ line_text l → why ≡ mid ++ why_text tree logs l
+    → new ≡ why ++ reports_text tree l.case l.reports → new ≡ old ++ explained_line tree logs l
+line_explained tree logs l old mid why new line because reported =
+    three old mid why new (line_text l) (why_text tree logs l) (reports_text tree l.case l.reports)
+    line because reported
 
 pub all_explained : (tree : List TreeEntry) (logs : Logs) (r : Report)
     (none mid new : List ℕ) (ls : List Line)

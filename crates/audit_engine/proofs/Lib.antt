@@ -3,3 +3,4 @@ pub mod NamingLaws
 pub mod Explaining
 pub mod Texts
 pub mod TrueReports
+pub mod Reporting

@@ -9,7 +9,7 @@ use Rattle.tree_audit.specs.Reports.{kept_lists, mismatches_in}
 use Rattle.tree_audit.specs.declared.report.Line.{Line}
 use Rattle.tree_audit.specs.declared.report.Report.{Report}
 use Rattle.audit_engine.specs.Audits.{IsAudited, Reports, audit_lines, detailed_text, ending_by}
-use Rattle.audit_engine.specs.Lines.{count_text, line_text, mismatch_part, own_word}
+use Rattle.audit_engine.specs.Lines.{count_text, line_text, mismatch_part, own_word, reports_part}
 use Rattle.audit_engine.specs.declared.detail.Detail.{Detail}
 use Rattle.audit_engine.specs.declared.ending.Ending.{Ending}
 use Rattle.audit_engine.specs.declared.ending.Ending.TheVariants as ending
@@ -25,6 +25,26 @@ pub four : (old a b c d x y z w : List ℕ) → a ≡ old ++ x → b ≡ a ++ y 
     → d ≡ old ++ (x ++ (y ++ (z ++ w)))
 four old a b c d x y z w e f g h = h ∙ ap (λ t. t ++ w) (three old a b c x y z e f g) ∙ simp append_assoc
 
+pub five : (old a b c d e x y z w v : List ℕ) → a ≡ old ++ x → b ≡ a ++ y → c ≡ b ++ z → d ≡ c ++ w
+    → e ≡ d ++ v → e ≡ old ++ (x ++ y ++ z ++ w ++ v)
+five old a b c d e x y z w v f g h i j =
+    j ∙ ap (λ t. t ++ v) (four old a b c d x y z w f g h i) ∙ simp append_assoc
+
+pub six : (old a b c d e f x y z w v u : List ℕ) → a ≡ old ++ x → b ≡ a ++ y → c ≡ b ++ z → d ≡ c ++ w
+    → e ≡ d ++ v → f ≡ e ++ u → f ≡ old ++ (x ++ y ++ z ++ w ++ v ++ u)
+six old a b c d e f x y z w v u ax by cz dw ev fu =
+    fu ∙ ap (λ t. t ++ u) (five old a b c d e x y z w v ax by cz dw ev)
+    ∙ append_assoc old (x ++ y ++ z ++ w ++ v) u
+
+pub eight : (old a b c d e f g h x y z w v u s r : List ℕ) → a ≡ old ++ x → b ≡ a ++ y → c ≡ b ++ z
+    → d ≡ c ++ w → e ≡ d ++ v → f ≡ e ++ u → g ≡ f ++ s
+    → h ≡ g ++ r → h ≡ old ++ (x ++ y ++ z ++ w ++ v ++ u ++ s ++ r)
+eight old a b c d e f g h x y z w v u s r ax by cz dw ev fu gs hr =
+    let first = six old a b c d e f x y z w v u ax by cz dw ev fu in
+    hr ∙ ap (λ t. t ++ r)
+    (gs ∙ ap (λ t. t ++ s) first ∙ append_assoc old (x ++ y ++ z ++ w ++ v ++ u) s)
+    ∙ append_assoc old (x ++ y ++ z ++ w ++ v ++ u ++ s) r
+
 pub count_pushed : (n : ℕ) (old a b c : List ℕ) → a ≡ old ++ codes "mismatches " → b ≡ a ++ decimal n
     → c ≡ b ++ codes "\n" → c ≡ old ++ count_text n
 count_pushed n old a b c e f g = three old a b c (codes "mismatches ") (decimal n) (codes "\n") e f g
@@ -37,21 +57,21 @@ outcome_pushed l old a b c d own e f g own_is h =
     four old a b c d (case_text l.case) (codes " ") (own_word l.own) (codes " ") e f
     (g ∙ ap (λ t. b ++ t) own_is) h
 
-pub line_pushed : (l : Line) (old d e f g out mis : List ℕ)
+pub line_pushed : (l : Line) (old d e f r g out mis : List ℕ)
     → d ≡ old ++ (case_text l.case ++ (codes " " ++ (own_word l.own ++ codes " "))) → e ≡ d ++ out
-    → out ≡ outcome_word l.outcome → f ≡ e ++ mis → mis ≡ mismatch_part l.mismatch → g ≡ f ++ codes "\n"
-    → g ≡ old ++ line_text l
-line_pushed l old d e f g out mis up_to o out_is m mis_is end =
-    four old d e f g (case_text l.case ++ (codes " " ++ (own_word l.own ++ codes " "))) (outcome_word l.outcome)
-    (mismatch_part l.mismatch) (codes "\n") up_to (o ∙ ap (λ t. d ++ t) out_is)
-    (m ∙ ap (λ t. e ++ t) mis_is) end
-    ∙ ap (λ t. old ++ t)
-    (joined (case_text l.case) (codes " ") (own_word l.own) (codes " ") (outcome_word l.outcome)
-    (mismatch_part l.mismatch) (codes "\n"))
+    → out ≡ outcome_word l.outcome → f ≡ e ++ mis → mis ≡ mismatch_part l.mismatch
+    → r ≡ f ++ reports_part l.reports → g ≡ r ++ codes "\n" → g ≡ old ++ line_text l
+line_pushed l old d e f r g out mis up_to o out_is m mis_is reported end =
+    end ∙ ap (λ t. t ++ codes "\n")
+    (four old d e f r (case_text l.case ++ (codes " " ++ (own_word l.own ++ codes " ")))
+    (outcome_word l.outcome) (mismatch_part l.mismatch) (reports_part l.reports) up_to (o ∙ ap (λ t. d ++ t) out_is)
+    (m ∙ ap (λ t. e ++ t) mis_is) reported)
+    ∙ joined old (case_text l.case) (codes " ") (own_word l.own) (codes " ") (outcome_word l.outcome)
+    (mismatch_part l.mismatch) (reports_part l.reports) (codes "\n")
   where
-    joined : (x y z w o m n : List ℕ) → (x ++ (y ++ (z ++ w))) ++ (o ++ (m ++ n)) ≡ x
-        ++ y ++ z ++ w ++ o ++ m ++ n
-    joined x y z w o m n = simp append_assoc
+    joined : (t x y z w o m r n : List ℕ) → (t ++ ((x ++ (y ++ (z ++ w))) ++ (o ++ (m ++ r)))) ++ n
+        ≡ t ++ (x ++ y ++ z ++ w ++ o ++ m ++ r ++ n)
+    joined t x y z w o m r n = simp append_assoc
 
 -- how an audit ends with this report
 pub report_ends : (detail : Detail) (tree : List TreeEntry) (logs : List ProcessLog)

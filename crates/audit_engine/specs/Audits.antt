@@ -23,8 +23,8 @@ use Rattle.audit_engine.specs.declared.ending.Ending.TheVariants as ending
 unfoldable pub report_text : List Line → List ℕ
 report_text ls = lines_text ls ++ count_text (mismatches_in ls)
 
--- the lines of cases in these logs of this tree, each explained that is in doubt or shows a mismatch, and
--- behind them the number of mismatches
+-- the lines of cases in these logs of this tree, each explained that is in doubt, shows a mismatch or reports
+-- tickets, and behind them the number of mismatches
 unfoldable pub explained_text : List TreeEntry → Logs → List Line → List ℕ
 explained_text tree logs ls = flat_map (explained_line tree logs) ls ++ count_text (mismatches_in ls)
 

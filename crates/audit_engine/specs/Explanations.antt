@@ -1,5 +1,5 @@
 -- Why a case stands as its line says, and what to do, as text.
-use Rattle.std.specs.Prelude.{ℕ, Bool, true, false, ◌||◌, if◌then◌else◌, Option, Some, None, List, [], ◌++◌, codes}
+use Rattle.std.specs.Prelude.{ℕ, zero, suc, Bool, true, false, ◌||◌, if◌then◌else◌, Option, Some, None, List, [], ◌++◌, codes, length}
 use Rattle.std.specs.List.{flat_map}
 use Rattle.std.specs.Fmt.{decimal}
 use Rattle.tree_model.specs.declared.names.Case.{Case}
@@ -7,8 +7,10 @@ use Rattle.tree_model.specs.declared.names.Outcome.{Outcome}
 use Rattle.tree_model.specs.declared.names.Presumption.{Presumption}
 use Rattle.tree_model.specs.declared.names.ProcessId.{ProcessId}
 use Rattle.tree_model.specs.declared.names.Ticket.{Ticket}
+use Rattle.tree_model.specs.declared.records.Reports.{Reports}
 use Rattle.tree_model.specs.declared.trees.TreeEntry.{TreeEntry}
-use Rattle.tree_model.specs.Names.{presumed, process_of}
+use Rattle.tree_model.specs.Trees.{parent_of}
+use Rattle.tree_model.specs.Names.{child_case, presumed, process_of}
 use Rattle.tree_model.specs.Texts.{case_text, outcome_word, ticket_text}
 use Rattle.tree_headline.specs.auditor.Audits.{Logs}
 use Rattle.audit_cases.specs.declared.kinds.Own.{Own}
@@ -111,7 +113,51 @@ is_in_doubt _ = false
 abbrev pub is_explained : Line → Bool
 is_explained l = l.mismatch || is_in_doubt l.own
 
--- a line, and behind it why its case stands so, where it is explained
+-- What the root's End reports.
+
+-- the process told its parent, if it has one, and so on
+abbrev pub way_on : (ProcessId → List ℕ) → ProcessId → Option ProcessId → List ℕ
+way_on more p None = []
+way_on more p (Some q) = codes ", " ++ decimal p.0 ++ codes " told " ++ decimal q.0 ++ more q
+
+-- the way of a report from a process up to the root, of so many steps at most
+unfoldable pub way_text : ℕ → List TreeEntry → ProcessId → List ℕ
+way_text zero tree p = []
+way_text (suc n) tree p = way_on (way_text n tree) p (parent_of tree p)
+
+-- who reported a ticket, along which way
+abbrev pub reporter_text : List TreeEntry → Ticket → List ℕ → List ℕ
+reporter_text tree t what =
+    codes "  " ++ ticket_text t ++ what ++ way_text (length tree) tree t.child ++ codes "\n"
+
+-- who reported that an operator decided otherwise, and what to do
+abbrev pub mixed_text : List TreeEntry → Case → Ticket → List ℕ
+mixed_text tree root t =
+    reporter_text tree t (codes " was decided otherwise by an operator") ++ codes "  do: put the data of "
+    ++ decimal t.child.0 ++ codes " right, then forget " ++ case_text (child_case root.txn t)
+    ++ codes ", then forget " ++ case_text root ++ codes "\n"
+
+-- who cannot say what became of a ticket, and what to do
+abbrev pub unreported_text : List TreeEntry → Case → Ticket → List ℕ
+unreported_text tree root t =
+    reporter_text tree t (codes " was known no more") ++ codes "  do: look at the data of "
+    ++ decimal t.child.0 ++ codes " and of what is below it, then forget " ++ case_text root ++ codes "\n"
+
+-- who reported what the root's End reports, and what to do
+abbrev pub reported_text : List TreeEntry → Case → Reports → List ℕ
+reported_text tree root r =
+    flat_map (mixed_text tree root) r.mixed ++ flat_map (unreported_text tree root) r.unreported
+
+-- the same, where it reports
+abbrev pub reports_text : List TreeEntry → Case → Option Reports → List ℕ
+reports_text tree root None = []
+reports_text tree root (Some r) = reported_text tree root r
+
+-- why a case stands as its line says, where that is explained
+abbrev pub why_text : List TreeEntry → Logs → Line → List ℕ
+why_text tree logs l = if is_explained l then explanation_text tree logs l else []
+
+-- a line, and behind it why its case stands so, where it is explained, and who reported what the root's End
+-- reports
 abbrev pub explained_line : List TreeEntry → Logs → Line → List ℕ
-explained_line tree logs l =
-    line_text l ++ (if is_explained l then explanation_text tree logs l else [])
+explained_line tree logs l = line_text l ++ (why_text tree logs l ++ reports_text tree l.case l.reports)

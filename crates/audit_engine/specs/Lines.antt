@@ -1,11 +1,13 @@
 -- The text of the lines of a report.
-use Rattle.std.specs.Prelude.{ℕ, Bool, true, false, List, [], ◌++◌, codes}
+use Rattle.std.specs.Prelude.{ℕ, Bool, true, false, Option, Some, None, List, [], ◌++◌, codes}
 use Rattle.std.specs.List.{flat_map}
 use Rattle.std.specs.Fmt.{decimal}
+use Rattle.tree_model.specs.declared.records.Reports.{Reports}
 use Rattle.tree_model.specs.Texts.{case_text, outcome_word}
 use Rattle.audit_cases.specs.declared.kinds.Own.{Own}
 use Rattle.audit_cases.specs.declared.kinds.Own.TheVariants as own
 use Rattle.tree_audit.specs.declared.report.Line.{Line}
+use Rattle.audit_engine.specs.logs.Lines.{listed_words}
 
 -- the word of how a case stands by its own records
 abbrev pub own_word : Own → List ℕ
@@ -21,11 +23,17 @@ abbrev pub mismatch_part : Bool → List ℕ
 mismatch_part true = codes " mismatch"
 mismatch_part false = []
 
--- the line of a case: its name, its own word, its outcome, and whether they do not agree
+-- what the root's End reports: the mixed tickets, and the unreported ones
+abbrev pub reports_part : Option Reports → List ℕ
+reports_part None = []
+reports_part (Some r) =
+    listed_words (codes " reported") r.mixed ++ listed_words (codes " unreported") r.unreported
+
+-- the line of a case: its name, its own word, its outcome, whether they do not agree, and what is reported
 abbrev pub line_text : Line → List ℕ
 line_text l =
     case_text l.case ++ codes " " ++ own_word l.own ++ codes " " ++ outcome_word l.outcome
-    ++ mismatch_part l.mismatch ++ codes "\n"
+    ++ mismatch_part l.mismatch ++ reports_part l.reports ++ codes "\n"
 
 -- the lines of cases
 abbrev pub lines_text : List Line → List ℕ

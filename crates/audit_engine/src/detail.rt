@@ -6,6 +6,6 @@ pub enum Detail {
     /// A line for each case.
     Lines,
     /// A line for each case, and behind one that is in doubt or shows a mismatch what decided it, and what
-    /// to do.
+    /// to do; behind a root's that reports tickets who reported each, and what to do.
     Explained,
 }

@@ -1,10 +1,11 @@
 //! Why a case stands as its line says, and what to do.
 
 ghost use Rattle.std.specs.Prelude.{◌≡◌, ◌++◌, IfOk, OnOk};
+ghost use Rattle.std.specs.List.{flat_map};
 ghost use Rattle.tree_headline.specs.auditor.Audits.{Logs};
 ghost use Rattle.tree_model.specs.Trees.{IsTree};
 ghost use Rattle.audit_engine.specs.Chains.{AreNamings};
-ghost use Rattle.audit_engine.specs.Explanations.{asker_text, deed_text, do_text, explained_line, explanation_text, found_text, is_explained as is_explained_line, kept_text, mend_text, place_text, stands_word as word_of_stands, step_text, steps_of as steps_by_decision, steps_text, told_part, told_text};
+ghost use Rattle.audit_engine.specs.Explanations.{asker_text, deed_text, do_text, explained_line, explanation_text, found_text, is_explained as is_explained_line, kept_text, mend_text, mixed_text, place_text, reported_text, reporter_text, reports_text, stands_word as word_of_stands, step_text, steps_of as steps_by_decision, steps_text, told_part, told_text, unreported_text, way_text, why_text};
 
 use crate::chains::{deed_of, steps_of};
 use crate::lines::push_line;
@@ -14,7 +15,7 @@ use inquire_core::presumed;
 use std::alloc::{AllocError, Global};
 use trace_lines::{outcome_word, push, push_case, push_number, push_ticket};
 use tree_audit::{Line, Own};
-use tree_model::{Case, Outcome, Presumption, ProcessId, Tree};
+use tree_model::{Case, Outcome, Presumption, ProcessId, Reports, Ticket, Tree};
 
 /// The word of what stands of a case.
 fn stands_word(stands: Stands) -> &'static str
@@ -196,6 +197,153 @@ fn push_explanation(
     push_do(out, line, &steps)
 }
 
+/// The way of a report from this process up to the root: each told its parent.
+#[tactic(auto, unfolding(crate::specs::Explanations::way_text))]
+fn push_way(
+    out: &mut Vec<u8>,
+    tree: &Tree,
+    process: ProcessId,
+    most: usize,
+) -> Result<(), AllocError>
+    requires { IsTree tree.now }
+    ensures { OnOk result (out.new.items ≡ out.old.items ++ way_text most tree.now process) }
+{
+    if most == 0 {
+        return Ok(());
+    }
+    let Some(parent) = tree.parent(process) else {
+        return Ok(());
+    };
+    push(out, ", ")?;
+    push_number(out, u64::from(process.0))?;
+    push(out, " told ")?;
+    push_number(out, u64::from(parent.0))?;
+    push_way(out, tree, parent, most - 1)
+}
+
+/// Who reported a ticket, along which way.
+fn push_reporter(
+    out: &mut Vec<u8>,
+    tree: &Tree,
+    ticket: &Ticket,
+    what: &str,
+) -> Result<(), AllocError>
+    requires { IsTree tree.now }
+    ensures { OnOk result (out.new.items ≡ out.old.items ++ reporter_text tree.now ticket.now what.now) }
+{
+    push(out, "  ")?;
+    push_ticket(out, ticket)?;
+    push(out, what)?;
+    push_way(out, tree, ticket.child, tree.entries().len())?;
+    push(out, "\n")
+}
+
+/// Who reported that an operator decided otherwise, and what to do.
+fn push_mixed(
+    out: &mut Vec<u8>,
+    tree: &Tree,
+    root: &Case,
+    ticket: &Ticket,
+) -> Result<(), AllocError>
+    requires { IsTree tree.now }
+    ensures { OnOk result (out.new.items ≡ out.old.items ++ mixed_text tree.now root.now ticket.now) }
+{
+    push_reporter(out, tree, ticket, " was decided otherwise by an operator")?;
+    push(out, "  do: put the data of ")?;
+    push_number(out, u64::from(ticket.child.0))?;
+    push(out, " right, then forget ")?;
+    let case = Case {
+        txn: root.txn,
+        ticket: Some(*ticket),
+    };
+    push_case(out, &case)?;
+    push(out, ", then forget ")?;
+    push_case(out, root)?;
+    push(out, "\n")
+}
+
+/// Who cannot say what became of a ticket, and what to do.
+fn push_unreported(
+    out: &mut Vec<u8>,
+    tree: &Tree,
+    root: &Case,
+    ticket: &Ticket,
+) -> Result<(), AllocError>
+    requires { IsTree tree.now }
+    ensures { OnOk result (out.new.items ≡ out.old.items ++ unreported_text tree.now root.now ticket.now) }
+{
+    push_reporter(out, tree, ticket, " was known no more")?;
+    push(out, "  do: look at the data of ")?;
+    push_number(out, u64::from(ticket.child.0))?;
+    push(out, " and of what is below it, then forget ")?;
+    push_case(out, root)?;
+    push(out, "\n")
+}
+
+/// The same of each of these tickets that an operator decided otherwise.
+fn push_all_mixed(
+    out: &mut Vec<u8>,
+    tree: &Tree,
+    root: &Case,
+    tickets: &[Ticket],
+) -> Result<(), AllocError>
+    requires { IsTree tree.now }
+    ensures { OnOk result (out.new.items
+        ≡ out.old.items ++ flat_map (mixed_text tree.now root.now) tickets.now) }
+{
+    for ticket in tickets {
+        push_mixed(out, tree, root, ticket)?;
+    }
+    Ok(())
+}
+
+/// The same of each of these tickets of which nobody can say what became.
+fn push_all_unreported(
+    out: &mut Vec<u8>,
+    tree: &Tree,
+    root: &Case,
+    tickets: &[Ticket],
+) -> Result<(), AllocError>
+    requires { IsTree tree.now }
+    ensures { OnOk result (out.new.items
+        ≡ out.old.items ++ flat_map (unreported_text tree.now root.now) tickets.now) }
+{
+    for ticket in tickets {
+        push_unreported(out, tree, root, ticket)?;
+    }
+    Ok(())
+}
+
+/// Who reported what the root's End reports, and what to do.
+fn push_reported(
+    out: &mut Vec<u8>,
+    tree: &Tree,
+    root: &Case,
+    reports: &Reports,
+) -> Result<(), AllocError>
+    requires { IsTree tree.now }
+    ensures { OnOk result (out.new.items ≡ out.old.items ++ reported_text tree.now root.now reports.now) }
+{
+    push_all_mixed(out, tree, root, reports.mixed.as_slice())?;
+    push_all_unreported(out, tree, root, reports.unreported.as_slice())
+}
+
+/// Who reported what the root's End reports, if it does.
+fn push_reports(
+    out: &mut Vec<u8>,
+    tree: &Tree,
+    root: &Case,
+    reports: &Option<Reports>,
+) -> Result<(), AllocError>
+    requires { IsTree tree.now }
+    ensures { OnOk result (out.new.items ≡ out.old.items ++ reports_text tree.now root.now reports.now) }
+{
+    match reports {
+        None => Ok(()),
+        Some(reports) => push_reported(out, tree, root, reports),
+    }
+}
+
 /// Whether a line is explained: it shows a mismatch, or its case is in doubt.
 fn is_explained(line: &Line) -> bool
     ensures { result ≡ is_explained_line line.now }
@@ -203,7 +351,26 @@ fn is_explained(line: &Line) -> bool
     line.mismatch || line.own == Own::InDoubt
 }
 
-/// A line, and behind it why its case stands so, where it is in doubt or shows a mismatch.
+/// Why a case stands as its line says, where it is in doubt or shows a mismatch.
+fn push_why(
+    out: &mut Vec<u8>,
+    alloc: Global,
+    tree: &Tree,
+    namings: &TreeNamings,
+    line: &Line,
+) -> Result<(), AllocError>
+    requires { IsTree tree.now }
+    ensures { OnOk result ((logs : Logs) → AreNamings tree.now logs namings.now.entries
+        → out.new.items ≡ out.old.items ++ why_text tree.now logs line.now) }
+{
+    if is_explained(line) {
+        push_explanation(out, alloc, tree, namings, line)?;
+    }
+    Ok(())
+}
+
+/// A line, and behind it why its case stands so, where it is in doubt or shows a mismatch, and who reported
+/// what the root's End reports.
 pub(crate) fn push_explained(
     out: &mut Vec<u8>,
     alloc: Global,
@@ -216,8 +383,6 @@ pub(crate) fn push_explained(
         → out.new.items ≡ out.old.items ++ explained_line tree.now logs line.now) }
 {
     push_line(out, line)?;
-    if is_explained(line) {
-        push_explanation(out, alloc, tree, namings, line)?;
-    }
-    Ok(())
+    push_why(out, alloc, tree, namings, line)?;
+    push_reports(out, tree, &line.case, &line.reports)
 }

@@ -8,7 +8,7 @@
 //! detail     how much is written of an audit
 //! ending     how an audit ends
 //! lines      the text of its report
-//! explain    why a case stands as its line says, and what to do
+//! explain    why a case stands as its line says, who reported what, and what to do
 //! steps      a step upward, and what is to be done about a case
 //! namings    of each child's case the parent's first case that names it, in one pass over what is noted
 //! chains     the steps from a case upward

@@ -9,16 +9,17 @@ ghost use Rattle.tree_audit.specs.Tables.{AreNotes};
 ghost use Rattle.audit_engine.specs.Chains.{AreNamings};
 ghost use Rattle.audit_engine.specs.Audits.{detailed_text, explained_text};
 ghost use Rattle.audit_engine.specs.Explanations.{explained_line};
-ghost use Rattle.audit_engine.specs.Lines.{count_text, line_text, lines_text, mismatch_part, own_word as word_of_own};
+ghost use Rattle.audit_engine.specs.Lines.{count_text, line_text, lines_text, mismatch_part, own_word as word_of_own, reports_part};
 
 use crate::chains::all_namings;
 use crate::detail::Detail;
 use crate::explain::push_explained;
+use crate::logs::lines::push_listed;
 use crate::namings::TreeNamings;
 use std::alloc::{AllocError, Global};
 use trace_lines::{outcome_word, push, push_case, push_number};
 use tree_audit::{Line, Own, Report, TreeNotes};
-use tree_model::Tree;
+use tree_model::{Reports, Tree};
 
 /// The word of how a case stands by its own records.
 fn own_word(own: Own) -> &'static str
@@ -41,6 +42,19 @@ fn mismatch_word(mismatch: bool) -> &'static str
     if mismatch { " mismatch" } else { "" }
 }
 
+/// What the root's End reports, if it does.
+fn push_reports(out: &mut Vec<u8>, reports: &Option<Reports>) -> Result<(), AllocError>
+    ensures { OnOk result (out.new.items ≡ out.old.items ++ reports_part reports.now) }
+{
+    match reports {
+        None => Ok(()),
+        Some(reports) => {
+            push_listed(out, " reported", reports.mixed.as_slice())?;
+            push_listed(out, " unreported", reports.unreported.as_slice())
+        }
+    }
+}
+
 pub(crate) fn push_line(out: &mut Vec<u8>, line: &Line) -> Result<(), AllocError>
     ensures { OnOk result (out.new.items ≡ out.old.items ++ line_text line.now) }
 {
@@ -50,6 +64,7 @@ pub(crate) fn push_line(out: &mut Vec<u8>, line: &Line) -> Result<(), AllocError
     push(out, " ")?;
     push(out, outcome_word(line.outcome))?;
     push(out, mismatch_word(line.mismatch))?;
+    push_reports(out, &line.reports)?;
     push(out, "\n")
 }
 
@@ -81,7 +96,7 @@ fn text_of(alloc: Global, report: &Report) -> Result<Vec<u8>, AllocError>
     Ok(out)
 }
 
-/// The lines, each explained that is in doubt or shows a mismatch.
+/// The lines, each explained that is in doubt, shows a mismatch or reports tickets.
 fn push_all_explained(
     out: &mut Vec<u8>,
     alloc: Global,

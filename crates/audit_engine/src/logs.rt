@@ -1,6 +1,6 @@
 //! The engine of `rstar log`: what the logs of a tree hold, one record a line.
 
 mod engine;
-mod lines;
+pub(crate) mod lines;
 
 pub use engine::run_log;

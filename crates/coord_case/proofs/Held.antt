@@ -1,6 +1,7 @@
 -- What the view of a live case becomes where its children change.
 use Rattle.std.proofs.Common.{◌≡◌, ℕ, ◌+◌, Bool, true, false, not, ◌&&◌, ◌||◌, None, Some, List, [], ◌∷◌, ◌++◌, map, if◌then◌else◌, refl, sym, ap, ◌∙◌}
 use Rattle.std.specs.List.{cons_option}
+use Rattle.tree_model.specs.declared.messages.Finding.{Finding}
 use Rattle.tree_model.specs.declared.names.Ticket.{Ticket}
 use Rattle.tree_model.specs.declared.messages.Message.TheVariants.{Prepare}
 use Rattle.tree_model.specs.declared.standings.Standing.{Standing}
@@ -16,11 +17,11 @@ use Rattle.coord_case.proofs.Children.{accepted-changing, accepted_in-push, each
 use Rattle.coord_case.proofs.Works.{works-sending, works_each, works_of-push}
 
 -- the first vote of a ticket
-pub counts-vote : (s : Standing) (cs : List Child) (promised named owed : List Ticket) (t : Ticket) (w : Vote)
+pub counts-vote : (s : Standing) (cs : List Child) (promised named owed : List Ticket) (found : List Finding) (t : Ticket) (w : Vote)
     → is_counted (accepted_in cs) (votes_in cs) t ≡ true
-    → SameView (meant s (changing t (voting (Some w)) cs) promised named owed)
-    (record (meant s cs promised named owed) { votes = votes_in cs ++ (t, w) ∷ [] })
-counts-vote s cs promised named owed t w counted =
+    → SameView (meant s (changing t (voting (Some w)) cs) promised named owed found)
+    (record (meant s cs promised named owed found) { votes = votes_in cs ++ (t, w) ∷ [] })
+counts-vote s cs promised named owed found t w counted =
     let is = counted_is cs t counted in
     record {
       standing = refl;
@@ -33,13 +34,14 @@ counts-vote s cs promised named owed t w counted =
       promised = refl;
       named = λ u. refl;
       owed = λ u. refl;
+      found = refl;
     }
 
 -- the vote of a ticket is taken back
-pub uncounts-vote : (s : Standing) (cs : List Child) (promised named owed : List Ticket)
+pub uncounts-vote : (s : Standing) (cs : List Child) (promised named owed : List Ticket) (found : List Finding)
     (t : Ticket) → are_distinct cs ≡ true
-    → Uncounts t (meant s cs promised named owed) (meant s (changing t (voting None) cs) promised named owed)
-uncounts-vote s cs promised named owed t distinct =
+    → Uncounts t (meant s cs promised named owed found) (meant s (changing t (voting None) cs) promised named owed found)
+uncounts-vote s cs promised named owed found t distinct =
     record {
       standing = refl;
       accepted = accepted-changing t (voting None) (λ c. refl) cs;
@@ -50,6 +52,7 @@ uncounts-vote s cs promised named owed t distinct =
       promised = refl;
       named = refl;
       owed = refl;
+      found = refl;
     }
 
 votes-sending : (t : Ticket) (n : ℕ) (cs : List Child) → votes_in (changing t (sending n) cs) ≡ votes_in cs
@@ -62,12 +65,12 @@ votes-sending t n (c ∷ cs) = by_test (same_ticket c.ticket t) (votes-sending t
     by_test false rest = ap (cons_option (vote_of c)) rest
 
 -- one work more to the ticket
-pub sends-work : (s : Standing) (cs : List Child) (promised named owed : List Ticket) (t : Ticket)
+pub sends-work : (s : Standing) (cs : List Child) (promised named owed : List Ticket) (found : List Finding) (t : Ticket)
     (n : ℕ) → are_distinct cs ≡ true
     → in_list (accepted_in cs) t ≡ true → n ≡ works_of (works_in cs) t + 1
-    → SameView (meant s (changing t (sending n) cs) promised named owed)
-    (record (meant s cs promised named owed) { works = works_in cs ++ t ∷ [] })
-sends-work s cs promised named owed t n distinct there is =
+    → SameView (meant s (changing t (sending n) cs) promised named owed found)
+    (record (meant s cs promised named owed found) { works = works_in cs ++ t ∷ [] })
+sends-work s cs promised named owed found t n distinct there is =
     record {
       standing = refl;
       accepted = accepted-changing t (sending n) (λ c. refl) cs;
@@ -76,14 +79,15 @@ sends-work s cs promised named owed t n distinct there is =
       promised = refl;
       named = λ u. refl;
       owed = λ u. refl;
+      found = refl;
     }
 
 -- a child more
-pub accepts : (s : Standing) (cs ds : List Child) (promised named owed : List Ticket) (t : Ticket)
+pub accepts : (s : Standing) (cs ds : List Child) (promised named owed : List Ticket) (found : List Finding) (t : Ticket)
     → ds ≡ cs ++ record { ticket = t; works = 0; vote = None } ∷ []
-    → meant s ds promised named owed ≡ record (meant s cs promised named
-    owed) { accepted = accepted_in cs ++ t ∷ [] }
-accepts s cs ds promised named owed t pushed =
+    → meant s ds promised named owed found ≡ record (meant s cs promised named
+    owed found) { accepted = accepted_in cs ++ t ∷ [] }
+accepts s cs ds promised named owed found t pushed =
     rw (
       pushed,
       accepted_in-push cs (record { ticket = t; works = 0; vote = None }),
@@ -94,10 +98,10 @@ accepts s cs ds promised named owed t pushed =
 
 -- PREPARE to each of the children
 pub prepares-each : (seat : Seat) (s : Standing) (cs : List Child)
-    (promised named owed : List Ticket) → are_distinct cs ≡ true
-    → prepares seat (meant s cs promised named owed)
+    (promised named owed : List Ticket) (found : List Finding) → are_distinct cs ≡ true
+    → prepares seat (meant s cs promised named owed found)
     ≡ map (λ c. post seat.me c.ticket.child (Prepare (child_case seat.own.txn c.ticket) c.works)) cs
-prepares-each seat s cs promised named owed distinct =
+prepares-each seat s cs promised named owed found distinct =
     map_each (λ t. post seat.me t.child (Prepare (child_case seat.own.txn t) (works_of (works_in cs) t)))
     (λ c. post seat.me c.ticket.child (Prepare (child_case seat.own.txn c.ticket) c.works)) cs
     (each_two _ _ _ (λ c is is'. ap (λ n. post seat.me c.ticket.child (Prepare

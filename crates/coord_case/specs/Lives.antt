@@ -1,6 +1,7 @@
 -- What the code keeps of a live case, and the view that it stands for.
 use Rattle.std.specs.Prelude.{◌≡◌, ℕ, Bool, true, false, not, ◌&&◌, Option, Some, None, List, [], ◌∷◌, map, filter_map, replicate, if◌then◌else◌}
 use Rattle.std.specs.List.{flat_map, list_any}
+use Rattle.tree_model.specs.declared.messages.Finding.{Finding}
 use Rattle.tree_model.specs.declared.names.Ticket.{Ticket}
 use Rattle.tree_model.specs.declared.standings.Standing.{Standing}
 use Rattle.tree_model.specs.declared.standings.Vote.{Vote}
@@ -33,9 +34,9 @@ votes_in cs = filter_map vote_of cs
 abbrev pub works_in : List Child → List Ticket
 works_in cs = flat_map (λ c. replicate c.works c.ticket) cs
 
--- the view that a standing, children and lists of tickets stand for
-abbrev pub meant : Standing → List Child → List Ticket → List Ticket → List Ticket → CoordinatorView
-meant s cs promised named owed =
+-- the view that a standing, children, lists of tickets and findings stand for
+abbrev pub meant : Standing → List Child → List Ticket → List Ticket → List Ticket → List Finding → CoordinatorView
+meant s cs promised named owed found =
     record {
       standing = s;
       accepted = accepted_in cs;
@@ -44,6 +45,7 @@ meant s cs promised named owed =
       promised = promised;
       named = named;
       owed = owed;
+      found = found;
     }
 
 -- no two of the children are of one process
@@ -110,3 +112,4 @@ pub record Uncounts (t : Ticket) (old new : CoordinatorView) : Type 0 where
   pub promised : new.promised ≡ old.promised
   pub named : new.named ≡ old.named
   pub owed : new.owed ≡ old.owed
+  pub found : new.found ≡ old.found

@@ -7,6 +7,7 @@
 //! promised    the tickets that the case's promise names
 //! named       those that any of its records names
 //! owed        those that owe an acknowledgement
+//! found       what the acknowledgements found that were counted, in their order
 //! ```
 #![tactic(auto)]
 

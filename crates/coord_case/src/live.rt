@@ -26,11 +26,11 @@ use smallvec::SmallVec;
 use std::alloc::{AllocError, Global};
 use std::marker::Model;
 use tree_model::{
-    Case, Envelope, Envelopes, Message, ProcessId, Sequence, Standing, Ticket, Txn, Vote,
+    Case, Envelope, Envelopes, Finding, Message, ProcessId, Sequence, Standing, Ticket, Txn, Vote,
 };
 
 /// Where a live case stands: its accepted children, the tickets that its promise and its other records name,
-/// and those that owe an acknowledgement.
+/// those that owe an acknowledgement, and what those found that were counted.
 #[derive(Drop)]
 pub struct Live {
     standing: Standing,
@@ -38,6 +38,7 @@ pub struct Live {
     promised: Vec<Ticket>,
     named: Vec<Ticket>,
     owed: Vec<Ticket>,
+    found: Vec<Finding>,
 }
 
 impl Model for Live {
@@ -48,7 +49,8 @@ impl Model for Live {
 
     ghost use Rattle.coord_case.specs.Lives.{are_distinct, meant};
 
-    ghost view = { λ l. meant l.standing l.children.items l.promised.items l.named.items l.owed.items };
+    ghost view = { λ l. meant l.standing l.children.items l.promised.items l.named.items l.owed.items
+        l.found.items };
 
     ghost invariant = { λ l. are_distinct l.children.items ≡ true };
 }
@@ -97,6 +99,7 @@ impl Live {
             promised: Vec::new(alloc),
             named: Vec::new(alloc),
             owed: Vec::new(alloc),
+            found: Vec::new(alloc),
         }
     }
 
@@ -109,7 +112,7 @@ impl Live {
         named: &[Ticket],
         owed: &[Ticket],
     ) -> Result<Live, AllocError>
-        ensures { IfOk result (λ live. live ≡ meant standing [] promised.now named.now owed.now) }
+        ensures { IfOk result (λ live. live ≡ meant standing [] promised.now named.now owed.now []) }
     {
         Ok(Live {
             standing,
@@ -117,6 +120,7 @@ impl Live {
             promised: Vec::from_slice(alloc, promised)?,
             named: Vec::from_slice(alloc, named)?,
             owed: Vec::from_slice(alloc, owed)?,
+            found: Vec::new(alloc),
         })
     }
 
@@ -137,6 +141,7 @@ impl Live {
             && self.promised.is_empty()
             && self.named.is_empty()
             && self.owed.is_empty()
+            && self.found.is_empty()
     }
 
     /// Whether it has accepted the ticket, or a record of it names the ticket.
@@ -323,11 +328,30 @@ impl Live {
         all_are(&self.owed, ticket)
     }
 
-    /// The ticket has acknowledged.
-    pub fn acknowledge(&mut self, ticket: &Ticket)
-        ensures { self.new ≡ record self.old { owed = others_in ticket.now self.old.owed } }
+    /// The ticket has acknowledged, with these findings. Memory: nothing changed.
+    pub fn acknowledge(&mut self, ticket: &Ticket, findings: &[Finding]) -> Result<(), AllocError>
+        ensures ok { OnOk result (self.new ≡ record self.old {
+          owed = others_in ticket.now self.old.owed;
+          found = self.old.found ++ findings.now;
+        }) }
+        ensures err { OnErr result (self.new ≡ self.old) }
     {
+        self.found.extend_from_slice(findings)?;
         strike(&mut self.owed, *ticket);
+        Ok(())
+    }
+
+    /// What the acknowledgements found that were counted, and these findings behind it.
+    pub fn found_with(
+        &self,
+        alloc: Global,
+        findings: &[Finding],
+    ) -> Result<Vec<Finding>, AllocError>
+        ensures { IfOk result (λ found. found.items ≡ self.now.found ++ findings.now) }
+    {
+        let mut found = Vec::from_slice(alloc, &self.found)?;
+        found.extend_from_slice(findings)?;
+        Ok(found)
     }
 
     /// The decided case waits for these acknowledgements; where there are none it is forgotten. Memory:
@@ -355,5 +379,6 @@ impl Live {
         self.promised.clear();
         self.named.clear();
         self.owed.clear();
+        self.found.clear();
     }
 }

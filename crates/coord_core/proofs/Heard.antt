@@ -1,24 +1,25 @@
 -- Which turn a message meets, and an act.
-use Rattle.std.proofs.Common.{◌≡◌, ◌&&◌, ◌||◌, ◌⊎◌, find, ℕ, zero, suc, Bool, true, false, Option, None, Some, List, [], ◌∷◌, if◌then◌else◌, refl, subst, sym, ap, ◌∙◌, inl, inr}
+use Rattle.std.proofs.Common.{◌≡◌, ◌&&◌, ◌||◌, ◌⊎◌, find, ℕ, zero, suc, Bool, true, false, Option, None, Some, List, [], ◌∷◌, if◌then◌else◌, is_none, refl, subst, sym, ap, ◌∙◌, inl, inr}
 use Rattle.tree_model.specs.declared.names.Case.{Case}
 use Rattle.tree_model.specs.declared.names.Outcome.{Outcome}
 use Rattle.tree_model.specs.declared.names.ProcessId.{ProcessId}
 use Rattle.tree_model.specs.declared.names.Ticket.{Ticket}
 use Rattle.tree_model.specs.declared.names.Txn.{Txn}
+use Rattle.tree_model.specs.declared.messages.Finding.{Finding}
 use Rattle.tree_model.specs.declared.messages.Message.{Message}
-use Rattle.tree_model.specs.declared.messages.Message.TheVariants.{Joined, Prepare, Yes, No, Read, Commit, Abort, Ack, Inquire}
+use Rattle.tree_model.specs.declared.messages.Message.TheVariants.{Joined, Prepare, Commit, Abort}
 use Rattle.tree_model.specs.declared.standings.Vote.{Vote}
-use Rattle.tree_model.specs.declared.standings.Vote.TheVariants.{Yes as VoteYes, No as VoteNo, Read as VoteRead}
 use Rattle.tree_model.specs.declared.events.Act.{Act}
 use Rattle.tree_model.specs.declared.events.Input.{Input}
 use Rattle.tree_model.specs.declared.events.Input.TheVariants.{Act as ActInput, Message as MessageInput}
-use Rattle.tree_model.specs.declared.events.StepError.TheVariants.{Failed, NoSuch, NotAChild}
+use Rattle.tree_model.specs.declared.events.StepError.TheVariants.{Failed, NoSuch, NotAChild, UnknownTxn}
 use Rattle.std.specs.Borrow.{Bor}
-use Rattle.tree_model.specs.declared.events.Act.TheVariants.{Work as WorkAct}
+use Rattle.tree_model.specs.declared.events.Act.TheVariants.{Work as WorkAct, Forget as ForgetAct}
 use Rattle.tree_model.specs.declared.messages.Op.{Op}
-use Rattle.tree_model.specs.declared.standings.Standing.TheVariants.{Active}
+use Rattle.tree_model.specs.declared.standings.Standing.TheVariants.{Active, Unknown}
 use Rattle.tree_model.specs.Names.{child_case, same_case, same_process, same_ticket, same_txn}
-use Rattle.tree_model.specs.Records.{in_list}
+use Rattle.tree_model.specs.LogNames.{parent_of}
+use Rattle.tree_model.specs.Records.{in_list, is_reported}
 use Rattle.tree_model.specs.Nodes.{is_leaf, role_of}
 use Rattle.tree_model.specs.Memory.{ticket_of_child}
 use Rattle.tree_model.specs.CoordinatorRows.{active_work}
@@ -28,7 +29,7 @@ use Rattle.tree_model.specs.Restarts.{is_known}
 use Rattle.tree_model.proofs.NameTests.{case_tells, ticket_tells}
 use Rattle.live_table.specs.Tables.{entry_at, live_value}
 use Rattle.live_table.proofs.Writes.{live_found}
-use Rattle.core_model.specs.Turns.{Turn as CoreTurn, Refuses as RefusesTurn, Takes as TakesTurn, Finds, ack_turn, act_turn, asked_by, asked_of, cascaded_turn, child_says, child_turn, coordinator_act, inquiry_turn, is_case_of, message_turn, seat_in, turn_of, vote_turn, work_for_turn, work_turn, no_answer}
+use Rattle.core_model.specs.Turns.{Turn as CoreTurn, Refuses as RefusesTurn, Takes as TakesTurn, Finds, ack_turn, act_turn, asked_by, asked_of, cascaded_turn, child_says, child_turn, clear_turn, coordinator_act, inquiry_turn, is_case_of, kept_records, message_turn, seat_in, turn_of, vote_turn, work_for_turn, work_turn, no_answer}
 use Rattle.coord_table.specs.declared.held.Held.{Held}
 use Rattle.coord_table.specs.Cases.{Slots, has_child, held_view, view_in}
 use Rattle.coord_table.specs.declared.asked.Asked.{Asked}
@@ -36,7 +37,7 @@ use Rattle.coord_table.specs.declared.asked.Asked.TheVariants.{Joined as AskedJo
 use Rattle.coord_table.specs.Asks.{Accepts, is_of_root, is_retiring}
 use Rattle.coord_table.specs.Takes.{IsAt}
 use Rattle.coord_core.specs.declared.turn.Turn.{Turn}
-use Rattle.coord_core.specs.declared.turn.Turn.TheVariants.{Refuses, Takes, Presumes, Nothing}
+use Rattle.coord_core.specs.declared.turn.Turn.TheVariants.{Refuses, Takes, Clears, Presumes, Nothing}
 use Rattle.coord_core.specs.States.{CoordinatorValue, place_of, role_below, state}
 use Rattle.coord_core.specs.Meets.{FindsAt, Hears, HearsFrom, HearsOf, May, Meets, MeetsAct, RetiresAs, RetiresNone, is_of_child, meant, met, met_by_child}
 
@@ -44,7 +45,7 @@ use Rattle.coord_core.specs.Meets.{FindsAt, Hears, HearsFrom, HearsOf, May, Meet
 
 accepts_any : (asked : Asked) (v : CoordinatorView) → is_of_child asked ≡ true → Accepts asked v
 accepts_any (AskedVote t w) v is = tt
-accepts_any (AskedAck t o) v is = tt
+accepts_any (AskedAck t o fs) v is = tt
 accepts_any (AskedInquire t) v is = tt
 accepts_any (AskedJoined t) v is = tt
 accepts_any AskedPrepare v is = tt
@@ -59,7 +60,7 @@ accepts_any Ask v is = tt
 
 not_of_root : (asked : Asked) → is_of_child asked ≡ true → is_of_root asked ≡ false
 not_of_root (AskedVote t w) is = refl
-not_of_root (AskedAck t o) is = refl
+not_of_root (AskedAck t o fs) is = refl
 not_of_root (AskedInquire t) is = refl
 not_of_root (AskedJoined t) is = refl
 not_of_root AskedPrepare is = refl
@@ -74,7 +75,7 @@ not_of_root Ask is = refl
 
 not_retiring : (asked : Asked) → is_of_child asked ≡ true → is_retiring asked ≡ false
 not_retiring (AskedVote t w) is = refl
-not_retiring (AskedAck t o) is = refl
+not_retiring (AskedAck t o fs) is = refl
 not_retiring (AskedInquire t) is = refl
 not_retiring (AskedJoined t) is = refl
 not_retiring AskedPrepare is = absurd (cc)
@@ -201,10 +202,10 @@ module _ (v : CoordinatorValue) where
   votes t w None = refl
   votes t w (Some c) = refl
 
-  pub acknowledges : (t : Ticket) (o : Outcome) (found : Option Case)
-      → ack_turn (state v) o t found ≡ met_by_child v (AskedAck t o) Nothing found
-  acknowledges t o None = refl
-  acknowledges t o (Some c) = refl
+  pub acknowledges : (t : Ticket) (o : Outcome) (fs : Bor (List Finding)) (found : Option Case)
+      → ack_turn (state v) o fs.now t found ≡ met_by_child v (AskedAck t o fs) Nothing found
+  acknowledges t o fs None = refl
+  acknowledges t o fs (Some c) = refl
 
   pub inquires : (x : Txn) (t : Ticket) (found : Option Case)
       → inquiry_turn (state v) x t found ≡ met_by_child v (AskedInquire t) (Presumes x t) found
@@ -324,6 +325,36 @@ meets_message v n m turn up hears =
       is = by_tests true v.log.sight.failed
           (message_turn (place_of v).role (state v) no_answer hears.found m) refl up ∙ hears.is;
       may = hears.may;
+    }
+
+-- Forget.
+
+-- forget at the root, of a case of which nothing is known
+pub meets_forget : (v : CoordinatorValue) (c : Case) → (view_in v.slots c).standing ≡ Unknown → v.parent ≡ None
+    → v.log.sight.failed ≡ false → MeetsAct v (ForgetAct c) (Clears c)
+meets_forget v c unknown root up =
+    let w = view_in v.slots c in
+    let s = seat_in (state v) c in
+    let reported = is_reported (kept_records (state v)) c in
+    record {
+      is =
+          ap (λ p. clear_turn s (is_none (parent_of (role_below p)) && reported) w w.standing) root
+          ∙ ap (clear_turn s reported w) unknown;
+      may = record { unknown = unknown; root = root; up = up; retiring = λ d t. refl };
+    }
+
+-- below the root nothing is reported
+pub meets_forget_below : (v : CoordinatorValue) (c : Case) (p : ProcessId)
+    → (view_in v.slots c).standing ≡ Unknown → v.parent ≡ Some p → MeetsAct v (ForgetAct c) (Refuses UnknownTxn)
+meets_forget_below v c p unknown below =
+    let w = view_in v.slots c in
+    let s = seat_in (state v) c in
+    let reported = is_reported (kept_records (state v)) c in
+    record {
+      is =
+          ap (λ q. clear_turn s (is_none (parent_of (role_below q)) && reported) w w.standing) below
+          ∙ ap (clear_turn s false w) unknown;
+      may = refl;
     }
 
 -- Work.

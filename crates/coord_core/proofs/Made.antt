@@ -10,6 +10,7 @@ use Rattle.tree_model.specs.declared.names.Txn.{Txn}
 use Rattle.tree_model.specs.declared.messages.Envelope.{Envelope}
 use Rattle.tree_model.specs.declared.events.Input.{Input}
 use Rattle.tree_model.specs.declared.events.Reaction.{Reaction}
+use Rattle.tree_model.specs.declared.standings.Standing.TheVariants.{Unknown, Heuristic}
 use Rattle.tree_model.specs.declared.events.StepError.{StepError}
 use Rattle.tree_model.specs.declared.events.StepError.TheVariants.{Memory, Device, UnknownTxn, NotAChild, Closed, Failed, NotInDoubt, NothingToForget, NoSuch}
 use Rattle.tree_model.specs.Names.{child_case, root_case}
@@ -17,7 +18,8 @@ use Rattle.tree_model.specs.LogNames.{in_log, parent_of}
 use Rattle.tree_model.specs.Nodes.{Written, entries_written, reaction_of}
 use Rattle.tree_model.specs.Standings.{CoordinatorView, unknown_view}
 use Rattle.tree_model.specs.declared.messages.Message.TheVariants.{Joined as JoinedMessage}
-use Rattle.tree_model.specs.CoordinatorRows.{Row, Seat as SeatRow, post, unknown_commit_by, unknown_abort_by}
+use Rattle.tree_model.specs.Records.{is_reported}
+use Rattle.tree_model.specs.CoordinatorRows.{Row, Seat as SeatRow, post, unknown_commit_by, unknown_abort_by, unknown_forget}
 use Rattle.tree_model.specs.Reactions.{row_effect, sends_only}
 use Rattle.tree_model.specs.Views.{begin_effect}
 use Rattle.tree_model.specs.SameViews.{SameView, open_view}
@@ -26,7 +28,7 @@ use Rattle.live_table.specs.Tables.{AreApart, case_of, entry_at, live_value}
 use Rattle.live_table.proofs.Writes.{live_found}
 use Rattle.rec_log.specs.Sights.{Breaks, LogSight, LogState}
 use Rattle.core_model.specs.States.{CoreState, SameCore, logged, wrote}
-use Rattle.core_model.specs.Turns.{Says as SaysTurn, Takes as TakesTurn, reacted, seat_in, no_answer, this_version}
+use Rattle.core_model.specs.Turns.{Says as SaysTurn, Takes as TakesTurn, clear_turn, kept_records, reacted, seat_in, no_answer, this_version}
 use Rattle.core_model.specs.Makes.{BreaksIn, Makes, NotMade, OpensCase, retired_by}
 use Rattle.core_model.proofs.Alike.{same_view}
 use Rattle.coord_table.specs.declared.held.Held.{Held}
@@ -41,7 +43,7 @@ use Rattle.coord_table.specs.Asks.{asked_row, is_for_any, is_retiring}
 use Rattle.coord_table.specs.Takes.{AddsNone, TakesRowOf, retired_if}
 use Rattle.coord_table.proofs.Given.{gone_keeps}
 use Rattle.coord_core.specs.declared.turn.Turn.{Turn}
-use Rattle.coord_core.specs.declared.turn.Turn.TheVariants.{Refuses, Begins as BeginsOne, Issues as IssuesOne}
+use Rattle.coord_core.specs.declared.turn.Turn.TheVariants.{Refuses, Begins as BeginsOne, Issues as IssuesOne, Clears}
 use Rattle.coord_core.specs.States.{CoordinatorValue, IsCoordinator, own_ticket, own_txn, role_below, state}
 use Rattle.coord_core.specs.Meets.{Meets, RetiresAs, RetiresNone, meant, met}
 use Rattle.coord_core.specs.Turned.{Stopped, Turned, WritesDown, framed_of}
@@ -72,13 +74,48 @@ not_made v new i turn Device meets stopped = record {
   finds = meets.finds;
   breaks = rw meets.is stopped;
 }
-not_made v new i turn UnknownTxn meets stopped = absurd stopped
-not_made v new i turn NotAChild meets stopped = absurd stopped
-not_made v new i turn Closed meets stopped = absurd stopped
-not_made v new i turn Failed meets stopped = absurd stopped
-not_made v new i turn NotInDoubt meets stopped = absurd stopped
-not_made v new i turn NothingToForget meets stopped = absurd stopped
-not_made v new i turn NoSuch meets stopped = absurd stopped
+not_made v new i turn UnknownTxn meets stopped = record {
+  same = stopped.0;
+  found = meets.found;
+  finds = meets.finds;
+  refuses = meets.is ∙ stopped.1;
+}
+not_made v new i turn NotAChild meets stopped = record {
+  same = stopped.0;
+  found = meets.found;
+  finds = meets.finds;
+  refuses = meets.is ∙ stopped.1;
+}
+not_made v new i turn Closed meets stopped = record {
+  same = stopped.0;
+  found = meets.found;
+  finds = meets.finds;
+  refuses = meets.is ∙ stopped.1;
+}
+not_made v new i turn Failed meets stopped = record {
+  same = stopped.0;
+  found = meets.found;
+  finds = meets.finds;
+  refuses = meets.is ∙ stopped.1;
+}
+not_made v new i turn NotInDoubt meets stopped = record {
+  same = stopped.0;
+  found = meets.found;
+  finds = meets.finds;
+  refuses = meets.is ∙ stopped.1;
+}
+not_made v new i turn NothingToForget meets stopped = record {
+  same = stopped.0;
+  found = meets.found;
+  finds = meets.finds;
+  refuses = meets.is ∙ stopped.1;
+}
+not_made v new i turn NoSuch meets stopped = record {
+  same = stopped.0;
+  found = meets.found;
+  finds = meets.finds;
+  refuses = meets.is ∙ stopped.1;
+}
 
 pub same_core : (s : CoreState) → SameCore s s
 same_core s =
@@ -93,6 +130,7 @@ same_core s =
         views = λ c.
             same_view (s.view_of c);
         branches = λ c. refl;
+        decided = λ c. refl;
       };
     }
 
@@ -183,7 +221,11 @@ said_turn v ls reaction shown i = record {
 
 -- Tickets and cases.
 
-retired_none : (i : Input) (d : Case) (o : Option Ticket) → RetiresNone i → retired_by i d o ≡ o
+-- a coordinator has no branch that an operator decided
+pub never_decided : {A : Type 0} → Unknown ≡ Heuristic → A
+never_decided is = absurd (cc)
+
+pub retired_none : (i : Input) (d : Case) (o : Option Ticket) → RetiresNone i → retired_by i d o ≡ o
 retired_none i d None none = refl
 retired_none i d (Some t) none = rw (none d t) refl
 
@@ -250,6 +292,7 @@ module _ (v : CoordinatorValue) (slots : Slots) where
             boot = refl;
             tickets = λ d. begins.tickets d
                 ∙ sym (retired_none i d (ticket_in v.slots d) none);
+            decided = λ d is. never_decided is;
           };
         };
         effect = begin_effect (own_txn v p (v.begun + 1));
@@ -287,6 +330,7 @@ module _ (v : CoordinatorValue) (slots : Slots) where
           cases = opens_case v.parent d (own_ticket v (v.given + 1)) gives;
           ticket = gives.ticket;
           tickets = λ e differs. gives.tickets e differs;
+          decided = λ e is. refl;
           begun = refl;
           given = refl;
           place = refl;
@@ -357,6 +401,7 @@ module _ (v : CoordinatorValue) (log : LogState) (slots : Slots) (c : Case) (ask
             boot = refl;
             tickets = λ d. takes.tickets d
                 ∙ retired_as i asked c d (ticket_in v.slots d) as';
+            decided = λ d is. never_decided is;
           };
         };
         effect = row_effect c (met v c asked);
@@ -389,6 +434,89 @@ module _ (v : CoordinatorValue) (log : LogState) (slots : Slots) (c : Case) (ask
           place = refl;
         },
       )
+
+-- A report is cleared.
+
+module _ (v : CoordinatorValue) (log : LogState) (c : Case) (effect : RowEffect) (mid : LogState)
+    (room : mid.sight ≡ v.log.sight)
+    (does : (view : CoordinatorView) → Does (seat_for v c) (unknown_forget (seat (seat_for v c)) view) effect view)
+    (reported : is_reported (kept_records (state v)) c ≡ true) where
+  abbrev cleared : Row
+  cleared = unknown_forget (seat_in (state v) c) (view_in v.slots c)
+
+  does_clear : Does (seat_for v c) cleared effect (view_in v.slots c)
+  does_clear = subst (λ s. Does (seat_for v c) (unknown_forget s (view_in v.slots c)) effect (view_in v.slots c))
+      (seat_is v c) (does (view_in v.slots c))
+
+  is_clearing : TakesTurn c cleared ≡ meant v (Clears c)
+  is_clearing = ap (λ b. clear_turn (seat_in (state v) c) b (view_in v.slots c) Unknown) (sym reported)
+
+  clear_records : framed_of effect.written ≡ logged (state v) (entries_written cleared.written)
+  clear_records = logged_is v effect.written cleared.written does_clear.framed does_clear.written
+
+  clear_sight : WritesDown mid log effect.written
+      → log.sight ≡ wrote v.log.sight cleared.written (logged (state v) (entries_written cleared.written))
+  clear_sight writes =
+      writes.sight ∙ ap (λ s. wrote s (written_of effect.written) (framed_of effect.written)) room
+      ∙ (λ j. wrote v.log.sight (does_clear.written j) (clear_records j))
+
+  -- Cleared stands
+  pub cleared_turn : WritesDown mid log effect.written → (i : Input) → RetiresNone i
+      → Turned (state v) (state (record v { log = log })) i (meant v (Clears c)) (reaction_by effect)
+  cleared_turn writes i none =
+      subst (λ t. Turned (state v) (state (record v { log = log })) i t (reaction_by effect)) is_clearing (record {
+        moves = record {
+          log = clear_sight writes;
+          own = same_view (view_in v.slots c);
+          others = λ d differs. same_view (view_in v.slots d);
+          branches = λ d. refl;
+          begun = refl;
+          given = refl;
+          stays = record {
+            place = refl;
+            boot = refl;
+            tickets = λ d. sym (retired_none i d (ticket_in v.slots d) none);
+            decided = λ d is. never_decided is;
+          };
+        };
+        effect = row_effect c cleared;
+        does = refl;
+        shown = does_clear.reaction;
+      })
+
+  -- the device failed under it
+  pub clear_breaks : Breaks mid log (framed_of effect.written)
+      → BreaksIn (state v) (state (record v { log = log })) (meant v (Clears c))
+  clear_breaks breaks =
+      let at : Breaks (record mid { sight = v.log.sight }) log
+      (logged (state v) (entries_written cleared.written)) =
+      subst (λ s. Breaks (record mid { sight = s }) log (logged (state v) (entries_written cleared.written))) room
+      (subst (Breaks mid log) clear_records breaks) in
+      subst (BreaksIn (state v) (state (record v { log = log }))) is_clearing (
+        row_effect c cleared,
+        refl,
+        record {
+          log = record {
+            kind = refl;
+            appended = at.appended;
+            stand = at.stand;
+            no_less = at.no_less;
+            more = at.more;
+            leaves = at.leaves;
+            failed = at.failed;
+            cause = at.cause;
+          };
+          place = refl;
+        },
+      )
+
+-- nothing is reported: so nothing changes
+pub not_cleared : (v : CoordinatorValue) (c : Case) → is_reported (kept_records (state v)) c ≡ false
+    → Stopped (state v) (state v) (meant v (Clears c)) UnknownTxn
+not_cleared v c none = (
+  same_core (state v),
+  ap (λ b. clear_turn (seat_in (state v) c) b (view_in v.slots c) Unknown) none,
+)
 
 -- where no case was added, a case under a key was there before
 pub case_before : (old new : Slots) (k : ℕ) (c : Case) → AddsNone old new
@@ -425,7 +553,7 @@ unwritten s AbortActive any = absurd (cc)
 unwritten s AbortCollecting any = absurd (cc)
 unwritten s Ask any = absurd (cc)
 unwritten s (Vote t w) any = absurd (cc)
-unwritten s (Ack t o) any = absurd (cc)
+unwritten s (Ack t o fs) any = absurd (cc)
 unwritten s (Inquire t) any = absurd (cc)
 
 wrote_none : (l : LogSight) → wrote l [] [] ≡ l
@@ -459,6 +587,7 @@ answered_turn v c asked effect any gone apart fits does i as' =
           boot = refl;
           tickets = λ d. sym (gone_keeps v.slots fits apart c gone (is_retiring asked) d)
               ∙ retired_as i asked c d (ticket_in v.slots d) as';
+          decided = λ d is. never_decided is;
         };
       };
       effect = row_effect c (met v c asked);

@@ -60,5 +60,6 @@ opened me parent tree old new slots empty works writes bare =
         views = λ c. subst (λ (v : CoordinatorView). SameView v (recorded_view_at (role_below parent)
             (Opened 1 ∷ []) c)) (sym (ap (λ s. view_in s c) bare ∙ none_live c)) (read.views c);
         branches = read.branches;
+        decided = read.decided;
       };
     }

@@ -24,6 +24,7 @@ use Rattle.coord_table.specs.Cases.{is_for}
 use Rattle.inquire_core.specs.Readings.{role_below}
 use Rattle.coord_table.specs.Restores.{IsNumbered, IsRestored, Rebuilds}
 use Rattle.coord_table.specs.declared.rebuilding.Rebuilt.{Rebuilt}
+use Rattle.coord_core.proofs.Made.{never_decided}
 use Rattle.coord_core.specs.States.{CoordinatorValue, IsCoordinator, error_of, own_ticket, own_txn, place_of, state}
 
 -- but for its log nothing is otherwise
@@ -38,6 +39,7 @@ same_but_log v log =
       tickets = λ d. refl;
       views = λ c. same_view _;
       branches = λ c. refl;
+      decided = λ c. refl;
     }
 
 -- a log that is seen as it was
@@ -87,6 +89,7 @@ module _ (v : CoordinatorValue) (keep : ℕ) (ls : List LogRecord) (r : Rebuilt)
               (recorded_view_at (role_below v.parent) (read_of (state v) (restarted_log (state v) keep)) c))
               (sym (of_left.views c)) (same_view _);
           branches = λ c. no_branches v.parent (read_of (state v) (restarted_log (state v) keep)) c;
+          decided = λ c is. never_decided is;
         };
         shown = of_left.shown;
       }

@@ -12,9 +12,10 @@ use Rattle.tree_model.specs.declared.events.StepError.TheVariants.{Closed, Unkno
 use Rattle.tree_model.specs.declared.standings.Standing.{Standing}
 use Rattle.tree_model.specs.declared.standings.Standing.TheVariants.{Active, Unknown}
 use Rattle.tree_model.specs.Names.{child_case, presumed, same_case, same_txn}
+use Rattle.tree_model.specs.Records.{is_reported}
 use Rattle.tree_model.specs.CoordinatorRows.{Row, post, tells_outcome}
 use Rattle.live_table.specs.Tables.{AreApart, live_value}
-use Rattle.core_model.specs.Turns.{Turn as CoreTurn, Refuses as RefusesTurn, Begins as BeginsTurn, Issues as IssuesTurn, Takes as TakesTurn, Says as SaysTurn, Finds, asked_by, asked_of, coordinator_act, next_begun, next_ticket, seat_in, turn_of, no_answer, is_refusal}
+use Rattle.core_model.specs.Turns.{Turn as CoreTurn, Refuses as RefusesTurn, Begins as BeginsTurn, Issues as IssuesTurn, Takes as TakesTurn, Says as SaysTurn, Finds, asked_by, asked_of, clear_turn, coordinator_act, kept_records, next_begun, next_ticket, seat_in, turn_of, no_answer, is_refusal}
 use Rattle.core_model.specs.Makes.{retires}
 use Rattle.coord_table.specs.Cases.{FitsGiven, Slots, has_child, ticket_in, view_in}
 use Rattle.coord_table.specs.declared.asked.Asked.{Asked}
@@ -22,7 +23,7 @@ use Rattle.coord_table.specs.declared.asked.Asked.TheVariants.{Vote, Ack, Inquir
 use Rattle.coord_table.specs.Asks.{Accepts, asked_row, is_for_any, is_of_root, is_retiring}
 use Rattle.coord_table.specs.Takes.{IsAt}
 use Rattle.coord_core.specs.declared.turn.Turn.{Turn}
-use Rattle.coord_core.specs.declared.turn.Turn.TheVariants.{Refuses, Begins, Issues, Takes, Answers, Repeats, Presumes, Nothing}
+use Rattle.coord_core.specs.declared.turn.Turn.TheVariants.{Refuses, Begins, Issues, Takes, Clears, Answers, Repeats, Presumes, Nothing}
 use Rattle.coord_core.specs.States.{CoordinatorValue, state}
 
 -- the row that is met by what is asked of a case
@@ -35,6 +36,8 @@ meant v (Refuses e) = RefusesTurn e
 meant v (Begins p) = BeginsTurn (next_begun (state v) p)
 meant v (Issues p d) = IssuesTurn d (next_ticket (state v)) (post v.me p (Joined d (next_ticket (state v))))
 meant v (Takes k c asked) = TakesTurn c (met v c asked)
+meant v (Clears c) =
+    clear_turn (seat_in (state v) c) (is_reported (kept_records (state v)) c) (view_in v.slots c) Unknown
 meant v (Answers c asked) = TakesTurn c (met v c asked)
 meant v (Repeats p d t) = SaysTurn (post v.me p (Joined d t) ∷ [])
 meant v (Presumes x t) =
@@ -54,6 +57,13 @@ pub record MayTake (v : CoordinatorValue) (i : Input) (key : ℕ) (c : Case) (as
   pub up : v.log.sight.failed ≡ false
   pub retiring : RetiresAs i asked c
 
+-- a report of the root's case may be cleared: nothing is known of the case
+pub record MayClear (v : CoordinatorValue) (i : Input) (c : Case) : Type 0 where
+  pub unknown : (view_in v.slots c).standing ≡ Unknown
+  pub root : v.parent ≡ None
+  pub up : v.log.sight.failed ≡ false
+  pub retiring : (d : Case) (t : Ticket) → retires i d t ≡ false
+
 -- what is asked of the case that is not live may be asked of it
 pub record MayAnswer (v : CoordinatorValue) (i : Input) (c : Case) (asked : Asked) : Type 0 where
   pub gone : live_value v.slots c ≡ None
@@ -72,6 +82,7 @@ May v i (Refuses e) = is_refusal e ≡ true
 May v i (Begins p) = RetiresNone i
 May v i (Issues p d) = ticket_in v.slots d ≡ None
 May v i (Takes k c asked) = MayTake v i k c asked
+May v i (Clears c) = MayClear v i c
 May v i (Answers c asked) = MayAnswer v i c asked
 May v i _ = ⊤
 
@@ -92,7 +103,7 @@ pub record Hears (v : CoordinatorValue) (i : Input) (says : Option Case → Core
 -- what a child asks of its case
 abbrev pub is_of_child : Asked → Bool
 is_of_child (Vote t w) = true
-is_of_child (Ack t o) = true
+is_of_child (Ack t o fs) = true
 is_of_child (Inquire t) = true
 is_of_child _ = false
 

@@ -1,6 +1,6 @@
 -- What the code of a coordinator keeps, and the process that it stands for.
 pub use Rattle.inquire_core.specs.Readings.{role_below}
-use Rattle.std.specs.Prelude.{◌≡◌, ◌≤◌, ℕ, true, Option, Some, List, [], ◌∷◌}
+use Rattle.std.specs.Prelude.{◌≡◌, ◌≤◌, ℕ, true, Option, Some, None, List, [], ◌∷◌}
 use Rattle.tree_model.specs.declared.names.Kind.TheVariants.{Coordinator}
 use Rattle.tree_model.specs.declared.names.Presumption.{Presumption}
 use Rattle.tree_model.specs.declared.names.ProcessId.{ProcessId}
@@ -51,6 +51,7 @@ state v =
       ticket_for = ticket_in v.slots;
       view_of = view_in v.slots;
       branch_of = λ c. unknown_branch;
+      decided_of = λ c. None;
     }
 
 -- the transaction that it began with this number in this boot

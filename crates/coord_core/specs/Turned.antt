@@ -10,7 +10,7 @@ use Rattle.tree_model.specs.Reactions.{Does}
 use Rattle.log_text.specs.Made.{frame_record}
 use Rattle.rec_log.specs.Sights.{LogState}
 use Rattle.core_model.specs.States.{CoreState, SameCore, wrote}
-use Rattle.core_model.specs.Turns.{Turn as CoreTurn, reacted}
+use Rattle.core_model.specs.Turns.{Turn as CoreTurn, Refuses, reacted}
 use Rattle.core_model.specs.Makes.{BreaksIn, Moves}
 use Rattle.coord_effects.specs.declared.effect.Framed.{Framed}
 use Rattle.coord_effects.specs.Rows.{written_of}
@@ -22,11 +22,12 @@ pub record Turned (old new : CoreState) (i : Input) (turn : CoreTurn) (reaction 
   pub does : reacted turn ≡ Does effect
   pub shown : reaction ≡ reaction_of effect
 
--- what stopped the turn: for want of memory nothing changed; or the device failed
+-- what stopped the turn: for want of memory nothing changed; or the device failed; or the turn is this refusal, and
+-- nothing changed
 abbrev pub Stopped : CoreState → CoreState → CoreTurn → StepError → Type 0
 Stopped old new turn Memory = SameCore old new
 Stopped old new turn Device = BreaksIn old new turn
-Stopped old new turn e = ⊥
+Stopped old new turn e = SameCore old new × (turn ≡ Refuses e)
 
 -- the records of frames, as the log holds them
 abbrev pub framed_of : Option Framed → List LogRecord

@@ -13,12 +13,12 @@ use crate::coordinator::Coordinator;
 use crate::turn::Turn;
 use coord_table::Asked;
 use log_store::LogStore;
-use tree_model::{Case, Message, Outcome, ProcessId, Ticket, Txn, Vote};
+use tree_model::{Case, Finding, Message, Outcome, ProcessId, Ticket, Txn, Vote};
 
 impl<L: LogStore> Coordinator<L> {
     /// Which turn a message meets. One that is not for this coordinator, or comes where nothing waits for
     /// it, does nothing.
-    pub(crate) fn hear(&self, number: u64, message: &Message) -> Turn<'static>
+    pub(crate) fn hear<'a>(&self, number: u64, message: &'a Message) -> Turn<'a>
         requires { self.now.log.sight.failed ≡ false }
         ensures { Hears self.now (input.Message number message.now) (λ found. message_turn
             (place_of self.now).role (state self.now) no_answer found message.now) result }
@@ -30,7 +30,7 @@ impl<L: LogStore> Coordinator<L> {
     }
 
     /// The messages of the parent; any other is a child's.
-    fn hear_parent(&self, number: u64, parent: ProcessId, message: &Message) -> Turn<'static>
+    fn hear_parent<'a>(&self, number: u64, parent: ProcessId, message: &'a Message) -> Turn<'a>
         requires { self.now.log.sight.failed ≡ false }
         ensures { Hears self.now (input.Message number message.now)
             (λ found. cascaded_turn (state self.now) parent found message.now) result }
@@ -70,7 +70,7 @@ impl<L: LogStore> Coordinator<L> {
     }
 
     /// The messages of children.
-    fn hear_child(&self, number: u64, message: &Message) -> Turn<'static>
+    fn hear_child<'a>(&self, number: u64, message: &'a Message) -> Turn<'a>
         requires { self.now.log.sight.failed ≡ false }
         ensures { Hears self.now (input.Message number message.now)
             (λ found. child_says (state self.now) found message.now) result }
@@ -80,7 +80,9 @@ impl<L: LogStore> Coordinator<L> {
             Message::Yes(case) => self.hear_vote(*case, Vote::Yes),
             Message::No(case) => self.hear_vote(*case, Vote::No),
             Message::Read(case) => self.hear_vote(*case, Vote::Read),
-            Message::Ack(case, outcome, _findings) => self.hear_ack(*case, *outcome),
+            Message::Ack(case, outcome, findings) => {
+                self.hear_ack(*case, *outcome, findings.as_slice())
+            }
             Message::Inquire(case) => self.hear_inquiry(*case),
             _ => Turn::Nothing,
         }
@@ -100,16 +102,17 @@ impl<L: LogStore> Coordinator<L> {
         }
     }
 
-    /// A child's acknowledgement.
-    fn hear_ack(&self, case: Case, outcome: Outcome) -> Turn<'static>
+    /// A child's acknowledgement, with what was found at and below it.
+    fn hear_ack<'a>(&self, case: Case, outcome: Outcome, findings: &'a [Finding]) -> Turn<'a>
         requires { self.now.log.sight.failed ≡ false }
         ensures { HearsFrom self.now case (λ found. child_turn case
-            (λ t. ack_turn (state self.now) outcome t found)) result }
+            (λ t. ack_turn (state self.now) outcome findings.now t found)) result }
     {
         match case.ticket {
             None => Turn::Nothing,
             Some(ticket) => {
-                self.hear_of(case.txn, ticket, Asked::Ack(ticket, outcome), Turn::Nothing)
+                let asked = Asked::Ack(ticket, outcome, findings);
+                self.hear_of(case.txn, ticket, asked, Turn::Nothing)
             }
         }
     }
@@ -130,13 +133,13 @@ impl<L: LogStore> Coordinator<L> {
     }
 
     /// What is asked of the live case that has the child's ticket; where there is none, the other turn.
-    fn hear_of(
+    fn hear_of<'a>(
         &self,
         txn: Txn,
         ticket: Ticket,
-        asked: Asked<'static>,
-        otherwise: Turn<'static>,
-    ) -> Turn<'static>
+        asked: Asked<'a>,
+        otherwise: Turn<'a>,
+    ) -> Turn<'a>
         requires child { is_of_child asked ≡ true }
         requires any { (i : AnyInput) → May self.now i otherwise }
         requires up { self.now.log.sight.failed ≡ false }

@@ -39,6 +39,7 @@ impl<L: LogStore> Coordinator<L> {
             Turn::Begins(presumption) => self.begins(presumption),
             Turn::Issues(parent, case) => self.issues(parent, case),
             Turn::Takes(key, case, asked) => self.takes(key, case, asked),
+            Turn::Clears(case) => self.clears(case),
             Turn::Answers(case, asked) => self.answers(case, asked),
             Turn::Repeats(parent, case, ticket) => self.repeats(parent, case, ticket),
             Turn::Presumes(txn, ticket) => self.presumes(txn, ticket),

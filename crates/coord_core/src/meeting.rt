@@ -46,7 +46,7 @@ impl<L: LogStore> Coordinator<L> {
             Act::Abort(txn) => self.meet_abort(*txn),
             Act::Ask(case) => self.meet_ask(*case),
             Act::Decide(case, _) => self.meet_operator(case, StepError::NotInDoubt),
-            Act::Forget(case) => self.meet_operator(case, StepError::NothingToForget),
+            Act::Forget(case) => self.meet_forget(*case),
         }
     }
 
@@ -146,7 +146,20 @@ impl<L: LogStore> Coordinator<L> {
         }
     }
 
-    /// What an operator decides or forgets is a manager's: a live case gets this refusal.
+    /// Forget: the root's case has ended, and what it reports is cleared. A case that is live has nothing to
+    /// forget, and below the root there are no reports.
+    fn meet_forget(&self, case: Case) -> Turn<'static>
+        requires { self.now.log.sight.failed ≡ false }
+        ensures { MeetsAct self.now (Act.Forget case) result }
+    {
+        match (self.standing(&case), self.parent) {
+            (Standing::Unknown, None) => Turn::Clears(case),
+            (Standing::Unknown, Some(_)) => Turn::Refuses(StepError::UnknownTxn),
+            _ => Turn::Refuses(StepError::NothingToForget),
+        }
+    }
+
+    /// What an operator decides is a manager's: a live case gets this refusal.
     fn meet_operator(&self, case: &Case, refusal: StepError) -> Turn<'static>
         requires { is_refusal refusal ≡ true }
         ensures is { live_turn refusal (view_in self.now.slots case.now).standing ≡ meant self.now result }

@@ -14,6 +14,8 @@ pub(crate) enum Turn<'a> {
     Issues(ProcessId, Case),
     /// The case that is live under the key takes the row that it meets.
     Takes(usize, Case, Asked<'a>),
+    /// A report of the root's case is cleared, if there is one; the case is not live.
+    Clears(Case),
     /// A case that is not live answers.
     Answers(Case, Asked<'a>),
     /// The parent's case gets its active ticket again.

@@ -1,5 +1,5 @@
 -- How the code's seats and effects stand for those of the reaction table.
-use Rattle.std.specs.Prelude.{◌≡◌, ⊤, Option, Some, None, List, [], ◌∷◌}
+use Rattle.std.specs.Prelude.{◌≡◌, ⊤, is_some, Option, Some, None, List, [], ◌∷◌}
 use Rattle.tree_model.specs.declared.names.ProcessId.{ProcessId}
 use Rattle.tree_model.specs.declared.names.Case.{Case}
 use Rattle.tree_model.specs.declared.names.Kind.TheVariants.{Coordinator}
@@ -10,7 +10,8 @@ use Rattle.tree_model.specs.declared.messages.Envelope.{Envelope}
 use Rattle.tree_model.specs.declared.events.Reaction.{Reaction}
 use Rattle.tree_model.specs.declared.events.Told.{Told}
 use Rattle.tree_model.specs.declared.records.Record.{Record}
-use Rattle.tree_model.specs.declared.records.Record.TheVariants.{Commit as CommitRecord, Abort as AbortRecord}
+use Rattle.tree_model.specs.declared.records.Record.TheVariants.{Commit as CommitRecord, Abort as AbortRecord, End as EndRecord}
+use Rattle.tree_model.specs.declared.records.Reports.{Reports}
 use Rattle.tree_model.specs.declared.standings.Standing.{Standing}
 use Rattle.tree_model.specs.declared.standings.Standing.TheVariants.{Committing, Aborting}
 use Rattle.tree_model.specs.LogNames.{in_log}
@@ -54,6 +55,10 @@ decision_names _ = []
 abbrev pub waits : Outcome → Standing
 waits Committed = Committing
 waits Aborted = Aborting
+
+-- an End that reports this, forced where it reports something
+abbrev pub end_written : Case → Option Reports → Written
+end_written c reports = record { entry = EndRecord c reports; forced = is_some reports }
 
 -- a record with its force
 abbrev pub meant : Written → WrittenRecord

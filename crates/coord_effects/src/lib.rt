@@ -24,6 +24,6 @@ pub use effect::{Framed, RowEffect, Written};
 pub use prepared::{prepared_abort, prepared_ask, prepared_commit, prepared_prepare};
 pub use resuming::resume;
 pub use seat::{
-    Reason, Seat, acknowledge_abort, acknowledge_commit, acknowledge_unknown_abort, heard_above,
-    outcome_message, tell_each, up,
+    Reason, Seat, acknowledge_abort, acknowledge_unknown_abort, acknowledge_unknown_commit,
+    heard_above, outcome_message, tell_each, up,
 };

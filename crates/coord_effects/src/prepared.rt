@@ -13,21 +13,21 @@ ghost use Rattle.coord_effects.specs.Rows.{Does, seat as seat_meant};
 
 use crate::deciding::{decides_owed, forgets_behind};
 use crate::effect::{RowEffect, Written};
-use crate::seat::{Seat, acknowledge_abort, acknowledge_commit, tell_each, up};
+use crate::seat::{Seat, tell_each, up};
 use coord_case::Live;
 use std::alloc::{AllocError, Global};
 use tree_model::{Message, Outcome, Presumption, Record, Sequence};
 
-/// Prepared, COMMIT: the promised are told. Under Presumed Abort the decision is forced and acknowledged,
-/// and names those that owe an acknowledgement; under Presumed Commit nobody owes one. Memory: nothing
-/// changed.
+/// Prepared, COMMIT: the promised are told. Under Presumed Abort the decision is forced and names those that
+/// owe an acknowledgement; it is acknowledged itself behind the last of theirs. Under Presumed Commit nobody
+/// owes one. Memory: nothing changed.
 pub fn prepared_commit(alloc: Global, seat: Seat, live: &mut Live) -> Result<RowEffect, AllocError>
     ensures ok { IfOk result (λ effect. Does seat
         (commit_row this_version (seat_meant seat) live.old) effect live.new) }
     ensures err { OnErr result (live.new ≡ live.old) }
 {
     let promised = Vec::from_slice(alloc, live.promised())?;
-    let mut messages = acknowledge_commit(alloc, seat)?;
+    let mut messages = Sequence::new(alloc);
     tell_each(&mut messages, seat, Outcome::Committed, &promised)?;
     match seat.case.txn.presumption {
         Presumption::PresumeAbort => {
@@ -48,15 +48,15 @@ pub fn prepared_commit(alloc: Global, seat: Seat, live: &mut Live) -> Result<Row
     }
 }
 
-/// Prepared, ABORT: the promised are told. Under Presumed Commit the abort is forced and acknowledged, and
-/// names those that owe an acknowledgement; under Presumed Abort nobody owes one. Memory: nothing changed.
+/// Prepared, ABORT: the promised are told. Under Presumed Commit the abort is forced and names those that owe
+/// an acknowledgement, as above; under Presumed Abort nobody owes one. Memory: nothing changed.
 pub fn prepared_abort(alloc: Global, seat: Seat, live: &mut Live) -> Result<RowEffect, AllocError>
     ensures ok { IfOk result (λ effect. Does seat
         (abort_row this_version (seat_meant seat) live.old) effect live.new) }
     ensures err { OnErr result (live.new ≡ live.old) }
 {
     let promised = Vec::from_slice(alloc, live.promised())?;
-    let mut messages = acknowledge_abort(alloc, seat)?;
+    let mut messages = Sequence::new(alloc);
     tell_each(&mut messages, seat, Outcome::Aborted, &promised)?;
     match seat.case.txn.presumption {
         Presumption::PresumeAbort => {

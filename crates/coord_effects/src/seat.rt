@@ -1,13 +1,14 @@
 //! A coordinator in one of its cases, and the messages that it sends from there.
 
-ghost use Rattle.std.specs.Prelude.{◌≡◌, ◌++◌, IfOk, List, OnOk};
+ghost use Rattle.std.specs.Prelude.{◌≡◌, ◌++◌, IfOk, OnOk};
 ghost use Rattle.tree_model.specs.CoordinatorRows.{abort_heard_above, acknowledges_abort, each, tells, tells_outcome, to_child, unknown_abort, unknown_commit, up as up_of};
 ghost use Rattle.tree_model.specs.Reactions.{told_of};
-ghost use Rattle.tree_model.specs.Standings.{CoordinatorView};
+ghost use Rattle.tree_model.specs.Standings.{CoordinatorView, unknown_findings as findings_unknown};
 ghost use Rattle.core_model.specs.Turns.{this_version};
 ghost use Rattle.coord_effects.specs.Rows.{reason as reason_meant, seat as seat_meant};
 
-use core_model::one_message;
+use coord_case::none_of;
+use core_model::{one_message, unknown_findings};
 use std::alloc::{AllocError, Global};
 use tree_model::{
     Case, Conclusion, Envelope, Envelopes, Message, Outcome, Presumption, ProcessId, Sequence,
@@ -82,19 +83,23 @@ pub fn acknowledge_abort(alloc: Global, seat: Seat) -> Result<Envelopes, AllocEr
     }
 }
 
-/// A commit under Presumed Abort is acknowledged; under Presumed Commit nothing is said.
-pub fn acknowledge_commit(alloc: Global, seat: Seat) -> Result<Envelopes, AllocError>
+/// The outcome of a case of which nothing is known is acknowledged, as unreported.
+fn acknowledge_unknown(alloc: Global, seat: Seat, outcome: Outcome) -> Result<Envelopes, AllocError>
+    ensures { IfOk result (λ messages. messages ≡ up_of (seat_meant seat)
+        (Message.Ack seat.case outcome (findings_unknown this_version seat.case))) }
+{
+    let findings = unknown_findings(alloc, seat.case)?;
+    up(alloc, seat, Message::Ack(seat.case, outcome, findings))
+}
+
+/// A commit of a case of which nothing is known is acknowledged under Presumed Abort; under Presumed Commit
+/// nothing is said.
+pub fn acknowledge_unknown_commit(alloc: Global, seat: Seat) -> Result<Envelopes, AllocError>
     ensures { IfOk result (λ messages. (view : CoordinatorView) → messages
         ≡ (unknown_commit this_version (seat_meant seat) view).messages) }
 {
     match seat.case.txn.presumption {
-        Presumption::PresumeAbort => {
-            up(
-                alloc,
-                seat,
-                Message::Ack(seat.case, Outcome::Committed, Sequence::new(alloc)),
-            )
-        }
+        Presumption::PresumeAbort => acknowledge_unknown(alloc, seat, Outcome::Committed),
         Presumption::PresumeCommit => Ok(Sequence::new(alloc)),
     }
 }
@@ -107,25 +112,25 @@ pub fn acknowledge_unknown_abort(alloc: Global, seat: Seat) -> Result<Envelopes,
 {
     match seat.case.txn.presumption {
         Presumption::PresumeAbort => Ok(Sequence::new(alloc)),
-        Presumption::PresumeCommit => {
-            up(
-                alloc,
-                seat,
-                Message::Ack(seat.case, Outcome::Aborted, Sequence::new(alloc)),
-            )
-        }
+        Presumption::PresumeCommit => acknowledge_unknown(alloc, seat, Outcome::Aborted),
     }
 }
 
-/// What the parent hears of an abort, whomever it is told.
-pub fn heard_above(alloc: Global, seat: Seat, reason: Reason) -> Result<Envelopes, AllocError>
-    ensures { IfOk result (λ messages. (told : List Ticket) → messages
-        ≡ abort_heard_above (seat_meant seat) (reason_meant reason) told) }
+/// What the parent hears of an abort that these are told: its ABORT is acknowledged where nobody owes an
+/// acknowledgement below.
+pub fn heard_above(
+    alloc: Global,
+    seat: Seat,
+    reason: Reason,
+    told: &[Ticket],
+) -> Result<Envelopes, AllocError>
+    ensures { IfOk result (λ messages. messages
+        ≡ abort_heard_above (seat_meant seat) (reason_meant reason) told.now) }
 {
     match reason {
         Reason::Vote => up(alloc, seat, Message::No(seat.case)),
-        Reason::Act => Ok(Sequence::new(alloc)),
-        Reason::Abort => acknowledge_abort(alloc, seat),
+        Reason::Abort if none_of(told) => acknowledge_abort(alloc, seat),
+        Reason::Act | Reason::Abort => Ok(Sequence::new(alloc)),
     }
 }
 

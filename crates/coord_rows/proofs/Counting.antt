@@ -66,6 +66,7 @@ takes_back old mid new t w counted counts back =
       promised = back.promised ∙ counts.promised;
       named = λ u. ap (λ ts. in_list ts u) back.named ∙ counts.named u;
       owed = λ u. ap (λ ts. in_list ts u) back.owed ∙ counts.owed u;
+      found = back.found ∙ counts.found;
     }
 
 same_view-trans : (u v w : CoordinatorView) → SameView u v → SameView v w → SameView u w
@@ -78,6 +79,7 @@ same_view-trans u v w a b =
       promised = a.promised ∙ b.promised;
       named = λ t. a.named t ∙ b.named t;
       owed = λ t. a.owed t ∙ b.owed t;
+      found = a.found ∙ b.found;
     }
 
 -- an effect that does a row does the same row

@@ -97,7 +97,7 @@ fn abort_undecided(
         live.old undecided.items seat.case.txn.presumption) effect live.new) }
     ensures err { OnErr result (live.new ≡ live.old) }
 {
-    let mut messages = heard_above(alloc, seat, reason)?;
+    let mut messages = heard_above(alloc, seat, reason, &undecided)?;
     tell_each(&mut messages, seat, Outcome::Aborted, &undecided)?;
     let told = seat.told(Conclusion::Aborted);
     match seat.case.txn.presumption {

@@ -1,13 +1,16 @@
 //! Rows of the reaction table for a case that was decided, and for one of which nothing is known (R*).
 
-ghost use Rattle.std.specs.Prelude.{◌≡◌, [], IfOk, OnErr};
+ghost use Rattle.std.specs.Prelude.{◌≡◌, ◌++◌, [], IfOk, None, OnErr};
 ghost use Rattle.tree_model.specs.Standings.{CoordinatorView};
 ghost use Rattle.tree_model.specs.CoordinatorRows.{
   aborting_abort as abort_again_row,
   aborting_prepare as late_prepare_row,
   committing_commit as commit_again_row,
+  unknown_forget as clears_row,
   decided_ack as ack_row,
+  decided_ack_by as ends_row,
   decided_inquiry as inquiry_row,
+  end_reports,
   unknown_abort as abort_row,
   unknown_commit as commit_row,
   unknown_inquiry as presumed_row,
@@ -15,38 +18,80 @@ ghost use Rattle.tree_model.specs.CoordinatorRows.{
 };
 ghost use Rattle.tree_model.specs.SameViews.{SameView};
 ghost use Rattle.core_model.specs.Turns.{this_version};
-ghost use Rattle.coord_effects.specs.Rows.{Does, seat as seat_meant};
+ghost use Rattle.coord_effects.specs.declared.seat.Seat.{Seat as AnySeat};
+ghost use Rattle.coord_effects.specs.Rows.{Does, end_written, seat as seat_meant};
 
+use crate::found::{in_order, reports_of};
 use coord_case::Live;
 use coord_effects::{
-    RowEffect, Seat, Written, acknowledge_commit, acknowledge_unknown_abort, forgets_behind,
-    outcome_message, up,
+    RowEffect, Seat, Written, acknowledge_unknown_abort, acknowledge_unknown_commit,
+    forgets_behind, outcome_message, up,
 };
 use inquire_core::presumed;
 use std::alloc::{AllocError, Global};
-use tree_model::{Message, Outcome, Record, Sequence, Ticket};
+use tree_model::{Case, Finding, Message, Outcome, Record, Sequence, Ticket};
 
-/// Committing or Aborting, an ACK that agrees: the last one that is owed ends the case. Memory: nothing
-/// changed.
+/// The root's End: plain where nothing was found; else with what was found, forced.
+fn root_end(alloc: Global, case: Case, found: &[Finding]) -> Result<Written, AllocError>
+    ensures { IfOk result (λ written. written ≡ end_written case (end_reports this_version None found.now)) }
+{
+    Ok(match found {
+        [] => Written::plain(Record::End(case, None)),
+        [_, ..] => Written::forced(Record::End(case, Some(reports_of(alloc, found)?))),
+    })
+}
+
+/// The last ACK that is owed: the root writes down what was found; a coordinator below it acknowledges in its
+/// turn, with what was found. Memory: nothing changed.
+fn ends(
+    alloc: Global,
+    seat: Seat,
+    outcome: Outcome,
+    found: Vec<Finding>,
+    live: &mut Live,
+) -> Result<RowEffect, AllocError>
+    ensures ok { IfOk result (λ effect. Does seat
+        (ends_row this_version (seat_meant seat) outcome [] found.items live.old) effect live.new) }
+    ensures err { OnErr result (live.new ≡ live.old) }
+{
+    match seat.parent {
+        None => {
+            let written = root_end(alloc, seat.case, &found)?;
+            forgets_behind(alloc, seat, &written, None, Sequence::new(alloc), live)
+        }
+        Some(_) => {
+            let written = Written::plain(Record::End(seat.case, None));
+            let findings = in_order(alloc, &found)?;
+            let messages = up(alloc, seat, Message::Ack(seat.case, outcome, findings))?;
+            forgets_behind(alloc, seat, &written, None, messages, live)
+        }
+    }
+}
+
+/// Committing or Aborting, an ACK that agrees with this outcome, and brings these findings: the first of a
+/// ticket that owes one counts, and the last one that is owed ends the case. Memory: nothing changed.
 pub fn decided_ack(
     alloc: Global,
     seat: Seat,
+    outcome: Outcome,
     ticket: Ticket,
+    findings: &[Finding],
     live: &mut Live,
 ) -> Result<RowEffect, AllocError>
-    ensures ok { IfOk result (λ effect. (outcome : Outcome) → Does seat
-        (ack_row this_version (seat_meant seat) outcome ticket [] live.old) effect live.new) }
+    ensures ok { IfOk result (λ effect. Does seat
+        (ack_row this_version (seat_meant seat) outcome ticket (live.old.found ++ findings.now) live.old)
+        effect live.new) }
     ensures err { OnErr result (live.new ≡ live.old) }
 {
     if !live.owes(&ticket) {
         return Ok(RowEffect::quiet(alloc));
     }
     if !live.owes_no_other(&ticket) {
-        live.acknowledge(&ticket);
+        live.acknowledge(&ticket, findings)?;
         return Ok(RowEffect::quiet(alloc));
     }
-    let written = Written::plain(Record::End(seat.case, None));
-    forgets_behind(alloc, seat, &written, None, Sequence::new(alloc), live)
+    let found = live.found_with(alloc, findings)?;
+    ends(alloc, seat, outcome, found, live)
 }
 
 /// The outcome to one child.
@@ -77,30 +122,20 @@ pub fn decided_inquiry(
     tell_one(alloc, seat, outcome, ticket)
 }
 
-/// Committing, COMMIT again: it is acknowledged.
-pub fn committing_commit(alloc: Global, seat: Seat) -> Result<RowEffect, AllocError>
-    ensures { IfOk result (λ effect. (view : CoordinatorView)
-        → Does seat (commit_again_row this_version (seat_meant seat) view) effect view) }
+/// Committing, COMMIT again: nothing, until the last acknowledgement from below.
+pub fn committing_commit(alloc: Global) -> RowEffect
+    ensures { (seat : AnySeat) (view : CoordinatorView)
+        → Does seat (commit_again_row this_version (seat_meant seat) view) result view }
 {
-    let messages = up(
-        alloc,
-        seat,
-        Message::Ack(seat.case, Outcome::Committed, Sequence::new(alloc)),
-    )?;
-    Ok(RowEffect::sends(alloc, messages))
+    RowEffect::quiet(alloc)
 }
 
-/// Aborting, ABORT again: it is acknowledged.
-pub fn aborting_abort(alloc: Global, seat: Seat) -> Result<RowEffect, AllocError>
-    ensures { IfOk result (λ effect. (view : CoordinatorView)
-        → Does seat (abort_again_row this_version (seat_meant seat) view) effect view) }
+/// Aborting, ABORT again: likewise.
+pub fn aborting_abort(alloc: Global) -> RowEffect
+    ensures { (seat : AnySeat) (view : CoordinatorView)
+        → Does seat (abort_again_row this_version (seat_meant seat) view) result view }
 {
-    let messages = up(
-        alloc,
-        seat,
-        Message::Ack(seat.case, Outcome::Aborted, Sequence::new(alloc)),
-    )?;
-    Ok(RowEffect::sends(alloc, messages))
+    RowEffect::quiet(alloc)
 }
 
 /// Aborting, PREPARE: NO.
@@ -110,6 +145,15 @@ pub fn aborting_prepare(alloc: Global, seat: Seat) -> Result<RowEffect, AllocErr
 {
     let messages = up(alloc, seat, Message::No(seat.case))?;
     Ok(RowEffect::sends(alloc, messages))
+}
+
+/// Unknown, at the root, where what was found is reported: it is cleared, forced.
+pub fn clears(alloc: Global, seat: Seat) -> Result<RowEffect, AllocError>
+    ensures { IfOk result (λ effect. (view : CoordinatorView)
+        → Does seat (clears_row (seat_meant seat) view) effect view) }
+{
+    let written = Written::forced(Record::Cleared(seat.case));
+    RowEffect::writes(alloc, &seat, &written, None, Sequence::new(alloc))
 }
 
 /// PREPARE of a case of which nothing is known: NO.
@@ -126,7 +170,7 @@ pub fn unknown_commit(alloc: Global, seat: Seat) -> Result<RowEffect, AllocError
     ensures { IfOk result (λ effect. (view : CoordinatorView)
         → Does seat (commit_row this_version (seat_meant seat) view) effect view) }
 {
-    let messages = acknowledge_commit(alloc, seat)?;
+    let messages = acknowledge_unknown_commit(alloc, seat)?;
     Ok(RowEffect::sends(alloc, messages))
 }
 

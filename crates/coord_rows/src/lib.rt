@@ -27,6 +27,11 @@
 //! | Committing, Aborting | COMMIT, ABORT, PREPARE again | `committing_commit`, `aborting_abort`, `aborting_prepare` |
 //! | any | COMMIT, ABORT | `on_commit`, `on_abort`: the row that is met there |
 //! | none | PREPARE, COMMIT, ABORT, INQUIRE | `unknown_prepare`, `unknown_commit`, `unknown_abort`, `unknown_inquiry` |
+//! | none, reported at the root | forget | `clears` |
+//!
+//! A coordinator below the root acknowledges an outcome behind the last ACK that it is owed, with what was found
+//! below it: `decided_ack`. So its ACK speaks for its whole subtree, and `committing_commit` and `aborting_abort`
+//! say nothing. Of a case of which nothing is known the own ticket is unreported.
 //!
 //! A case that aborted without anybody left to acknowledge, or that ended, is gone: it is Unknown.
 //!
@@ -37,6 +42,7 @@
 mod active;
 mod collecting;
 mod decided;
+mod found;
 mod outcomes;
 
 pub use active::{active_abort, active_commit, active_join, active_joined, active_work};
@@ -46,7 +52,7 @@ pub use coord_effects::{
     prepared_prepare, resume,
 };
 pub use decided::{
-    aborting_abort, aborting_prepare, committing_commit, decided_ack, decided_inquiry,
+    aborting_abort, aborting_prepare, clears, committing_commit, decided_ack, decided_inquiry,
     unknown_abort, unknown_commit, unknown_inquiry, unknown_prepare,
 };
 pub use outcomes::{on_abort, on_commit};

@@ -22,7 +22,7 @@ pub fn on_commit(alloc: Global, seat: Seat, live: &mut Live) -> Result<RowEffect
 {
     match live.standing() {
         Standing::Prepared => prepared_commit(alloc, seat, live),
-        Standing::Committing => committing_commit(alloc, seat),
+        Standing::Committing => Ok(committing_commit(alloc)),
         Standing::Unknown => unknown_commit(alloc, seat),
         _ => Ok(RowEffect::quiet(alloc)),
     }
@@ -38,7 +38,7 @@ pub fn on_abort(alloc: Global, seat: Seat, live: &mut Live) -> Result<RowEffect,
         Standing::Active => active_abort(alloc, seat, live),
         Standing::Collecting => collecting_abort(alloc, seat, Reason::Abort, live),
         Standing::Prepared => prepared_abort(alloc, seat, live),
-        Standing::Aborting => aborting_abort(alloc, seat),
+        Standing::Aborting => Ok(aborting_abort(alloc)),
         Standing::Unknown => unknown_abort(alloc, seat),
         _ => Ok(RowEffect::quiet(alloc)),
     }

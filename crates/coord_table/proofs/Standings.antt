@@ -1,5 +1,6 @@
 -- A case whose ticket stays active takes children and work behind the row, too.
-use Rattle.std.proofs.Common.{◌≡◌, Bool, true, false, refl, subst, sym, if◌then◌else◌, []}
+use Rattle.std.proofs.Common.{◌≡◌, Bool, true, false, List, ◌++◌, refl, subst, sym, if◌then◌else◌}
+use Rattle.tree_model.specs.declared.messages.Finding.{Finding}
 use Rattle.tree_model.specs.declared.names.Outcome.{Outcome}
 use Rattle.tree_model.specs.declared.names.Outcome.TheVariants.{Committed, Aborted}
 use Rattle.tree_model.specs.declared.standings.Standing.TheVariants.{Active}
@@ -18,10 +19,10 @@ either : (b : Bool) (r q : Row) → r.view.standing ≡ Active → q.view.standi
 either true r q this that = this
 either false r q this that = that
 
-acked : (s : Seat) (t : Ticket) (o : Outcome) (v : CoordinatorView) → v.standing ≡ Active
-    → (on_ack this_version s t o [] v Active).view.standing ≡ Active
-acked s t Committed v active = active
-acked s t Aborted v active = active
+acked : (s : Seat) (t : Ticket) (o : Outcome) (fs : List Finding) (v : CoordinatorView) → v.standing ≡ Active
+    → (on_ack this_version s t o fs v Active).view.standing ≡ Active
+acked s t Committed fs v active = active
+acked s t Aborted fs v active = active
 
 joined : (t : Ticket) (v : CoordinatorView) → v.standing ≡ Active → (active_joined t v).view.standing ≡ Active
 joined t v active = either (has_child v.accepted t.child) (quiet v) _ active active
@@ -36,8 +37,9 @@ stays_active s Ask v active not_retiring below = active
 stays_active s (Joined t) v active not_retiring below =
     subst (λ at. (on_joined t v at).view.standing ≡ Active) (sym active) (joined t v active)
 stays_active s (Vote t w) v active not_retiring below = rw active refl
-stays_active s (Ack t o) v active not_retiring below =
-    subst (λ at. (on_ack this_version s t o [] v at).view.standing ≡ Active) (sym active) (acked s t o v active)
+stays_active s (Ack t o fs) v active not_retiring below =
+    subst (λ at. (on_ack this_version s t o (v.found ++ fs.now) v at).view.standing ≡ Active) (sym active)
+    (acked s t o (v.found ++ fs.now) v active)
 stays_active s (Inquire t) v active not_retiring below = rw active refl
 stays_active s Commits v active not_retiring below = rw active refl
 stays_active s Commit v active not_retiring below = absurd (cc)

@@ -1,5 +1,5 @@
 -- What an input asks of a case of a coordinator, and the row of the reaction table that it meets.
-use Rattle.std.specs.Prelude.{◌≡◌, ⊤, Bool, true, false, []}
+use Rattle.std.specs.Prelude.{◌≡◌, ⊤, Bool, true, false, ◌++◌}
 use Rattle.tree_model.specs.Records.{in_list}
 use Rattle.tree_model.specs.Standings.{CoordinatorView}
 use Rattle.tree_model.specs.CoordinatorRows.{Row, Seat, ByAct, active_abort, active_commit, active_join, active_work, collecting_abort, on_abort, on_ack, on_commit, on_inquiry, on_joined, on_prepare, on_vote, prepared_ask}
@@ -17,7 +17,7 @@ asked_row s AbortCollecting v = collecting_abort s ByAct v
 asked_row s Ask v = prepared_ask s v
 asked_row s (Joined t) v = on_joined t v v.standing
 asked_row s (Vote t w) v = on_vote s t w v v.standing
-asked_row s (Ack t o) v = on_ack this_version s t o [] v v.standing
+asked_row s (Ack t o fs) v = on_ack this_version s t o (v.found ++ fs.now) v v.standing
 asked_row s (Inquire t) v = on_inquiry s t v v.standing
 asked_row s Prepare v = on_prepare s v v.standing
 asked_row s Commits v = on_commit this_version s v v.standing

@@ -3,7 +3,7 @@
 ghost use Rattle.std.specs.Prelude.{◌≡◌};
 ghost use Rattle.coord_table.specs.Asks.{is_retiring};
 
-use tree_model::{Op, Outcome, ProcessId, Ticket, Vote};
+use tree_model::{Finding, Op, Outcome, ProcessId, Ticket, Vote};
 
 /// What an input asks of a live case. The acts are asked where the case stands for them: Join, Work, Commit
 /// and AbortActive while it is Active, AbortCollecting while it collects votes, Ask while it is Prepared.
@@ -21,8 +21,8 @@ pub enum Asked<'a> {
     Joined(Ticket),
     /// YES, NO or READ of a ticket.
     Vote(Ticket, Vote),
-    /// ACK of a ticket.
-    Ack(Ticket, Outcome),
+    /// ACK of a ticket, with what was found at and below it.
+    Ack(Ticket, Outcome, &'a [Finding]),
     /// INQUIRE of a ticket.
     Inquire(Ticket),
     /// PREPARE of the parent.

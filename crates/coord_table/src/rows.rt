@@ -1,6 +1,6 @@
 //! The row that an input meets where a case stands (R*).
 
-ghost use Rattle.std.specs.Prelude.{◌≡◌, true, [], IfOk, OnErr};
+ghost use Rattle.std.specs.Prelude.{◌≡◌, ◌++◌, true, IfOk, OnErr};
 ghost use Rattle.tree_model.specs.Records.{in_list as is_in};
 ghost use Rattle.tree_model.specs.CoordinatorRows.{
   on_ack as ack_row,
@@ -24,7 +24,7 @@ use coord_rows::{
     unknown_prepare,
 };
 use std::alloc::{AllocError, Global};
-use tree_model::{Outcome, Standing, Ticket, Vote};
+use tree_model::{Finding, Outcome, Standing, Ticket, Vote};
 
 /// JOINED of a child.
 fn on_joined(
@@ -67,15 +67,17 @@ fn on_ack(
     seat: Seat,
     ticket: Ticket,
     outcome: Outcome,
+    findings: &[Finding],
     live: &mut Live,
 ) -> Result<RowEffect, AllocError>
     ensures ok { IfOk result (λ effect. Does seat
-        (ack_row this_version (seat_meant seat) ticket outcome [] live.old live.old.standing) effect live.new) }
+        (ack_row this_version (seat_meant seat) ticket outcome (live.old.found ++ findings.now)
+        live.old live.old.standing) effect live.new) }
     ensures err { OnErr result (live.new ≡ live.old) }
 {
     match (outcome, live.standing()) {
         (Outcome::Committed, Standing::Committing) | (Outcome::Aborted, Standing::Aborting) => {
-            decided_ack(alloc, seat, ticket, live)
+            decided_ack(alloc, seat, outcome, ticket, findings, live)
         }
         _ => Ok(RowEffect::quiet(alloc)),
     }
@@ -133,7 +135,9 @@ pub fn take_row(
         Asked::Ask => prepared_ask(alloc, seat, live),
         Asked::Joined(ticket) => on_joined(alloc, seat, ticket, live),
         Asked::Vote(ticket, vote) => on_vote(alloc, seat, ticket, vote, live),
-        Asked::Ack(ticket, outcome) => on_ack(alloc, seat, ticket, outcome, live),
+        Asked::Ack(ticket, outcome, findings) => {
+            on_ack(alloc, seat, ticket, outcome, findings, live)
+        }
         Asked::Inquire(ticket) => on_inquiry(alloc, seat, ticket, live),
         Asked::Prepare => on_prepare(alloc, seat, live),
         Asked::Commits => on_commit(alloc, seat, live),

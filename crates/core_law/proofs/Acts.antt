@@ -1,5 +1,5 @@
 -- Each row and refusal of the reaction table is a turn's.
-use Rattle.std.proofs.Common.{◌≡◌, ◌+◌, Bool, true, false, if◌then◌else◌, Option, None, Some, List, refl, sym, ap, ◌∙◌}
+use Rattle.std.proofs.Common.{◌≡◌, ◌+◌, Bool, true, false, ◌&&◌, if◌then◌else◌, Option, None, Some, is_none, List, refl, sym, ap, ◌∙◌}
 use Rattle.tree_model.specs.declared.names.Case.{Case}
 use Rattle.tree_model.specs.declared.names.ProcessId.{ProcessId}
 use Rattle.tree_model.specs.declared.names.Ticket.{Ticket}
@@ -10,19 +10,19 @@ use Rattle.tree_model.specs.declared.standings.Standing.TheVariants.{Unknown, Ac
 use Rattle.tree_model.specs.declared.events.Act.{Act}
 use Rattle.tree_model.specs.declared.events.Act.TheVariants.{Begin, Join as JoinAct, Work as WorkAct, Commit as CommitAct, Abort as AbortAct, Ask, Decide, Forget}
 use Rattle.tree_model.specs.declared.events.StepError.{StepError}
-use Rattle.tree_model.specs.declared.events.StepError.TheVariants.{NotAChild, NotInDoubt, NothingToForget}
+use Rattle.tree_model.specs.declared.events.StepError.TheVariants.{NotAChild, NotInDoubt}
 use Rattle.tree_model.specs.declared.trees.TreeEntry.{TreeEntry}
 use Rattle.tree_model.specs.Names.{root_case}
-use Rattle.tree_model.specs.Records.{boot_of}
+use Rattle.tree_model.specs.Records.{boot_of, is_reported}
 use Rattle.tree_model.specs.Nodes.{Node, is_child, is_leaf, kept, role_of}
 use Rattle.tree_model.specs.Memory.{memory_of, ticket_of_child}
 use Rattle.tree_model.specs.Standings.{CoordinatorView, ManagerView, coordinator_view, manager_view, some_case}
 use Rattle.tree_model.specs.CoordinatorRows.{Seat, active_join, active_work}
 use Rattle.tree_model.specs.ManagerRows.{Leaf}
-use Rattle.tree_model.specs.Reactions.{Does, Refused, abort_by, ask_by, asks_untold, begins_at, childless_by, commit_by, coordinator_acts, decide_by, forget_by, join_by, leaf_ask_by, leaf_of, live_by, manager_acts, row_effect, work_by, work_for}
+use Rattle.tree_model.specs.Reactions.{Does, Refused, abort_by, ask_by, asks_untold, begins_at, childless_by, clear_by, commit_by, coordinator_acts, decide_by, forget_by, join_by, leaf_ask_by, leaf_of, live_by, manager_acts, row_effect, work_by, work_for}
 use Rattle.tree_model.specs.Views.{begin_effect}
 use Rattle.core_model.specs.States.{CoreState, parent}
-use Rattle.core_model.specs.Turns.{Refuses, Takes, abort_turn, ask_turn, begin_turn, childless_turn, commit_turn, coordinator_act, decide_turn, forget_turn, join_turn, leaf_ask_turn, live_turn, manager_act, reacted, seat_in, untold_turn, work_for_turn, work_turn}
+use Rattle.core_model.specs.Turns.{Refuses, Takes, abort_turn, ask_turn, begin_turn, childless_turn, clear_turn, commit_turn, coordinator_act, decide_turn, forget_turn, join_turn, kept_records, leaf_ask_turn, live_turn, manager_act, reacted, seat_in, untold_turn, work_for_turn, work_turn}
 
 joins : (s : Seat) (tree : List TreeEntry) (q : ProcessId) (v : CoordinatorView) (st : Standing)
     → join_by s tree q v st ≡ reacted (join_turn s tree q v st)
@@ -95,6 +95,17 @@ lives e Committing = refl
 lives e Aborting = refl
 lives e Heuristic = refl
 
+clears : (s : Seat) (b : Bool) (v : CoordinatorView) (st : Standing)
+    → clear_by s b v st ≡ reacted (clear_turn s b v st)
+clears s true v Unknown = refl
+clears s false v Unknown = refl
+clears s b v Active = refl
+clears s b v Collecting = refl
+clears s b v Prepared = refl
+clears s b v Committing = refl
+clears s b v Aborting = refl
+clears s b v Heuristic = refl
+
 childless : (st : Standing) → childless_by st ≡ reacted (childless_turn st)
 childless Unknown = refl
 childless Active = refl
@@ -140,6 +151,7 @@ pub record ReadsCoordinator (s : CoreState) (n : Node) : Type 0 where
   pub boot : s.boot ≡ boot_of (kept n)
   pub begun : s.begun ≡ (memory_of s.place n (some_case s.place)).begun
   pub views : (c : Case) → s.view_of c ≡ coordinator_view s.place n c
+  pub records : kept_records s ≡ kept n
 
 pub coordinator_acts_as : (s : CoreState) (n : Node) (x : Act) → ReadsCoordinator s n
     → coordinator_acts s.place (parent s) n x ≡ reacted (coordinator_act s x)
@@ -180,8 +192,12 @@ coordinator_acts_as s n (Decide c o) reads =
     lives NotInDoubt (coordinator_view s.place n c).standing
     ∙ sym (ap (λ w. reacted (live_turn NotInDoubt w.standing)) (reads.views c))
 coordinator_acts_as s n (Forget c) reads =
-    lives NothingToForget (coordinator_view s.place n c).standing
-    ∙ sym (ap (λ w. reacted (live_turn NothingToForget w.standing)) (reads.views c))
+    let v = coordinator_view s.place n c in
+    let reported = is_none (parent s) && is_reported (kept n) c in
+    clears (seat_in s c) reported v v.standing
+    ∙ sym (ap (λ w. reacted (clear_turn (seat_in s c) reported w w.standing)) (reads.views c))
+    ∙ sym (ap (λ rs. reacted (clear_turn (seat_in s c) (is_none (parent s) && is_reported rs c) (s.view_of c)
+    (s.view_of c).standing)) reads.records)
 
 pub manager_acts_as : (s : CoreState) (n : Node) (p : ProcessId) (x : Act)
     → ((c : Case) → s.branch_of c ≡ manager_view s.place n c)

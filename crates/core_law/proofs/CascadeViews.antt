@@ -17,9 +17,10 @@ use Rattle.tree_model.specs.Names.{same_ticket}
 use Rattle.tree_model.specs.NameLaws.{same_ticket-refl}
 use Rattle.tree_model.specs.Records.{has, in_list, is_abort, is_collecting, is_commit, is_end, is_prepare, none_of, owing_by, promised_by}
 use Rattle.tree_model.specs.Nodes.{Version, entries_written}
-use Rattle.tree_model.specs.Memory.{Asked, Memory, Over, all_voted, has_acked, is_counted, undecided_of, with_vote, yes_of}
+use Rattle.tree_model.specs.Memory.{Asked, Memory, Over, all_voted, found_of, has_acked, is_counted, undecided_of, with_vote, yes_of}
 use Rattle.tree_model.specs.Standings.{CoordinatorView, standing_by, still_owed, view_at}
 use Rattle.tree_model.specs.CoordinatorRows.{ByVote, Reason, Seat, cascaded_prepares, collecting_abort_by, collecting_after, collecting_full, collecting_read_only, collecting_vote, decides, prepared_abort_by, prepared_commit_by, quiet}
+use Rattle.tree_model.proofs.AckLaws.{found_nobody}
 use Rattle.tree_model.proofs.RootRowLaws.{CollectingFacts, collecting_abort_pure, commit_pure, commit_row, read_only_pure, same_pure}
 use Rattle.tree_model.proofs.StandingLaws.{ActiveFacts, standing_with}
 use Rattle.tree_model.proofs.TicketLaws.{pushed}
@@ -106,13 +107,13 @@ module _ (me p : ProcessId) (c : Case) (rs : List Record) where
 
   pub aborts_reads : (q : Presumption) (why : Reason) (us : List Ticket) (m : Memory)
       → Collects → owing_by c rs ≡ []
-      → m.acks ≡ []
+      → m.acks ≡ [] → m.found ≡ []
       → let row = collecting_abort_by seat why (view_at Collecting rs c m) us q in
       let m' : Memory = record m { phase = Over } in reads q (rs ++ entries_written row.written) m' ≡ row.view
-  aborts_reads PresumeAbort why us m f owes acks =
-      collecting_abort_pure me c PresumeAbort why (none_of us) us rs m f owes acks refl
-  aborts_reads PresumeCommit why us m f owes acks =
-      collecting_abort_pure me c PresumeCommit why (none_of us) us rs m f owes acks refl
+  aborts_reads PresumeAbort why us m f owes acks found =
+      collecting_abort_pure me c PresumeAbort why (none_of us) us rs m f owes acks found refl
+  aborts_reads PresumeCommit why us m f owes acks found =
+      collecting_abort_pure me c PresumeCommit why (none_of us) us rs m f owes acks found refl
 
   -- votes
 
@@ -134,7 +135,7 @@ module _ (me p : ProcessId) (c : Case) (rs : List Record) where
       (f : Collects)
       (no_record : c.txn.presumption ≡ PresumeAbort
       → has (is_collecting c) rs ≡ false) (owes : owing_by c rs ≡ [])
-      (acks : m.acks ≡ []) where
+      (acks : m.acks ≡ []) (found : m.found ≡ []) where
     abbrev with_one : Ticket → Vote → Memory
     with_one t w = record m { votes = m.votes ++ (t, w) ∷ [] }
 
@@ -155,7 +156,7 @@ module _ (me p : ProcessId) (c : Case) (rs : List Record) where
     after_reads t No =
         aborts_reads c.txn.presumption ByVote
         (undecided_of m.accepted (m.votes ++ (t, No) ∷ [])) (with_one t No) f owes
-        acks
+        acks found
     after_reads t Yes = consent_reads t Yes (all_voted m.accepted (m.votes ++ (t, Yes) ∷ []))
     after_reads t Read = consent_reads t Read (all_voted m.accepted (m.votes ++ (t, Read) ∷ []))
 
@@ -179,15 +180,16 @@ module _ (me p : ProcessId) (c : Case) (rs : List Record) where
 
   module _ (m k : Memory) (f : Promised) (owes : owing_by c rs ≡ []) (accepted : k.accepted ≡ m.accepted)
       (votes : k.votes ≡ m.votes)
-      (works : k.works ≡ m.works) (acks : k.acks ≡ m.acks) where
+      (works : k.works ≡ m.works) (acks : k.acks ≡ m.acks) (found : k.found ≡ m.found) where
     pub commits_reads : (ver : Version) (q : Presumption) (none : Bool) → none_of (promised_by c rs) ≡ none
         → still_owed m.acks CommittedOutcome (promised_by c rs) ≡ promised_by c rs
+        → found_of m.found CommittedOutcome (promised_by c rs) ≡ []
         → let row =
         prepared_commit_by ver seat (view_at Prepared rs c m) q in reads q
         (rs ++ entries_written row.written) k ≡ row.view
-    commits_reads ver PresumeAbort true u still =
+    commits_reads ver PresumeAbort true u still nothing =
         simp (pushed, f.no_end, f.no_commit, f.no_abort, f.prepared, owes, u) refl
-    commits_reads ver PresumeAbort false u still =
+    commits_reads ver PresumeAbort false u still nothing =
         simp (
           pushed,
           f.no_end,
@@ -201,20 +203,24 @@ module _ (me p : ProcessId) (c : Case) (rs : List Record) where
           works,
           acks,
           still,
+          found,
+          nothing,
+          found_nobody,
         ) refl
-    commits_reads ver PresumeCommit none u still =
+    commits_reads ver PresumeCommit none u still nothing =
         simp (pushed, f.no_end, f.no_commit, f.no_abort, f.prepared, owes) refl
 
     pub aborted_reads : (ver : Version) (q : Presumption) (none : Bool) → none_of (promised_by c rs) ≡ none
         → still_owed m.acks AbortedOutcome (promised_by c rs) ≡ promised_by c rs
+        → found_of m.found AbortedOutcome (promised_by c rs) ≡ []
         → let row =
         prepared_abort_by ver seat (view_at Prepared rs c m) q in reads q
         (rs ++ entries_written row.written) k ≡ row.view
-    aborted_reads ver PresumeAbort none u still =
+    aborted_reads ver PresumeAbort none u still nothing =
         simp (pushed, f.no_end, f.no_commit, f.no_abort, f.prepared, owes) refl
-    aborted_reads ver PresumeCommit true u still =
+    aborted_reads ver PresumeCommit true u still nothing =
         simp (pushed, f.no_end, f.no_commit, f.no_abort, f.prepared, owes, u) refl
-    aborted_reads ver PresumeCommit false u still =
+    aborted_reads ver PresumeCommit false u still nothing =
         simp (
           pushed,
           f.no_end,
@@ -228,4 +234,7 @@ module _ (me p : ProcessId) (c : Case) (rs : List Record) where
           works,
           acks,
           still,
+          found,
+          nothing,
+          found_nobody,
         ) refl

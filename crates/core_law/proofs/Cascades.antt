@@ -38,6 +38,7 @@ use Rattle.tree_model.specs.Views.{vote_message}
 use Rattle.tree_model.specs.SameViews.{SameRow, SameView, open_view}
 use Rattle.tree_model.proofs.AckLaws.{acked, acked_abort, acked_commit, refused_abort, refused_commit}
 use Rattle.tree_model.proofs.BeginLaws.{begun_pure}
+use Rattle.tree_model.proofs.FoundLaws.{below_noted_all, none_found, nothing_noted}
 use Rattle.tree_model.proofs.PhaseLaws.{asked_quiet}
 use Rattle.tree_model.proofs.RootRowLaws.{abort_pure, collecting_facts, same_pure}
 use Rattle.tree_model.proofs.RootViewLaws.{IsOf, here}
@@ -47,7 +48,7 @@ use Rattle.tree_nodes.proofs.Selves.{Self, issuer_self, joins_self, self_of, sel
 use Rattle.rec_log.specs.Sights.{LogSight}
 use Rattle.core_model.specs.States.{CoreState, wrote}
 use Rattle.core_model.specs.Makes.{retired_by, retires as retires_ticket}
-use Rattle.core_model.specs.Turns.{Finds, Issues, Refuses, Says, Takes, Turn, abort_turn, ack_turn, ask_turn, asked_in, asked_of, cascaded_turn, child_turn, commit_turn, coordinator_act, inquiry_turn, join_turn, joined_turn, live_turn, next_ticket as next_of, vote_turn, work_for_turn, work_turn, heard_now, this_version}
+use Rattle.core_model.specs.Turns.{Finds, Issues, Refuses, Says, Takes, Turn, abort_turn, ack_turn, ask_turn, asked_in, asked_of, cascaded_turn, child_turn, clear_turn, commit_turn, coordinator_act, inquiry_turn, join_turn, joined_turn, live_turn, next_ticket as next_of, vote_turn, work_for_turn, work_turn, heard_now, this_version}
 use Rattle.core_model.proofs.Alike.{active_abort-same, active_commit-same, active_join-same, active_joined-same, active_work-same, collecting_abort-same, on_abort-same, on_ack-same, on_commit-same, on_inquiry-same, on_joined-same, on_prepare-same, on_vote-same, sends-same}
 use Rattle.core_law.specs.Ties.{Stands, StandsUp}
 use Rattle.core_law.specs.Fits.{CascadeFits}
@@ -83,10 +84,11 @@ closes_nothing rs d m Over is a b = ap (λ ph. read rs d (record m { phase = ph 
 
 closes_keeps : (m : Memory) (ph : Phase) → let k = closes m ph in
     (k.accepted ≡ m.accepted) × (k.votes ≡ m.votes) × (k.works ≡ m.works) × (k.acks ≡ m.acks)
-closes_keeps m Idle = (refl, refl, refl, refl)
-closes_keeps m Open = (refl, refl, refl, refl)
-closes_keeps m Asked = (refl, refl, refl, refl)
-closes_keeps m Over = (refl, refl, refl, refl)
+    × (k.found ≡ m.found)
+closes_keeps m Idle = (refl, refl, refl, refl, refl)
+closes_keeps m Open = (refl, refl, refl, refl, refl)
+closes_keeps m Asked = (refl, refl, refl, refl, refl)
+closes_keeps m Over = (refl, refl, refl, refl, refl)
 
 noted : (m : Memory) (t : Ticket) (o : Outcome) (fs : List Finding) (ph : Phase) → (ph ≡ Open → ⊥)
     → (ph ≡ Asked → ⊥) → takes_ack m t o fs ph ≡ acked m t o fs
@@ -209,6 +211,11 @@ module _ (n : Node) (s s' : CoreState) (me p : ProcessId) (tree : List TreeEntry
       → read (rs ++ entries_written (f (view c)).written) c k ≡ (f (view c)).view
   own_by c st is f k reads =
       subst (λ v. read (rs ++ entries_written (f v).written) c k ≡ (f v).view) (sym (seen_as c st is)) reads
+
+  -- while votes can come nothing was found
+  none_so_far : (c : Case) → (memory c).phase ≡ Asked → (memory c).found ≡ []
+  none_so_far c asked = nothing_noted (memory c).acks (memory c).found (below_noted_all me p tree n c)
+      (asked_quiet (memory c) (cascaded_quiet me p tree n c) asked)
 
   not_open : (c : Case) (st : Standing) → (view c).standing ≡ st → (st ≡ standing.Active → ⊥) → (ph : Phase)
       → (memory c).phase ≡ ph → ph ≡ Open → ⊥
@@ -365,6 +372,15 @@ module _ (n : Node) (s s' : CoreState) (me p : ProcessId) (tree : List TreeEntry
     live_at i x standing.Aborting = refuses i _
     live_at i x standing.Heuristic = refuses i _
 
+    clear_at : (c : Case) (st : Standing) → Leads (ActInput (Forget c)) (clear_turn (seat c) false (s.view_of c) st)
+    clear_at c standing.Unknown = refuses (ActInput (Forget c)) _
+    clear_at c standing.Active = refuses (ActInput (Forget c)) _
+    clear_at c standing.Collecting = refuses (ActInput (Forget c)) _
+    clear_at c standing.Prepared = refuses (ActInput (Forget c)) _
+    clear_at c standing.Committing = refuses (ActInput (Forget c)) _
+    clear_at c standing.Aborting = refuses (ActInput (Forget c)) _
+    clear_at c standing.Heuristic = refuses (ActInput (Forget c)) _
+
     pub acted : (x : Act) → Leads (ActInput x) (coordinator_act old x)
     acted (Begin q) = refuses (ActInput (Begin q)) _
     acted (JoinAct c q) = join_act c q (s.view_of c).standing
@@ -375,7 +391,7 @@ module _ (n : Node) (s s' : CoreState) (me p : ProcessId) (tree : List TreeEntry
         abort_act x (s.view_of (root_case x)).standing ((shows (root_case x)).standing ∙ fits.ticketed x)
     acted (Ask c) = ask_at c (s.view_of c).standing
     acted (Decide c o) = live_at (ActInput (Decide c o)) _ (s.view_of c).standing
-    acted (Forget c) = live_at (ActInput (Forget c)) _ (s.view_of c).standing
+    acted (Forget c) = clear_at c (s.view_of c).standing
 
     -- Messages of the parent.
 
@@ -466,9 +482,11 @@ module _ (n : Node) (s s' : CoreState) (me p : ProcessId) (tree : List TreeEntry
         (on_commit_of (seat c) (view c) this_version standing.Prepared)
         (same i (λ g. refl) (λ d t. refl)) m refl
         (own_by c standing.Prepared is (λ v. on_commit this_version (seat c) v standing.Prepared) m
-        (commits_reads me p c rs m m f (undecided_owes c rs f.no_commit f.no_abort) refl refl refl refl
+        (commits_reads me p c rs m m f (undecided_owes c rs f.no_commit f.no_abort) refl refl refl refl refl
         this_version c.txn.presumption (none_of (promised_by c rs)) refl
-        (all_still m.acks Committed (promised_by c rs) (λ t e. fits.none_early c t Committed is e))))
+        (all_still m.acks Committed (promised_by c rs) (λ t e. fits.none_early c t Committed is e))
+        (none_found m.acks m.found Committed (promised_by c rs) (below_noted_all me p tree n c)
+        (λ t e. fits.none_early c t Committed is e))))
         (λ d apart. refl)
     commit_at k c standing.Unknown is =
         let quiet = quiet_commit this_version (seat c) (view c) c.txn.presumption in
@@ -552,7 +570,7 @@ module _ (n : Node) (s s' : CoreState) (me p : ProcessId) (tree : List TreeEntry
         (own_by c standing.Collecting is (collecting_abort (seat c) (ByAbort this_version)) next
         (aborts_reads me p c rs c.txn.presumption (ByAbort this_version) (undecided_of m.accepted m.votes) m f
         (undecided_owes c rs f.no_commit f.no_abort)
-        (asked_quiet m (cascaded_quiet me p tree n c) asked)))
+        (asked_quiet m (cascaded_quiet me p tree n c) asked) (none_so_far c asked)))
         (λ d apart. abort_keeps k c d apart)
     abort_to k c standing.Prepared is =
         let i = MessageInput k (Abort c) in
@@ -567,10 +585,12 @@ module _ (n : Node) (s s' : CoreState) (me p : ProcessId) (tree : List TreeEntry
         (same_abort k c) next (closed_is c m.phase refl)
         (own_by c standing.Prepared is (λ v. on_abort this_version (seat c) v standing.Prepared) next
         (aborted_reads me p c rs m next f (undecided_owes c rs f.no_commit f.no_abort)
-        keeps.0 keeps.1 keeps.2 keeps.3
+        keeps.0 keeps.1 keeps.2 keeps.3 keeps.4
         this_version c.txn.presumption
         (none_of (promised_by c rs)) refl
-        (all_still m.acks Aborted (promised_by c rs) (λ t e. fits.none_early c t Aborted is e))))
+        (all_still m.acks Aborted (promised_by c rs) (λ t e. fits.none_early c t Aborted is e))
+        (none_found m.acks m.found Aborted (promised_by c rs) (below_noted_all me p tree n c)
+        (λ t e. fits.none_early c t Aborted is e))))
         (λ d apart. abort_keeps k c d apart)
     abort_to k c standing.Unknown is =
         let quiet = quiet_abort this_version (seat c) (view c) c.txn.presumption in
@@ -734,7 +754,7 @@ module _ (n : Node) (s s' : CoreState) (me p : ProcessId) (tree : List TreeEntry
         (own_by c standing.Collecting is (collecting_vote (seat c) t w) next
         (vote_reads me p c rs m stood asked f (fits.alike c).no_record_collects
         (undecided_owes c rs f.no_commit f.no_abort)
-        (asked_quiet m (cascaded_quiet me p tree n c) asked) t w))
+        (asked_quiet m (cascaded_quiet me p tree n c) asked) (none_so_far c asked) t w))
         (λ d apart. vote_still k w c.txn t d (strangers c.txn t (Some c) finds d apart))
     vote_to k w t c finds standing.Unknown is =
         vote_rests k w t c finds standing.Unknown is (λ e. cc) refl refl
@@ -782,21 +802,29 @@ module _ (n : Node) (s s' : CoreState) (me p : ProcessId) (tree : List TreeEntry
     same_ack : (k : ℕ) (o : Outcome) (fs : List Finding) (e : Case) → Same (MessageInput k (Ack e o fs))
     same_ack k o fs e = same (MessageInput k (Ack e o fs)) (λ g. refl) (λ d t. refl)
 
+    ack_alike : (o : Outcome) (fs : List Finding) (t : Ticket) (c : Case) (st : Standing)
+        → SameRow (on_ack this_version (seat c) t o ((s.view_of c).found ++ fs) (s.view_of c) st)
+        (on_ack this_version (seat c) t o ((view c).found ++ fs) (view c) st)
+    ack_alike o fs t c st =
+        subst (λ gs. SameRow (on_ack this_version (seat c) t o (gs ++ fs) (s.view_of c) st)
+        (on_ack this_version (seat c) t o ((view c).found ++ fs) (view c) st)) (sym (shows c).found)
+        (on_ack-same (s.view_of c) (view c) (shows c) this_version (seat c) t o ((view c).found ++ fs) st)
+
     -- an acknowledgement that is noted
     ack_noted : (k : ℕ) (o : Outcome) (fs : List Finding) (t : Ticket) (c : Case)
         → Finds old (Some (c.txn, t)) (Some c) → (st : Standing)
         → (view c).standing ≡ st
         → (st ≡ standing.Active → ⊥) → (st ≡ standing.Collecting → ⊥)
-        → (f : CoordinatorView → Row) → ((v : CoordinatorView) → on_ack this_version (seat c) t o [] v st ≡ f v)
+        → (f : CoordinatorView → Row) → ((v : CoordinatorView) → on_ack this_version (seat c) t o (v.found ++ fs) v st ≡ f v)
         → read (rs ++ entries_written (f (view_by st rs c (memory c))).written) c (acked (memory c) t o fs)
         ≡ (f (view_by st rs c (memory c))).view
         → Leads (MessageInput k (Ack (child_case c.txn t) o fs))
-        (Takes c (on_ack this_version (seat c) t o [] (s.view_of c) st))
+        (Takes c (on_ack this_version (seat c) t o ((s.view_of c).found ++ fs) (s.view_of c) st))
     ack_noted k o fs t c finds st is shut silent f so reads =
         let m = memory c in
-        takes (MessageInput k (Ack (child_case c.txn t) o fs)) c _ (on_ack this_version (seat c) t o [] (view c) st)
-        (on_ack-same (s.view_of c) (view c) (shows c) this_version (seat c) t o [] st)
-        (on_ack_of (seat c) (view c) this_version t o [] st)
+        takes (MessageInput k (Ack (child_case c.txn t) o fs)) c _ (on_ack this_version (seat c) t o ((view c).found ++ fs) (view c) st)
+        (ack_alike o fs t c st)
+        (on_ack_of (seat c) (view c) this_version t o ((view c).found ++ fs) st)
         (same_ack k o fs (child_case c.txn t)) (acked m t o fs)
         (ack_own k o fs t c
         ∙ noted m t o fs m.phase (not_open c st is shut m.phase refl) (not_asked c st is silent m.phase refl))
@@ -809,13 +837,13 @@ module _ (n : Node) (s s' : CoreState) (me p : ProcessId) (tree : List TreeEntry
     ack_rests : (k : ℕ) (o : Outcome) (fs : List Finding) (t : Ticket) (c : Case)
         → Finds old (Some (c.txn, t)) (Some c) → (st : Standing)
         → takes_ack (memory c) t o fs (memory c).phase ≡ memory c
-        → (on_ack this_version (seat c) t o [] (view c) st).written ≡ []
-        → (on_ack this_version (seat c) t o [] (view c) st).view ≡ view c
+        → (on_ack this_version (seat c) t o ((view c).found ++ fs) (view c) st).written ≡ []
+        → (on_ack this_version (seat c) t o ((view c).found ++ fs) (view c) st).view ≡ view c
         → Leads (MessageInput k (Ack (child_case c.txn t) o fs))
-        (Takes c (on_ack this_version (seat c) t o [] (s.view_of c) st))
+        (Takes c (on_ack this_version (seat c) t o ((s.view_of c).found ++ fs) (s.view_of c) st))
     ack_rests k o fs t c finds st unheard none shown =
-        rests (MessageInput k (Ack (child_case c.txn t) o fs)) c _ (on_ack this_version (seat c) t o [] (view c) st)
-        (on_ack-same (s.view_of c) (view c) (shows c) this_version (seat c) t o [] st) none shown
+        rests (MessageInput k (Ack (child_case c.txn t) o fs)) c _ (on_ack this_version (seat c) t o ((view c).found ++ fs) (view c) st)
+        (ack_alike o fs t c st) none shown
         (same_ack k o fs (child_case c.txn t))
         keeps
       where
@@ -838,22 +866,22 @@ module _ (n : Node) (s s' : CoreState) (me p : ProcessId) (tree : List TreeEntry
         (found_belongs place n fits.children old shows c.txn t c finds) in
         rw (found, is, runs) refl
 
-    ack_quiet : (o : Outcome) (t : Ticket) (c : Case) (v : CoordinatorView)
-        → (on_ack this_version (seat c) t o [] v standing.Active ≡ quiet v)
-        × (on_ack this_version (seat c) t o [] v standing.Collecting ≡ quiet v)
-    ack_quiet Committed t c v = (refl, refl)
-    ack_quiet Aborted t c v = (refl, refl)
+    ack_quiet : (o : Outcome) (gs : List Finding) (t : Ticket) (c : Case) (v : CoordinatorView)
+        → (on_ack this_version (seat c) t o gs v standing.Active ≡ quiet v)
+        × (on_ack this_version (seat c) t o gs v standing.Collecting ≡ quiet v)
+    ack_quiet Committed gs t c v = (refl, refl)
+    ack_quiet Aborted gs t c v = (refl, refl)
 
     ack_to : (k : ℕ) (o : Outcome) (fs : List Finding) (t : Ticket) (c : Case) → Finds old (Some (c.txn, t)) (Some c)
         → is_passed_over place n (MessageInput k (Ack (child_case c.txn t) o fs)) ≡ false → (st : Standing)
         → (view c).standing ≡ st
         → Leads (MessageInput k (Ack (child_case c.txn t) o fs))
-        (Takes c (on_ack this_version (seat c) t o [] (s.view_of c) st))
+        (Takes c (on_ack this_version (seat c) t o ((s.view_of c).found ++ fs) (s.view_of c) st))
     ack_to k Committed fs t c finds late standing.Committing is =
         let m = memory c in
         ack_noted k Committed fs t c finds standing.Committing is (λ e. cc) (λ e. cc)
-        (decided_ack this_version (seat c) Committed t []) (λ v. refl)
-        (acked_commit me c c.txn.presumption t rs m fs [] (in_list (still_owed m.acks Committed (owing_by c rs)) t)
+        (λ v. decided_ack this_version (seat c) Committed t (v.found ++ fs) v) (λ v. refl)
+        (acked_commit this_version (seat c) c.txn.presumption t rs m fs (in_list (still_owed m.acks Committed (owing_by c rs)) t)
         (none_of (other_tickets t (still_owed m.acks Committed (owing_by c rs))))
         (stands_as c standing.Committing is)
         refl refl)
@@ -863,8 +891,8 @@ module _ (n : Node) (s s' : CoreState) (me p : ProcessId) (tree : List TreeEntry
     ack_to k Aborted fs t c finds late standing.Aborting is =
         let m = memory c in
         ack_noted k Aborted fs t c finds standing.Aborting is (λ e. cc) (λ e. cc)
-        (decided_ack this_version (seat c) Aborted t []) (λ v. refl)
-        (acked_abort me c c.txn.presumption t rs m fs [] (in_list (still_owed m.acks Aborted (owing_by c rs)) t)
+        (λ v. decided_ack this_version (seat c) Aborted t (v.found ++ fs) v) (λ v. refl)
+        (acked_abort this_version (seat c) c.txn.presumption t rs m fs (in_list (still_owed m.acks Aborted (owing_by c rs)) t)
         (none_of (other_tickets t (still_owed m.acks Aborted (owing_by c rs))))
         (stands_as c standing.Aborting is) refl
         refl)
@@ -875,13 +903,13 @@ module _ (n : Node) (s s' : CoreState) (me p : ProcessId) (tree : List TreeEntry
         let m = memory c in
         let opened : m.phase ≡ Open = phase_active c.txn.presumption m.phase
         (active_facts _ _ _ _ _ _ _ (stands_as c standing.Active is)).heard in
-        let row = (ack_quiet o t c (view c)).0 in
+        let row = (ack_quiet o ((view c).found ++ fs) t c (view c)).0 in
         ack_rests k o fs t c finds standing.Active (ap (λ ph. takes_ack m t o fs ph) opened)
         (ap (λ (r : Row). r.written) row)
         (ap (λ (r : Row). r.view) row)
     ack_to k o fs t c finds late standing.Collecting is =
         let m = memory c in
-        let row = (ack_quiet o t c (view c)).1 in
+        let row = (ack_quiet o ((view c).found ++ fs) t c (view c)).1 in
         ack_rests k o fs t c finds standing.Collecting
         (ap (λ ph. takes_ack m t o fs ph) ((fits.alike c).collecting_is_asked is))
         (ap (λ (r : Row). r.written) row) (ap (λ (r : Row). r.view) row)
@@ -897,14 +925,14 @@ module _ (n : Node) (s s' : CoreState) (me p : ProcessId) (tree : List TreeEntry
     ack_at : (k : ℕ) (o : Outcome) (fs : List Finding) (x : Txn) (t : Ticket) (found : Option Case)
         → Finds old (Some (x, t)) found
         → is_passed_over place n (MessageInput k (Ack (child_case x t) o fs)) ≡ false
-        → Leads (MessageInput k (Ack (child_case x t) o fs)) (ack_turn old o t found)
+        → Leads (MessageInput k (Ack (child_case x t) o fs)) (ack_turn old o fs t found)
     ack_at k o fs x t None finds late =
         says (MessageInput k (Ack (child_case x t) o fs)) [] (λ g. refl) (λ d u. refl)
         (λ d. ack_still k o fs x t d (strangers x t None finds d tt))
     ack_at k o fs x t (Some c) finds late =
         subst (λ y. Finds old (Some (y, t)) (Some c)
         → is_passed_over place n (MessageInput k (Ack (child_case y t) o fs)) ≡ false
-        → Leads (MessageInput k (Ack (child_case y t) o fs)) (ack_turn old o t (Some c)))
+        → Leads (MessageInput k (Ack (child_case y t) o fs)) (ack_turn old o fs t (Some c)))
         (found_known place n fits.children old shows x t c finds).0
         (λ f l. ack_to k o fs t c f l (s.view_of c).standing (sym (shows c).standing)) finds late
 
@@ -957,7 +985,7 @@ module _ (n : Node) (s s' : CoreState) (me p : ProcessId) (tree : List TreeEntry
     ack_by : (k : ℕ) (found : Option Case) (o : Outcome) (fs : List Finding) (x : Txn) (t : Option Ticket)
         → let d : Case = record { txn = x; ticket = t } in
         Finds old (asked_of d) found → is_passed_over place n (MessageInput k (Ack d o fs)) ≡ false
-        → Leads (MessageInput k (Ack d o fs)) (child_turn d (λ t. ack_turn old o t found))
+        → Leads (MessageInput k (Ack d o fs)) (child_turn d (λ t. ack_turn old o fs t found))
     ack_by k found o fs x (Some t) finds late = ack_at k o fs x t found finds late
     ack_by k found o fs x None finds late =
         says (MessageInput k (Ack (root_case x) o fs)) [] (λ g. refl) (λ d t. refl)

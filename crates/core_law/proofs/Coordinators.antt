@@ -1,5 +1,5 @@
 -- What a turn leaves of a coordinator, at the root and below it: the half that no row has to itself.
-use Rattle.std.proofs.Common.{◌≡◌, ℕ, false, if◌then◌else◌, Option, Some, None, List, ◌++◌, [], map, inl, inr, refl, sym, ap, subst, ◌∙◌}
+use Rattle.std.proofs.Common.{◌≡◌, ℕ, false, if◌then◌else◌, Option, Some, None, List, ◌∷◌, ◌++◌, [], map, inl, inr, refl, sym, ap, subst, ◌∙◌}
 use Rattle.std.proofs.lemmas.List.{append-nil}
 use Rattle.tree_model.specs.declared.names.Case.{Case}
 use Rattle.tree_model.specs.declared.names.Ticket.{Ticket}
@@ -7,14 +7,16 @@ use Rattle.tree_model.specs.declared.messages.Envelope.{Envelope}
 use Rattle.tree_model.specs.declared.events.Input.{Input}
 use Rattle.tree_model.specs.declared.events.StepError.{StepError}
 use Rattle.tree_model.specs.declared.records.Record.{Record}
+use Rattle.tree_model.specs.declared.records.Record.TheVariants.{Cleared as ClearedRecord}
 use Rattle.tree_model.specs.declared.standings.Standing.{Standing}
+use Rattle.tree_model.specs.declared.standings.Standing.TheVariants.{Heuristic, Unknown}
 use Rattle.tree_model.specs.LogNames.{in_log, parent_of}
 use Rattle.tree_model.specs.Names.{same_case}
 use Rattle.tree_model.specs.NameLaws.{same_case_tells}
 use Rattle.tree_model.specs.Records.{boot_of}
 use Rattle.tree_model.specs.Nodes.{DataAnswer, Effect, Heard, Node, Place, after, entries_written, kept}
 use Rattle.tree_model.specs.Memory.{Memory, active_ticket, memory_of, remembers}
-use Rattle.tree_model.specs.Standings.{CoordinatorView, coordinator_standing, coordinator_view, unknown_branch, view_at as view_by}
+use Rattle.tree_model.specs.Standings.{CoordinatorView, ManagerView, coordinator_standing, coordinator_view, unknown_branch, view_at as view_by}
 use Rattle.tree_model.specs.CoordinatorRows.{Row}
 use Rattle.tree_model.specs.Reactions.{row_effect, sends_only}
 use Rattle.tree_model.specs.SameViews.{SameRow, SameView}
@@ -28,6 +30,7 @@ use Rattle.core_model.specs.Makes.{TakesRow, retired_by, retires as retires_tick
 use Rattle.core_model.specs.Turns.{Refuses, Says, Takes, heard_now}
 use Rattle.core_model.proofs.Alike.{row_effect-same}
 use Rattle.core_law.specs.Ties.{Stands, StandsUp, branch_at, view_at}
+use Rattle.core_law.proofs.Cleared.{cleared_read}
 use Rattle.core_law.proofs.Managers.{Follows, done_is, same_view-trans}
 use Rattle.core_law.proofs.Records.{Holds, NoBoot, boot-after, held_after, same_boot}
 
@@ -96,6 +99,14 @@ module _ (n : Node) (s s' : CoreState) (place : Place) (a : DataAnswer)
       view-after place n (heard i) (row_effect c row) d own.boot
       ∙ own.others d (kept n) (next i d) apart ∙ keeps
 
+  -- any view behind a report that was seen to
+  pub cleared_written : (i : Input) (e : Effect) (c d : Case) → entries_written e.written ≡ ClearedRecord c ∷ []
+      → Keeps i d → coordinator_view place (after n (heard i) e) d ≡ view d
+  unfolding coordinator_view
+  cleared_written i e c d one keeps =
+      view-after place n (heard i) e d (λ b. rw one refl)
+      ∙ ap (λ rs. read (kept n ++ rs) d (next i d)) one ∙ cleared_read d c (kept n) (next i d) ∙ keeps
+
   -- any view behind what writes nothing
   pub nothing_written : (i : Input) (e : Effect) → e.written ≡ [] → (d : Case) → Keeps i d
       → coordinator_view place (after n (heard i) e) d ≡ view d
@@ -150,6 +161,9 @@ module _ (n : Node) (s s' : CoreState) (place : Place) (a : DataAnswer)
                 (sym (views_are (after n (heard i) e) c)) (views c);
             branches = λ c. behind.branches c ∙ up.branches c ∙ no_branch n c
                 ∙ sym (no_branch (after n (heard i) e) c);
+            decided = λ c is. absurd (let clash : Unknown ≡ Heuristic =
+                ap (λ (v : ManagerView). v.standing) (sym (behind.branches c ∙ up.branches c ∙ no_branch n c)) ∙ is
+                in cc);
           };
         }
 

@@ -1,6 +1,7 @@
 -- What children say of one case leaves the others as they are.
 use Rattle.std.proofs.Common.{◌≡◌, Bool, true, false, not, ◌&&◌, ◌||◌, if◌then◌else◌, Option, None, Some, List, [], ◌∷◌, ◌++◌, refl, sym, ap, ◌∙◌, arith}
 use Rattle.std.specs.Prelude.{⊤}
+use Rattle.std.proofs.lemmas.List.{append-nil}
 use Rattle.tree_model.specs.declared.names.Case.{Case}
 use Rattle.tree_model.specs.declared.names.Outcome.{Outcome}
 use Rattle.tree_model.specs.declared.names.Ticket.{Ticket}
@@ -16,12 +17,12 @@ use Rattle.tree_model.specs.Names.{child_case, same_case, same_outcome, same_tic
 use Rattle.tree_model.specs.NameLaws.{same_ticket_tells}
 use Rattle.tree_model.specs.Records.{has_case, in_list, named_by, named_in, owing_by, owing_in}
 use Rattle.tree_model.specs.Nodes.{Node, Place, kept}
-use Rattle.tree_model.specs.Memory.{Asked, Idle, Memory, Open, Over, Phase, has_acked, has_voted, hears_child, memory_of, of_child, takes_ack, takes_vote, with_vote}
+use Rattle.tree_model.specs.Memory.{Asked, Idle, Memory, Open, Over, Phase, found_of, has_acked, has_voted, hears_child, memory_of, of_child, takes_ack, takes_vote, with_vote}
 use Rattle.tree_model.specs.Standings.{CoordinatorView, belongs, coordinator_standing, coordinator_view, decided_outcome, own_cases, still_owed, view_at as view_by}
 use Rattle.tree_model.specs.Restarts.{is_known}
 use Rattle.tree_model.specs.Views.{IsOpenAlike, vote_message}
 use Rattle.tree_model.specs.SameViews.{SameView}
-use Rattle.tree_model.proofs.AckLaws.{has_acked-push}
+use Rattle.tree_model.proofs.AckLaws.{acked, found_push, has_acked-push}
 use Rattle.tree_model.proofs.NameTests.{case_tells, txn_tells}
 use Rattle.tree_model.proofs.StandingLaws.{view_standing}
 use Rattle.core_model.specs.States.{CoreState}
@@ -170,23 +171,52 @@ others_owe acks t a o (u ∷ ts) h =
         ≡ (if y then u ∷ still_owed acks o ts else still_owed acks o ts)
     by_tests x y e rest = (λ i. if e i then u ∷ rest i else rest i)
 
+-- and it brings nothing
+others_found : (acks : List (Ticket × Outcome)) (found : List (Ticket × (Outcome × List Finding))) (t : Ticket)
+    (a o : Outcome) (fs : List Finding) (ts : List Ticket) → in_list ts t ≡ false
+    → found_of (found ++ (if has_acked acks a t then [] else (t, (a, fs)) ∷ [])) o ts ≡ found_of found o ts
+others_found acks found t a o fs ts none = by_test (has_acked acks a t)
+  where
+    by_outcome : (b : Bool)
+        → (found_of found o ts ++ (if b && false then fs else [])) ≡ found_of found o ts
+    by_outcome true = append-nil (found_of found o ts)
+    by_outcome false = append-nil (found_of found o ts)
+
+    by_test : (b : Bool)
+        → found_of (found ++ (if b then [] else (t, (a, fs)) ∷ [])) o ts ≡ found_of found o ts
+    by_test true = ap (λ l. found_of l o ts) (append-nil found)
+    by_test false =
+        found_push found t a o fs ts
+        ∙ (ap (λ k. found_of found o ts ++ (if same_outcome a o && k then fs else [])) none
+        ∙ by_outcome (same_outcome a o))
+
+owing_so : (v : CoordinatorView) (ts us : List Ticket) (fs gs : List Finding) → ts ≡ us → fs ≡ gs
+    → record v { owed = ts; found = fs } ≡ record v { owed = us; found = gs }
+owing_so v ts us fs gs e f = (λ i. record v { owed = e i; found = f i })
+
 -- the view of a live case in which nobody owes the ticket, or of one that is not live
-acked_view : (rs : List Record) (d : Case) (m : Memory) (t : Ticket) (o : Outcome) (st : Standing)
-    → (is_known st ≡ true → in_list (owing_by d rs) t ≡ false)
-    → view_by st rs d (record m { acks = m.acks ++ (t, o) ∷ [] }) ≡ view_by st rs d m
-acked_view rs d m t o Unknown h = refl
-acked_view rs d m t o Active h = ap (λ ts. record (view_by Active rs d m) { owed = ts })
+acked_view : (rs : List Record) (d : Case) (m : Memory) (t : Ticket) (o : Outcome) (fs : List Finding)
+    (st : Standing) → (is_known st ≡ true → in_list (owing_by d rs) t ≡ false)
+    → view_by st rs d (acked m t o fs) ≡ view_by st rs d m
+acked_view rs d m t o fs Unknown h = refl
+acked_view rs d m t o fs Active h = owing_so (view_by Active rs d m) _ _ _ _
     (others_owe m.acks t o (decided_outcome Active) (owing_by d rs) (h refl))
-acked_view rs d m t o Collecting h = ap (λ ts. record (view_by Collecting rs d m) { owed = ts })
+    (others_found m.acks m.found t o (decided_outcome Active) fs (owing_by d rs) (h refl))
+acked_view rs d m t o fs Collecting h = owing_so (view_by Collecting rs d m) _ _ _ _
     (others_owe m.acks t o (decided_outcome Collecting) (owing_by d rs) (h refl))
-acked_view rs d m t o Prepared h = ap (λ ts. record (view_by Prepared rs d m) { owed = ts })
+    (others_found m.acks m.found t o (decided_outcome Collecting) fs (owing_by d rs) (h refl))
+acked_view rs d m t o fs Prepared h = owing_so (view_by Prepared rs d m) _ _ _ _
     (others_owe m.acks t o (decided_outcome Prepared) (owing_by d rs) (h refl))
-acked_view rs d m t o Committing h = ap (λ ts. record (view_by Committing rs d m) { owed = ts })
+    (others_found m.acks m.found t o (decided_outcome Prepared) fs (owing_by d rs) (h refl))
+acked_view rs d m t o fs Committing h = owing_so (view_by Committing rs d m) _ _ _ _
     (others_owe m.acks t o (decided_outcome Committing) (owing_by d rs) (h refl))
-acked_view rs d m t o Aborting h = ap (λ ts. record (view_by Aborting rs d m) { owed = ts })
+    (others_found m.acks m.found t o (decided_outcome Committing) fs (owing_by d rs) (h refl))
+acked_view rs d m t o fs Aborting h = owing_so (view_by Aborting rs d m) _ _ _ _
     (others_owe m.acks t o (decided_outcome Aborting) (owing_by d rs) (h refl))
-acked_view rs d m t o Heuristic h = ap (λ ts. record (view_by Heuristic rs d m) { owed = ts })
+    (others_found m.acks m.found t o (decided_outcome Aborting) fs (owing_by d rs) (h refl))
+acked_view rs d m t o fs Heuristic h = owing_so (view_by Heuristic rs d m) _ _ _ _
     (others_owe m.acks t o (decided_outcome Heuristic) (owing_by d rs) (h refl))
+    (others_found m.acks m.found t o (decided_outcome Heuristic) fs (owing_by d rs) (h refl))
 
 module _ (place : Place) (n : Node) (d : Case) (alike : IsOpenAlike place n d) where
   abbrev m : Memory
@@ -245,8 +275,8 @@ module _ (place : Place) (n : Node) (d : Case) (alike : IsOpenAlike place n d) w
       noted : same_txn x d.txn ≡ true → (ph : Phase) → read rs d (takes_ack m t o fs ph) ≡ read rs d m
       noted of Open = refl
       noted of Asked = refl
-      noted of Idle = acked_view rs d m t o (coordinator_standing rs d m) (unnamed of)
-      noted of Over = acked_view rs d m t o (coordinator_standing rs d m) (unnamed of)
+      noted of Idle = acked_view rs d m t o fs (coordinator_standing rs d m) (unnamed of)
+      noted of Over = acked_view rs d m t o fs (coordinator_standing rs d m) (unnamed of)
 
       by_txn : (b : Bool) → same_txn x d.txn ≡ b
           → read rs d (if b then takes_ack m t o fs m.phase else m) ≡ read rs d m

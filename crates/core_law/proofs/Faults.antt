@@ -13,35 +13,42 @@ use Rattle.core_model.specs.States.{CoreState, SameCore, logged, parent}
 use Rattle.core_model.specs.Makes.{IsBroken, IsRefused}
 use Rattle.core_model.specs.Turns.{reacted, heard_now}
 use Rattle.core_law.specs.Laws.{BrokenAs}
+use Rattle.tree_model.specs.Standings.{ManagerView}
 use Rattle.core_law.specs.Ties.{ChildrenFit, Stands, StandsUp, view_at}
 use Rattle.core_law.proofs.Managers.{same_view-trans}
 use Rattle.core_law.proofs.Records.{map_append}
+use Rattle.core_law.proofs.SameKept.{SameKept, same_kept}
 use Rattle.core_law.proofs.Turns.{meets_as}
 
 -- Nothing is otherwise.
 
-up_same : (n : Node) (old new : CoreState) → SameCore old new → StandsUp n old
+up_same : (n : Node) (old new : CoreState) → SameKept old new → StandsUp n old
     → StandsUp n (record new { place = old.place })
 up_same n old new same up =
     record {
-      boot = same.rest.boot ∙ up.boot;
-      begun = λ c. same.rest.begun ∙ up.begun c;
-      given = λ c. same.rest.given ∙ up.given c;
-      tickets = λ d. same.rest.tickets d ∙ up.tickets d;
+      boot = same.boot ∙ up.boot;
+      begun = λ c. same.begun ∙ up.begun c;
+      given = λ c. same.given ∙ up.given c;
+      tickets = λ d. same.tickets d ∙ up.tickets d;
       views = λ c. same_view-trans (new.view_of c) (old.view_of c) (view_at old.place.role old.place n c)
-          (same.rest.views c) (up.views c);
-      branches = λ c. same.rest.branches c ∙ up.branches c;
+          (same.views c) (up.views c);
+      branches = λ c. same.branches c ∙ up.branches c;
+      decided = λ c is. same.decided c is
+          ∙ up.decided c (ap (λ (v : ManagerView). v.standing) (sym (same.branches c)) ∙ is);
     }
 
-pub same_stands : (n : Node) (old new : CoreState) → SameCore old new → Stands n old → Stands n new
-same_stands n old new same stands =
-    subst (λ p. Stands n (record new { place = p })) (sym same.rest.place)
+pub kept_stands : (n : Node) (old new : CoreState) → SameKept old new → Stands n old → Stands n new
+kept_stands n old new same stands =
+    subst (λ p. Stands n (record new { place = p })) (sym same.place)
     (record {
       forced = ap (λ (l : LogSight). l.kept.forced) same.log ∙ stands.forced;
       unforced = ap (λ (l : LogSight). l.kept.unforced) same.log ∙ stands.unforced;
       failed = ap (λ (l : LogSight). l.failed) same.log ∙ stands.failed;
       up = λ runs. up_same n old new same (stands.up runs);
     })
+
+pub same_stands : (n : Node) (old new : CoreState) → SameCore old new → Stands n old → Stands n new
+same_stands n old new same = kept_stands n old new (same_kept old new same)
 
 -- A refusal.
 

@@ -5,7 +5,9 @@ pub mod CascadeTickets
 pub mod CascadeViews
 pub mod Cascades
 pub mod Children
+pub mod Cleared
 pub mod Coordinators
+pub mod Decisions
 pub mod Elsewhere
 pub mod Faults
 pub mod ManagerSteps
@@ -16,11 +18,13 @@ pub mod PassedOver
 pub mod Records
 pub mod RootSteps
 pub mod Roots
+pub mod SameKept
 pub mod Steps
 pub mod Tickets
 pub mod Turns
 pub mod OwnRecords
 pub mod Restarting
 pub mod TrimmedLogs
+pub mod TrimmedFolds
 pub mod TrimmedViews
 pub mod Trimming

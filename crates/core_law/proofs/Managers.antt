@@ -1,5 +1,5 @@
 -- What a manager makes of an input is what the model's manager makes of it.
-use Rattle.std.proofs.Common.{◌≡◌, ◌+◌, ◌==◌, ◌&&◌, not, ℕ, Bool, true, false, if◌then◌else◌, Option, Some, None, List, [], ◌∷◌, ◌++◌, map, inl, inr, refl, sym, ap, subst, ◌∙◌, arith}
+use Rattle.std.proofs.Common.{◌≡◌, ◌+◌, ◌==◌, ◌&&◌, not, ℕ, Bool, true, false, if◌then◌else◌, Option, Some, None, List, [], ◌∷◌, ◌++◌, fold, map, inl, inr, refl, sym, ap, subst, ◌∙◌, arith}
 use Rattle.tree_model.specs.declared.names.Case.{Case}
 use Rattle.std.specs.Prelude.{fold}
 use Rattle.tree_model.specs.declared.names.Outcome.{Outcome}
@@ -24,7 +24,7 @@ use Rattle.tree_model.specs.declared.trees.TreeEntry.{TreeEntry}
 use Rattle.tree_model.specs.LogNames.{in_log}
 use Rattle.tree_model.specs.Names.{same_case, child_case}
 use Rattle.tree_model.specs.NameLaws.{same_case_tells}
-use Rattle.tree_model.specs.Records.{boot_after, boot_of}
+use Rattle.tree_model.specs.Records.{boot_after, boot_of, decision_after, decision_of}
 use Rattle.tree_model.specs.Nodes.{DataAnswer, Effect, Heard, Node, Place, after, entries_written, kept}
 use Rattle.tree_model.specs.Memory.{Asked, Idle, Memory, Open, Over, Phase, active_ticket, closes, joins, manager_hears, manager_remembers, memory_of, next_ticket, retires, works}
 use Rattle.tree_model.specs.Standings.{CoordinatorView, ManagerView, Unmarked, manager_view, mark_of, marked_branch, unknown_view}
@@ -37,9 +37,10 @@ use Rattle.tree_model.proofs.ManagerViewLaws.{Givens, abort_own, commit_own, giv
 use Rattle.std.proofs.lemmas.List.{append-nil}
 use Rattle.rec_log.specs.Sights.{LogSight}
 use Rattle.core_model.specs.States.{CoreState, wrote}
-use Rattle.core_model.specs.Makes.{HandlesRow, Moves, retired_by, retires as retires_ticket}
-use Rattle.core_model.specs.Turns.{Handles, Issues, Refuses, Says, Turn, childless_turn, decide_turn, forget_turn, leaf_ask_turn, leaf_joined_turn, manager_act, manager_turn, next_ticket as next_of, reacted, untold_turn, heard_now, this_version}
+use Rattle.core_model.specs.Makes.{HandlesRow, Moves, decided_by, retired_by, retires as retires_ticket}
+use Rattle.core_model.specs.Turns.{decision_records, Handles, Issues, Refuses, Says, Turn, childless_turn, decide_turn, forget_turn, leaf_ask_turn, leaf_joined_turn, manager_act, manager_turn, next_ticket as next_of, reacted, untold_turn, heard_now, this_version}
 use Rattle.core_law.specs.Ties.{Stands, StandsUp}
+use Rattle.core_law.proofs.Decisions.{DecidesNothing, abort_decides, ask_decides, commit_decides, decision-after, forget_decides, prepare_decides, work_decides}
 use Rattle.core_law.proofs.Records.{Holds, NoBoot, boot-after, held_after, same_boot}
 use Rattle.core_law.proofs.Tickets.{found_fresh, found_more, found_without, manager_once, one_case, unless_of}
 
@@ -53,6 +54,7 @@ same_view-trans u v w first second =
       promised = first.promised ∙ second.promised;
       named = λ t. first.named t ∙ second.named t;
       owed = λ t. first.owed t ∙ second.owed t;
+      found = first.found ∙ second.found;
     }
 
 -- what the effect of a turn leaves of the model's process
@@ -164,10 +166,16 @@ module _ (n : Node) (s s' : CoreState) (me p : ProcessId) (tree : List TreeEntry
           (memory_of place (after n (heard i) e) d).active d
       views : (c : Case) → SameView (s'.view_of c) unknown_view
 
+    -- behind an effect what was decided of a decided branch is what its records say
+    abbrev DecidedSo : Input → Effect → Type 0
+    DecidedSo i e = (c : Case) → (s'.branch_of c).standing ≡ standing.Heuristic
+        → s'.decided_of c ≡ fold (decision_after c) (decision_of (kept n) c) (entries_written e.written)
+
     stand : (i : Input) (e : Effect) → Behind i e
         → ((c : Case) → s'.branch_of c ≡ manager_view place (after n (heard i) e) c)
+        → DecidedSo i e
         → Stands (after n (heard i) e) new
-    stand i e behind branches =
+    stand i e behind branches decided =
         record {
           forced = behind.forced;
           unforced = behind.unforced;
@@ -179,6 +187,7 @@ module _ (n : Node) (s s' : CoreState) (me p : ProcessId) (tree : List TreeEntry
             tickets = behind.tickets;
             views = behind.views;
             branches = branches;
+            decided = λ c is. decided c is ∙ sym (decision-after n (heard i) e c);
           };
         }
 
@@ -211,17 +220,52 @@ module _ (n : Node) (s s' : CoreState) (me p : ProcessId) (tree : List TreeEntry
           views = λ d. same_view-trans (s'.view_of d) (s.view_of d) unknown_view (made.views d) (up.views d);
         }
 
-    handled : (i : Input) (c : Case) (row : LeafRow) → NoBoot (entries_written row.written)
+    -- a row that decides nothing leaves what was decided
+    as_before : (i : Input) (c : Case) (row : LeafRow) → DecidesNothing c (manager_view place n c).standing row
+        → ((d : Case) (k : Option Outcome) → decided_by i d k ≡ k) → HandlesRow old new i c row
+        → DecidedSo i (leaf_effect row)
+    as_before i c row nothing plain made d is = by_case (same_case c d) refl
+      where
+        before : (s.branch_of d).standing ≡ standing.Heuristic
+            → s'.decided_of d ≡ decision_of (kept n) d
+        before was = made.stays.decided d is ∙ plain d (s.decided_of d) ∙ up.decided d was
+
+        own : c ≡ d → row.view.standing ≡ standing.Heuristic
+        own one = ap (λ (v : ManagerView). v.standing) (sym made.own)
+            ∙ ap (λ e. (s'.branch_of e).standing) one ∙ is
+
+        by_case : (b : Bool) → same_case c d ≡ b
+            → s'.decided_of d ≡ fold (decision_after d) (decision_of (kept n) d) (entries_written row.written)
+        by_case false apart =
+            before (ap (λ (v : ManagerView). v.standing) (sym (made.others d apart)) ∙ is)
+            ∙ sym (nothing.others d (decision_of (kept n) d) apart)
+        by_case true same =
+            let one : c ≡ d = one_case c d same in
+            before (ap (λ (v : ManagerView). v.standing) (up.branches d)
+            ∙ ap (λ e. (manager_view place n e).standing) (sym one) ∙ nothing.stays (own one))
+            ∙ sym (subst (λ e. fold (decision_after e) (decision_of (kept n) d) (entries_written row.written)
+            ≡ decision_of (kept n) d) one (nothing.own (decision_of (kept n) d) (own one)))
+
+    handled_by : (i : Input) (c : Case) (row : LeafRow) → NoBoot (entries_written row.written)
         → MovesBranch place n (heard i) c row → Remains i
+        → (HandlesRow old new i c row → DecidedSo i (leaf_effect row))
         → Follows n (heard i) old new i (Handles c row)
-    handled i c row quiet moved remains e is made =
+    handled_by i c row quiet moved remains decided e is made =
         subst (λ f. Stands (after n (heard i) f) new) (done_is (leaf_effect row) e is)
         (stand i (leaf_effect row) (row_behind i c row quiet remains made) (λ d. elim (same_case_tells c d) [
           | inl one ↦ subst (λ q. s'.branch_of q
               ≡ manager_view place (after n (heard i) (leaf_effect row)) q) one.1
               (made.own ∙ sym moved.moved)
           | inr apart ↦ made.others d apart.0 ∙ up.branches d ∙ sym (moved.others d apart.0)
-        ]))
+        ]) (decided made))
+
+    handled : (i : Input) (c : Case) (row : LeafRow) → NoBoot (entries_written row.written)
+        → MovesBranch place n (heard i) c row → Remains i
+        → DecidesNothing c (manager_view place n c).standing row
+        → ((d : Case) (k : Option Outcome) → decided_by i d k ≡ k)
+        → Follows n (heard i) old new i (Handles c row)
+    handled i c row quiet moved remains nothing plain =
+        handled_by i c row quiet moved remains (as_before i c row nothing plain)
 
     -- Nothing is done but that something is said.
 
@@ -249,7 +293,9 @@ module _ (n : Node) (s s' : CoreState) (me p : ProcessId) (tree : List TreeEntry
               ∙ sym (ap (λ (g : Givens). active_ticket g.1 d) (counted i f quiet d));
           views = λ d. same_view-trans (s'.view_of d) (s.view_of d) unknown_view
               (made.rest.views d) (up.views d);
-        }) (λ c. made.rest.branches c ∙ up.branches c ∙ sym (views c)))
+        }) (λ c. made.rest.branches c ∙ up.branches c ∙ sym (views c))
+        (λ c is. made.rest.decided c
+        ∙ up.decided c (ap (λ (v : ManagerView). v.standing) (sym (made.rest.branches c)) ∙ is)))
 
     refused : (i : Input) (x : StepError) → Follows n (heard i) old new i (Refuses x)
     refused i x e is made = absurd made
@@ -299,6 +345,11 @@ module _ (n : Node) (s s' : CoreState) (me p : ProcessId) (tree : List TreeEntry
 
     -- Acts.
 
+    decides_at : (c : Case) (v : ManagerView) → v ≡ manager_view place n c → (row : LeafRow)
+        → DecidesNothing c v.standing row → DecidesNothing c (manager_view place n c).standing row
+    decides_at c v is row nothing =
+        subst (λ (u : ManagerView). DecidesNothing c u.standing row) is nothing
+
     ask_at : (c : Case) (v : ManagerView) (st : Standing) → v ≡ manager_view place n c
         → Follows n (heard (ActInput (Ask c))) old new (ActInput (Ask c))
         (leaf_ask_turn (leaf_of place p c) v st)
@@ -308,8 +359,9 @@ module _ (n : Node) (s s' : CoreState) (me p : ProcessId) (tree : List TreeEntry
             (Handles c (untold_ask (leaf_of place p c) v))
         asks = handled (ActInput (Ask c)) c (untold_ask (leaf_of place p c) v) (λ b. refl)
             (subst (λ u. MovesBranch place n (heard (ActInput (Ask c))) c (untold_ask (leaf_of place p c) u))
-            (sym is) ((manager_views me p tree n c).ask a))
+            (sym is) ((manager_views this_version me p tree n c).ask a))
             (remains_quiet (ActInput (Ask c)) (λ d. refl) (λ d t. refl))
+            (decides_at c v is (untold_ask (leaf_of place p c) v) (ask_decides (leaf_of place p c) v)) (λ d k. refl)
 
         by_told : (o : Option Outcome) → Follows n (heard (ActInput (Ask c))) old new (ActInput (Ask c))
             (untold_turn (leaf_of place p c) v o)
@@ -330,16 +382,43 @@ module _ (n : Node) (s s' : CoreState) (me p : ProcessId) (tree : List TreeEntry
     decide_boot l Committed b = refl
     decide_boot l Aborted b = refl
 
+    decides_so : (c d : Case) (o : Outcome) (k : Option Outcome)
+        → decided_by (ActInput (Decide c o)) d k
+        ≡ fold (decision_after d) k (entries_written (prepared_decide (leaf_of place p c) o).written)
+    decides_so c d Committed k = refl
+    decides_so c d Aborted k = refl
+
+    decided_now : (c : Case) (o : Outcome)
+        → HandlesRow old new (ActInput (Decide c o)) c (prepared_decide (leaf_of place p c) o)
+        → DecidedSo (ActInput (Decide c o)) (leaf_effect (prepared_decide (leaf_of place p c) o))
+    decided_now c o made d is = by_case (same_case c d) refl
+      where
+        now : (k : Option Outcome) → s.decided_of d ≡ k
+            → s'.decided_of d
+            ≡ fold (decision_after d) k (entries_written (prepared_decide (leaf_of place p c) o).written)
+        now k was = made.stays.decided d is ∙ ap (decided_by (ActInput (Decide c o)) d) was
+            ∙ decides_so c d o k
+
+        by_case : (b : Bool) → same_case c d ≡ b
+            → s'.decided_of d ≡ fold (decision_after d) (decision_of (kept n) d)
+            (entries_written (prepared_decide (leaf_of place p c) o).written)
+        by_case false apart = now (decision_of (kept n) d)
+            (up.decided d (ap (λ (v : ManagerView). v.standing) (sym (made.others d apart)) ∙ is))
+        by_case true same = made.stays.decided d is
+            ∙ ap (λ b. if b then Some o else s.decided_of d) same
+            ∙ sym (ap (λ b. if b then Some o else decision_of (kept n) d) same)
+            ∙ decides_so c d o (decision_of (kept n) d)
+
     decide_at : (c : Case) (o : Outcome) (st : Standing)
         → Follows n (heard (ActInput (Decide c o))) old new (ActInput (Decide c o))
         (decide_turn (leaf_of place p c) o st)
     decide_at c o standing.Unknown = refused (ActInput (Decide c o)) _
     decide_at c o standing.Active = refused (ActInput (Decide c o)) _
     decide_at c o standing.Collecting = refused (ActInput (Decide c o)) _
-    decide_at c o standing.Prepared = handled (ActInput (Decide c o)) c
+    decide_at c o standing.Prepared = handled_by (ActInput (Decide c o)) c
         (prepared_decide (leaf_of place p c) o) (decide_boot (leaf_of place p c) o)
-        ((manager_views me p tree n c).decide o a)
-        (remains_quiet (ActInput (Decide c o)) (λ d. refl) (λ d t. refl))
+        ((manager_views this_version me p tree n c).decide o a)
+        (remains_quiet (ActInput (Decide c o)) (λ d. refl) (λ d t. refl)) (decided_now c o)
     decide_at c o standing.Committing = refused (ActInput (Decide c o)) _
     decide_at c o standing.Aborting = refused (ActInput (Decide c o)) _
     decide_at c o standing.Heuristic = refused (ActInput (Decide c o)) _
@@ -355,8 +434,9 @@ module _ (n : Node) (s s' : CoreState) (me p : ProcessId) (tree : List TreeEntry
     forget_at c standing.Aborting = refused (ActInput (Forget c)) _
     forget_at c standing.Heuristic = handled (ActInput (Forget c)) c
         (heuristic_forget (leaf_of place p c)) (λ b. refl)
-        ((manager_views me p tree n c).forget a)
+        ((manager_views this_version me p tree n c).forget a)
         (remains_quiet (ActInput (Forget c)) (λ d. refl) (λ d t. refl))
+        (forget_decides (leaf_of place p c) (manager_view place n c).standing) (λ d k. refl)
 
     childless_at : (x : Act) (st : Standing) → Follows n (heard (ActInput x)) old new
         (ActInput x) (childless_turn st)
@@ -390,8 +470,9 @@ module _ (n : Node) (s s' : CoreState) (me p : ProcessId) (tree : List TreeEntry
         handled (MessageInput k (Work d j op)) d (on_work j a.does v v.standing)
         (no_boot _ (work_writes j a.does v v.standing))
         (subst (λ u. MovesBranch place n (heard (MessageInput k (Work d j op))) d
-        (on_work j a.does u u.standing)) (sym is) ((manager_views me p tree n d).work k j op a))
+        (on_work j a.does u u.standing)) (sym is) ((manager_views this_version me p tree n d).work k j op a))
         (remains_quiet (MessageInput k (Work d j op)) (λ c. refl) (λ c t. refl))
+        (decides_at d v is _ (work_decides d j a.does v v.standing refl)) (λ c k. refl)
 
     prepare_at : (k j : ℕ) (d : Case) (v : ManagerView) → v ≡ manager_view place n d
         → Follows n (heard (MessageInput k (Prepare d j))) old new (MessageInput k (Prepare d j))
@@ -400,28 +481,35 @@ module _ (n : Node) (s s' : CoreState) (me p : ProcessId) (tree : List TreeEntry
         handled (MessageInput k (Prepare d j)) d (on_prepare (leaf_of place p d) j a.holding v v.standing)
         (prepare_own (leaf_of place p d) j a.holding v v.standing).boot
         (subst (λ u. MovesBranch place n (heard (MessageInput k (Prepare d j))) d (on_prepare (leaf_of place p
-        d) j a.holding u u.standing)) (sym is) ((manager_views me p tree n d).prepare k j a))
+        d) j a.holding u u.standing)) (sym is) ((manager_views this_version me p tree n d).prepare k j a))
         (remains_prepare k j d)
+        (decides_at d v is _ (prepare_decides (leaf_of place p d) j a.holding v v.standing refl)) (λ c k. refl)
 
     commit_at : (k : ℕ) (d : Case) (v : ManagerView) → v ≡ manager_view place n d
         → Follows n (heard (MessageInput k (Commit d))) old new (MessageInput k (Commit d))
-        (Handles d (on_commit this_version (leaf_of place p d) [] v v.standing))
+        (Handles d (on_commit this_version (leaf_of place p d) (decision_records d (s.decided_of d)) v v.standing))
     commit_at k d v is =
-        handled (MessageInput k (Commit d)) d (on_commit this_version (leaf_of place p d) [] v v.standing)
-        (commit_own this_version [] (leaf_of place p d) v v.standing).boot
+        handled (MessageInput k (Commit d)) d (on_commit this_version (leaf_of place p d) (decision_records d (s.decided_of d)) v v.standing)
+        (commit_own this_version (decision_records d (s.decided_of d)) (leaf_of place p d) v v.standing).boot
         (subst (λ u. MovesBranch place n (heard (MessageInput k (Commit d))) d
-        (on_commit this_version (leaf_of place p d) [] u u.standing)) (sym is) ((manager_views me p tree n d).commit k a []))
+        (on_commit this_version (leaf_of place p d) (decision_records d (s.decided_of d)) u u.standing)) (sym is)
+        ((manager_views this_version me p tree n d).commit k a (decision_records d (s.decided_of d))))
         (remains_quiet (MessageInput k (Commit d)) (λ c. refl) (λ c t. refl))
+        (decides_at d v is _ (commit_decides this_version (leaf_of place p d)
+        (decision_records d (s.decided_of d)) v v.standing refl)) (λ c k. refl)
 
     abort_at : (k : ℕ) (d : Case) (v : ManagerView) → v ≡ manager_view place n d
         → Follows n (heard (MessageInput k (Abort d))) old new (MessageInput k (Abort d))
-        (Handles d (on_abort this_version (leaf_of place p d) [] v v.standing))
+        (Handles d (on_abort this_version (leaf_of place p d) (decision_records d (s.decided_of d)) v v.standing))
     abort_at k d v is =
-        handled (MessageInput k (Abort d)) d (on_abort this_version (leaf_of place p d) [] v v.standing)
-        (abort_own this_version [] (leaf_of place p d) v v.standing).boot
+        handled (MessageInput k (Abort d)) d (on_abort this_version (leaf_of place p d) (decision_records d (s.decided_of d)) v v.standing)
+        (abort_own this_version (decision_records d (s.decided_of d)) (leaf_of place p d) v v.standing).boot
         (subst (λ u. MovesBranch place n (heard (MessageInput k (Abort d))) d
-        (on_abort this_version (leaf_of place p d) [] u u.standing)) (sym is) ((manager_views me p tree n d).abort k a []))
+        (on_abort this_version (leaf_of place p d) (decision_records d (s.decided_of d)) u u.standing)) (sym is)
+        ((manager_views this_version me p tree n d).abort k a (decision_records d (s.decided_of d))))
         (remains_abort k d)
+        (decides_at d v is _ (abort_decides this_version (leaf_of place p d)
+        (decision_records d (s.decided_of d)) v v.standing refl)) (λ c k. refl)
 
     -- JOIN.
 
@@ -429,7 +517,7 @@ module _ (n : Node) (s s' : CoreState) (me p : ProcessId) (tree : List TreeEntry
     join k d = MessageInput k (Join d)
 
     joins_at : (k : ℕ) (d : Case) → JoinsBranch place p n (heard (join k d)) d a.starts
-    joins_at k d = (manager_views me p tree n d).join k a
+    joins_at k d = (manager_views this_version me p tree n d).join k a
 
     joined_before : (b : Bool) (d : Case) (t : Ticket) (g : Givens) → active_ticket g.1 d ≡ Some t
         → (if b then gives_fresh me boot d g (active_ticket g.1 d) else g) ≡ g
@@ -513,8 +601,21 @@ module _ (n : Node) (s s' : CoreState) (me p : ProcessId) (tree : List TreeEntry
           | inr apart ↦ made.cases.1 c apart.0 ∙ up.branches c
               ∙ sym ((joins_at k d).others none starts c (flipped (fresh_case place n d) c apart.0))
               ∙ ap (λ g. manager_view place (after n (heard (join k d)) g) c) same
-        ]))
+        ]) decided)
       where
+        decided : DecidedSo (join k d) (sends_only (post me p (Joined d (next d)) ∷ []))
+        decided c is = by_case (same_case (fresh_case place n d) c) refl
+          where
+            by_case : (b : Bool) → same_case (fresh_case place n d) c ≡ b
+                → s'.decided_of c ≡ decision_of (kept n) c
+            by_case false apart = made.decided c is
+                ∙ up.decided c (ap (λ (v : ManagerView). v.standing) (sym (made.cases.1 c apart)) ∙ is)
+            by_case true same =
+                let opened : (s'.branch_of c).standing ≡ standing.Active =
+                ap (λ e. (s'.branch_of e).standing) (sym (one_case (fresh_case place n d) c same))
+                ∙ ap (λ (v : ManagerView). v.standing) made.cases.0 in
+                absurd (let clash : standing.Active ≡ standing.Heuristic = sym opened ∙ is in cc)
+
         flipped : (c e : Case) → same_case c e ≡ false → same_case e c ≡ false
         flipped c e z = grind (arith, same_case_tells)
 

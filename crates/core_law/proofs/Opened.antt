@@ -58,5 +58,6 @@ opened_stands place =
         tickets = no_ticket place;
         views = views_are place.role place;
         branches = branches_are place.role place;
+        decided = λ c is. absurd (cc);
       };
     }

@@ -1,6 +1,6 @@
 -- An acknowledgement that comes while its case is Prepared: the model passes it over, and a coordinator does
 -- nothing with it.
-use Rattle.std.proofs.Common.{◌≡◌, ◌&&◌, not, ℕ, Bool, true, false, if◌then◌else◌, Option, Some, None, List, inl, inr, refl, sym, ap, subst, ◌∙◌, []}
+use Rattle.std.proofs.Common.{◌≡◌, ◌&&◌, not, ℕ, Bool, true, false, if◌then◌else◌, Option, Some, None, List, inl, inr, refl, sym, ap, subst, ◌∙◌, [], ◌++◌}
 use Rattle.std.proofs.lemmas.List.{append-nil}
 use Rattle.tree_model.specs.declared.names.Case.{Case}
 use Rattle.tree_model.specs.declared.names.Outcome.{Outcome}
@@ -27,10 +27,11 @@ use Rattle.tree_model.specs.CoordinatorRows.{on_ack, quiet}
 use Rattle.tree_model.specs.Reactions.{Does, is_early_ack, is_passed_over, is_prepared_case, is_prepared_standing}
 use Rattle.tree_model.specs.SameViews.{SameView}
 use Rattle.tree_nodes.proofs.OwnCases.{child_belongs, child_txn}
-use Rattle.core_model.specs.States.{CoreState, SameCore}
+use Rattle.core_model.specs.States.{CoreState}
 use Rattle.core_model.specs.Makes.{Moves, retired_by}
 use Rattle.core_model.specs.Turns.{Finds, Refuses, Takes, Turn, ack_turn, asked_by, asked_of, child_turn, reacted, seat_in, turn_of, up_turn, this_version}
 use Rattle.core_law.specs.Ties.{ChildrenFit, Stands}
+use Rattle.core_law.proofs.SameKept.{SameKept}
 use Rattle.core_law.proofs.CascadeQuiet.{cascaded_place}
 use Rattle.core_law.proofs.Children.{found_case}
 use Rattle.core_law.proofs.Elsewhere.{belongs_not, found_belongs, found_known}
@@ -54,7 +55,7 @@ prepared_is standing.Heuristic e = absurd (cc)
 -- nothing is done of this turn, and nothing is otherwise
 abbrev pub IsNothing : CoreState → CoreState → Input → Turn → Type 0
 IsNothing old new i turn =
-    (e : Effect) → reacted turn ≡ Does e → Moves old new i turn → (e ≡ no_effect) × SameCore old new
+    (e : Effect) → reacted turn ≡ Does e → Moves old new i turn → (e ≡ no_effect) × SameKept old new
 
 unretired : (k : ℕ) (d e : Case) (o : Outcome) (fs : List Finding) (t : Option Ticket)
     → retired_by (MessageInput k (Ack d o fs)) e t ≡ t
@@ -70,18 +71,17 @@ quiet_is_nothing old new k d c o fs e is made = (
     log = made.log
         ∙ ap (λ us. record old.log { kept = record { forced = old.log.kept.forced; unforced = us } })
         (append-nil old.log.kept.unforced);
-    rest = record {
-      place = made.stays.place;
-      boot = made.stays.boot;
-      begun = made.begun;
-      given = made.given;
-      tickets = λ x. made.stays.tickets x ∙ unretired k d x o fs (old.ticket_for x);
-      views = λ x. elim (same_case_tells c x) [
-        | inl one ↦ subst (λ y. SameView (new.view_of y) (old.view_of y)) one.1 made.own
-        | inr apart ↦ made.others x apart.0
-      ];
-      branches = made.branches;
-    };
+    place = made.stays.place;
+    boot = made.stays.boot;
+    begun = made.begun;
+    given = made.given;
+    tickets = λ x. made.stays.tickets x ∙ unretired k d x o fs (old.ticket_for x);
+    views = λ x. elim (same_case_tells c x) [
+      | inl one ↦ subst (λ y. SameView (new.view_of y) (old.view_of y)) one.1 made.own
+      | inr apart ↦ made.others x apart.0
+    ];
+    branches = made.branches;
+    decided = λ x is. made.stays.decided x is;
   },
 )
 
@@ -105,11 +105,12 @@ module _ (n : Node) (s s' : CoreState) (me p : ProcessId) (tree : List TreeEntry
     shows : (c : Case) → SameView (s.view_of c) (view c)
     shows c = (stands.up runs).views c
 
-    is_quiet : (c : Case) (t : Ticket) (o : Outcome) (st : Standing) → st ≡ standing.Prepared
-        → on_ack this_version (seat_in old c) t o [] (s.view_of c) st ≡ quiet (s.view_of c)
-    is_quiet c t o st is = ap (on_ack this_version (seat_in old c) t o [] (s.view_of c)) is ∙ by_outcome o
+    is_quiet : (c : Case) (t : Ticket) (o : Outcome) (gs : List Finding) (st : Standing)
+        → st ≡ standing.Prepared
+        → on_ack this_version (seat_in old c) t o gs (s.view_of c) st ≡ quiet (s.view_of c)
+    is_quiet c t o gs st is = ap (on_ack this_version (seat_in old c) t o gs (s.view_of c)) is ∙ by_outcome o
       where
-        by_outcome : (o : Outcome) → on_ack this_version (seat_in old c) t o [] (s.view_of c)
+        by_outcome : (o : Outcome) → on_ack this_version (seat_in old c) t o gs (s.view_of c)
             standing.Prepared ≡ quiet (s.view_of c)
         by_outcome Committed = refl
         by_outcome Aborted = refl
@@ -119,7 +120,7 @@ module _ (n : Node) (s s' : CoreState) (me p : ProcessId) (tree : List TreeEntry
         → case_of_child place n x t ≡ Some c
         → (view c).standing ≡ standing.Prepared
         → (found : Option Case) → Finds old (Some (x, t)) found
-        → IsNothing old new (MessageInput k (Ack d o fs)) (ack_turn old o t found)
+        → IsNothing old new (MessageInput k (Ack d o fs)) (ack_turn old o fs t found)
     ack_found k d x t o fs c there prepared None finds =
         let of : c.txn ≡ x = child_txn me (Some p) tree n x t c there in
         let same : same_txn x c.txn ≡ true = subst (λ y. same_txn y c.txn ≡ true) of (same_txn-refl c.txn) in
@@ -138,7 +139,7 @@ module _ (n : Node) (s s' : CoreState) (me p : ProcessId) (tree : List TreeEntry
         let stood : (s.view_of e).standing ≡ standing.Prepared =
         (shows e).standing ∙ ap (λ y. (view y).standing) same ∙ prepared in
         subst (λ r. IsNothing old new (MessageInput k (Ack d o fs)) (Takes e r))
-        (sym (is_quiet e t o (s.view_of e).standing stood)) (quiet_is_nothing old new k d e o fs)
+        (sym (is_quiet e t o ((s.view_of e).found ++ fs) (s.view_of e).standing stood)) (quiet_is_nothing old new k d e o fs)
       where
         the_one : (e c : Case) → Some e ≡ Some c → e ≡ c
         the_one e c one = cc
@@ -147,7 +148,7 @@ module _ (n : Node) (s s' : CoreState) (me p : ProcessId) (tree : List TreeEntry
         → case_of_child place n x t ≡ f
         → is_prepared_case place n f ≡ true
         → Finds old (Some (x, t)) found → IsNothing old new
-        (MessageInput k (Ack d o fs)) (ack_turn old o t found)
+        (MessageInput k (Ack d o fs)) (ack_turn old o fs t found)
     by_case k d x t o fs None there prepared finds = absurd (cc)
     by_case k d x t o fs (Some c) there prepared finds =
         ack_found k d x t o fs c there (prepared_is (view c).standing prepared) found finds
@@ -156,7 +157,7 @@ module _ (n : Node) (s s' : CoreState) (me p : ProcessId) (tree : List TreeEntry
         → let d : Case = record { txn = x; ticket = t } in
         of_ticket t false (λ t. is_prepared_case place n (case_of_child place n x t)) ≡ true
         → Finds old (asked_of d) found
-        → IsNothing old new (MessageInput k (Ack d o fs)) (child_turn d (λ t. ack_turn old o t found))
+        → IsNothing old new (MessageInput k (Ack d o fs)) (child_turn d (λ t. ack_turn old o fs t found))
     by_ticket k x None o fs early finds = absurd (cc)
     by_ticket k x (Some t) o fs early finds =
         by_case k (record { txn = x; ticket = Some t }) x t o fs (case_of_child place n x t) refl early finds

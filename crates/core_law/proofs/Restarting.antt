@@ -65,6 +65,7 @@ read_off_up n s none read =
       tickets = λ d. read.tickets d ∙ sym (no_ticket s.place n none d);
       views = λ c. subst (λ v. SameView (s.view_of c) v) (views s.place n none c s.place.role) (read.views c);
       branches = λ c. read.branches c ∙ branches s.place n none c s.place.role;
+      decided = read.decided;
     }
 
 -- What a crash leaves.

@@ -1,5 +1,5 @@
 -- What a root makes of an input is what the model's root makes of it.
-use Rattle.std.proofs.Common.{◌≡◌, ◌+◌, ℕ, Bool, true, false, ◌||◌, if◌then◌else◌, Option, Some, None, List, [], ◌∷◌, inl, inr, refl, sym, ap, subst, ◌∙◌}
+use Rattle.std.proofs.Common.{◌≡◌, ◌+◌, ℕ, Bool, true, false, ◌||◌, if◌then◌else◌, Option, Some, None, List, [], ◌∷◌, ◌++◌, inl, inr, refl, sym, ap, subst, ◌∙◌}
 use Rattle.std.specs.Prelude.{fold}
 use Rattle.std.proofs.lemmas.List.{append-nil}
 use Rattle.tree_model.specs.declared.names.Case.{Case}
@@ -25,12 +25,12 @@ use Rattle.tree_model.specs.declared.events.StepError.TheVariants.{NotAChild}
 use Rattle.tree_model.specs.declared.trees.TreeEntry.{TreeEntry}
 use Rattle.tree_model.specs.Names.{child_case, root_case, same_case, same_txn}
 use Rattle.tree_model.specs.NameLaws.{same_case_tells}
-use Rattle.tree_model.specs.Records.{boot_of, has_case}
+use Rattle.tree_model.specs.Records.{boot_of, has_case, is_reported}
 use Rattle.tree_model.specs.Restarts.{is_known}
 use Rattle.tree_model.specs.Nodes.{AtRoot, DataAnswer, Effect, Heard, Node, Place, after, entries_written, is_child, is_leaf, kept, role_of}
 use Rattle.tree_model.specs.Memory.{Asked, Idle, Memory, Open, Over, Phase, accepts_ticket, active_ticket, asks_votes, closes, fresh_memory, has_child, hears_child, memory_of, next_txn, opens_case, sends_work, ticket_of_child}
 use Rattle.tree_model.specs.Standings.{CoordinatorView, coordinator_view, some_case}
-use Rattle.tree_model.specs.CoordinatorRows.{Row, Seat, ByAct, active_abort, active_commit, active_join, active_work, collecting_abort, on_ack, on_inquiry, on_joined, on_vote, post, prepared_ask, quiet, sends}
+use Rattle.tree_model.specs.CoordinatorRows.{Row, Seat, ByAct, active_abort, active_commit, active_join, active_work, collecting_abort, on_ack, on_inquiry, on_joined, on_vote, post, prepared_ask, quiet, sends, unknown_forget}
 use Rattle.tree_model.specs.Reactions.{row_effect}
 use Rattle.tree_model.specs.Views.{begin_effect, next_begun, root_place, root_seat, vote_message}
 use Rattle.tree_model.specs.SameViews.{SameRow, SameView}
@@ -41,11 +41,12 @@ use Rattle.tree_nodes.proofs.Selves.{Self, root_self, self_after, self_is, self_
 use Rattle.rec_log.specs.Sights.{LogSight}
 use Rattle.core_model.specs.States.{CoreState, wrote}
 use Rattle.core_model.specs.Makes.{retired_by}
-use Rattle.core_model.specs.Turns.{Begins, Finds, Refuses, Says, Takes, Turn, abort_turn, ack_turn, ask_turn, asked_in, asked_of, child_says, child_turn, commit_turn, coordinator_act, inquiry_turn, join_turn, live_turn, next_begun as begun_next, vote_turn, work_for_turn, work_turn, heard_now, this_version}
+use Rattle.core_model.specs.Turns.{Begins, Finds, Refuses, Says, Takes, Turn, abort_turn, ack_turn, ask_turn, asked_in, asked_of, child_says, child_turn, clear_turn, commit_turn, coordinator_act, inquiry_turn, join_turn, kept_records, live_turn, next_begun as begun_next, vote_turn, work_for_turn, work_turn, heard_now, this_version}
 use Rattle.core_model.proofs.Alike.{active_abort-same, active_commit-same, active_join-same, active_work-same, collecting_abort-same, on_ack-same, on_inquiry-same, on_joined-same, on_vote-same, sends-same}
 use Rattle.core_law.specs.Ties.{Stands, StandsUp}
 use Rattle.core_law.specs.Fits.{RootFits}
-use Rattle.core_law.proofs.Coordinators.{Keeps, Remains, at_standing, counted, nothing_written, read, rested, said, stand, taken}
+use Rattle.core_law.proofs.Cleared.{unknown_forget-same, unknown_forget_of}
+use Rattle.core_law.proofs.Coordinators.{Keeps, Remains, at_standing, cleared_written, counted, nothing_written, read, rested, said, stand, taken}
 use Rattle.core_law.proofs.Elsewhere.{IsOther, IsStranger, ack_keeps, belongs_not, found_known, vote_keeps}
 use Rattle.core_law.proofs.Managers.{Follows, done_is, same_view-trans}
 use Rattle.core_law.proofs.OwnRows.{active_abort_of, active_commit_of, collecting_abort_of, on_ack_of, on_joined_of, on_vote_of, work_of}
@@ -214,7 +215,7 @@ module _ (n : Node) (s s' : CoreState) (me : ProcessId) (tree : List TreeEntry) 
         takes (ActInput (WorkAct c q op)) c _ (active_work (seat c) t op (view c))
         (active_work-same (s.view_of c) (view c) (shows c) (seat c) t op)
         (work_of (seat c) (view c) t op) (same (ActInput (WorkAct c q op)) (λ g. refl))
-        ((root_views me tree n x).work a q t op active found).moved
+        ((root_views this_version me tree n x).work a q t op active found).moved
         (λ d apart. ap (λ b. read (kept n) d
         (if b then sends_work (memory d) (ticket_of_child (memory d).accepted q)
         (memory d).phase else memory d))
@@ -254,7 +255,7 @@ module _ (n : Node) (s s' : CoreState) (me : ProcessId) (tree : List TreeEntry) 
         takes (ActInput (CommitAct x)) c _ (active_commit (seat c) (view c))
         (active_commit-same (s.view_of c) (view c) (shows c) (seat c))
         (active_commit_of (seat c) (view c)) (same (ActInput (CommitAct x)) (λ g. refl))
-        ((root_views me tree n x).commit a active).moved
+        ((root_views this_version me tree n x).commit a active).moved
         (λ d apart. ap (λ b. read (kept n) d (if b then asks_votes (memory d) (memory d).phase else memory d))
         apart)
     commit_at x standing.Unknown is = refuses (ActInput (CommitAct x)) _
@@ -275,14 +276,14 @@ module _ (n : Node) (s s' : CoreState) (me : ProcessId) (tree : List TreeEntry) 
         takes (ActInput (AbortAct x)) c _ (active_abort (seat c) (view c))
         (active_abort-same (s.view_of c) (view c) (shows c) (seat c))
         (active_abort_of (seat c) (view c)) (same (ActInput (AbortAct x)) (λ g. refl))
-        ((root_views me tree n x).abort_active a active).moved
+        ((root_views this_version me tree n x).abort_active a active).moved
         (abort_keeps x)
     abort_at x standing.Collecting collects =
         let c = root_case x in
         takes (ActInput (AbortAct x)) c _ (collecting_abort (seat c) ByAct (view c))
         (collecting_abort-same (s.view_of c) (view c) (shows c) (seat c) ByAct)
         (collecting_abort_of (seat c) (view c) ByAct) (same (ActInput (AbortAct x)) (λ g. refl))
-        ((root_views me tree n x).abort_collecting a (fits.alike c) collects).moved (abort_keeps x)
+        ((root_views this_version me tree n x).abort_collecting a (fits.alike c) collects).moved (abort_keeps x)
     abort_at x standing.Unknown is = refuses (ActInput (AbortAct x)) _
     abort_at x standing.Prepared is = refuses (ActInput (AbortAct x)) _
     abort_at x standing.Committing is = refuses (ActInput (AbortAct x)) _
@@ -310,6 +311,24 @@ module _ (n : Node) (s s' : CoreState) (me : ProcessId) (tree : List TreeEntry) 
     live_at i x standing.Committing = refuses i _
     live_at i x standing.Aborting = refuses i _
     live_at i x standing.Heuristic = refuses i _
+
+    clear_at : (c : Case) (b : Bool) (st : Standing)
+        → Leads (ActInput (Forget c)) (clear_turn (seat c) b (s.view_of c) st)
+    clear_at c true standing.Unknown =
+        let i = ActInput (Forget c) in
+        takes i c _ (unknown_forget (seat c) (view c))
+        (unknown_forget-same (seat c) (s.view_of c) (view c) (shows c)) (unknown_forget_of (seat c) (view c))
+        (same i (λ g. refl))
+        (cleared_written n s s' place a (λ m c. refl) (λ m c. refl) i
+        (row_effect c (unknown_forget (seat c) (view c))) c c refl refl)
+        (λ d apart. refl)
+    clear_at c false standing.Unknown = refuses (ActInput (Forget c)) _
+    clear_at c b standing.Active = refuses (ActInput (Forget c)) _
+    clear_at c b standing.Collecting = refuses (ActInput (Forget c)) _
+    clear_at c b standing.Prepared = refuses (ActInput (Forget c)) _
+    clear_at c b standing.Committing = refuses (ActInput (Forget c)) _
+    clear_at c b standing.Aborting = refuses (ActInput (Forget c)) _
+    clear_at c b standing.Heuristic = refuses (ActInput (Forget c)) _
 
     -- A transaction begins.
 
@@ -353,7 +372,7 @@ module _ (n : Node) (s s' : CoreState) (me : ProcessId) (tree : List TreeEntry) 
           | inl one ↦ subst (λ q. SameView (s'.view_of q)
               (coordinator_view place (after n (heard i) f) q)) one.1
               (subst (λ v. SameView (s'.view_of (root_case x)) v)
-              (sym ((root_begins me tree n p a).begun (fits.fresh p))) made.own)
+              (sym ((root_begins this_version me tree n p a).begun (fits.fresh p))) made.own)
           | inr apart ↦ subst (λ v. SameView (s'.view_of c) v)
               (sym (nothing_written n s s' place a (λ m c. refl) (λ m c. refl) i f refl c (keeps c apart.0)))
               (same_view-trans (s'.view_of c) (s.view_of c) (view c) (made.others c apart.0) (shows c))
@@ -382,7 +401,7 @@ module _ (n : Node) (s s' : CoreState) (me : ProcessId) (tree : List TreeEntry) 
     acted (AbortAct x) = abort_at x (s.view_of (root_case x)).standing (sym (shows (root_case x)).standing)
     acted (Ask c) = ask_at c (s.view_of c).standing
     acted (Decide c o) = live_at (ActInput (Decide c o)) _ (s.view_of c).standing
-    acted (Forget c) = live_at (ActInput (Forget c)) _ (s.view_of c).standing
+    acted (Forget c) = clear_at c (is_reported (kept_records old) c) (s.view_of c).standing
 
     -- Messages.
 
@@ -395,7 +414,7 @@ module _ (n : Node) (s s' : CoreState) (me : ProcessId) (tree : List TreeEntry) 
         (at_standing (s.view_of c) (view c) (on_joined t (s.view_of c)) (on_joined t (view c)) (shows c)
         (on_joined-same (s.view_of c) (view c) (shows c) t))
         (on_joined_of (seat c) (view c) t (view c).standing) (same i (λ g. refl))
-        ((root_views me tree n x).joined k a t (fits.alike c)).moved
+        ((root_views this_version me tree n x).joined k a t (fits.alike c)).moved
         (λ d apart. ap
         (λ b. read (kept n) d (if b then accepts_ticket (memory d) t (memory d).phase else memory d))
         apart)
@@ -474,33 +493,37 @@ module _ (n : Node) (s s' : CoreState) (me : ProcessId) (tree : List TreeEntry) 
             (shows c)
             (on_vote-same (s.view_of c) (view c) (shows c) (seat c) t w))
             (on_vote_of (seat c) (view c) t w (view c).standing) (same i (λ g. refl))
-            ((root_views me tree n x).vote k a t w (fits.alike c)).moved
+            ((root_views this_version me tree n x).vote k a t w (fits.alike c)).moved
             (λ d apart. vote_keeps place n d (fits.alike d) x t w (strangers x t (Some c) finds d apart))
 
     ack_at : (k : ℕ) (o : Outcome) (fs : List Finding) (x : Txn) (t : Ticket) (found : Option Case)
         → Finds old (Some (x, t)) found
-        → Leads (MessageInput k (Ack (child_case x t) o fs)) (ack_turn old o t found)
+        → Leads (MessageInput k (Ack (child_case x t) o fs)) (ack_turn old o fs t found)
     ack_at k o fs x t None finds =
         let i = MessageInput k (Ack (child_case x t) o fs) in
         says i [] (same i (λ g. refl)) (λ d. ack_keeps place n d (fits.alike d) x t o fs
         (strangers x t None finds d tt))
     ack_at k o fs x t (Some c) finds =
         subst (λ c. Finds old (Some (x, t)) (Some c)
-        → Leads (MessageInput k (Ack (child_case x t) o fs)) (ack_turn old o t (Some c)))
+        → Leads (MessageInput k (Ack (child_case x t) o fs)) (ack_turn old o fs t (Some c)))
         (found_root x t c finds) in_root finds
       where
         in_root : let c = root_case x in Finds old (Some (x, t)) (Some c)
-            → Leads (MessageInput k (Ack (child_case x t) o fs)) (ack_turn old o t (Some c))
+            → Leads (MessageInput k (Ack (child_case x t) o fs)) (ack_turn old o fs t (Some c))
         in_root finds =
             let c = root_case x in
             let i = MessageInput k (Ack (child_case x t) o fs) in
-            takes i c _ (on_ack this_version (seat c) t o [] (view c) (view c).standing)
-            (at_standing (s.view_of c) (view c) (on_ack this_version (seat c) t o [] (s.view_of c))
-            (on_ack this_version (seat c) t o [] (view c))
+            takes i c _ (on_ack this_version (seat c) t o ((view c).found ++ fs) (view c) (view c).standing)
+            (at_standing (s.view_of c) (view c)
+            (on_ack this_version (seat c) t o ((s.view_of c).found ++ fs) (s.view_of c))
+            (on_ack this_version (seat c) t o ((view c).found ++ fs) (view c))
             (shows c)
-            (on_ack-same (s.view_of c) (view c) (shows c) this_version (seat c) t o []))
-            (on_ack_of (seat c) (view c) this_version t o [] (view c).standing) (same i (λ g. refl))
-            ((root_views me tree n x).acknowledgement k a t o fs [] (fits.alike c)).moved
+            (λ st. subst (λ gs. SameRow (on_ack this_version (seat c) t o (gs ++ fs) (s.view_of c) st)
+            (on_ack this_version (seat c) t o ((view c).found ++ fs) (view c) st)) (sym (shows c).found)
+            (on_ack-same (s.view_of c) (view c) (shows c) this_version (seat c) t o ((view c).found ++ fs) st)))
+            (on_ack_of (seat c) (view c) this_version t o ((view c).found ++ fs) (view c).standing)
+            (same i (λ g. refl))
+            ((root_views this_version me tree n x).acknowledgement k a t o fs (fits.alike c)).moved
             (λ d apart. ack_keeps place n d (fits.alike d) x t o fs (strangers x t (Some c) finds d apart))
 
     inquiry_row : (c : Case) (t : Ticket) (v : CoordinatorView) (st : Standing)
@@ -552,7 +575,7 @@ module _ (n : Node) (s s' : CoreState) (me : ProcessId) (tree : List TreeEntry) 
     ack_by : (k : ℕ) (found : Option Case) (o : Outcome) (fs : List Finding) (x : Txn) (t : Option Ticket) → let d : Case =
         record { txn = x; ticket = t } in
         Finds old (asked_of d) found → Leads (MessageInput k (Ack d o fs))
-        (child_turn d (λ t. ack_turn old o t found))
+        (child_turn d (λ t. ack_turn old o fs t found))
     ack_by k found o fs x (Some t) finds = ack_at k o fs x t found finds
     ack_by k found o fs x None finds = let i = MessageInput k (Ack (root_case x) o fs)
         in says i [] (same i (λ g. refl))

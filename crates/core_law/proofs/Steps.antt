@@ -22,7 +22,7 @@ use Rattle.core_law.specs.Steps.{FaultsAs, StepsAs, input_move}
 use Rattle.core_law.specs.Ties.{ChildrenFit, Stands}
 use Rattle.core_law.proofs.CascadeQuiet.{cascaded_place}
 use Rattle.core_law.proofs.CascadeSteps.{cascade_makes, is_cascaded_place}
-use Rattle.core_law.proofs.Faults.{breaks_so, refuses_so, same_stands}
+use Rattle.core_law.proofs.Faults.{breaks_so, refuses_so, kept_stands}
 use Rattle.core_law.proofs.ManagerSteps.{managers_make, place_stays}
 use Rattle.core_law.proofs.PassedOver.{IsNothing, passed_is_nothing}
 use Rattle.core_law.proofs.RootSteps.{failed_makes, root_makes}
@@ -118,7 +118,7 @@ module _ (n : Node) (old new : CoreState) (a : DataAnswer) (i : Input) (stands :
           left = n;
           makes = passed_by old.place n i None a over;
           shown = made.shown ∙ ap reaction_of same.0;
-          stands = same_stands n old new same.1 stands;
+          stands = kept_stands n old new same.1 stands;
         }
 
     by_role : n.failed ≡ false → (role : Role) → old.place.role ≡ role

@@ -13,7 +13,7 @@ use Rattle.tree_model.specs.declared.standings.Standing.{Standing}
 use Rattle.tree_model.specs.declared.standings.Standing.TheVariants as standing
 use Rattle.tree_model.specs.Memory.{Asked, Idle, Memory, Open, Over, Phase, fresh_memory, memory_of}
 use Rattle.tree_model.specs.Nodes.{AtLeaf, AtRoot, Below, Node, Place, Role, kept, IsCoordinator}
-use Rattle.tree_model.specs.Records.{boot_of, has, is_abort, is_collecting, is_commit, is_end, is_prepare, named_by, named_in, none_of, owing_by, owing_in, prepares_branch, promised_by, promised_in, record_case}
+use Rattle.tree_model.specs.Records.{boot_of, has, is_abort, is_collecting, is_commit, is_end, is_prepare, named_by, named_in, none_of, owing_by, owing_in, prepares_branch, promised_by, promised_in, record_case, is_reported}
 use Rattle.tree_model.specs.Restarts.{case_stays, data_records, is_known, is_open, recorded_view, stays, staying, trimmed, trims}
 use Rattle.tree_model.specs.Standings.{CoordinatorView, Decided, Finished, ManagerView, Mark, Promised, ToldOf, Unmarked, coordinator_standing, coordinator_view, known_view, manager_view, mark_after, mark_of, marked_branch, phase_standing, standing_by, unknown_view, view_at as standing_view}
 use Rattle.tree_model.specs.Views.{IsOpenAlike}
@@ -24,26 +24,27 @@ use Rattle.tree_nodes.proofs.Cases.{viewed}
 use Rattle.tree_nodes.proofs.Orders.{mark_behind, mark_is, other_leaves, same_is}
 use Rattle.tree_nodes.proofs.Tests.{case_is, first_false, second_false}
 use Rattle.tree_nodes.proofs.TrimmedBranches.{trim_forgets}
+use Rattle.core_law.proofs.TrimmedFolds.{others_leave, trims_alike}
 use Rattle.tree_nodes.proofs.Trims.{data_is_other, own_stays}
 
 -- What is said of a case by its own records.
 
 -- two lists of records say the same of a case
-record SaysSame (c : Case) (xs ys : List Record) : Type 0 where
-  ended : has (is_end c) xs ≡ has (is_end c) ys
-  committed : has (is_commit c) xs ≡ has (is_commit c) ys
-  aborted : has (is_abort c) xs ≡ has (is_abort c) ys
-  prepared : has (is_prepare c) xs ≡ has (is_prepare c) ys
-  collecting : has (is_collecting c) xs ≡ has (is_collecting c) ys
-  promised : promised_by c xs ≡ promised_by c ys
-  named : named_by c xs ≡ named_by c ys
-  owing : owing_by c xs ≡ owing_by c ys
+pub record SaysSame (c : Case) (xs ys : List Record) : Type 0 where
+  pub ended : has (is_end c) xs ≡ has (is_end c) ys
+  pub committed : has (is_commit c) xs ≡ has (is_commit c) ys
+  pub aborted : has (is_abort c) xs ≡ has (is_abort c) ys
+  pub prepared : has (is_prepare c) xs ≡ has (is_prepare c) ys
+  pub collecting : has (is_collecting c) xs ≡ has (is_collecting c) ys
+  pub promised : promised_by c xs ≡ promised_by c ys
+  pub named : named_by c xs ≡ named_by c ys
+  pub owing : owing_by c xs ≡ owing_by c ys
 
 module _ (c : Case) (m : Memory) where
-  abbrev view : List Record → CoordinatorView
+  abbrev pub view : List Record → CoordinatorView
   view rs = standing_view (coordinator_standing rs c m) rs c m
 
-  view_same : (xs ys : List Record) → SaysSame c xs ys → view xs ≡ view ys
+  pub view_same : (xs ys : List Record) → SaysSame c xs ys → view xs ≡ view ys
   view_same xs ys s =
       rw (s.ended, s.committed, s.aborted, s.prepared, s.collecting, s.promised, s.named, s.owing) refl
 
@@ -126,7 +127,7 @@ module _ (c : Case) where
           → flat_map f xs ≡ flat_map f ys
       listed f own = by_own_list f own xs ∙ ap (flat_map f) same ∙ sym (by_own_list f own ys)
 
-  -- What a coordinator's trim keeps of the case: all of its records where it is known, else none.
+  -- What a coordinator's trim keeps of the case: all of its records where it stays, else none.
 
   module _ (role : Role) (coordinates : IsCoordinator role) (whole : List Record) where
     stays_as : (r : Role) → IsCoordinator r → (rs : List Record) (x : Record)
@@ -135,14 +136,13 @@ module _ (c : Case) where
     stays_as (Below p) e rs x = refl
     stays_as (AtLeaf p) e rs x = absurd e
 
-    known_stays : (b : Bool) → is_known (recorded_view whole c).standing ≡ b
+    case_as : (b : Bool) → case_stays whole (Some c) ≡ b
         → (o : Option Case) → is_of c o ≡ true
         → case_stays whole o ≡ b
-    known_stays b known None e = absurd (cc)
-    known_stays b known (Some d) e = ap (λ x. is_known (recorded_view whole x).standing) (case_is d c e)
-        ∙ known
+    case_as b known None e = absurd (cc)
+    case_as b known (Some d) e = ap (λ x. case_stays whole (Some x)) (case_is d c e) ∙ known
 
-    left_of : (b : Bool) → is_known (recorded_view whole c).standing ≡ b → (rs : List Record)
+    left_of : (b : Bool) → case_stays whole (Some c) ≡ b → (rs : List Record)
         → of (staying role whole rs) ≡ (if b then of rs else [])
     left_of true known [] = refl
     left_of false known [] = refl
@@ -154,7 +154,7 @@ module _ (c : Case) where
             → of (staying role whole rs) ≡ (if b then of rs else [])
             → of (if s then r ∷ staying role whole rs else staying role whole rs)
             ≡ (if b then (if o then r ∷ of rs else of rs) else [])
-        by_test true is s stays e = stayed b s (stays ∙ known_stays b known (record_case r) is) e
+        by_test true is s stays e = stayed b s (stays ∙ case_as b known (record_case r) is) e
           where
             stayed : (b s : Bool) → s ≡ b → of (staying role whole rs) ≡ (if b then of rs else [])
                 → of (if s then r ∷ staying role whole rs else staying role whole rs)
@@ -174,7 +174,7 @@ module _ (c : Case) where
     no_data (Below p) e = refl
     no_data (AtLeaf p) e = absurd e
 
-    trim_of : (b : Bool) → is_known (recorded_view whole c).standing ≡ b
+    trim_of : (b : Bool) → case_stays whole (Some c) ≡ b
         → of (trimmed role whole) ≡ (if b then of whole else [])
     unfolding trimmed
     trim_of b known =
@@ -316,7 +316,7 @@ module _ (c : Case) where
             ∙ ap is_known (sym (recorded_is (kept n))) ∙ unknown
 
     module _ (coordinates : IsCoordinator place.role) where
-      left_view : (b : Bool) → is_known (recorded_view (kept n) c).standing ≡ b
+      left_view : (b : Bool) → case_stays (kept n) (Some c) ≡ b
           → view c m (trimmed place.role (kept n)) ≡ view c m (kept n)
       left_view true known = view_same c m (trimmed place.role (kept n)) (kept n)
           (same_says (trimmed place.role (kept n)) (kept n)
@@ -324,13 +324,13 @@ module _ (c : Case) where
       left_view false unknown =
           view_same c m (trimmed place.role (kept n)) []
           (same_says (trimmed place.role (kept n)) [] (trim_of place.role coordinates (kept n) false unknown))
-          ∙ forgotten unknown
+          ∙ forgotten (first_false (is_known (recorded_view (kept n) c).standing) (is_reported (kept n) c) unknown)
 
       pub trimmed_view : coordinator_view place (trims place n) c ≡ coordinator_view place n c
       unfolding coordinator_view
       trimmed_view =
           (λ j. view c (trims_memory place n c j) (append-nil (trimmed place.role (kept n)) j))
-          ∙ left_view (is_known (recorded_view (kept n) c).standing) refl
+          ∙ left_view (case_stays (kept n) (Some c)) refl
 
 -- Branches.
 
@@ -339,128 +339,21 @@ prepared_mark : (d : Case) (r : Record) → prepares_branch (CaseBranch d) r ≡
 prepared_mark d (Prepared b ws) e m = ap (λ k. if k then Promised else m) e
 prepared_mark d r e m = absurd (cc)
 
-prepared_of : (d : Case) (r : Record) → prepares_branch (CaseBranch d) r ≡ true → is_branch_record d r ≡ true
-prepared_of d (Prepared b ws) e = sym (same_is d b) ∙ e
-prepared_of d r e = absurd (cc)
-
-others_mark : (d : Case) (m : Mark) (rs : List Record)
-    → has (is_branch_record d) rs ≡ false → mark_behind d m rs ≡ m
-unfolding has
-others_mark d m [] e = refl
-others_mark d m (r ∷ rs) e =
-    ap (λ k. mark_behind d k rs) (other_leaves d m r (first_false _ _ e))
-    ∙ others_mark d m rs (second_false _ _ e)
-
-mark_append : (d : Case) (m : Mark) (xs ys : List Record)
-    → mark_behind d m (xs ++ ys) ≡ mark_behind d (mark_behind d m xs) ys
-mark_append d m [] ys = refl
-mark_append d m (x ∷ xs) ys = mark_append d (mark_after (CaseBranch d) m x) xs ys
-
--- what stays of a branch that is open marks it alike, and from its last promise on whatever stood before
-record MarksAlike (d : Case) (ls rs : List Record) : Type 0 where
-  same : (m : Mark) → mark_behind d m ls ≡ mark_behind d m rs
-  anew : has (prepares_branch (CaseBranch d)) rs ≡ true → (m k : Mark)
-      → mark_behind d m ls ≡ mark_behind d k rs
-
-module _ (p : ProcessId) (whole : List Record) (d : Case)
-    (is_there : is_open (mark_of (CaseBranch d) whole) ≡ true) where
-  abbrev after : Mark → Record → Mark
-  after m r = mark_after (CaseBranch d) m r
-
-  abbrev left : List Record → List Record
-  left rs = staying (AtLeaf p) whole rs
-
-  -- behind it the branch promises again
-  again : (r : Record) (rs : List Record) (s : Bool) → has (prepares_branch (CaseBranch d)) rs ≡ true
-      → MarksAlike d (left rs) rs → MarksAlike d (if s then r ∷ left rs else left rs) (r ∷ rs)
-  again r rs true e rest = record {
-    same = λ m. rest.anew e (after m r) (after m r);
-    anew = λ f m k. rest.anew e (after m r) (after k r);
-  }
-  again r rs false e rest = record {
-    same = λ m. rest.anew e m (after m r);
-    anew = λ f m k. rest.anew e m (after k r);
-  }
-
-  -- it is the last promise, or follows it
-  last : (r : Record) (rs : List Record) → has (prepares_branch (CaseBranch d)) rs ≡ false
-      → MarksAlike d (left rs) rs → MarksAlike d (r ∷ left rs) (r ∷ rs)
-  unfolding has
-  last r rs none rest = record {
-    same = λ m. rest.same (after m r);
-    anew = λ f m k. rest.same (after m r)
-        ∙ ap (λ x. mark_behind d x rs) (prepared_mark d r (now f) m ∙ sym (prepared_mark d r (now f) k));
-  }
-    where
-      first_true : (a b : Bool) → (a || b) ≡ true → b ≡ false → a ≡ true
-      first_true a b e f = grind arith
-
-      now : (prepares_branch (CaseBranch d) r || has (prepares_branch (CaseBranch d)) rs) ≡ true
-          → prepares_branch (CaseBranch d) r ≡ true
-      now f = first_true _ _ f none
-
-  -- it is of another branch
-  other : (r : Record) (rs : List Record) (s : Bool) → is_branch_record d r ≡ false
-      → has (prepares_branch (CaseBranch d)) rs ≡ false
-      → MarksAlike d (left rs) rs → MarksAlike d (if s then r ∷ left rs else left rs) (r ∷ rs)
-  unfolding has
-  other r rs s away none rest = record {
-    same = λ m. whichever s m ∙ (rest.same m ∙ ap (λ x. mark_behind d x rs) (sym (other_leaves d m r away)));
-    anew = λ f m k. not_now f;
-  }
-    where
-      whichever : (s : Bool) (m : Mark) → mark_behind d m
-          (if s then r ∷ left rs else left rs) ≡ mark_behind d m (left rs)
-      whichever true m = ap (λ x. mark_behind d x (left rs)) (other_leaves d m r away)
-      whichever false m = refl
-
-      first_true : (a b : Bool) → (a || b) ≡ true → b ≡ false → a ≡ true
-      first_true a b e f = grind arith
-
-      not_now : {A : Type 0} → (prepares_branch (CaseBranch d) r
-          || has (prepares_branch (CaseBranch d)) rs) ≡ true → A
-      not_now f = absurd (let is : is_branch_record d r
-          ≡ true = prepared_of d r (first_true _ _ f none) in cc)
-
-  stays_own : (r : Record) (rs : List Record) → is_branch_record d r ≡ true
-      → has (prepares_branch (CaseBranch d)) rs ≡ false → stays (AtLeaf p) whole rs r ≡ true
-  stays_own r rs of none = own_stays p whole d r rs of ∙ both _ _ is_there none
-    where
-      both : (a b : Bool) → a ≡ true → b ≡ false → (a && not b) ≡ true
-      both a b e f = rw (e, f) refl
-
-  marks_alike : (rs : List Record) → MarksAlike d (left rs) rs
-  unfolding has
-  marks_alike [] = record { same = λ m. refl; anew = λ f m k. absurd (cc) }
-  marks_alike (r ∷ rs) =
-      by_test (has (prepares_branch (CaseBranch d)) rs) refl (is_branch_record d r) refl (marks_alike rs)
-    where
-      by_test : (b : Bool) → has (prepares_branch (CaseBranch d)) rs ≡ b
-          → (o : Bool) → is_branch_record d r ≡ o
-          → MarksAlike d (left rs) rs
-          → MarksAlike d (if stays (AtLeaf p) whole rs r then r ∷ left rs else left rs) (r ∷ rs)
-      by_test true more o is rest = again r rs (stays (AtLeaf p) whole rs r) more rest
-      by_test false none true is rest =
-          subst (λ s. MarksAlike d (if s then r ∷ left rs else left rs) (r ∷ rs))
-          (sym (stays_own r rs is none))
-          (last r rs none rest)
-      by_test false none false is rest = other r rs (stays (AtLeaf p) whole rs r) is none rest
-
 module _ (p : ProcessId) (rs : List Record) (d : Case) where
   open_mark : is_open (mark_of (CaseBranch d) rs) ≡ true
       → mark_of (CaseBranch d) (trimmed (AtLeaf p) rs) ≡ mark_of (CaseBranch d) rs
   unfolding trimmed
   open_mark is_there =
       mark_is d (trimmed (AtLeaf p) rs)
-      ∙ mark_append d Unmarked (Opened (boot_of rs) ∷ staying (AtLeaf p) rs rs) (data_records (AtLeaf p) rs)
-      ∙ others_mark d _ (data_records (AtLeaf p) rs)
-      (data_is_other (is_branch_record d) (λ k v. refl) (λ k. refl) (AtLeaf p) rs)
-      ∙ (marks_alike p rs d is_there rs).same Unmarked ∙ sym (mark_is d rs)
+      ∙ trims_alike p rs d is_there (mark_after (CaseBranch d)) Promised (prepared_mark d)
+      (λ r e m. other_leaves d m r e) Unmarked
+      ∙ sym (mark_is d rs)
 
   over_mark : is_open (mark_of (CaseBranch d) rs) ≡ false
       → mark_of (CaseBranch d) (trimmed (AtLeaf p) rs) ≡ Unmarked
   over_mark over = mark_is d (trimmed (AtLeaf p) rs)
-      ∙ others_mark d Unmarked (trimmed (AtLeaf p) rs) (trim_forgets p d rs over)
+      ∙ others_leave p rs d (mark_after (CaseBranch d)) (λ r e m. other_leaves d m r e) Unmarked
+      (trimmed (AtLeaf p) rs) (trim_forgets p d rs over)
 
 module _ (place : Place) (p : ProcessId) (role : place.role ≡ AtLeaf p) (n : Node) (d : Case)
     (open_fits : (memory_of place n d).phase ≡ Open → mark_of (CaseBranch d) (kept n) ≡ Unmarked) where

@@ -7,10 +7,13 @@ use Rattle.tree_model.specs.declared.events.Fault.{Fault}
 use Rattle.tree_model.specs.declared.events.Happening.TheVariants.{Trim}
 use Rattle.tree_model.specs.declared.events.StepError.TheVariants.{Device, Failed}
 use Rattle.tree_model.specs.LogNames.{in_log}
-use Rattle.tree_model.specs.Memory.{Memory, active_ticket}
+use Rattle.tree_model.specs.declared.records.Branch.TheVariants.{Case as CaseBranch}
+use Rattle.tree_model.specs.declared.standings.Standing.TheVariants.{Heuristic}
+use Rattle.tree_model.specs.Memory.{Asked, Idle, Memory, Open, Over, Phase, active_ticket, memory_of}
 use Rattle.tree_model.specs.Nodes.{AtLeaf, AtRoot, Below, Node, Place, Role, kept, IsCoordinator}
-use Rattle.tree_model.specs.Records.{boot_of}
-use Rattle.tree_model.specs.Restarts.{trim_effect, trim_fails, trimmed, trims}
+use Rattle.tree_model.specs.Records.{boot_of, decision_of}
+use Rattle.tree_model.specs.Standings.{Decided, Finished, ManagerView, Mark, Promised, ToldOf, Unmarked, heard_branch, manager_view, mark_of, marked_branch}
+use Rattle.tree_model.specs.Restarts.{is_open, trim_effect, trim_fails, trimmed, trims}
 use Rattle.tree_model.specs.World.{Refuses, fault_effect, node_makes, trim_makes}
 use Rattle.tree_model.specs.SameViews.{SameView}
 use Rattle.tree_nodes.proofs.Boots.{trimmed_boot, trims_memory}
@@ -20,6 +23,7 @@ use Rattle.core_model.specs.States.{CoreState, logged, parent}
 use Rattle.core_law.specs.Fits.{HasOpened, KeepsOwn, OpenFits}
 use Rattle.core_law.specs.Steps.{BreaksAs, IsSoundLog, StepsAs, quiet_move, trim_reaction}
 use Rattle.core_law.specs.Ties.{Stands, StandsUp, branch_at, view_at}
+use Rattle.core_law.proofs.Decisions.{trims_decided}
 use Rattle.core_law.proofs.Faults.{same_stands}
 use Rattle.core_law.proofs.Managers.{same_view-trans}
 use Rattle.core_law.proofs.Records.{map_append}
@@ -41,6 +45,32 @@ branch_stays : (role : Role) (place : Place) (n : Node) (c : Case) → place.rol
 branch_stays AtRoot place n c is fits = refl
 branch_stays (Below p) place n c is fits = refl
 branch_stays (AtLeaf p) place n c is fits = sym (trimmed_branch place p is n c (fits c))
+
+-- a decided branch is open
+decided_open : (m : Memory) (k : Mark) → (marked_branch m k).standing ≡ Heuristic → is_open k ≡ true
+decided_open m Decided is = refl
+decided_open m (ToldOf o) is = refl
+decided_open m Promised is = absurd (cc)
+decided_open m Finished is = absurd (cc)
+decided_open m Unmarked is = by_phase m.phase is
+  where
+    by_phase : (ph : Phase) → (heard_branch m ph).standing ≡ Heuristic → false ≡ true
+    by_phase Idle is = absurd (cc)
+    by_phase Open is = absurd (cc)
+    by_phase Asked is = absurd (cc)
+    by_phase Over is = absurd (cc)
+
+-- a trim leaves what was decided of a decided branch
+decision_stays : (role : Role) (place : Place) (n : Node) (c : Case) → place.role ≡ role
+    → (branch_at role place n c).standing ≡ Heuristic
+    → decision_of (kept n) c ≡ decision_of (kept (trims place n)) c
+unfolding manager_view
+decision_stays AtRoot place n c role is = absurd (cc)
+decision_stays (Below p) place n c role is = absurd (cc)
+decision_stays (AtLeaf p) place n c role is =
+    sym (trims_decided p (kept n) c (decided_open (memory_of place n c) (mark_of (CaseBranch c) (kept n)) is))
+    ∙ ap (λ k. decision_of (trimmed k (kept n)) c) (sym role)
+    ∙ ap (λ rs. decision_of rs c) (sym (append-nil (trimmed place.role (kept n))))
 
 length_map : {X Y : Type 0} (f : X → Y) (xs : List X) → length (map f xs) ≡ length xs
 length_map f [] = refl
@@ -90,6 +120,10 @@ module _ (n : Node) (old new : CoreState) (stands : Stands n old) where
                 (made.rest.views c) (up.views c));
             branches = λ c. made.rest.branches c ∙ up.branches c
                 ∙ branch_stays place.role place n c refl fits;
+            decided = λ c is. made.rest.decided c
+                ∙ up.decided c (ap (λ (v : ManagerView). v.standing) (sym (made.rest.branches c)) ∙ is)
+                ∙ decision_stays place.role place n c refl
+                (ap (λ (v : ManagerView). v.standing) (sym (made.rest.branches c ∙ up.branches c)) ∙ is);
           }
 
       stands_trimmed : Stands (trims place n) (record new { place = place })

@@ -1,5 +1,5 @@
 -- An input meets at a process what it meets at the model's process for which it stands.
-use Rattle.std.proofs.Common.{◌≡◌, ◌+◌, Bool, true, false, if◌then◌else◌, Option, None, Some, [], ◌∷◌, refl, sym, ap, ◌∙◌, List}
+use Rattle.std.proofs.Common.{◌≡◌, ◌+◌, Bool, true, false, if◌then◌else◌, Option, None, Some, [], ◌∷◌, ◌++◌, refl, sym, ap, ◌∙◌, List, map}
 use Rattle.tree_model.specs.declared.names.Case.{Case}
 use Rattle.tree_model.specs.declared.names.ProcessId.{ProcessId}
 use Rattle.tree_model.specs.declared.names.Ticket.{Ticket}
@@ -16,23 +16,26 @@ use Rattle.tree_model.specs.declared.events.Input.{Input}
 use Rattle.tree_model.specs.declared.events.Input.TheVariants.{Act as ActInput, Message as MessageInput}
 use Rattle.tree_model.specs.declared.events.StepError.TheVariants.{Failed, NoSuch}
 use Rattle.tree_model.specs.Names.{child_case, presumed}
-use Rattle.tree_model.specs.Records.{boot_of}
+use Rattle.tree_model.specs.declared.records.Branch.TheVariants.{Case as CaseBranch}
+use Rattle.tree_model.specs.NameLaws.{same_case-refl}
+use Rattle.tree_model.specs.Records.{boot_of, decision_of, is_branch, owing_by}
 use Rattle.tree_model.specs.LogNames.{parent_of}
 use Rattle.tree_model.specs.Nodes.{AtLeaf, AtRoot, Below, DataAnswer, Effect, Node, Role, kept, no_effect}
-use Rattle.tree_model.specs.Memory.{active_ticket, memory_of, next_ticket, of_ticket}
-use Rattle.tree_model.specs.Standings.{CoordinatorView, case_of_child, coordinator_view, manager_view, some_case, unknown_view, found_below, ManagerView}
+use Rattle.tree_model.specs.Memory.{Memory, active_ticket, found_of, memory_of, next_ticket, of_ticket}
+use Rattle.tree_model.specs.Standings.{CoordinatorView, case_of_child, coordinator_standing, coordinator_view, decided_against, decided_findings, manager_view, own_finding, some_case, unknown_view, found_below, ManagerView, view_at as view_by}
 use Rattle.tree_model.specs.CoordinatorRows.{on_abort, on_ack, on_commit, on_inquiry, on_joined, on_prepare, on_vote, post, tells_outcome, Row, Seat}
 use Rattle.tree_model.specs.ManagerRows.{Leaf, LeafRow}
 use Rattle.tree_model.specs.ManagerRows as leaf
 use Rattle.tree_model.specs.Reactions.{Does, Refused, ack_for, act_is_listed, acts, cascaded_hears, coordinator_acts, handles, hears, hears_from_child, inquiry_for, joins_with, leaf_joins, leaf_of, manager_hears, reacts, row_effect, seat_of, sends_only, vote_for, leaf_effect}
 use Rattle.tree_model.specs.SameViews.{SameView}
-use Rattle.core_model.specs.States.{CoreState, SameCore, parent}
-use Rattle.core_model.specs.Turns.{Finds, Handles, Refuses, Says, Takes, Turn, act_turn, ack_turn, asked_by, asked_in, asked_of, cascaded_turn, child_says, child_turn, inquiry_turn, joined_turn, leaf_joined_turn, manager_turn, message_turn, next_ticket as next_ticket_of, reacted, seat_in, turn_of, up_turn, vote_turn, heard_now, this_version}
+use Rattle.core_model.specs.States.{CoreState, SameCore, logged, parent}
+use Rattle.core_model.specs.Turns.{decision_records, Finds, Handles, Refuses, Says, Takes, Turn, act_turn, ack_turn, asked_by, asked_in, asked_of, cascaded_turn, child_says, child_turn, inquiry_turn, joined_turn, kept_records, leaf_joined_turn, manager_turn, message_turn, next_ticket as next_ticket_of, reacted, seat_in, turn_of, up_turn, vote_turn, heard_now, this_version}
 use Rattle.core_model.proofs.AlikeTurns.{finds-alike, same_cores_up}
 use Rattle.core_law.specs.Ties.{ChildrenFit, Stands, StandsUp, branch_at, view_at}
 use Rattle.core_law.proofs.Acts.{ReadsCoordinator, coordinator_acts_as, manager_acts_as}
 use Rattle.core_law.proofs.Children.{FoundAs, alike, dead, found_as}
 use Rattle.tree_model.specs.declared.messages.Finding.{Finding}
+use Rattle.tree_model.specs.declared.messages.Finding.TheVariants.{Mixed}
 use Rattle.tree_model.specs.declared.standings.Standing.{Standing}
 use Rattle.tree_model.specs.declared.records.Record.{Record}
 
@@ -44,47 +47,55 @@ record Reads (s : CoreState) (n : Node) : Type 0 where
   tickets : (d : Case) → s.ticket_for d ≡ active_ticket (memory_of s.place n d).active d
   views : (c : Case) → s.view_of c ≡ view_at s.place.role s.place n c
   branches : (c : Case) → s.branch_of c ≡ branch_at s.place.role s.place n c
+  decided : (c : Case) → (s.branch_of c).standing ≡ standing.Heuristic → s.decided_of c ≡ decision_of (kept n) c
+  records : kept_records s ≡ kept n
 
 -- Messages of children.
 
--- by this version an acknowledgement's row does not hang on what is found
-nothing_found : (s : Seat) (t : Ticket) (o : Outcome) (fs : List Finding) (v : CoordinatorView) (st : Standing)
-    → on_ack this_version s t o fs v st ≡ on_ack this_version s t o [] v st
-nothing_found s t Committed fs v standing.Committing = refl
-nothing_found s t Committed fs v standing.Aborting = refl
-nothing_found s t Committed fs v standing.Unknown = refl
-nothing_found s t Committed fs v standing.Active = refl
-nothing_found s t Committed fs v standing.Collecting = refl
-nothing_found s t Committed fs v standing.Prepared = refl
-nothing_found s t Committed fs v standing.Heuristic = refl
-nothing_found s t Aborted fs v standing.Committing = refl
-nothing_found s t Aborted fs v standing.Aborting = refl
-nothing_found s t Aborted fs v standing.Unknown = refl
-nothing_found s t Aborted fs v standing.Active = refl
-nothing_found s t Aborted fs v standing.Collecting = refl
-nothing_found s t Aborted fs v standing.Prepared = refl
-nothing_found s t Aborted fs v standing.Heuristic = refl
+-- what was found counts only where the case is decided so
+found_so : (s : Seat) (t : Ticket) (o : Outcome) (fs : List Finding) (rs : List Record) (c : Case) (m : Memory)
+    (st : Standing) → let v = view_by st rs c m in
+    on_ack this_version s t o (found_of m.found o (owing_by c rs) ++ fs) v v.standing
+    ≡ on_ack this_version s t o (v.found ++ fs) v v.standing
+found_so s t Committed fs rs c m standing.Committing = refl
+found_so s t Committed fs rs c m standing.Aborting = refl
+found_so s t Committed fs rs c m standing.Unknown = refl
+found_so s t Committed fs rs c m standing.Active = refl
+found_so s t Committed fs rs c m standing.Collecting = refl
+found_so s t Committed fs rs c m standing.Prepared = refl
+found_so s t Committed fs rs c m standing.Heuristic = refl
+found_so s t Aborted fs rs c m standing.Committing = refl
+found_so s t Aborted fs rs c m standing.Aborting = refl
+found_so s t Aborted fs rs c m standing.Unknown = refl
+found_so s t Aborted fs rs c m standing.Active = refl
+found_so s t Aborted fs rs c m standing.Collecting = refl
+found_so s t Aborted fs rs c m standing.Prepared = refl
+found_so s t Aborted fs rs c m standing.Heuristic = refl
 
--- nor do a branch's on its records
-commit_unfound : (l : Leaf) (rs : List Record) (v : ManagerView) (st : Standing)
-    → leaf.on_commit this_version l rs v st ≡ leaf.on_commit this_version l [] v st
-commit_unfound l rs v standing.Committing = refl
-commit_unfound l rs v standing.Aborting = refl
-commit_unfound l rs v standing.Unknown = refl
-commit_unfound l rs v standing.Active = refl
-commit_unfound l rs v standing.Collecting = refl
-commit_unfound l rs v standing.Prepared = refl
-commit_unfound l rs v standing.Heuristic = refl
+-- a branch's row by its records is that by what an operator decided of it
+commit_decided : (l : Leaf) (rs : List Record) (o : Option Outcome) (v : ManagerView) (st : Standing)
+    → (st ≡ standing.Heuristic → decided_findings this_version rs l.own Committed
+    ≡ decided_findings this_version (decision_records l.own o) l.own Committed)
+    → leaf.on_commit this_version l rs v st ≡ leaf.on_commit this_version l (decision_records l.own o) v st
+commit_decided l rs o v standing.Committing h = refl
+commit_decided l rs o v standing.Aborting h = refl
+commit_decided l rs o v standing.Unknown h = refl
+commit_decided l rs o v standing.Active h = refl
+commit_decided l rs o v standing.Collecting h = refl
+commit_decided l rs o v standing.Prepared h = refl
+commit_decided l rs o v standing.Heuristic h = ap (λ fs. leaf.heuristic_outcome l Committed fs v v.told) (h refl)
 
-abort_unfound : (l : Leaf) (rs : List Record) (v : ManagerView) (st : Standing)
-    → leaf.on_abort this_version l rs v st ≡ leaf.on_abort this_version l [] v st
-abort_unfound l rs v standing.Committing = refl
-abort_unfound l rs v standing.Aborting = refl
-abort_unfound l rs v standing.Unknown = refl
-abort_unfound l rs v standing.Active = refl
-abort_unfound l rs v standing.Collecting = refl
-abort_unfound l rs v standing.Prepared = refl
-abort_unfound l rs v standing.Heuristic = refl
+abort_decided : (l : Leaf) (rs : List Record) (o : Option Outcome) (v : ManagerView) (st : Standing)
+    → (st ≡ standing.Heuristic → decided_findings this_version rs l.own Aborted
+    ≡ decided_findings this_version (decision_records l.own o) l.own Aborted)
+    → leaf.on_abort this_version l rs v st ≡ leaf.on_abort this_version l (decision_records l.own o) v st
+abort_decided l rs o v standing.Committing h = refl
+abort_decided l rs o v standing.Aborting h = refl
+abort_decided l rs o v standing.Unknown h = refl
+abort_decided l rs o v standing.Active h = refl
+abort_decided l rs o v standing.Collecting h = refl
+abort_decided l rs o v standing.Prepared h = refl
+abort_decided l rs o v standing.Heuristic h = ap (λ fs. leaf.heuristic_outcome l Aborted fs v v.told) (h refl)
 
 module _ (s : CoreState) (n : Node) (fit : ChildrenFit s.place n)
     (views : (c : Case) → s.view_of c ≡ coordinator_view s.place n c) where
@@ -96,23 +107,29 @@ module _ (s : CoreState) (n : Node) (fit : ChildrenFit s.place n)
   vote_at w t x _ _ (dead c of gone) =
       ap (λ v. Does (row_effect c (on_vote (seat_in s c) t w v v.standing))) gone
 
+  below_at : (o : Outcome) (fs : List Finding) (t : Ticket) (c : Case) → let v = coordinator_view s.place n c in
+      on_ack this_version (seat_in s c) t o (found_below s.place n c o fs) v v.standing
+      ≡ on_ack this_version (seat_in s c) t o (v.found ++ fs) v v.standing
+  unfolding coordinator_view found_below
+  below_at o fs t c =
+      let m = memory_of s.place n c in
+      found_so (seat_in s c) t o fs (kept n) c m (coordinator_standing (kept n) c m)
+
   ack_at : (o : Outcome) (fs : List Finding) (t : Ticket) (x : Txn) (k found : Option Case)
       → FoundAs s.place n x k found
-      → Does (ack_for this_version s.place (parent s) n t o fs k) ≡ reacted (ack_turn s o t found)
+      → Does (ack_for this_version s.place (parent s) n t o fs k) ≡ reacted (ack_turn s o fs t found)
   ack_at o fs t x _ _ (alike None) = refl
   ack_at o fs t x _ _ (alike (Some c)) =
-      let v = coordinator_view s.place n c in
-      ap (λ (r : Row). Does (row_effect c r))
-      (nothing_found (seat_in s c) t o (found_below s.place n c o fs) v v.standing)
-      ∙ sym (ap (λ v. reacted (Takes c (on_ack this_version (seat_in s c) t o [] v v.standing))) (views c))
+      ap (λ (r : Row). Does (row_effect c r)) (below_at o fs t c)
+      ∙ sym (ap (λ v. reacted (Takes c (on_ack this_version (seat_in s c) t o (v.found ++ fs) v v.standing)))
+      (views c))
   ack_at o fs t x _ _ (dead c of gone) =
-      let v = coordinator_view s.place n c in
-      ap (λ (r : Row). Does (row_effect c r))
-      (nothing_found (seat_in s c) t o (found_below s.place n c o fs) v v.standing)
-      ∙ (ap (λ v. Does (row_effect c (on_ack this_version (seat_in s c) t o [] v v.standing))) gone ∙ quiet_at o)
+      ap (λ (r : Row). Does (row_effect c r)) (below_at o fs t c)
+      ∙ (ap (λ v. Does (row_effect c (on_ack this_version (seat_in s c) t o (v.found ++ fs) v v.standing))) gone
+      ∙ quiet_at o)
     where
       quiet_at : (o : Outcome)
-          → Does (row_effect c (on_ack this_version (seat_in s c) t o [] unknown_view unknown_view.standing))
+          → Does (row_effect c (on_ack this_version (seat_in s c) t o fs unknown_view unknown_view.standing))
           ≡ Does no_effect
       quiet_at Committed = refl
       quiet_at Aborted = refl
@@ -155,7 +172,7 @@ module _ (s : CoreState) (n : Node) (fit : ChildrenFit s.place n)
       (λ t is. vote_at VoteRead t d.txn _ _ (found_as s.place n fit s views d.txn t found is)) finds
   child_hears found (Ack d o fs) finds =
       child_at d found (λ t. ack_for this_version s.place (parent s) n t o fs
-      (case_of_child s.place n d.txn t)) (λ t. ack_turn s o t found)
+      (case_of_child s.place n d.txn t)) (λ t. ack_turn s o fs t found)
       (λ t is. ack_at o fs t d.txn _ _ (found_as s.place n fit s views d.txn t found is)) finds
   child_hears found (Inquire d) finds =
       child_at d found (λ t. inquiry_for s.place (parent s) n d.txn t (case_of_child s.place n d.txn t))
@@ -198,6 +215,13 @@ module _ (s : CoreState) (n : Node) (boot : s.boot ≡ boot_of (kept n))
   leaf_hears p d b = leaf_at p d b (active_ticket (memory_of s.place n d).active d)
       ∙ sym (ap (λ o. reacted (leaf_joined_turn s p d b o)) (tickets d))
 
+-- what an operator decided of a branch is read back from the records that say it
+read_back : (d : Case) (k : Option Outcome) → decision_of (decision_records d k) d ≡ k
+unfolding decision_of
+read_back d None = refl
+read_back d (Some Committed) = ap (λ b. if b then Some Committed else None) (same_case-refl d)
+read_back d (Some Aborted) = ap (λ b. if b then Some Aborted else None) (same_case-refl d)
+
 module _ (s : CoreState) (n : Node) (fit : ChildrenFit s.place n) (reads : Reads s n) where
   from_child : (p : ProcessId) → parent s ≡ Some p → ((c : Case) → s.view_of c ≡ coordinator_view s.place n c)
       → (found : Option Case) (m : Message) → Finds s (asked_in m) found
@@ -230,6 +254,14 @@ module _ (s : CoreState) (n : Node) (fit : ChildrenFit s.place n) (reads : Reads
   cascaded_at p par views found (Inquire d) finds = from_child p par views found (Inquire d) finds
   cascaded_at p par views found (Work d i op) finds = refl
 
+  -- what an operator decided is what the records say
+  decided_so : (d : Case) (o : Outcome) → (s.branch_of d).standing ≡ standing.Heuristic
+      → decided_findings this_version (kept n) d o
+      ≡ decided_findings this_version (decision_records d (s.decided_of d)) d o
+  decided_so d o is =
+      ap (λ k. if decided_against k o then own_finding Mixed d.ticket else [])
+      (sym (reads.decided d is) ∙ sym (read_back d (s.decided_of d)))
+
   manager_at : (p : ProcessId) (a : DataAnswer)
       → ((c : Case) → s.branch_of c ≡ manager_view s.place n c) → (m : Message)
       → Does (manager_hears this_version s.place p n a m) ≡ reacted (manager_turn s p a m)
@@ -240,13 +272,17 @@ module _ (s : CoreState) (n : Node) (fit : ChildrenFit s.place n) (reads : Reads
       (Handles d (leaf.on_prepare (leaf_of s.place p d) k a.holding v v.standing))) (branches d))
   manager_at p a branches (Commit d) =
       let v = manager_view s.place n d in
-      ap (λ (r : LeafRow). Does (leaf_effect r)) (commit_unfound (leaf_of s.place p d) (kept n) v v.standing)
-      ∙ sym (ap (λ v. reacted (Handles d (leaf.on_commit this_version (leaf_of s.place p d) [] v v.standing)))
+      ap (λ (r : LeafRow). Does (leaf_effect r)) (commit_decided (leaf_of s.place p d) (kept n) (s.decided_of d) v v.standing
+      (λ is. decided_so d Committed (ap (λ (u : ManagerView). u.standing) (branches d) ∙ is)))
+      ∙ sym (ap (λ v. reacted (Handles d (leaf.on_commit this_version (leaf_of s.place p d)
+      (decision_records d (s.decided_of d)) v v.standing)))
       (branches d))
   manager_at p a branches (Abort d) =
       let v = manager_view s.place n d in
-      ap (λ (r : LeafRow). Does (leaf_effect r)) (abort_unfound (leaf_of s.place p d) (kept n) v v.standing)
-      ∙ sym (ap (λ v. reacted (Handles d (leaf.on_abort this_version (leaf_of s.place p d) [] v v.standing)))
+      ap (λ (r : LeafRow). Does (leaf_effect r)) (abort_decided (leaf_of s.place p d) (kept n) (s.decided_of d) v v.standing
+      (λ is. decided_so d Aborted (ap (λ (u : ManagerView). u.standing) (branches d) ∙ is)))
+      ∙ sym (ap (λ v. reacted (Handles d (leaf.on_abort this_version (leaf_of s.place p d)
+      (decision_records d (s.decided_of d)) v v.standing)))
       (branches d))
   manager_at p a branches (Joined d t) = refl
   manager_at p a branches (Yes d) = refl
@@ -262,7 +298,8 @@ module _ (s : CoreState) (n : Node) (fit : ChildrenFit s.place n) (reads : Reads
   branches_at role e c = reads.branches c ∙ ap (λ r. branch_at r s.place n c) e
 
   coordinates : ((c : Case) → s.view_of c ≡ coordinator_view s.place n c) → ReadsCoordinator s n
-  coordinates views = record { boot = reads.boot; begun = reads.begun; views = views }
+  coordinates views =
+      record { boot = reads.boot; begun = reads.begun; views = views; records = reads.records }
 
   acts_at : (role : Role) → s.place.role ≡ role → (x : Act)
       → acts role s.place n x ≡ reacted (act_turn role s x)
@@ -301,6 +338,7 @@ read_off s n =
       ticket_for = λ d. active_ticket (memory_of s.place n d).active d;
       view_of = λ c. view_at s.place.role s.place n c;
       branch_of = λ c. branch_at s.place.role s.place n c;
+      decided_of = s.decided_of;
     }
 
 same_view-sym : (v w : CoordinatorView) → SameView v w → SameView w v
@@ -313,15 +351,16 @@ same_view-sym v w same =
       promised = sym same.promised;
       named = λ t. sym (same.named t);
       owed = λ t. sym (same.owed t);
+      found = sym same.found;
     }
 
 module _ (n : Node) (s : CoreState) (a : DataAnswer) (found : Option Case) (i : Input)
     (fit : n.failed ≡ false → ChildrenFit s.place n)
     (finds : Finds s (asked_by i) found) where
-  up_as : StandsUp n s → n.failed ≡ false → s.log.failed ≡ false → act_is_listed s.place.tree i ≡ true
+  up_as : StandsUp n s → kept_records s ≡ kept n → n.failed ≡ false → s.log.failed ≡ false → act_is_listed s.place.tree i ≡ true
       → handles s.place n (heard_now a i) i
       ≡ reacted (up_turn (read_off s n) a found i)
-  up_as up runs works listed =
+  up_as up records runs works listed =
       up_at (read_off s n) n (fit runs) (record {
         boot = refl;
         begun = refl;
@@ -330,6 +369,8 @@ module _ (n : Node) (s : CoreState) (a : DataAnswer) (found : Option Case) (i : 
             refl;
         views = λ c. refl;
         branches = λ c. refl;
+        decided = λ c is. up.decided c (ap (λ (u : ManagerView). u.standing) (up.branches c) ∙ is);
+        records = records;
       })
       a found i (finds-alike s (read_off s n) (asked_by i) found
       (λ c. same_view-sym (s.view_of c) (view_at s.place.role s.place n c) (up.views c)) finds) runs
@@ -346,8 +387,19 @@ module _ (n : Node) (s : CoreState) (a : DataAnswer) (found : Option Case) (i : 
           tickets = up.tickets;
           views = up.views;
           branches = up.branches;
+          decided = λ c. refl;
         };
       }
+
+  -- the log holds the records of the lists
+  records_as : Stands n s → kept_records s ≡ kept n
+  records_as stands =
+      (λ j. map (λ l. l.entry) (stands.forced j ++ stands.unforced j)) ∙ whole n.forced n.unforced
+    where
+      whole : (xs ys : List Record) → map (λ l. l.entry) (logged s xs ++ logged s ys) ≡ xs ++ ys
+      whole [] [] = refl
+      whole [] (y ∷ ys) = ap (λ l. y ∷ l) (whole [] ys)
+      whole (x ∷ xs) ys = ap (λ l. x ∷ l) (whole xs ys)
 
   pub meets_as : Stands n s → reacts s.place n (heard_now a i)
       ≡ reacted (turn_of s a found i)
@@ -368,5 +420,5 @@ module _ (n : Node) (s : CoreState) (a : DataAnswer) (found : Option Case) (i : 
       by_tests true listed false failed =
           let up = stands.up failed in
           let works : s.log.failed ≡ false = stands.failed ∙ failed in
-          up_as up failed works listed ∙ same_cores_up (read_off s n) s a found i (same_as up)
+          up_as up (records_as stands) failed works listed ∙ same_cores_up (read_off s n) s a found i (same_as up)
           ∙ sym (ap (λ b. reacted (if b then Refuses Failed else up_turn s a found i)) works)

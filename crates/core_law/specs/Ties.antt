@@ -4,7 +4,8 @@ use Rattle.std.specs.Prelude.{◌≡◌, true, false}
 use Rattle.tree_model.specs.declared.names.Case.{Case}
 use Rattle.tree_model.specs.declared.names.Ticket.{Ticket}
 use Rattle.tree_model.specs.declared.names.Txn.{Txn}
-use Rattle.tree_model.specs.Records.{boot_of, has_case}
+use Rattle.tree_model.specs.declared.standings.Standing.TheVariants.{Heuristic}
+use Rattle.tree_model.specs.Records.{boot_of, decision_of, has_case}
 use Rattle.tree_model.specs.Nodes.{Role, AtLeaf, Node, Place, kept}
 use Rattle.tree_model.specs.Memory.{active_ticket, memory_of}
 use Rattle.tree_model.specs.Standings.{CoordinatorView, ManagerView, belongs, coordinator_view, manager_view, own_cases, unknown_branch, unknown_view}
@@ -30,6 +31,7 @@ pub record StandsUp (n : Node) (s : CoreState) : Type 0 where
   pub tickets : (d : Case) → s.ticket_for d ≡ active_ticket (memory_of s.place n d).active d
   pub views : (c : Case) → SameView (s.view_of c) (view_at s.place.role s.place n c)
   pub branches : (c : Case) → s.branch_of c ≡ branch_at s.place.role s.place n c
+  pub decided : (c : Case) → (s.branch_of c).standing ≡ Heuristic → s.decided_of c ≡ decision_of (kept n) c
 
 -- Its log holds the same records, under their whole names. Of a process whose device failed nothing else is
 -- said.

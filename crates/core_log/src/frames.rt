@@ -50,7 +50,12 @@ fn is_writable(entry: &Record, parent: Option<ProcessId>) -> bool
         | Record::Abort(case, tickets) => {
             is_whole(parent, *case) && are_writable(tickets.as_slice())
         }
-        Record::End(case, None) => is_whole(parent, *case),
+        Record::End(case, None) | Record::Cleared(case) => is_whole(parent, *case),
+        Record::End(case, Some(reports)) => {
+            is_whole(parent, *case)
+                && are_writable(reports.mixed.as_slice())
+                && are_writable(reports.unreported.as_slice())
+        }
         _ => false,
     }
 }

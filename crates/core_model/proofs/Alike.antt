@@ -37,6 +37,7 @@ same_view v = record {
   promised = refl;
   named = λ t. refl;
   owed = λ t. refl;
+  found = refl;
 }
 
 pub same_row : (r : Row) → SameRow r r
@@ -158,6 +159,7 @@ module _ (v w : CoordinatorView) (same : SameView v w) where
             named = λ t. in_list-append v.named ts t ∙ ap (λ b. b || in_list ts t) (same.named t)
                 ∙ sym (in_list-append w.named ts t);
             owed = λ t. refl;
+            found = same.found;
           }
 
   root_commits-same : (s : Seat) (ys : List Ticket) (p : Presumption)
@@ -192,6 +194,7 @@ module _ (v w : CoordinatorView) (same : SameView v w) where
           named = λ t. in_list-append v.named ys t ∙ ap (λ b. b || in_list ys t) (same.named t)
               ∙ sym (in_list-append w.named ys t);
           owed = same.owed;
+          found = same.found;
         };
       }
 
@@ -280,6 +283,7 @@ module _ (v w : CoordinatorView) (same : SameView v w) where
         promised = same.promised;
         named = same.named;
         owed = same.owed;
+        found = same.found;
       }
 
   vote-same : (s : Seat) (t : Ticket) (o : Vote) → SameRow (collecting_vote s t o v) (collecting_vote s t o w)
@@ -303,9 +307,9 @@ module _ (v w : CoordinatorView) (same : SameView v w) where
             view = after.view;
           }
 
-  owing-same : (us vs : List Ticket) → ((u : Ticket) → in_list us u ≡ in_list vs u)
-      → SameView (record v { owed = us }) (record w { owed = vs })
-  owing-same us vs alike =
+  owing-same : (fs : List Finding) (us vs : List Ticket) → ((u : Ticket) → in_list us u ≡ in_list vs u)
+      → SameView (record v { owed = us; found = fs }) (record w { owed = vs; found = fs })
+  owing-same fs us vs alike =
       record {
         standing = same.standing;
         accepted = same.accepted;
@@ -314,6 +318,7 @@ module _ (v w : CoordinatorView) (same : SameView v w) where
         promised = same.promised;
         named = same.named;
         owed = alike;
+        found = refl;
       }
 
   left-same : (t u : Ticket) → in_list (other_tickets t v.owed) u ≡ in_list (other_tickets t w.owed) u
@@ -324,7 +329,7 @@ module _ (v w : CoordinatorView) (same : SameView v w) where
       → ((u : Ticket) → in_list us u ≡ in_list vs u)
       → SameRow (decided_ack_by ver s o us fs v) (decided_ack_by ver s o vs fs w)
   ended-same ver s o fs us vs alike = rw (none_of-lists us vs alike)
-      (same_by (none_of vs) _ _ _ _ (same_row _) (quiet-same _ _ (owing-same us vs alike)))
+      (same_by (none_of vs) _ _ _ _ (same_row _) (quiet-same _ _ (owing-same fs us vs alike)))
 
   ack-same : (ver : Version) (s : Seat) (o : Outcome) (t : Ticket) (fs : List Finding)
       → SameRow (decided_ack ver s o t fs v) (decided_ack ver s o t fs w)
@@ -380,6 +385,7 @@ module _ (v w : CoordinatorView) (same : SameView v w) where
         promised = same.promised;
         named = same.named;
         owed = same.owed;
+        found = same.found;
       }
 
   pub active_joined-same : (t : Ticket) → SameRow (active_joined t v) (active_joined t w)
@@ -431,6 +437,7 @@ module _ (v w : CoordinatorView) (same : SameView v w) where
         named = λ t. in_list-append v.named ts t ∙ ap (λ b. b || in_list ts t) (same.named t)
             ∙ sym (in_list-append w.named ts t);
         owed = same.owed;
+        found = same.found;
       }
 
   collecting : SameView (record v { standing = Collecting }) (record w { standing = Collecting })
@@ -443,6 +450,7 @@ module _ (v w : CoordinatorView) (same : SameView v w) where
         promised = same.promised;
         named = same.named;
         owed = same.owed;
+        found = same.found;
       }
 
   commit_with-same : (s : Seat) (p : Presumption)
@@ -510,6 +518,7 @@ module _ (v w : CoordinatorView) (same : SameView v w) where
           promised = same.promised;
           named = same.named;
           owed = same.owed;
+          found = same.found;
         };
       }
 

@@ -1,11 +1,12 @@
 -- Two processes between which nothing is otherwise meet each input alike.
-use Rattle.std.proofs.Common.{◌≡◌, Bool, true, false, ◌&&◌, ◌||◌, if◌then◌else◌, Option, None, Some, List, [], refl, sym, ap, ◌∙◌}
+use Rattle.std.proofs.Common.{◌≡◌, Bool, true, false, ◌&&◌, ◌||◌, if◌then◌else◌, Option, None, Some, is_none, List, [], ◌++◌, refl, sym, ap, ◌∙◌}
 use Rattle.tree_model.specs.declared.names.Case.{Case}
 use Rattle.tree_model.specs.declared.names.ProcessId.{ProcessId}
 use Rattle.tree_model.specs.declared.names.Ticket.{Ticket}
 use Rattle.tree_model.specs.declared.names.Txn.{Txn}
 use Rattle.tree_model.specs.declared.names.Outcome.{Outcome}
 use Rattle.tree_model.specs.declared.messages.Op.{Op}
+use Rattle.tree_model.specs.declared.messages.Finding.{Finding}
 use Rattle.tree_model.specs.declared.messages.Message.{Message}
 use Rattle.tree_model.specs.declared.messages.Message.TheVariants.{Join, Joined, Work, Prepare, Yes, No, Read, Commit, Abort, Ack, Inquire}
 use Rattle.tree_model.specs.declared.standings.Standing.{Standing}
@@ -16,10 +17,10 @@ use Rattle.tree_model.specs.declared.events.Act.{Act}
 use Rattle.tree_model.specs.declared.events.Act.TheVariants.{Begin, Join as JoinAct, Work as WorkAct, Commit as CommitAct, Abort as AbortAct, Ask, Decide, Forget}
 use Rattle.tree_model.specs.declared.events.Input.{Input}
 use Rattle.tree_model.specs.declared.events.Input.TheVariants.{Act as ActInput, Message as MessageInput}
-use Rattle.tree_model.specs.declared.events.StepError.TheVariants.{Failed, NoSuch, NotAChild, NotInDoubt, NothingToForget}
+use Rattle.tree_model.specs.declared.events.StepError.TheVariants.{Failed, NoSuch, NotAChild, NotInDoubt}
 use Rattle.tree_model.specs.declared.trees.TreeEntry.{TreeEntry}
 use Rattle.tree_model.specs.Names.{root_case, same_txn}
-use Rattle.tree_model.specs.Records.{in_list}
+use Rattle.tree_model.specs.Records.{in_list, is_reported}
 use Rattle.tree_model.specs.Restarts.{is_known}
 use Rattle.tree_model.specs.Nodes.{Role, AtRoot, Below, AtLeaf, DataAnswer, is_child, is_leaf, role_of}
 use Rattle.tree_model.specs.Memory.{of_ticket, ticket_of_child}
@@ -27,8 +28,8 @@ use Rattle.tree_model.specs.Standings.{CoordinatorView}
 use Rattle.tree_model.specs.CoordinatorRows.{ByAct, Row, Seat, active_join, active_work, on_abort, on_ack, on_commit, on_inquiry, on_joined, on_prepare, on_vote}
 use Rattle.tree_model.specs.Reactions.{Does, act_is_listed}
 use Rattle.tree_model.specs.SameViews.{SameRow, SameView}
-use Rattle.core_model.specs.States.{CoreState, SameCore}
-use Rattle.core_model.specs.Turns.{Finds, Refuses, Says, Takes, Turn, abort_turn, act_turn, ack_turn, ask_turn, cascaded_turn, child_says, commit_turn, coordinator_act, inquiry_turn, is_case_of, join_turn, live_turn, message_turn, reacted, seat_in, this_version, turn_of, up_turn, vote_turn, work_for_turn, work_turn}
+use Rattle.core_model.specs.States.{CoreState, SameCore, parent}
+use Rattle.core_model.specs.Turns.{Finds, Refuses, Says, Takes, Turn, abort_turn, act_turn, ack_turn, ask_turn, cascaded_turn, child_says, clear_turn, commit_turn, coordinator_act, inquiry_turn, is_case_of, kept_records, join_turn, live_turn, message_turn, reacted, seat_in, this_version, turn_of, up_turn, vote_turn, work_for_turn, work_turn}
 use Rattle.core_model.proofs.Alike.{active_abort-same, active_commit-same, active_join-same, active_work-same, collecting_abort-same, on_abort-same, on_ack-same, on_commit-same, on_inquiry-same, on_joined-same, on_prepare-same, on_vote-same, row_effect-same, sends-same}
 
 -- a row that is the same of both
@@ -105,6 +106,16 @@ module _ (v w : CoordinatorView) (same : SameView v w) (s : Seat) where
   ask-at Aborting = refl
   ask-at Heuristic = refl
 
+  clear-at : (b : Bool) (st : Standing) → reacted (clear_turn s b v st) ≡ reacted (clear_turn s b w st)
+  clear-at true Unknown = refl
+  clear-at false Unknown = refl
+  clear-at b Active = refl
+  clear-at b Collecting = refl
+  clear-at b Prepared = refl
+  clear-at b Committing = refl
+  clear-at b Aborting = refl
+  clear-at b Heuristic = refl
+
 -- the same process with other views
 abbrev showing : CoreState → (Case → CoordinatorView) → CoreState
 showing s f = record s { view_of = f }
@@ -131,7 +142,10 @@ module _ (s : CoreState) (f g : Case → CoordinatorView) (same : (c : Case) →
       ap (λ st. reacted (ask_turn (seat_in s c) (f c) st)) (same c).standing
       ∙ ask-at (f c) (g c) (same c) (seat_in s c) (g c).standing
   act-alike (Decide c o) = ap (λ st. reacted (live_turn NotInDoubt st)) (same c).standing
-  act-alike (Forget c) = ap (λ st. reacted (live_turn NothingToForget st)) (same c).standing
+  act-alike (Forget c) =
+      let reported = is_none (parent s) && is_reported (kept_records s) c in
+      ap (λ st. reacted (clear_turn (seat_in s c) reported (f c) st)) (same c).standing
+      ∙ clear-at (f c) (g c) (same c) (seat_in s c) reported (g c).standing
 
   vote-alike : (w : Vote) (found : Option Case) (t : Ticket)
       → reacted (vote_turn (showing s f) w t found) ≡ reacted (vote_turn (showing s g) w t found)
@@ -140,12 +154,16 @@ module _ (s : CoreState) (f g : Case → CoordinatorView) (same : (c : Case) →
       ap (λ st. reacted (Takes c (on_vote (seat_in s c) t w (f c) st))) (same c).standing
       ∙ alike c _ _ (on_vote-same (f c) (g c) (same c) (seat_in s c) t w (g c).standing)
 
-  ack-alike : (o : Outcome) (found : Option Case) (t : Ticket)
-      → reacted (ack_turn (showing s f) o t found) ≡ reacted (ack_turn (showing s g) o t found)
-  ack-alike o None t = refl
-  ack-alike o (Some c) t =
-      ap (λ st. reacted (Takes c (on_ack this_version (seat_in s c) t o [] (f c) st))) (same c).standing
-      ∙ alike c _ _ (on_ack-same (f c) (g c) (same c) this_version (seat_in s c) t o [] (g c).standing)
+  ack-alike : (o : Outcome) (fs : List Finding) (found : Option Case) (t : Ticket)
+      → reacted (ack_turn (showing s f) o fs t found) ≡ reacted (ack_turn (showing s g) o fs t found)
+  ack-alike o fs None t = refl
+  ack-alike o fs (Some c) t =
+      ap (λ gs. reacted (Takes c (on_ack this_version (seat_in s c) t o (gs ++ fs) (f c) (f c).standing)))
+      (same c).found
+      ∙ (ap (λ st. reacted (Takes c (on_ack this_version (seat_in s c) t o ((g c).found ++ fs) (f c) st)))
+      (same c).standing
+      ∙ alike c _ _ (on_ack-same (f c) (g c) (same c) this_version (seat_in s c) t o ((g c).found ++ fs)
+      (g c).standing))
 
   inquiry-alike : (x : Txn) (found : Option Case) (t : Ticket)
       → reacted (inquiry_turn (showing s f) x t found) ≡ reacted (inquiry_turn (showing s g) x t found)
@@ -161,7 +179,7 @@ module _ (s : CoreState) (f g : Case → CoordinatorView) (same : (c : Case) →
   child-says found (Yes d) = child-alike d.ticket _ _ (vote-alike VoteYes found)
   child-says found (No d) = child-alike d.ticket _ _ (vote-alike VoteNo found)
   child-says found (Read d) = child-alike d.ticket _ _ (vote-alike VoteRead found)
-  child-says found (Ack d o fs) = child-alike d.ticket _ _ (ack-alike o found)
+  child-says found (Ack d o fs) = child-alike d.ticket _ _ (ack-alike o fs found)
   child-says found (Inquire d) = child-alike d.ticket _ _ (inquiry-alike d.txn found)
   child-says found (Join d) = refl
   child-says found (Work d i op) = refl
@@ -229,6 +247,7 @@ showing-is s t same =
     let given = sym same.rest.given in
     let tickets : (d : Case) → s.ticket_for d ≡ t.ticket_for d = λ d. sym (same.rest.tickets d) in
     let branches : (c : Case) → s.branch_of c ≡ t.branch_of c = λ c. sym (same.rest.branches c) in
+    let decided : (c : Case) → s.decided_of c ≡ t.decided_of c = λ c. sym (same.rest.decided c) in
     (λ i. record {
       place = place i;
       log = log i;
@@ -238,6 +257,7 @@ showing-is s t same =
       ticket_for = λ d. tickets d i;
       view_of = t.view_of;
       branch_of = λ c. branches c i;
+      decided_of = λ c. decided c i;
     })
 
 pub same_cores_react : (s t : CoreState) (a : DataAnswer) (found : Option Case) (i : Input) → SameCore s t

@@ -1,5 +1,5 @@
 -- What a restart makes rests on what the crash left.
-use Rattle.std.proofs.Common.{◌≡◌, ℕ, List, ◌++◌, refl, subst, sym, ap, ◌∙◌, map}
+use Rattle.std.proofs.Common.{ℕ, List, ◌++◌, subst, sym, ap, ◌∙◌, map}
 use Rattle.tree_model.specs.declared.records.LogRecord.{LogRecord}
 use Rattle.tree_model.specs.declared.records.Record.{Record}
 use Rattle.tree_model.specs.declared.events.Reaction.{Reaction}
@@ -7,8 +7,8 @@ use Rattle.tree_model.specs.LogNames.{in_log, own_records, parent_of}
 use Rattle.tree_model.specs.Nodes.{Place, reaction_of}
 use Rattle.tree_model.specs.Restarts.{reopens}
 use Rattle.rec_log.specs.Sights.{LogSight, left_by}
-use Rattle.core_model.specs.States.{CoreState, forced_sight}
-use Rattle.core_model.specs.Restarting.{ReadOff, Restarts, reopening}
+use Rattle.core_model.specs.States.{forced_sight}
+use Rattle.core_model.specs.Restarting.{ReadOff, reopening}
 use Rattle.core_model.specs.Laws.{LeftLogsRestartAlike}
 
 -- the log that a restart leaves of a process here, where these records are left

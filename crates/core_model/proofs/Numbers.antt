@@ -1,16 +1,15 @@
 -- Which message of the net it was that came makes no difference.
-use Rattle.std.proofs.Common.{◌≡◌, ℕ, Bool, true, false, if◌then◌else◌, Option, None, Some, refl, subst, ap, ◌∙◌}
+use Rattle.std.proofs.Common.{◌≡◌, ℕ, Bool, if◌then◌else◌, Option, None, Some, refl, subst, ap, ◌∙◌}
 use Rattle.tree_model.specs.declared.names.Case.{Case}
 use Rattle.tree_model.specs.declared.names.Ticket.{Ticket}
 use Rattle.tree_model.specs.declared.events.Input.TheVariants.{Message as MessageInput}
-use Rattle.tree_model.specs.declared.events.Reaction.{Reaction}
 use Rattle.tree_model.specs.declared.messages.Message.{Message}
 use Rattle.tree_model.specs.declared.messages.Message.TheVariants.{Join, Joined, Work, Prepare, Yes, No, Read, Commit, Abort, Ack, Inquire}
 use Rattle.tree_model.specs.Nodes.{DataAnswer}
 use Rattle.tree_model.specs.Reactions.{Does}
 use Rattle.core_model.specs.States.{CoreState}
 use Rattle.core_model.specs.Turns.{Turn, Refuses, Begins, Issues, Takes, Handles, Says, reacted, turn_of}
-use Rattle.core_model.specs.Makes.{Makes, Moves, Stays, retired_by, retires}
+use Rattle.core_model.specs.Makes.{Moves, Stays, retired_by, retires}
 use Rattle.core_model.specs.Laws.{NumbersAreAlike}
 
 -- the same tickets end their time
@@ -39,6 +38,7 @@ stays_alike old new j k m h = record {
   place = h.place;
   boot = h.boot;
   tickets = λ d. h.tickets d ∙ retired_alike j k m d (old.ticket_for d);
+  decided = h.decided;
 }
 
 moves_alike : (old new : CoreState) (j k : ℕ) (m : Message) (turn : Turn)

@@ -1,9 +1,9 @@
 -- A process that opens an empty log stands as its one record says.
-use Rattle.std.proofs.Common.{◌≡◌, [], ◌∷◌, refl}
+use Rattle.std.proofs.Common.{◌≡◌, None, [], ◌∷◌, refl}
 use Rattle.tree_model.specs.declared.names.Case.{Case}
 use Rattle.tree_model.specs.declared.records.Record.TheVariants.{Opened}
 use Rattle.tree_model.specs.Nodes.{AtLeaf, AtRoot, Below, Place, Role}
-use Rattle.tree_model.specs.Records.{boot_of, has, none_of, owing_by}
+use Rattle.tree_model.specs.Records.{boot_of, decision_of, has, none_of, owing_by}
 use Rattle.tree_model.specs.Standings.{mark_of, unknown_branch, unknown_view}
 use Rattle.tree_model.specs.Restarts.{recorded_branch, recorded_view}
 use Rattle.tree_model.specs.SameViews.{SameView}
@@ -18,6 +18,10 @@ nothing_seen c = refl
 no_branch : (c : Case) → recorded_branch (Opened 1 ∷ []) c ≡ unknown_branch
 unfolding recorded_branch mark_of
 no_branch c = refl
+
+no_decision : (c : Case) → None ≡ decision_of (Opened 1 ∷ []) c
+unfolding decision_of
+no_decision c = refl
 
 view_at : (role : Role) (c : Case) → SameView unknown_view (recorded_view_at role (Opened 1 ∷ []) c)
 view_at AtRoot c = rw (nothing_seen c) (same_view unknown_view)
@@ -39,4 +43,5 @@ opened_is_read place =
       tickets = λ d. refl;
       views = view_at place.role;
       branches = branch_at place.role;
+      decided = λ c h. no_decision c;
     }

@@ -37,6 +37,7 @@ opened_core place =
       ticket_for = λ d. None;
       view_of = λ c. unknown_view;
       branch_of = λ c. unknown_branch;
+      decided_of = λ c. None;
     }
 
 -- it stands as its one record says

@@ -1,14 +1,16 @@
 -- What a turn makes of a process, and what a refusal and a fault leave of it.
 use Rattle.std.specs.Prelude.{◌≡◌, ◌+◌, Bool, false, if◌then◌else◌, Option, Some, None, List}
 use Rattle.tree_model.specs.declared.names.Case.{Case}
+use Rattle.tree_model.specs.declared.names.Outcome.{Outcome}
 use Rattle.tree_model.specs.declared.names.Ticket.{Ticket}
 use Rattle.tree_model.specs.declared.names.Txn.{Txn}
 use Rattle.tree_model.specs.declared.names.Kind.{Kind}
 use Rattle.tree_model.specs.declared.names.Kind.TheVariants.{Coordinator, Manager}
 use Rattle.tree_model.specs.declared.messages.Message.TheVariants.{Prepare, Abort}
-use Rattle.tree_model.specs.declared.standings.Standing.TheVariants.{Active}
+use Rattle.tree_model.specs.declared.standings.Standing.TheVariants.{Active, Heuristic}
+use Rattle.tree_model.specs.declared.events.Act.TheVariants.{Decide}
 use Rattle.tree_model.specs.declared.events.Input.{Input}
-use Rattle.tree_model.specs.declared.events.Input.TheVariants.{Message as MessageInput}
+use Rattle.tree_model.specs.declared.events.Input.TheVariants.{Act as ActInput, Message as MessageInput}
 use Rattle.tree_model.specs.declared.events.Reaction.{Reaction}
 use Rattle.tree_model.specs.declared.events.StepError.{StepError}
 use Rattle.tree_model.specs.declared.events.StepError.TheVariants.{Memory, Device}
@@ -37,11 +39,19 @@ abbrev pub retired_by : Input → Case → Option Ticket → Option Ticket
 retired_by i d None = None
 retired_by i d (Some t) = if retires i d t then None else Some t
 
--- What stays in each turn: where the process sits, its boot, and the tickets that the input does not retire.
+-- what an operator decided of the case behind an input
+abbrev pub decided_by : Input → Case → Option Outcome → Option Outcome
+decided_by (ActInput (Decide c o)) d decided = if same_case c d then Some o else decided
+decided_by _ d decided = decided
+
+-- What stays in each turn: where the process sits, its boot, the tickets that the input does not retire, and what
+-- operators decided of the branches that they decided.
 pub record Stays (old new : CoreState) (i : Input) : Type 0 where
   pub place : new.place ≡ old.place
   pub boot : new.boot ≡ old.boot
   pub tickets : (d : Case) → new.ticket_for d ≡ retired_by i d (old.ticket_for d)
+  pub decided : (d : Case) → (new.branch_of d).standing ≡ Heuristic
+      → new.decided_of d ≡ decided_by i d (old.decided_of d)
 
 -- a coordinator's row is taken: its records are appended, and its case stands as it says; no other moves
 pub record TakesRow (old new : CoreState) (i : Input) (c : Case) (row : Row) : Type 0 where
@@ -93,6 +103,7 @@ pub record IssuesTicket (old new : CoreState) (d : Case) (t : Ticket) : Type 0 w
   pub cases : OpensCase old.place.role old new (child_case d.txn t)
   pub ticket : new.ticket_for d ≡ Some t
   pub tickets : (e : Case) → same_case d e ≡ false → new.ticket_for e ≡ old.ticket_for e
+  pub decided : (e : Case) → (new.branch_of e).standing ≡ Heuristic → new.decided_of e ≡ old.decided_of e
   pub begun : new.begun ≡ old.begun
   pub given : new.given ≡ old.given + 1
   pub place : new.place ≡ old.place

@@ -4,11 +4,12 @@ use Rattle.tree_model.specs.declared.names.Case.{Case}
 use Rattle.tree_model.specs.declared.names.ProcessId.{ProcessId}
 use Rattle.tree_model.specs.declared.records.LogRecord.{LogRecord}
 use Rattle.tree_model.specs.declared.records.Record.{Record}
+use Rattle.tree_model.specs.declared.standings.Standing.TheVariants.{Heuristic}
 use Rattle.tree_model.specs.declared.events.Reaction.{Reaction}
 use Rattle.tree_model.specs.declared.events.StepError.{StepError}
 use Rattle.tree_model.specs.declared.events.StepError.TheVariants.{Memory, Device, Failed}
 use Rattle.tree_model.specs.LogNames.{own_records}
-use Rattle.tree_model.specs.Records.{boot_of}
+use Rattle.tree_model.specs.Records.{boot_of, decision_of}
 use Rattle.tree_model.specs.Nodes.{Role, AtLeaf, Effect, Place, reaction_of}
 use Rattle.tree_model.specs.Standings.{CoordinatorView, ManagerView, unknown_branch, unknown_view}
 use Rattle.tree_model.specs.Restarts.{data_records, forced_all, recorded_branch, recorded_view, reopens, resumes}
@@ -39,6 +40,7 @@ pub record ReadOff (s : CoreState) (rs : List Record) : Type 0 where
   pub tickets : (d : Case) → s.ticket_for d ≡ None
   pub views : (c : Case) → SameView (s.view_of c) (recorded_view_at s.place.role rs c)
   pub branches : (c : Case) → s.branch_of c ≡ recorded_branch_at s.place.role rs c
+  pub decided : (c : Case) → (s.branch_of c).standing ≡ Heuristic → s.decided_of c ≡ decision_of rs c
 
 -- the process's records, as it reads them of these of its log
 abbrev pub read_of : CoreState → List LogRecord → List Record

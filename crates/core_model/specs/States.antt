@@ -2,6 +2,7 @@
 -- reads it off.
 use Rattle.std.specs.Prelude.{◌≡◌, ◌<◌, ◌+◌, ◌^◌, ℕ, false, if◌then◌else◌, Option, List, [], ◌++◌, map}
 use Rattle.tree_model.specs.declared.names.Case.{Case}
+use Rattle.tree_model.specs.declared.names.Outcome.{Outcome}
 use Rattle.tree_model.specs.declared.names.ProcessId.{ProcessId}
 use Rattle.tree_model.specs.declared.names.Ticket.{Ticket}
 use Rattle.tree_model.specs.declared.records.LogRecord.{LogRecord}
@@ -14,7 +15,8 @@ use Rattle.rec_log.specs.Sights.{LogSight, records_of}
 
 -- Where it sits; its log; its boot; how many transactions it began and how many tickets it gave in this boot;
 -- the active ticket that was given to a parent's case; and how each case stands, which is Unknown where it is
--- not live. A coordinator has no branches, and a manager no coordinator's views.
+-- not live; and what an operator decided of a branch that he decided (of any other this says nothing). A
+-- coordinator has no branches, and a manager no coordinator's views.
 pub record CoreState : Type 0 where
   pub place : Place
   pub log : LogSight
@@ -24,6 +26,7 @@ pub record CoreState : Type 0 where
   pub ticket_for : Case → Option Ticket
   pub view_of : Case → CoordinatorView
   pub branch_of : Case → ManagerView
+  pub decided_of : Case → Option Outcome
 
 -- the parent of the process; the root has none
 abbrev pub parent : CoreState → Option ProcessId
@@ -38,6 +41,7 @@ pub record SameButLog (old new : CoreState) : Type 0 where
   pub tickets : (d : Case) → new.ticket_for d ≡ old.ticket_for d
   pub views : (c : Case) → SameView (new.view_of c) (old.view_of c)
   pub branches : (c : Case) → new.branch_of c ≡ old.branch_of c
+  pub decided : (c : Case) → new.decided_of c ≡ old.decided_of c
 
 -- nothing is otherwise
 pub record SameCore (old new : CoreState) : Type 0 where

@@ -1,16 +1,23 @@
 -- What an input meets at a process: a row of the reaction table, a refusal, or nothing. One dispatch for the
 -- root, a coordinator below it, and a manager.
-use Rattle.std.specs.Prelude.{◌≡◌, ◌+◌, Bool, true, false, ◌&&◌, ◌||◌, if◌then◌else◌, Option, Some, None, List, [], ◌∷◌}
+-- It differs from tree_model's Reactions in two look-ups: whose case a child's ticket is of (Finds), and which
+-- ticket answers JOIN and which numbers come next (ticket_for, given, begun); docs/PROOF.md.
+use Rattle.std.specs.Prelude.{◌≡◌, ◌+◌, Bool, true, false, ◌&&◌, ◌||◌, if◌then◌else◌, Option, Some, None, is_none, List, [], ◌∷◌, ◌++◌, map}
 use Rattle.tree_model.specs.declared.names.Case.{Case}
 use Rattle.tree_model.specs.declared.names.ProcessId.{ProcessId}
 use Rattle.tree_model.specs.declared.names.Ticket.{Ticket}
 use Rattle.tree_model.specs.declared.names.Txn.{Txn}
 use Rattle.tree_model.specs.declared.names.Outcome.{Outcome}
+use Rattle.tree_model.specs.declared.names.Outcome.TheVariants.{Committed, Aborted}
 use Rattle.tree_model.specs.declared.names.Presumption.{Presumption}
+use Rattle.tree_model.specs.declared.messages.Finding.{Finding}
 use Rattle.tree_model.specs.declared.messages.Op.{Op}
 use Rattle.tree_model.specs.declared.messages.Message.{Message}
 use Rattle.tree_model.specs.declared.messages.Message.TheVariants.{Join, Joined, Work, Prepare, Yes, No, Read, Commit, Abort, Ack, Inquire}
 use Rattle.tree_model.specs.declared.messages.Envelope.{Envelope}
+use Rattle.tree_model.specs.declared.records.Branch.TheVariants.{Case as CaseBranch}
+use Rattle.tree_model.specs.declared.records.Record.{Record}
+use Rattle.tree_model.specs.declared.records.Record.TheVariants.{HeurCommit, HeurRollback}
 use Rattle.tree_model.specs.declared.standings.Standing.{Standing}
 use Rattle.tree_model.specs.declared.standings.Standing.TheVariants.{Unknown, Active, Collecting, Prepared, Heuristic}
 use Rattle.tree_model.specs.declared.standings.Vote.{Vote}
@@ -23,21 +30,22 @@ use Rattle.tree_model.specs.declared.events.StepError.{StepError}
 use Rattle.tree_model.specs.declared.events.StepError.TheVariants.{UnknownTxn, NotAChild, Closed, Failed, NotInDoubt, NothingToForget, NoSuch, Device}
 use Rattle.tree_model.specs.declared.trees.TreeEntry.{TreeEntry}
 use Rattle.tree_model.specs.Names.{same_txn, child_case, root_case, presumed}
-use Rattle.tree_model.specs.Records.{in_list}
-use Rattle.tree_model.specs.Nodes.{Role, AtRoot, Below, AtLeaf, DataAnswer, Heard, Version, First, is_child, is_leaf, role_of, ReadsOnly}
+use Rattle.tree_model.specs.Records.{in_list, is_reported}
+use Rattle.tree_model.specs.Nodes.{Role, AtRoot, Below, AtLeaf, DataAnswer, Heard, Version, Second, is_child, is_leaf, role_of, ReadsOnly}
 use Rattle.tree_model.specs.Memory.{of_ticket, ticket_of_child}
 use Rattle.tree_model.specs.Standings.{CoordinatorView, ManagerView}
-use Rattle.tree_model.specs.CoordinatorRows.{Seat, Row, ByAct, active_join, active_work, active_commit, active_abort, collecting_abort, prepared_ask, on_vote, on_ack, on_inquiry, on_joined, on_prepare, on_commit, on_abort, post, tells_outcome}
+use Rattle.tree_model.specs.CoordinatorRows.{Seat, Row, ByAct, active_join, active_work, active_commit, active_abort, collecting_abort, prepared_ask, on_vote, on_ack, on_inquiry, on_joined, on_prepare, on_commit, on_abort, post, tells_outcome, unknown_forget}
 use Rattle.tree_model.specs.ManagerRows.{Leaf, LeafRow, prepared_decide, heuristic_forget, untold_ask}
 use Rattle.tree_model.specs.ManagerRows as leaf
 use Rattle.tree_model.specs.Reactions.{Reacts, Refused, Does, row_effect, leaf_effect, sends_only, seat_of, leaf_of, act_is_listed}
 use Rattle.tree_model.specs.Restarts.{is_known}
 use Rattle.tree_model.specs.Views.{begin_effect}
+use Rattle.rec_log.specs.Sights.{records_of}
 use Rattle.core_model.specs.States.{CoreState, parent}
 
 -- the version of the reaction table by which a process handles its inputs
 abbrev pub this_version : Version
-this_version = First
+this_version = Second
 
 -- an input as a process hears it, with what a manager's data answer to it
 abbrev pub heard_now : DataAnswer → Input → Heard
@@ -166,7 +174,16 @@ abbrev pub live_turn : StepError → Standing → Turn
 live_turn e Unknown = Refuses UnknownTxn
 live_turn e _ = Refuses e
 
--- the acts at a coordinator; it has nothing for an operator to decide or to forget
+-- forget: nothing is known of the case, and the root's log reports what was found of it
+abbrev pub clear_turn : Seat → Bool → CoordinatorView → Standing → Turn
+clear_turn s reported v Unknown = if reported then Takes s.own (unknown_forget s v) else Refuses UnknownTxn
+clear_turn s reported v _ = Refuses NothingToForget
+
+-- the records that the process keeps, each with the whole name that its log has
+abbrev pub kept_records : CoreState → List Record
+kept_records s = map (λ l. l.entry) (records_of s.log.kept)
+
+-- the acts at a coordinator; it has nothing for an operator to decide
 abbrev pub coordinator_act : CoreState → Act → Turn
 coordinator_act s (Begin p) = begin_turn s p (parent s)
 coordinator_act s (JoinAct c q) = let v = s.view_of c in join_turn (seat_in s c) s.place.tree q v v.standing
@@ -178,18 +195,21 @@ coordinator_act s (AbortAct x) =
     let v = s.view_of (root_case x) in abort_turn (seat_in s (root_case x)) v v.standing
 coordinator_act s (Ask c) = let v = s.view_of c in ask_turn (seat_in s c) v v.standing
 coordinator_act s (Decide c o) = live_turn NotInDoubt (s.view_of c).standing
-coordinator_act s (Forget c) = live_turn NothingToForget (s.view_of c).standing
+coordinator_act s (Forget c) =
+    let v = s.view_of c in
+    clear_turn (seat_in s c) (is_none (parent s) && is_reported (kept_records s) c) v v.standing
 
 -- a vote, in the case that was found for the child
 abbrev pub vote_turn : CoreState → Vote → Ticket → Option Case → Turn
 vote_turn s w t None = Says []
 vote_turn s w t (Some c) = let v = s.view_of c in Takes c (on_vote (seat_in s c) t w v v.standing)
 
--- an acknowledgement, in the case that was found for the child; by this version nothing is found
-abbrev pub ack_turn : CoreState → Outcome → Ticket → Option Case → Turn
-ack_turn s o t None = Says []
-ack_turn s o t (Some c) =
-    let v = s.view_of c in Takes c (on_ack this_version (seat_in s c) t o [] v v.standing)
+-- an acknowledgement with these findings, in the case that was found for the child: they come behind those that
+-- were found before
+abbrev pub ack_turn : CoreState → Outcome → List Finding → Ticket → Option Case → Turn
+ack_turn s o fs t None = Says []
+ack_turn s o fs t (Some c) =
+    let v = s.view_of c in Takes c (on_ack this_version (seat_in s c) t o (v.found ++ fs) v v.standing)
 
 -- an inquiry, in the case that was found for the child; where there is none, the child gets what is presumed
 abbrev pub inquiry_turn : CoreState → Txn → Ticket → Option Case → Turn
@@ -207,7 +227,7 @@ child_says s found (Joined d t) = let v = s.view_of d in Takes d (on_joined t v 
 child_says s found (Yes d) = child_turn d (λ t. vote_turn s VoteYes t found)
 child_says s found (No d) = child_turn d (λ t. vote_turn s VoteNo t found)
 child_says s found (Read d) = child_turn d (λ t. vote_turn s VoteRead t found)
-child_says s found (Ack d o fs) = child_turn d (λ t. ack_turn s o t found)
+child_says s found (Ack d o fs) = child_turn d (λ t. ack_turn s o fs t found)
 child_says s found (Inquire d) = child_turn d (λ t. inquiry_turn s d.txn t found)
 child_says s found _ = Says []
 
@@ -285,6 +305,12 @@ leaf_joined_turn s p d starts (Some t) = joined_turn s p d (Some t)
 leaf_joined_turn s p d true None = joined_turn s p d None
 leaf_joined_turn s p d false None = Says []
 
+-- the record of an operator's decision of the case, if there is one
+abbrev pub decision_records : Case → Option Outcome → List Record
+decision_records c None = []
+decision_records c (Some Committed) = HeurCommit (CaseBranch c) ∷ []
+decision_records c (Some Aborted) = HeurRollback (CaseBranch c) ∷ []
+
 -- the messages at a manager, with what its data answer; any other does nothing
 abbrev pub manager_turn : CoreState → ProcessId → DataAnswer → Message → Turn
 manager_turn s p a (Join d) = leaf_joined_turn s p d a.starts (s.ticket_for d)
@@ -292,9 +318,11 @@ manager_turn s p a (Work d i op) = let v = s.branch_of d in Handles d (leaf.on_w
 manager_turn s p a (Prepare d k) =
     let v = s.branch_of d in Handles d (leaf.on_prepare (leaf_in s p d) k a.holding v v.standing)
 manager_turn s p a (Commit d) =
-    let v = s.branch_of d in Handles d (leaf.on_commit this_version (leaf_in s p d) [] v v.standing)
+    let v = s.branch_of d in
+    Handles d (leaf.on_commit this_version (leaf_in s p d) (decision_records d (s.decided_of d)) v v.standing)
 manager_turn s p a (Abort d) =
-    let v = s.branch_of d in Handles d (leaf.on_abort this_version (leaf_in s p d) [] v v.standing)
+    let v = s.branch_of d in
+    Handles d (leaf.on_abort this_version (leaf_in s p d) (decision_records d (s.decided_of d)) v v.standing)
 manager_turn s p a _ = Says []
 
 -- Any process.

@@ -9,4 +9,4 @@ pub mod law;
 mod messages;
 
 pub use inputs::{InputRef, is_listed};
-pub use messages::one_message;
+pub use messages::{one_message, unknown_findings};

@@ -2,9 +2,11 @@
 
 ghost use Rattle.std.specs.Prelude.{◌≡◌, [], ◌∷◌, IfOk};
 ghost use Rattle.tree_model.specs.CoordinatorRows.{post};
+ghost use Rattle.tree_model.specs.Standings.{unknown_findings as findings_unknown};
+ghost use Rattle.core_model.specs.Turns.{this_version};
 
 use std::alloc::{AllocError, Global};
-use tree_model::{Envelope, Envelopes, Message, ProcessId, Sequence};
+use tree_model::{Case, Envelope, Envelopes, Finding, Findings, Message, ProcessId, Sequence};
 
 /// One message from the first process to the second.
 pub fn one_message(
@@ -18,4 +20,15 @@ pub fn one_message(
     let mut messages = Sequence::new(alloc);
     messages.push(Envelope { from, to, message })?;
     Ok(messages)
+}
+
+/// What is found of a case of which nothing is known: below the root its own ticket is unreported.
+pub fn unknown_findings(alloc: Global, case: Case) -> Result<Findings, AllocError>
+    ensures { IfOk result (λ findings. findings ≡ findings_unknown this_version case) }
+{
+    let mut findings = Sequence::new(alloc);
+    if let Some(ticket) = case.ticket {
+        findings.push(Finding::Unreported(ticket))?;
+    }
+    Ok(findings)
 }

@@ -4,14 +4,16 @@ use Rattle.std.proofs.lemmas.List.{append-nil, take_all, take_more}
 use Rattle.tree_model.specs.declared.events.Event.{Event}
 use Rattle.tree_model.specs.declared.trees.TreeEntry.{TreeEntry}
 use Rattle.tree_model.specs.declared.events.Event.TheVariants.{Settle}
+use Rattle.tree_model.specs.declared.events.StepError.{StepError}
 use Rattle.tree_model.specs.Trees.{IsTree}
 use Rattle.core_law.specs.worlds.Refusals.{Refusal}
 use Rattle.core_law.specs.worlds.Runs.{IsOpened}
 use Rattle.core_law.specs.worlds.Worlds.{WorldState}
 use Rattle.tree_world.specs.Worlds.{state}
-use Rattle.crash_engine.specs.declared.auditing.Audited.{Audited}
+use Rattle.tree_audit.specs.declared.report.Report.{Report}
 use Rattle.tree_engine.specs.declared.run.Run.{Run}
 use Rattle.crash_engine.specs.declared.trial.Found.{Found}
+use Rattle.crash_engine.specs.declared.trial.Found.TheVariants as found
 use Rattle.crash_engine.specs.Audits.{Audits, asks_by}
 use Rattle.tree_engine.specs.Runs.{HasCome}
 use Rattle.tree_engine.proofs.Going.{ran}
@@ -19,7 +21,7 @@ use Rattle.crash_engine.specs.declared.points.Point.{Point}
 use Rattle.crash_engine.specs.declared.trial.Trial.{Trial}
 use Rattle.crash_engine.specs.Points.{crash_of, points_in}
 use Rattle.tree_engine.specs.Trees.{Plays}
-use Rattle.crash_engine.specs.Trials.{Adds, AddsTrials, AreTried, EndsWith, Known, Tries}
+use Rattle.crash_engine.specs.Trials.{Adds, AddsTrials, AreTried, Asked, Early, EndsWith, Known, Tries}
 
 -- what a run comes to is a run of the model
 pub comes_to : (tree : List TreeEntry) (start : WorldState) (given : List Event) (run : Run)
@@ -35,29 +37,53 @@ pub still_tree : (tree : List TreeEntry) (start : WorldState) (given : List Even
 still_tree tree start given run is opens h = subst IsTree
     (sym (comes_to tree start given run is opens h).run.tree_is) is
 
+-- these events and a crash behind them were run
+comes_behind : (tree : List TreeEntry) (events crash : List Event) (p : Option Point) (start : WorldState) (run : Run)
+    → IsTree tree → IsOpened start tree → HasCome start (events ++ crash) run → crash ≡ crash_of p
+    → Plays tree (events ++ crash_of p) run.refusal (state run.world)
+comes_behind tree events crash p start run is opens come of_crash =
+    comes_to tree start (events ++ crash_of p) run is opens
+    (subst (λ es. HasCome start (events ++ es) run) of_crash come)
+
+-- one of these events or of the crash was refused
+pub stopped_early : (tree : List TreeEntry) (known : Known) (events : List Event) (p : Option Point)
+    (crash : List Event) (start : WorldState) (run : Run) (refused : ℕ × StepError)
+    → IsTree tree → IsOpened start tree → HasCome start (events ++ crash) run → crash ≡ crash_of p
+    → run.refusal ≡ Some refused → Tries tree known events p (found.Refused refused.0 refused.1)
+stopped_early tree known events p crash start run refused is opens come of_crash some =
+    Early (record {
+      refused = refused;
+      stops = (
+        state run.world,
+        subst (λ r. Plays tree (events ++ crash_of p) r (state run.world)) some
+            (comes_behind tree events crash p start run is opens come of_crash),
+      );
+      is = refl;
+    })
+
 -- a crash was tried
-pub tried_so : (tree : List TreeEntry) (known : Known) (events : List Event) (p : Option Point) (a : Audited)
+pub tried_so : (tree : List TreeEntry) (known : Known) (events : List Event) (p : Option Point) (r : Report)
     (crash asks : List Event) (start : WorldState)
     (middle end : Run) (f : Found) → IsTree tree → IsOpened start tree
-    → HasCome start (events ++ crash) middle → crash ≡ crash_of p
-    → Audits (state middle.world) a → asks ≡ asks_by a
+    → HasCome start (events ++ crash) middle → crash ≡ crash_of p → middle.refusal ≡ None
+    → Audits (state middle.world) r → asks ≡ asks_by r
     → HasCome start (((events ++ crash) ++ asks) ++ Settle ∷ []) end
     → EndsWith known (state end.world) end.refusal f → Tries tree known events p f
-tried_so tree known events p a crash asks start middle end f is opens crashes of_crash audits
-    of_asks ends found = record {
-      early = middle.refusal;
+tried_so tree known events p r crash asks start middle end f is opens crashes of_crash none audits
+    of_asks ends found =
+    Asked (record {
       middle = state middle.world;
-      crashes = comes_to tree start (events ++ crash_of p) middle is opens
-          (subst (λ es. HasCome start (events ++ es) middle) of_crash crashes);
-      audit = a;
+      crashes = subst (λ o. Plays tree (events ++ crash_of p) o (state middle.world)) none
+          (comes_behind tree events crash p start middle is opens crashes of_crash);
+      report = r;
       audits = audits;
       refusal = end.refusal;
       end = state end.world;
-      ran = comes_to tree start (((events ++ crash_of p) ++ asks_by a) ++ Settle ∷ []) end is opens
-          (subst (λ es. HasCome start (((events ++ es) ++ asks_by a) ++ Settle ∷ []) end) of_crash
+      ran = comes_to tree start (((events ++ crash_of p) ++ asks_by r) ++ Settle ∷ []) end is opens
+          (subst (λ es. HasCome start (((events ++ es) ++ asks_by r) ++ Settle ∷ []) end) of_crash
           (subst (λ es. HasCome start (((events ++ crash) ++ es) ++ Settle ∷ []) end) of_asks ends));
       ends = found;
-    }
+    })
 
 one_more : (tree : List TreeEntry) (known : Known) (events : List Event) (ps : List Point) (ts : List Trial) (p : Point)
     (t : Trial) → AreTried tree known events ps ts

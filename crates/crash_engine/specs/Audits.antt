@@ -1,33 +1,25 @@
 -- What the logs of a tree say of its cases.
-use Rattle.std.specs.Prelude.{◌≡◌, Bool, true, false, not, Some, List, [], map, filter}
+use Rattle.std.specs.Prelude.{Bool, true, false, not, List, map, filter}
 use Rattle.std.specs.List.{list_any}
 use Rattle.tree_model.specs.Names.{same_case}
 use Rattle.tree_model.specs.declared.names.Case.{Case}
 use Rattle.tree_model.specs.declared.events.Act.TheVariants.{Ask}
 use Rattle.tree_model.specs.declared.events.Event.{Event}
 use Rattle.tree_model.specs.declared.events.Event.TheVariants.{Act}
-use Rattle.tree_model.specs.declared.trees.TreeEntry.{TreeEntry}
 use Rattle.logs_script.specs.declared.line.ProcessLog.{ProcessLog}
-use Rattle.logs_script.specs.Faults.{first_damage}
 use Rattle.audit_cases.specs.declared.kinds.Own.{Own}
 use Rattle.audit_cases.specs.declared.kinds.Own.TheVariants.{InDoubt}
 use Rattle.tree_audit.specs.Reports.{IsReport}
 use Rattle.tree_audit.specs.declared.report.Line.{Line}
+use Rattle.tree_audit.specs.declared.report.Report.{Report}
 use Rattle.core_law.specs.worlds.Worlds.{WorldState}
 use Rattle.tree_world.specs.LogsLeft.{AreLogs}
-use Rattle.crash_engine.specs.declared.auditing.Audited.{Audited}
-use Rattle.crash_engine.specs.declared.auditing.Audited.TheVariants.{Damaged, Report}
 
--- what an audit of these logs of this tree finds
-abbrev pub AuditsAs : List TreeEntry → List ProcessLog → Audited → Type 0
-AuditsAs tree logs (Report r) = IsReport tree logs r
-AuditsAs tree logs (Damaged q place) = first_damage tree logs ≡ Some (q, place)
-
--- what an audit finds of the logs that the processes of a tree keep
-pub record Audits (w : WorldState) (a : Audited) : Type 0 where
+-- the report of an audit of the logs that the processes of a tree keep, none of which is damaged
+pub record Audits (w : WorldState) (r : Report) : Type 0 where
   pub logs : List ProcessLog
   pub are : AreLogs w w.tree logs
-  pub says : AuditsAs w.tree logs a
+  pub says : IsReport w.tree logs r
 
 -- by its own records a case is in doubt
 abbrev pub stands_in_doubt : Own → Bool
@@ -50,7 +42,6 @@ beyond known cs = filter (λ c. not (list_any (λ k. same_case k c) known)) cs
 abbrev pub asks_for : List Case → List Event
 asks_for cs = map (λ c. Act (Ask c)) cs
 
--- the questions for all cases in doubt; none, where a log is damaged
-abbrev pub asks_by : Audited → List Event
-asks_by (Report r) = asks_for (doubts_in r.lines.items)
-asks_by (Damaged q place) = []
+-- the questions for all cases that an audit shows in doubt
+abbrev pub asks_by : Report → List Event
+asks_by r = asks_for (doubts_in r.lines.items)

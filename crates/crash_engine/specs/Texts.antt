@@ -8,7 +8,7 @@ use Rattle.tree_engine.specs.Trees.{refused_text}
 use Rattle.crash_engine.specs.declared.auditing.Left.{Left}
 use Rattle.crash_engine.specs.declared.points.Point.{Point}
 use Rattle.crash_engine.specs.declared.trial.Found.{Found}
-use Rattle.crash_engine.specs.declared.trial.Found.TheVariants.{Damaged, Ended, Refused}
+use Rattle.crash_engine.specs.declared.trial.Found.TheVariants.{Ended, Refused}
 use Rattle.crash_engine.specs.declared.trial.Trial.{Trial}
 use Rattle.crash_engine.specs.declared.ending.Ending.{Ending}
 use Rattle.crash_engine.specs.declared.ending.Ending.TheVariants as ending
@@ -60,7 +60,6 @@ left_text l = cases_text (codes " in-doubt") l.in_doubt.items ++ cases_text (cod
 -- what a crash ends with
 unfoldable pub found_text : Found → List ℕ
 found_text (Ended l) = left_text l
-found_text (Damaged q place) = codes " damaged" ++ number_word q.0 ++ number_word place
 found_text (Refused made e) = codes " refused" ++ number_word (made + 1) ++ number_word (step_error_number e)
 
 -- the crash: behind so many events this process restarts, and keeps so many bytes

@@ -6,13 +6,12 @@ use Rattle.tree_model.specs.declared.events.Event.TheVariants.{Settle}
 use Rattle.tree_model.specs.declared.events.StepError.{StepError}
 use Rattle.tree_model.specs.declared.trees.TreeEntry.{TreeEntry}
 use Rattle.tree_audit.specs.declared.report.Line.{Line}
+use Rattle.tree_audit.specs.declared.report.Report.{Report}
 use Rattle.core_law.specs.worlds.Refusals.{Refusal}
 use Rattle.core_law.specs.worlds.Worlds.{WorldState}
 use Rattle.tree_engine.specs.Trees.{Plays}
 use Rattle.crash_engine.specs.Audits.{Audits, asks_by, beyond, doubts_in, mismatched_in}
 use Rattle.crash_engine.specs.Points.{crash_of, points_in}
-use Rattle.crash_engine.specs.declared.auditing.Audited.{Audited}
-use Rattle.crash_engine.specs.declared.auditing.Audited.TheVariants as audited
 use Rattle.crash_engine.specs.declared.auditing.Left.{Left}
 use Rattle.crash_engine.specs.declared.points.Point.{Point}
 use Rattle.crash_engine.specs.declared.trial.Found.{Found}
@@ -45,32 +44,45 @@ left_beyond known ls = record {
 }
 
 -- what an audit leaves beyond what is known
-abbrev pub Leaves : Known → Audited → Found → Type 0
-Leaves known (audited.Report r) (found.Ended l) = known_by l ≡ left_beyond known r.lines.items
-Leaves known (audited.Damaged q place) f = f ≡ found.Damaged q place
-Leaves _ _ _ = ⊥
+abbrev pub Leaves : Known → Report → Found → Type 0
+Leaves known r (found.Ended l) = known_by l ≡ left_beyond known r.lines.items
+Leaves known r _ = ⊥
 
 -- what a run ends with: what an audit of its logs leaves beyond what is known, or where an event was refused that
 abbrev pub EndsWith : Known → WorldState → Refusal → Found → Type 0
-EndsWith known w None f = (a : Audited) × Audits w a × Leaves known a f
+EndsWith known w None f = (r : Report) × Audits w r × Leaves known r f
 EndsWith known w (Some refused) f = f ≡ found.Refused refused.0 refused.1
+
+-- one of these events is refused
+abbrev pub IsRefused : List TreeEntry → List Event → ℕ × StepError → Type 0
+IsRefused tree events refused = (end : WorldState) × Plays tree events (Some refused) end
+
+-- one of these events or of the crash behind them was refused, and the run ends with that
+pub record StopsEarly (tree : List TreeEntry) (events : List Event) (p : Option Point) (f : Found) : Type 0 where
+  pub refused : ℕ × StepError
+  pub stops : IsRefused tree (events ++ crash_of p) refused
+  pub is : f ≡ found.Refused refused.0 refused.1
 
 -- these events, a crash behind them or none, the questions for all cases that an audit then shows in doubt, and all
 -- that comes of them
-abbrev pub tried_events : List Event → Option Point → Audited → List Event
-tried_events events p a = ((events ++ crash_of p) ++ asks_by a) ++ Settle ∷ []
+abbrev pub tried_events : List Event → Option Point → Report → List Event
+tried_events events p r = ((events ++ crash_of p) ++ asks_by r) ++ Settle ∷ []
 
--- a crash at this point behind these events was tried, or none, and the run leaves that beyond what is known
-pub record Tries (tree : List TreeEntry) (known : Known) (events : List Event) (p : Option Point) (f : Found) : Type 0 where
-  pub early : Refusal
+-- these events and the crash behind them were made, and behind the questions the run ends so
+pub record EndsAsked (tree : List TreeEntry) (known : Known) (events : List Event) (p : Option Point) (f : Found) : Type 0 where
   pub middle : WorldState
-  pub crashes : Plays tree (events ++ crash_of p) early middle
-  pub audit : Audited
-  pub audits : Audits middle audit
+  pub crashes : Plays tree (events ++ crash_of p) None middle
+  pub report : Report
+  pub audits : Audits middle report
   pub refusal : Refusal
   pub end : WorldState
-  pub ran : Plays tree (tried_events events p audit) refusal end
+  pub ran : Plays tree (tried_events events p report) refusal end
   pub ends : EndsWith known end refusal f
+
+-- a crash at this point behind these events was tried, or none, and the run leaves that beyond what is known
+pub data Tries (tree : List TreeEntry) (known : Known) (events : List Event) (p : Option Point) (f : Found) : Type 0 where
+  Early : StopsEarly tree events p f → Tries tree known events p f
+  Asked : EndsAsked tree known events p f → Tries tree known events p f
 
 -- a crash behind so many events, and what it ends with
 abbrev pub trial_of : ℕ → Point → Found → Trial
@@ -100,10 +112,6 @@ GoesThrough tree known events zero ts = ts ≡ []
 GoesThrough tree known events (suc n) ts =
     (before : List Trial) × (behind : List Trial) × (ts ≡ before ++ behind)
     × GoesThrough tree known events n before × TriesAll tree known (take (suc n) events) behind
-
--- one of these events is refused
-abbrev pub IsRefused : List TreeEntry → List Event → ℕ × StepError → Type 0
-IsRefused tree events refused = (end : WorldState) × Plays tree events (Some refused) end
 
 -- each point was tried behind these events, or one of them is refused, and none was
 abbrev pub Adds : List TreeEntry → Known → List Event → Refusal → List Trial → List Trial → Type 0

@@ -1,26 +1,23 @@
 //! What the logs of a tree say of its cases.
 
-ghost use Rattle.std.specs.Prelude.{◌≡◌, [], IfErr, IfOk};
+ghost use Rattle.std.specs.Prelude.{◌≡◌, [], IfErr, IfOk, List, None};
 ghost use Rattle.std.specs.List.{list_any};
+ghost use Rattle.tree_engine.specs.Trees.{Plays};
+ghost use Rattle.tree_model.specs.declared.events.Event.{Event as AnyEvent};
+ghost use Rattle.tree_model.specs.declared.trees.TreeEntry.{TreeEntry};
 ghost use Rattle.tree_model.specs.Names.{same_case};
 ghost use Rattle.tree_model.specs.Trees.{IsTree};
 ghost use Rattle.tree_world.specs.Worlds.{state};
 ghost use Rattle.crash_engine.specs.Audits.{Audits, asks_by, asks_for as asks_of_cases, beyond, doubts_in, mismatched_in, stands_in_doubt};
 
 use audit_cases::Own;
+use left_logs::law::left_logs_are_read;
 use log_store::MemoryStore;
 use report_io::Failure;
 use std::alloc::{AllocError, Global};
 use tree_audit::{AuditError, Line, Report, audit};
-use tree_model::{Act, Case, Event, ProcessId};
+use tree_model::{Act, Case, Event};
 use tree_world::{World, logs_left};
-
-/// What an audit of the logs of a tree finds: a report, or the first log that is damaged, and where.
-#[derive(Drop)]
-pub enum Audited {
-    Report(Report),
-    Damaged(ProcessId, usize),
-}
 
 /// The cases that an audit shows in doubt, and those that it shows decided otherwise, in the order of its
 /// lines.
@@ -43,17 +40,20 @@ impl Left {
     }
 }
 
-/// Audits the logs that the processes of a tree keep.
-pub(crate) fn audit_of(alloc: Global, world: &World<MemoryStore>) -> Result<Audited, Failure>
-    requires { IsTree (state world.now).tree }
-    ensures audits { IfOk result (λ audited. Audits (state world.now) audited) }
+/// Audits the logs that the processes of a tree keep, whose events were all made: none of them is damaged.
+pub(crate) fn audit_of(alloc: Global, world: &World<MemoryStore>) -> Result<Report, Failure>
+    requires is_tree { IsTree (state world.now).tree }
+    requires all_made { (tree : List TreeEntry) × (events : List AnyEvent)
+        × Plays tree events None (state world.now) }
+    ensures audits { IfOk result (λ report. Audits (state world.now) report) }
     ensures memory { IfErr result (λ e. e ≡ Failure.Memory) }
 {
     let logs = logs_left(alloc, world)?;
+    left_logs_are_read();
     match audit(alloc, world.tree(), &logs) {
-        Ok(report) => Ok(Audited::Report(report)),
-        Err(AuditError::Damaged(process, place)) => Ok(Audited::Damaged(process, place)),
+        Ok(report) => Ok(report),
         Err(AuditError::Memory) => Err(Failure::Memory),
+        Err(AuditError::Damaged(_, _)) => unreachable!(),
     }
 }
 
@@ -119,15 +119,10 @@ fn asks_for(alloc: Global, cases: &[Case]) -> Result<Vec<Event>, AllocError>
         .collect(alloc)
 }
 
-/// The questions for all cases in doubt; none, where a log is damaged.
-pub(crate) fn asks_of(alloc: Global, audited: &Audited) -> Result<Vec<Event>, AllocError>
-    ensures { IfOk result (λ asks. asks.items ≡ asks_by audited.now) }
+/// The questions for all cases that an audit shows in doubt.
+pub(crate) fn asks_of(alloc: Global, report: &Report) -> Result<Vec<Event>, AllocError>
+    ensures { IfOk result (λ asks. asks.items ≡ asks_by report.now) }
 {
-    match audited {
-        Audited::Damaged(_, _) => Ok(Vec::new(alloc)),
-        Audited::Report(report) => {
-            let cases = doubts_of(alloc, &report.lines)?;
-            asks_for(alloc, &cases)
-        }
-    }
+    let cases = doubts_of(alloc, &report.lines)?;
+    asks_for(alloc, &cases)
 }

@@ -13,7 +13,7 @@ pub enum Ending {
     /// An event was refused.
     Stopped,
     /// Every event was made, and a crash ends with a case in doubt or a mismatch, or its own run was refused
-    /// an event or leaves a damaged log.
+    /// an event.
     Finds,
 }
 

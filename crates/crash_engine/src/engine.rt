@@ -109,7 +109,7 @@ fn answer<P: Write>(
 /// more than that, and the numbers of crashes; behind them which event was refused, if one was, or alone why
 /// the script was.
 ///
-/// Each of these runs is one of the model, of which the headline holds. The time goes with the square of the
+/// Each of these runs is one of the model: the headline holds of it, and mismatches are reported in it. The time goes with the square of the
 /// number of events. `progress` gets a line for each percent of them; a failed write there is no failure of
 /// the run.
 /// After a failed read, or where memory is refused, nothing was written; after a failed write, a beginning

@@ -75,9 +75,6 @@ fn push_found(out: &mut Vec<u8>, found: &Found) -> Result<(), AllocError>
 {
     match found {
         Found::Ended(left) => push_left(out, left),
-        Found::Damaged(process, place) => {
-            push_two(out, " damaged", u64::from(process.0), *place as u64)
-        }
         Found::Refused(made, refusal) => {
             let event = event_behind(*made)?;
             push_two(out, " refused", event, u64::from(refusal.number()))

@@ -1,6 +1,7 @@
 //! A crash, tried.
 
 ghost use Rattle.std.specs.Prelude.{◌≡◌, ◌++◌, ◌∷◌, [], IfErr, IfOk, List, OnOk, take};
+ghost use Rattle.tree_model.specs.declared.events.Event.{Event as AnyEvent};
 ghost use Rattle.core_law.specs.worlds.Refusals.{Refusal as AnyRefusal};
 ghost use Rattle.core_law.specs.worlds.Worlds.{WorldState};
 ghost use Rattle.tree_engine.specs.Trees.{Plays};
@@ -10,13 +11,13 @@ ghost use Rattle.tree_world.specs.Worlds.{state};
 ghost use Rattle.tree_engine.specs.Runs.{Begins};
 ghost use Rattle.crash_engine.specs.Trials.{Adds, AddsTrials, EndsAlone, EndsWith, Leaves, Tries, known_by, known_of, left_beyond, made_by, nothing_known, trial_of};
 
-use crate::auditing::{Audited, Left, asks_of, audit_of, cases_beyond, doubts_of, mismatches_of};
+use crate::auditing::{Left, asks_of, audit_of, cases_beyond, doubts_of, mismatches_of};
 use crate::points::{Point, crash_events, points_of};
 use report_io::Failure;
 use std::alloc::{AllocError, Global};
-use tree_audit::Line;
+use tree_audit::{Line, Report};
 use tree_engine::{Refusal, Run};
-use tree_model::{Event, ProcessId, StepError, Tree};
+use tree_model::{Event, StepError, Tree};
 use tree_world::copied_tree;
 
 /// What a crash ends with.
@@ -24,8 +25,6 @@ use tree_world::copied_tree;
 pub enum Found {
     /// The run went to its end, and leaves these.
     Ended(Left),
-    /// The log of this process is damaged at this byte.
-    Damaged(ProcessId, usize),
     /// Behind so many events of its run the next was refused.
     Refused(usize, StepError),
 }
@@ -60,32 +59,32 @@ fn left_beyond(alloc: Global, known: &Left, lines: &[Line]) -> Result<Left, Allo
 }
 
 /// What an audit leaves beyond what is known.
-fn found_by(alloc: Global, known: &Left, audited: &Audited) -> Result<Found, AllocError>
-    ensures { IfOk result (λ found. Leaves (known_by known.now) audited.now found) }
+fn found_by(alloc: Global, known: &Left, report: &Report) -> Result<Found, AllocError>
+    ensures { IfOk result (λ found. Leaves (known_by known.now) report.now found) }
 {
-    Ok(match audited {
-        Audited::Damaged(process, place) => Found::Damaged(*process, *place),
-        Audited::Report(report) => Found::Ended(left_beyond(alloc, known, &report.lines)?),
-    })
+    Ok(Found::Ended(left_beyond(alloc, known, &report.lines)?))
 }
 
 /// What a run ends with, beyond what is known.
 fn found_of(alloc: Global, known: &Left, run: &Run) -> Result<Found, Failure>
-    requires { IsTree (state run.now.world).tree }
+    requires is_tree { IsTree (state run.now.world).tree }
+    requires plays { (tree : List TreeEntry) × (events : List AnyEvent)
+        × Plays tree events run.now.refusal (state run.now.world) }
     ensures ends { IfOk result (λ found. EndsWith (known_by known.now) (state run.now.world) run.now.refusal found) }
     ensures memory { IfErr result (λ e. e ≡ Failure.Memory) }
 {
     match run.refusal() {
         Some((made, refusal)) => Ok(Found::Refused(made, refusal)),
         None => {
-            let audited = audit_of(alloc, run.world())?;
-            Ok(found_by(alloc, known, &audited)?)
+            let report = audit_of(alloc, run.world())?;
+            Ok(found_by(alloc, known, &report)?)
         }
     }
 }
 
 /// Runs these events and the crash behind them, if there is one, in a tree that has just opened, settles, asks
-/// for every case that is in doubt by the logs, settles again, and audits the logs.
+/// for every case that is in doubt by the logs, settles again, and audits the logs. Where one of these events or
+/// of the crash is refused, that is all.
 fn crash(
     alloc: Global,
     known: &Left,
@@ -100,8 +99,11 @@ fn crash(
 {
     run.make_all(alloc, events)?;
     run.make_all(alloc, &crash_events(alloc, point)?)?;
-    let audited = audit_of(alloc, run.world())?;
-    run.make_all(alloc, &asks_of(alloc, &audited)?)?;
+    if let Some((made, refusal)) = run.refusal() {
+        return Ok(Found::Refused(made, refusal));
+    }
+    let report = audit_of(alloc, run.world())?;
+    run.make_all(alloc, &asks_of(alloc, &report)?)?;
     run.make_all(alloc, &[Event::Settle])?;
     found_of(alloc, known, run)
 }
@@ -255,6 +257,6 @@ pub fn left_alone(alloc: Global, found: &Found) -> Result<Left, AllocError>
             in_doubt: Vec::from_slice(alloc, &left.in_doubt)?,
             mismatches: Vec::from_slice(alloc, &left.mismatches)?,
         }),
-        Found::Damaged(_, _) | Found::Refused(_, _) => Ok(Left::nothing(alloc)),
+        Found::Refused(_, _) => Ok(Left::nothing(alloc)),
     }
 }

@@ -2,7 +2,7 @@
 use Rattle.tree_model.specs.declared.events.StepError.{StepError}
 use Rattle.tree_model.specs.declared.events.StepError.TheVariants as error
 use Rattle.explanation.specs.declared.event.EventFault.{EventFault}
-use Rattle.explanation.specs.declared.event.EventFault.TheVariants.{NoProcess, NoMessage, NeverBegun, OtherPresumption, Ended, Forgotten, NoTicket, OtherTicket, ForgottenBefore, CaseEnded, CaseForgotten, ManagerInvites, NoChild, WorkForCoordinator, NotJoined, AskedBefore, Voted, RootDecides, DecideAtCoordinator, DecidedBefore, NotPromised, InDoubtNoMore, NotDecided, Other}
+use Rattle.explanation.specs.declared.event.EventFault.TheVariants.{NoProcess, NoMessage, NeverBegun, OtherPresumption, Ended, Forgotten, NoTicket, OtherTicket, ForgottenBefore, CaseEnded, CaseForgotten, ManagerInvites, NoChild, WorkForCoordinator, NotJoined, AskedBefore, Voted, RootDecides, DecideAtCoordinator, DecidedBefore, NotPromised, InDoubtNoMore, NotDecided, NotEnded, NothingReported, Other}
 
 -- why an event was refused, by what is told of it
 abbrev pub refusal_of : EventFault → StepError
@@ -29,4 +29,6 @@ refusal_of (DecidedBefore _ _) = error.NotInDoubt
 refusal_of (NotPromised _) = error.NotInDoubt
 refusal_of (InDoubtNoMore _ _) = error.NotInDoubt
 refusal_of (NotDecided _) = error.NothingToForget
+refusal_of (NotEnded _) = error.NothingToForget
+refusal_of (NothingReported _) = error.UnknownTxn
 refusal_of (Other cause) = cause

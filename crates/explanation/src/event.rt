@@ -117,6 +117,14 @@ pub(crate) enum EventFault {
     NotDecided {
         case: CaseName,
     },
+    #[error("{case} has not ended: there is nothing to forget before its End")]
+    NotEnded {
+        case: CaseName,
+    },
+    #[error("the root's log reports nothing of {case} that was not cleared")]
+    NothingReported {
+        case: CaseName,
+    },
     #[error("{cause}")]
     Other {
         cause: StepError,

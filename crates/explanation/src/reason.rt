@@ -160,6 +160,31 @@ impl History<'_> {
         }
     }
 
+    /// Why a case is not known to an act; to forget at the root its log reports nothing of what it began.
+    fn nothing_known(&self, act: &Act, case: Case) -> EventFault
+        ensures { refusal_of result ≡ StepError.UnknownTxn }
+    {
+        let forgets = matches!(act, Act::Forget(_)) && case.ticket.is_none();
+        if forgets && self.begun(case.txn).is_some() {
+            return EventFault::NothingReported {
+                case: CaseName(case),
+            };
+        }
+        self.unknown(case)
+    }
+
+    /// Why there is nothing to forget of a case that is known.
+    fn nothing_to_forget(&self, case: Case) -> EventFault
+        ensures { refusal_of result ≡ StepError.NothingToForget }
+    {
+        let name = CaseName(case);
+        if self.is_manager(case.process()) {
+            EventFault::NotDecided { case: name }
+        } else {
+            EventFault::NotEnded { case: name }
+        }
+    }
+
     /// Why a process is no child that can take what it is asked.
     fn no_child(&self, case: Case, child: ProcessId, works: bool) -> EventFault
         ensures { refusal_of result ≡ StepError.NotAChild }
@@ -247,16 +272,14 @@ impl History<'_> {
         ensures { refusal_of result ≡ refusal }
     {
         match refusal {
-            StepError::UnknownTxn => self.unknown(case),
+            StepError::UnknownTxn => self.nothing_known(act, case),
             StepError::NotAChild => match child_of(act) {
                 Some(child) => self.no_child(case, child, matches!(act, Act::Work(..))),
                 None => EventFault::Other { cause: refusal },
             },
             StepError::Closed => self.closed(case),
             StepError::NotInDoubt => self.not_in_doubt(case, matches!(act, Act::Decide(..))),
-            StepError::NothingToForget => EventFault::NotDecided {
-                case: CaseName(case),
-            },
+            StepError::NothingToForget => self.nothing_to_forget(case),
             cause => EventFault::Other { cause },
         }
     }

@@ -12,7 +12,7 @@ use Rattle.tree_model.specs.declared.names.Ticket.{Ticket}
 use Rattle.tree_model.specs.declared.records.Record.{Record}
 use Rattle.tree_model.specs.declared.records.Record.TheVariants.{Opened, Collecting, Prepare, Commit, Abort, End, Prepared, Committed, RolledBack, Direct, HeurCommit, HeurRollback, Told, Forgot, Base, Pair, Cleared}
 use Rattle.tree_model.specs.declared.standings.Standing.TheVariants.{Unknown}
-use Rattle.tree_model.specs.Memory.{Idle, fresh_memory, has_acked}
+use Rattle.tree_model.specs.Memory.{Idle, found_of, fresh_memory, has_acked}
 use Rattle.tree_model.specs.Names.{same_case}
 use Rattle.tree_model.specs.Records.{has, is_abort, is_collecting, is_commit, is_end, is_prepare, named_by, named_in, none_of, owing_by, owing_in, promised_by, promised_in, record_case}
 use Rattle.tree_model.specs.Standings.{coordinator_standing, decided_outcome, known_view, phase_standing, standing_by, still_owed, view_at}
@@ -317,7 +317,7 @@ standing_recorded rs c =
 
 -- how a case stands by records alone
 pub view_recorded : (rs : List Record) (c : Case) → recorded_view rs c ≡ view_of (summary_of rs c)
-unfolding recorded_view
+unfolding recorded_view found_of
 view_recorded rs c =
     ap (λ s. view_at s rs c fresh_memory) (standing_recorded rs c)
     ∙ ap (λ ts. known_view (standing_of (summary_of rs c))

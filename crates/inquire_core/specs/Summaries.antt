@@ -106,6 +106,7 @@ restored_view standing s =
       promised = s.promised;
       named = s.named;
       owed = s.owing;
+      found = [];
     }
 
 -- the view of a case of which the records say this

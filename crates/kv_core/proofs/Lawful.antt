@@ -17,7 +17,7 @@ use Rattle.log_text.proofs.NameReading.{same_xid_is, same_xid_refl}
 use Rattle.log_rules.specs.declared.order.seen.Mark.{Mark}
 use Rattle.log_rules.specs.declared.order.seen.Mark.TheVariants.{Open, Decided, Told}
 use Rattle.log_rules.specs.declared.order.seen.Promise.{Promise}
-use Rattle.log_rules.specs.order.Orders.{SeenLog, after, boot_rises, followed, found, is_heuristic, is_open, is_untold, keys_free, keys_once, names_key, nothing_seen, opens, promised, promised_by, promises, rank_in, rises, same, with_promise, without_promise}
+use Rattle.log_rules.specs.order.Orders.{SeenLog, after, boot_rises, followed, found, is_heuristic, is_open, is_untold, is_within, keys_free, keys_once, names_key, nothing_seen, opens, promised, promised_by, promises, rises, same, with_promise, without_promise}
 use Rattle.kv_store.specs.Pairs.{keys_rise}
 use Rattle.kv_store.specs.Versions.{pair_write}
 use Rattle.kv_store.proofs.Pairs.{writes_pairs}
@@ -178,20 +178,25 @@ lawful_followed s t q (Opened n) d l h =
     let is = (taken (boot_rises s.boot n) _ t h).1 in
     lawful_stays s t d d (ap (λ u. u.live) (sym is)) refl l.tied.rise l
 lawful_followed s t q (Collecting c ts) d l h =
-    let is = (taken (nat_lt (rank_in s.ranks (name_xid q (CaseBranch c))) 1) _ t h).1 in
+    let is = (taken (is_within s (name_xid q (CaseBranch c)) 0 0) _ t h).1 in
     lawful_stays s t d d (ap (λ u. u.live) (sym is)) refl l.tied.rise l
 lawful_followed s t q (Prepare c ts) d l h =
-    let is = (taken (nat_lt (rank_in s.ranks (name_xid q (CaseBranch c))) 2) _ t h).1 in
+    let is = (taken (is_within s (name_xid q (CaseBranch c)) 0 1) _ t h).1 in
     lawful_stays s t d d (ap (λ u. u.live) (sym is)) refl l.tied.rise l
 lawful_followed s t q (Commit c ts) d l h =
-    let is = (taken (nat_lt (rank_in s.ranks (name_xid q (CaseBranch c))) 3) _ t h).1 in
+    let is = (taken (is_within s (name_xid q (CaseBranch c)) 0 2) _ t h).1 in
     lawful_stays s t d d (ap (λ u. u.live) (sym is)) refl l.tied.rise l
 lawful_followed s t q (Abort c ts) d l h =
-    let is = (taken (nat_lt (rank_in s.ranks (name_xid q (CaseBranch c))) 3) _ t h).1 in
+    let is = (taken (is_within s (name_xid q (CaseBranch c)) 0 2) _ t h).1 in
     lawful_stays s t d d (ap (λ u. u.live) (sym is)) refl l.tied.rise l
-lawful_followed s t q (Cleared c) d l h = absurd (cc)
-lawful_followed s t q (End c rep) d l h =
-    let is = (taken (nat_lt (rank_in s.ranks (name_xid q (CaseBranch c))) 4) _ t h).1 in
+lawful_followed s t q (End c None) d l h =
+    let is = (taken (is_within s (name_xid q (CaseBranch c)) 0 3) _ t h).1 in
+    lawful_stays s t d d (ap (λ u. u.live) (sym is)) refl l.tied.rise l
+lawful_followed s t q (End c (Some r)) d l h =
+    let is = (taken (is_within s (name_xid q (CaseBranch c)) 0 3) _ t h).1 in
+    lawful_stays s t d d (ap (λ u. u.live) (sym is)) refl l.tied.rise l
+lawful_followed s t q (Cleared c) d l h =
+    let is = (taken (is_within s (name_xid q (CaseBranch c)) 5 5) _ t h).1 in
     lawful_stays s t d d (ap (λ u. u.live) (sym is)) refl l.tied.rise l
 lawful_followed s t q (Prepared b ws) d l h =
     let x = name_xid q b in

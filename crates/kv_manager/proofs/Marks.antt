@@ -18,7 +18,7 @@ use Rattle.tree_model.specs.Store.{Data, no_data, stored, stored_after, writes_o
 use Rattle.log_text.proofs.NameReading.{same_xid_is, same_xid_refl}
 use Rattle.log_rules.specs.declared.order.seen.Mark.TheVariants.{Open, Decided, Told}
 use Rattle.log_rules.specs.declared.order.seen.Promise.{Promise}
-use Rattle.log_rules.specs.order.Orders.{SeenLog, after, boot_rises, followed, found, is_heuristic, is_open, is_untold, keys_free, keys_once, nothing_seen, opens, promised, promised_by, promises, rank_in, rises, same, with_promise, without_promise}
+use Rattle.log_rules.specs.order.Orders.{SeenLog, after, boot_rises, followed, found, is_heuristic, is_open, is_untold, is_within, keys_free, keys_once, nothing_seen, opens, promised, promised_by, promises, rises, same, with_promise, without_promise}
 use Rattle.kv_core.specs.Replays.{seen_after, seen_of}
 use Rattle.kv_core.proofs.Lawful.{IsLawful, lawful_after, lawful_of, never_seen}
 use Rattle.kv_core.proofs.Lookups.{found_out, found_put, same_is, same_itself, true_is_false}
@@ -148,20 +148,25 @@ module _ (s t : SeenLog) (m : Xid → Mark) (n : ℕ) (q : Option ProcessId)
       let is = (taken (boot_rises s.boot b) _ t h).1 in
       agrees_stays s t m n b (ap (λ u. u.live) (sym is)) (ap (λ u. boot_is u.boot) (sym is)) a
   by_record (Collecting c ts) h =
-      let is = (taken (nat_lt (rank_in s.ranks (name_xid q (CaseBranch c))) 1) _ t h).1 in
+      let is = (taken (is_within s (name_xid q (CaseBranch c)) 0 0) _ t h).1 in
       agrees_stays s t m n n (ap (λ u. u.live) (sym is)) (ap (λ u. boot_is u.boot) (sym is) ∙ a.last) a
   by_record (Prepare c ts) h =
-      let is = (taken (nat_lt (rank_in s.ranks (name_xid q (CaseBranch c))) 2) _ t h).1 in
+      let is = (taken (is_within s (name_xid q (CaseBranch c)) 0 1) _ t h).1 in
       agrees_stays s t m n n (ap (λ u. u.live) (sym is)) (ap (λ u. boot_is u.boot) (sym is) ∙ a.last) a
   by_record (Commit c ts) h =
-      let is = (taken (nat_lt (rank_in s.ranks (name_xid q (CaseBranch c))) 3) _ t h).1 in
+      let is = (taken (is_within s (name_xid q (CaseBranch c)) 0 2) _ t h).1 in
       agrees_stays s t m n n (ap (λ u. u.live) (sym is)) (ap (λ u. boot_is u.boot) (sym is) ∙ a.last) a
   by_record (Abort c ts) h =
-      let is = (taken (nat_lt (rank_in s.ranks (name_xid q (CaseBranch c))) 3) _ t h).1 in
+      let is = (taken (is_within s (name_xid q (CaseBranch c)) 0 2) _ t h).1 in
       agrees_stays s t m n n (ap (λ u. u.live) (sym is)) (ap (λ u. boot_is u.boot) (sym is) ∙ a.last) a
-  by_record (Cleared c) h = absurd (cc)
-  by_record (End c rep) h =
-      let is = (taken (nat_lt (rank_in s.ranks (name_xid q (CaseBranch c))) 4) _ t h).1 in
+  by_record (End c None) h =
+      let is = (taken (is_within s (name_xid q (CaseBranch c)) 0 3) _ t h).1 in
+      agrees_stays s t m n n (ap (λ u. u.live) (sym is)) (ap (λ u. boot_is u.boot) (sym is) ∙ a.last) a
+  by_record (End c (Some r)) h =
+      let is = (taken (is_within s (name_xid q (CaseBranch c)) 0 3) _ t h).1 in
+      agrees_stays s t m n n (ap (λ u. u.live) (sym is)) (ap (λ u. boot_is u.boot) (sym is) ∙ a.last) a
+  by_record (Cleared c) h =
+      let is = (taken (is_within s (name_xid q (CaseBranch c)) 5 5) _ t h).1 in
       agrees_stays s t m n n (ap (λ u. u.live) (sym is)) (ap (λ u. boot_is u.boot) (sym is) ∙ a.last) a
   by_record (Prepared b ws) h =
       let k = name_xid q b in

@@ -16,7 +16,7 @@ use Rattle.tree_model.specs.Records.{is_opened}
 use Rattle.log_rules.specs.declared.order.seen.Mark.{Mark}
 use Rattle.log_rules.specs.declared.order.seen.Mark.TheVariants.{Open, Decided, Told}
 use Rattle.log_rules.specs.declared.order.seen.Promise.{Promise}
-use Rattle.log_rules.specs.order.Orders.{SeenLog, after, boot_rises, followed, found, is_heuristic, is_open, is_untold, keys_free, keys_once, nothing_seen, opens, promises, rank_in, rises, same}
+use Rattle.log_rules.specs.order.Orders.{SeenLog, after, boot_rises, followed, found, is_heuristic, is_open, is_untold, is_within, keys_free, keys_once, nothing_seen, opens, promises, rises, same}
 use Rattle.kv_core.specs.Replays.{seen_after, seen_of}
 use Rattle.kv_core.proofs.Lawful.{never_seen}
 use Rattle.kv_manager.specs.Sights.{has_records}
@@ -64,16 +64,19 @@ pub steps_followed : (s t : SeenLog) (q : Option ProcessId) (r : Record) → fol
     → Steps s t q r
 steps_followed s t q (Opened n) h = Stays (live_of _ t (taken (boot_rises s.boot n) _ t h).1)
 steps_followed s t q (Collecting c ts) h =
-    Stays (live_of _ t (taken (nat_lt (rank_in s.ranks (name_xid q (CaseBranch c))) 1) _ t h).1)
+    Stays (live_of _ t (taken (is_within s (name_xid q (CaseBranch c)) 0 0) _ t h).1)
 steps_followed s t q (Prepare c ts) h =
-    Stays (live_of _ t (taken (nat_lt (rank_in s.ranks (name_xid q (CaseBranch c))) 2) _ t h).1)
+    Stays (live_of _ t (taken (is_within s (name_xid q (CaseBranch c)) 0 1) _ t h).1)
 steps_followed s t q (Commit c ts) h =
-    Stays (live_of _ t (taken (nat_lt (rank_in s.ranks (name_xid q (CaseBranch c))) 3) _ t h).1)
+    Stays (live_of _ t (taken (is_within s (name_xid q (CaseBranch c)) 0 2) _ t h).1)
 steps_followed s t q (Abort c ts) h =
-    Stays (live_of _ t (taken (nat_lt (rank_in s.ranks (name_xid q (CaseBranch c))) 3) _ t h).1)
-steps_followed s t q (Cleared c) h = absurd (cc)
-steps_followed s t q (End c rep) h =
-    Stays (live_of _ t (taken (nat_lt (rank_in s.ranks (name_xid q (CaseBranch c))) 4) _ t h).1)
+    Stays (live_of _ t (taken (is_within s (name_xid q (CaseBranch c)) 0 2) _ t h).1)
+steps_followed s t q (End c None) h =
+    Stays (live_of _ t (taken (is_within s (name_xid q (CaseBranch c)) 0 3) _ t h).1)
+steps_followed s t q (End c (Some r)) h =
+    Stays (live_of _ t (taken (is_within s (name_xid q (CaseBranch c)) 0 3) _ t h).1)
+steps_followed s t q (Cleared c) h =
+    Stays (live_of _ t (taken (is_within s (name_xid q (CaseBranch c)) 5 5) _ t h).1)
 steps_followed s t q (Prepared b ws) h =
     let made = taken (not (is_some (found s (name_xid q b))) && nat_lt (length s.live) 1024 && keys_once ws
     && keys_free (promises s) ws) _ t h in
@@ -138,16 +141,19 @@ boots_followed : (s t : SeenLog) (q : Option ProcessId) (r : Record) → followe
 boots_followed s t q (Opened n) h b =
     ap (λ (v : SeenLog). is_some v.boot) (sym (taken (boot_rises s.boot n) _ t h).1)
 boots_followed s t q (Collecting c ts) h b =
-    booted s _ t (taken (nat_lt (rank_in s.ranks (name_xid q (CaseBranch c))) 1) _ t h).1 refl b
+    booted s _ t (taken (is_within s (name_xid q (CaseBranch c)) 0 0) _ t h).1 refl b
 boots_followed s t q (Prepare c ts) h b =
-    booted s _ t (taken (nat_lt (rank_in s.ranks (name_xid q (CaseBranch c))) 2) _ t h).1 refl b
+    booted s _ t (taken (is_within s (name_xid q (CaseBranch c)) 0 1) _ t h).1 refl b
 boots_followed s t q (Commit c ts) h b =
-    booted s _ t (taken (nat_lt (rank_in s.ranks (name_xid q (CaseBranch c))) 3) _ t h).1 refl b
+    booted s _ t (taken (is_within s (name_xid q (CaseBranch c)) 0 2) _ t h).1 refl b
 boots_followed s t q (Abort c ts) h b =
-    booted s _ t (taken (nat_lt (rank_in s.ranks (name_xid q (CaseBranch c))) 3) _ t h).1 refl b
-boots_followed s t q (Cleared c) h b = absurd (cc)
-boots_followed s t q (End c rep) h b =
-    booted s _ t (taken (nat_lt (rank_in s.ranks (name_xid q (CaseBranch c))) 4) _ t h).1 refl b
+    booted s _ t (taken (is_within s (name_xid q (CaseBranch c)) 0 2) _ t h).1 refl b
+boots_followed s t q (End c None) h b =
+    booted s _ t (taken (is_within s (name_xid q (CaseBranch c)) 0 3) _ t h).1 refl b
+boots_followed s t q (End c (Some r)) h b =
+    booted s _ t (taken (is_within s (name_xid q (CaseBranch c)) 0 3) _ t h).1 refl b
+boots_followed s t q (Cleared c) h b =
+    booted s _ t (taken (is_within s (name_xid q (CaseBranch c)) 5 5) _ t h).1 refl b
 boots_followed s t q (Prepared x ws) h b =
     booted s _ t (taken (not (is_some (found s (name_xid q x))) && nat_lt (length s.live) 1024 && keys_once ws
     && keys_free (promises s) ws) _ t h).1 refl b

@@ -18,7 +18,7 @@ use Rattle.tree_model.specs.Store.{Data, data_of, stored_after}
 use Rattle.log_rules.specs.declared.order.seen.Mark.{Mark}
 use Rattle.log_rules.specs.declared.order.seen.Mark.TheVariants.{Open, Decided, Told}
 use Rattle.log_rules.specs.declared.order.seen.Promise.{Promise}
-use Rattle.log_rules.specs.order.Orders.{SeenLog, after, boot_rises, followed, found, is_heuristic, is_open, is_untold, keys_free, keys_once, nothing_seen, promises, rank_in, rises, same, with_promise, without_promise}
+use Rattle.log_rules.specs.order.Orders.{SeenLog, after, boot_rises, followed, found, is_heuristic, is_open, is_untold, is_within, keys_free, keys_once, nothing_seen, promises, rises, same, with_promise, without_promise}
 use Rattle.kv_core.specs.Replays.{seen_after, seen_of}
 use Rattle.kv_core.proofs.Lawful.{IsLawful, lawful_after, lawful_of, never_seen}
 use Rattle.kv_core.proofs.Lookups.{found_out, found_put, same_laws, true_is_false}
@@ -92,16 +92,19 @@ module _ (s t : SeenLog) (ds : Xid → Decision) (q : Option ProcessId)
   by_record : (r : Record) → followed s q r ≡ Some t → AreTold t (next_known q r ds)
   by_record (Opened n) h = told_stays s t ds (live_of _ t (taken (boot_rises s.boot n) _ t h).1) a
   by_record (Collecting c ts) h =
-      told_stays s t ds (live_of _ t (taken (nat_lt (rank_in s.ranks (name_xid q (CaseBranch c))) 1) _ t h).1) a
+      told_stays s t ds (live_of _ t (taken (is_within s (name_xid q (CaseBranch c)) 0 0) _ t h).1) a
   by_record (Prepare c ts) h =
-      told_stays s t ds (live_of _ t (taken (nat_lt (rank_in s.ranks (name_xid q (CaseBranch c))) 2) _ t h).1) a
+      told_stays s t ds (live_of _ t (taken (is_within s (name_xid q (CaseBranch c)) 0 1) _ t h).1) a
   by_record (Commit c ts) h =
-      told_stays s t ds (live_of _ t (taken (nat_lt (rank_in s.ranks (name_xid q (CaseBranch c))) 3) _ t h).1) a
+      told_stays s t ds (live_of _ t (taken (is_within s (name_xid q (CaseBranch c)) 0 2) _ t h).1) a
   by_record (Abort c ts) h =
-      told_stays s t ds (live_of _ t (taken (nat_lt (rank_in s.ranks (name_xid q (CaseBranch c))) 3) _ t h).1) a
-  by_record (Cleared c) h = absurd (cc)
-  by_record (End c rep) h =
-      told_stays s t ds (live_of _ t (taken (nat_lt (rank_in s.ranks (name_xid q (CaseBranch c))) 4) _ t h).1) a
+      told_stays s t ds (live_of _ t (taken (is_within s (name_xid q (CaseBranch c)) 0 2) _ t h).1) a
+  by_record (End c None) h =
+      told_stays s t ds (live_of _ t (taken (is_within s (name_xid q (CaseBranch c)) 0 3) _ t h).1) a
+  by_record (End c (Some r)) h =
+      told_stays s t ds (live_of _ t (taken (is_within s (name_xid q (CaseBranch c)) 0 3) _ t h).1) a
+  by_record (Cleared c) h =
+      told_stays s t ds (live_of _ t (taken (is_within s (name_xid q (CaseBranch c)) 5 5) _ t h).1) a
   by_record (Prepared b ws) h =
       subst (λ u. AreTold u (next_known q (Prepared b ws) ds)) (taken (not (is_some (found s (name_xid q b)))
       && nat_lt (length s.live) 1024 && keys_once ws && keys_free (promises s) ws) _ t h).1

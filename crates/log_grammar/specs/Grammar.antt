@@ -1,6 +1,6 @@
 -- The bytes of a log as a relation: which bytes behind a header are which records with a torn tail, and which
 -- are damaged at which place.
-use Rattle.std.specs.Prelude.{◌≡◌, ◌<◌, ◌+◌, ◌++◌, ◌⊎◌, ℕ, true, is_some, List, [], ◌∷◌, Option, Some, None, length}
+use Rattle.std.specs.Prelude.{◌≡◌, ◌<◌, ◌+◌, ◌++◌, ◌⊎◌, ℕ, true, is_some, List, [], ◌∷◌, Option, Some, None, length, take}
 use Rattle.std.specs.List.{AllByRecursion}
 use Rattle.tree_model.specs.declared.names.Kind.{Kind}
 use Rattle.tree_model.specs.declared.records.LogRecord.{LogRecord}
@@ -11,6 +11,8 @@ use Rattle.log_rules.specs.order.Logs.{Damaged, Whole, read_frames, read_log}
 use Rattle.log_rules.specs.order.Orders.{SeenLog, after, nothing_seen}
 use Rattle.log_rules.specs.sound.Sound.{IsSound}
 use Rattle.log_rules.specs.sound.Written.{AreBytes}
+use Rattle.rec_log.specs.Sights.{body}
+use Rattle.rec_log.specs.Texts.{is_whole, records_in}
 
 -- what has been seen behind more, where it may stand so far
 abbrev pub and_then : Option SeenLog → (SeenLog → Option SeenLog) → Option SeenLog
@@ -86,3 +88,9 @@ abbrev pub OrderedIsRead : Type 0
 OrderedIsRead = (p : Kind) (ls : List LogRecord) → AllByRecursion (IsSound p) ls → MayFollow ls
     → (tail : List ℕ) → first_frame tail ≡ None
     → read_log p (header ++ (records_text ls ++ tail)) ≡ Whole ls (length tail)
+
+-- bytes that begin as a log does, that are whole frames of records to their end, and whose records may follow one another, are
+-- read as these records, and as damaged nowhere
+abbrev pub OrderedLogIsRead : Type 0
+OrderedLogIsRead = (p : Kind) (bytes : List ℕ) → take 5 bytes ≡ header → is_whole p 0 (body bytes) ≡ true
+    → MayFollow (records_in p 0 (body bytes)) → read_log p bytes ≡ Whole (records_in p 0 (body bytes)) 0

@@ -1,6 +1,6 @@
 //! Reading a log finds what is there.
 
-ghost use Rattle.log_grammar.specs.Grammar.{BytesReadAsText, OrderedIsRead};
+ghost use Rattle.log_grammar.specs.Grammar.{BytesReadAsText, OrderedIsRead, OrderedLogIsRead};
 
 /// The bytes behind a log's header read as records and a torn tail exactly where they are the text of these,
 /// and as damaged exactly at the first place where they are.
@@ -12,4 +12,9 @@ pub fn bytes_read_as_text()
 /// damaged; what is no whole frame behind them is read as a torn tail.
 pub fn ordered_records_are_read()
     ensures { OrderedIsRead }
+{}
+
+/// A log of whole frames whose records may follow one another is read as these records, and never as damaged.
+pub fn ordered_logs_are_read()
+    ensures { OrderedLogIsRead }
 {}

@@ -1,5 +1,6 @@
 //! The order of the records in a log.
 
+mod names;
 mod seen;
 
 pub use seen::Seen;

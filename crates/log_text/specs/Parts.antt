@@ -11,6 +11,7 @@ use Rattle.tree_model.specs.declared.names.Ticket.{Ticket}
 use Rattle.tree_model.specs.declared.names.Txn.{Txn}
 use Rattle.tree_model.specs.declared.records.Branch.{Branch}
 use Rattle.tree_model.specs.declared.records.Branch.TheVariants.{Case as CaseBranch, Foreign}
+use Rattle.tree_model.specs.declared.records.Reports.{Reports}
 use Rattle.tree_model.specs.declared.records.Write.{Write}
 use Rattle.tree_model.specs.Branches.{branch_parts}
 use Rattle.tree_model.specs.Records.{same_xid}
@@ -135,21 +136,46 @@ write_at bytes = write_by (key_at bytes)
 
 -- Lists.
 
--- so many of a kind, one behind the other, and nothing behind them
-abbrev pub and_more : {A : Type 0} → Front A → (List ℕ → Option (List A)) → Option (List A)
+-- a part in front of those that were read behind it
+abbrev pub with_first : {A : Type 0} → A → Front (List A) → Front (List A)
+with_first x o = option_map (λ p. (x ∷ p.0, p.1)) o
+
+-- so many of a kind, one behind the other, and the bytes behind them
+abbrev pub and_more : {A : Type 0} → Front A → (List ℕ → Front (List A)) → Front (List A)
 and_more None more = None
-and_more (Some p) more = option_map (λ xs. p.0 ∷ xs) (more p.1)
+and_more (Some p) more = with_first p.0 (more p.1)
 
--- so many parts, each read at the front of what the last one left, and nothing behind the last
-unfoldable pub all_of : {A : Type 0} → (List ℕ → Front A) → ℕ → List ℕ → Option (List A)
-all_of at zero [] = Some []
-all_of at zero (b ∷ bs) = None
-all_of at (suc n) bytes = and_more (at bytes) (all_of at n)
+-- so many parts, each read at the front of what the last one left, and the bytes behind the last
+unfoldable pub front_of : {A : Type 0} → (List ℕ → Front A) → ℕ → List ℕ → Front (List A)
+front_of at zero bytes = Some ([], bytes)
+front_of at (suc n) bytes = and_more (at bytes) (front_of at n)
 
--- tickets behind their number
+-- what was read, where nothing is behind it
+abbrev pub alone : {A : Type 0} → Front A → Option A
+alone None = None
+alone (Some p) = if length p.1 == 0 then Some p.0 else None
+
+-- so many parts, and nothing behind the last
+abbrev pub all_of : {A : Type 0} → (List ℕ → Front A) → ℕ → List ℕ → Option (List A)
+all_of at n bytes = alone (front_of at n bytes)
+
+-- tickets behind their number, and the bytes behind them
+abbrev pub tickets_at : List ℕ → Front (List Ticket)
+tickets_at [] = None
+tickets_at (count ∷ rest) = front_of ticket_at count rest
+
+-- tickets behind their number, and nothing behind them
 abbrev pub tickets_of : List ℕ → Option (List Ticket)
-tickets_of [] = None
-tickets_of (count ∷ rest) = all_of ticket_at count rest
+tickets_of bytes = alone (tickets_at bytes)
+
+-- what an End reports, where the mixed tickets were read: behind them the unreported ones, and nothing more
+abbrev pub reports_by : Front (List Ticket) → Option Reports
+reports_by None = None
+reports_by (Some p) = option_map (λ ts. record { mixed = p.0; unreported = ts }) (tickets_of p.1)
+
+-- what an End reports: the mixed tickets, and the unreported ones
+abbrev pub reports_of : List ℕ → Option Reports
+reports_of bytes = reports_by (tickets_at bytes)
 
 -- writes behind their number: 1 to 64
 abbrev pub writes_of : List ℕ → Option (List Write)

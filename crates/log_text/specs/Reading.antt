@@ -11,10 +11,10 @@ use Rattle.tree_model.specs.declared.records.Branch.{Branch}
 use Rattle.tree_model.specs.declared.records.Branch.TheVariants.{Case as CaseBranch, Foreign}
 use Rattle.tree_model.specs.declared.records.LogRecord.{LogRecord}
 use Rattle.tree_model.specs.declared.records.Record.{Record}
-use Rattle.tree_model.specs.declared.records.Record.TheVariants.{Opened, Collecting, Prepare, Commit, Abort, End, Prepared, Committed, RolledBack, Direct, HeurCommit, HeurRollback, Told, Forgot, Base, Pair}
+use Rattle.tree_model.specs.declared.records.Record.TheVariants.{Opened, Collecting, Prepare, Commit, Abort, End, Prepared, Committed, RolledBack, Direct, HeurCommit, HeurRollback, Told, Forgot, Base, Pair, Cleared}
 use Rattle.tree_model.specs.declared.records.Write.{Write}
 use Rattle.tree_model.specs.LogNames.{unnamed}
-use Rattle.log_text.specs.Parts.{Front, Name, name_at, tickets_of, writes_of, key_at, value_at}
+use Rattle.log_text.specs.Parts.{Front, Name, name_at, reports_of, tickets_of, writes_of, key_at, value_at}
 
 -- the number in just 8 bytes, below 2^63
 abbrev pub below : List ℕ → Option ℕ
@@ -33,11 +33,16 @@ listing kind c ts =
     if kind == 2 then Collecting c ts else if kind == 3 then Prepare c ts else if kind == 4 then Commit c ts
     else Abort c ts
 
--- a record of a case, with the tickets that are left behind its name; one that has what the root found, and one that
--- clears it, are not read yet
+-- a record that says nothing but its case
+abbrev pub alone_record : Option ProcessId → Record → List ℕ → Option LogRecord
+alone_record p r rest = if length rest == 0 then Some (named p r) else None
+
+-- a record of a case, with the tickets or the reports that are left behind its name
 abbrev pub case_record : ℕ → Option ProcessId → Case → List ℕ → Option LogRecord
 case_record kind p c rest =
-    if kind == 6 then (if length rest == 0 then Some (named p (End c None)) else None)
+    if kind == 6 then alone_record p (End c None) rest
+    else if kind == 7 then option_map (λ r. named p (End c (Some r))) (reports_of rest)
+    else if kind == 8 then alone_record p (Cleared c) rest
     else if nat_le 2 kind && nat_le kind 5
     then option_map (λ ts. named p (listing kind c ts)) (tickets_of rest)
     else None

@@ -1,12 +1,12 @@
 //! The parts of payloads, as they are read from the front.
 
 ghost use Rattle.std.specs.Prelude.{◌≡◌, option_map, IfOk, IfErr, None, Some, OnErr};
-ghost use Rattle.log_text.specs.Parts.{all_of, key_at, left_at, piece_at, ticket_at, tickets_of, value_at, write_at, writes_of};
+ghost use Rattle.log_text.specs.Parts.{all_of, front_of, key_at, left_at, piece_at, reports_of, ticket_at, tickets_at, tickets_of, value_at, write_at, writes_of};
 
 use crate::records::ReadFault;
 use byteorder::{BigEndian, ByteOrder};
 use std::alloc::{AllocError, Global};
-use tree_model::{Bytes, ProcessId, Sequence, Ticket, Tickets, Write, Writes};
+use tree_model::{Bytes, ProcessId, Reports, Sequence, Ticket, Tickets, Write, Writes};
 
 /// Numbers of boots and tickets are below this.
 pub const LIMIT: u64 = 1 << 63;
@@ -31,10 +31,10 @@ fn ticket_at(bytes: &[u8]) -> Option<(Ticket, &[u8])>
     }
 }
 
-/// So many tickets, with nothing behind them.
-fn tickets_in(count: u8, bytes: &[u8], alloc: Global) -> Result<Tickets, ReadFault>
-    ensures ok { IfOk result (λ tickets. all_of ticket_at count bytes.now ≡ Some tickets) }
-    ensures err { IfErr result (λ e. e ≡ ReadFault.Malformed → all_of ticket_at count bytes.now ≡ None) }
+/// So many tickets at the front, and the bytes behind them.
+fn tickets_front(count: u8, bytes: &[u8], alloc: Global) -> Result<(Tickets, &[u8]), ReadFault>
+    ensures ok { IfOk result (λ p. front_of ticket_at count bytes.now ≡ Some (p.0, p.1.now)) }
+    ensures err { IfErr result (λ e. e ≡ ReadFault.Malformed → front_of ticket_at count bytes.now ≡ None) }
 {
     let mut tickets = Vec::new(alloc);
     let mut rest = bytes;
@@ -45,10 +45,17 @@ fn tickets_in(count: u8, bytes: &[u8], alloc: Global) -> Result<Tickets, ReadFau
         tickets.push(ticket)?;
         rest = behind;
     }
-    if rest.is_empty() {
-        Ok(Sequence::from_vec(tickets))
-    } else {
-        Err(ReadFault::Malformed)
+    Ok((Sequence::from_vec(tickets), rest))
+}
+
+/// Tickets at the front behind their number, and the bytes behind them.
+fn tickets_at(bytes: &[u8], alloc: Global) -> Result<(Tickets, &[u8]), ReadFault>
+    ensures ok { IfOk result (λ p. tickets_at bytes.now ≡ Some (p.0, p.1.now)) }
+    ensures err { IfErr result (λ e. e ≡ ReadFault.Malformed → tickets_at bytes.now ≡ None) }
+{
+    match bytes {
+        [count, rest @ ..] => tickets_front(*count, rest, alloc),
+        [] => Err(ReadFault::Malformed),
     }
 }
 
@@ -57,10 +64,22 @@ pub fn tickets_of(bytes: &[u8], alloc: Global) -> Result<Tickets, ReadFault>
     ensures ok { IfOk result (λ tickets. tickets_of bytes.now ≡ Some tickets) }
     ensures err { IfErr result (λ e. e ≡ ReadFault.Malformed → tickets_of bytes.now ≡ None) }
 {
-    match bytes {
-        [count, rest @ ..] => tickets_in(*count, rest, alloc),
-        [] => Err(ReadFault::Malformed),
+    let (tickets, rest) = tickets_at(bytes, alloc)?;
+    if rest.is_empty() {
+        Ok(tickets)
+    } else {
+        Err(ReadFault::Malformed)
     }
+}
+
+/// What an End reports: the mixed tickets and the unreported ones, with nothing behind them.
+pub fn reports_of(bytes: &[u8], alloc: Global) -> Result<Reports, ReadFault>
+    ensures ok { IfOk result (λ reports. reports_of bytes.now ≡ Some reports) }
+    ensures err { IfErr result (λ e. e ≡ ReadFault.Malformed → reports_of bytes.now ≡ None) }
+{
+    let (mixed, rest) = tickets_at(bytes, alloc)?;
+    let unreported = tickets_of(rest, alloc)?;
+    Ok(Reports { mixed, unreported })
 }
 
 /// The first so many bytes, where there are as many, and the bytes behind them.

@@ -5,7 +5,7 @@ ghost use Rattle.log_text.specs.Parts.{key_at};
 ghost use Rattle.log_text.specs.Reading.{below, branch_record, case_record, pair_by, coordinator_record, manager_record, read_record};
 
 use crate::names::name_at;
-use crate::parts::{LIMIT, bytes_of, key_at, tickets_of, value_at, writes_of};
+use crate::parts::{LIMIT, bytes_of, key_at, reports_of, tickets_of, value_at, writes_of};
 use byteorder::{BigEndian, ByteOrder};
 use std::alloc::{AllocError, AllocFailed, Global};
 use tree_model::{Branch, Case, Kind, LogRecord, Outcome, ProcessId, Record};
@@ -69,6 +69,8 @@ fn case_record(
         0x04 => Record::Commit(case, tickets_of(rest, alloc)?),
         0x05 => Record::Abort(case, tickets_of(rest, alloc)?),
         0x06 if rest.is_empty() => Record::End(case, None),
+        0x07 => Record::End(case, Some(reports_of(rest, alloc)?)),
+        0x08 if rest.is_empty() => Record::Cleared(case),
         _ => return Err(ReadFault::Malformed),
     };
     Ok(LogRecord { entry, parent })

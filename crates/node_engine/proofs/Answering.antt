@@ -1,6 +1,6 @@
 -- What comes of a line.
-use Rattle.std.proofs.Common.{◌≡◌, ◌∙◌, ◌+◌, ℕ, Bool, true, false, cond, Result, Ok, Err, List, inl, refl, ap, sym, subst}
-use Rattle.std.specs.Prelude.{IfOk, OnErr, OnOk, length}
+use Rattle.std.proofs.Common.{◌≡◌, ◌∙◌, ℕ, Bool, true, false, Result, Ok, Err, List, inl, refl, ap, sym, subst}
+use Rattle.std.specs.Prelude.{IfOk, OnErr, OnOk}
 use Rattle.std.specs.Str.{IsUtf8}
 use Rattle.tree_model.specs.declared.names.ProcessId.{ProcessId}
 use Rattle.tree_model.specs.declared.events.Input.{Input}
@@ -21,7 +21,7 @@ use Rattle.tree_node.proofs.Same.{rests, same_core}
 use Rattle.node_lines.specs.declared.asked.Asked.{Asked}
 use Rattle.node_lines.specs.declared.asked.Asked.TheVariants as asked
 use Rattle.node_lines.specs.Asked.{asked_at}
-use Rattle.node_engine.specs.Answers.{Answers, AnswersFor, AnswersInput, AnswersLine, AnswersTrim, IsRefusal, NodeState, Shows, Takes, TakesFor, TakesIf, TakesInput, TakesLine, TakesTrim, Tells}
+use Rattle.node_engine.specs.Answers.{Answers, AnswersFor, AnswersInput, AnswersLine, AnswersTrim, IsRefusal, NodeState, Shows, Takes, TakesFor, TakesIf, TakesInput, TakesLine, TakesTrim}
 use Rattle.node_answers.specs.Texts.{refused_text}
 
 -- the same node, whose process keeps this

@@ -3,7 +3,7 @@ use Rattle.std.specs.Prelude.{◌≡◌, ◌-◌, ◌⊎◌, ℕ, if◌then◌el
 use Rattle.std.specs.List.{AllByRecursion, flat_map}
 use Rattle.std.specs.Io.{StopsAt}
 use Rattle.std.specs.Io.BufRead.{strip_last, ends_with_byte}
-use Rattle.std.specs.Io.KnownBytes.{Appends, Consumes, Keeps}
+use Rattle.std.specs.Io.KnownBytes.{Appends, Consumes}
 use Rattle.tree_model.specs.declared.events.Reaction.{Reaction}
 use Rattle.report_io.specs.Streams.{WritesFront}
 use Rattle.node_engine.specs.declared.failure.NodeFailure.{NodeFailure}

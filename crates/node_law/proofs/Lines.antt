@@ -1,5 +1,5 @@
 -- A line that a node answered, or did not answer, is a step of one of the tree's programs.
-use Rattle.std.proofs.Common.{◌≡◌, ◌≢◌, ◌∙◌, ap, sym, subst, refl, inl, inr, ℕ, Bool, true, false, Option, Some, None, List, Result, Ok, Err}
+use Rattle.std.proofs.Common.{◌≡◌, ◌∙◌, ap, sym, subst, refl, inl, inr, ℕ, Bool, true, false, Option, Some, None, List, Result, Ok, Err}
 use Rattle.tree_model.specs.declared.names.ProcessId.{ProcessId}
 use Rattle.tree_model.specs.declared.messages.Envelope.{Envelope}
 use Rattle.tree_model.specs.declared.events.Happening.TheVariants.{Input as Handles}
@@ -13,9 +13,8 @@ use Rattle.tree_model.specs.NameLaws.{same_process_tells}
 use Rattle.tree_model.specs.Plays.{process_of_act}
 use Rattle.tree_model.specs.World.{InputStands, IsSent}
 use Rattle.core_model.specs.States.{CoreState, SameCore}
-use Rattle.core_law.specs.Steps.{trim_reaction}
-use Rattle.core_law.specs.worlds.Worlds.{Enters, HandlesInput, MovesNode, Same, SameNode, TrimsData, WorldState}
-use Rattle.manager_model.specs.Data.{ManagerData, Rests}
+use Rattle.core_law.specs.worlds.Worlds.{Enters, HandlesInput, MovesNode, SameNode, TrimsData, WorldState}
+use Rattle.manager_model.specs.Data.{Rests}
 use Rattle.tree_node.specs.Nodes.{NotHandled}
 use Rattle.tree_node.specs.Restarts.{NoTrim}
 use Rattle.tree_node.proofs.Same.{rests, same_core}

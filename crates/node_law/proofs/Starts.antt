@@ -1,36 +1,35 @@
 -- A node that starts over the file of one before it is a step of one of the tree's programs.
-use Rattle.std.proofs.Common.{◌≡◌, ◌∙◌, ap, sym, subst, refl, inl, inr, ℕ, Bool, true, false, cond, if◌then◌else◌, Option, Some, None, List, [], ◌∷◌, ◌++◌, option_map, find}
+use Rattle.std.proofs.Common.{◌≡◌, ◌≢◌, ◌∙◌, ap, sym, subst, refl, inl, inr, ℕ, Bool, true, false, cond, if◌then◌else◌, Option, Some, List, [], ◌∷◌, ◌++◌, find}
 use Rattle.tree_model.specs.declared.names.Case.{Case}
-use Rattle.tree_model.specs.declared.names.Kind.{Kind}
+use Rattle.tree_model.specs.declared.names.Outcome.{Outcome}
 use Rattle.tree_model.specs.declared.names.ProcessId.{ProcessId}
 use Rattle.tree_model.specs.declared.records.LogRecord.{LogRecord}
 use Rattle.tree_model.specs.declared.events.Reaction.{Reaction}
 use Rattle.tree_model.specs.declared.records.Record.{Record}
 use Rattle.tree_model.specs.declared.records.Record.TheVariants.{Opened}
+use Rattle.tree_model.specs.declared.standings.Standing.TheVariants.{Heuristic}
 use Rattle.tree_model.specs.declared.trees.TreeEntry.{TreeEntry}
 use Rattle.tree_model.specs.Names.{same_process}
 use Rattle.tree_model.specs.NameLaws.{same_process_tells}
 use Rattle.tree_model.specs.LogNames.{own_records}
 use Rattle.tree_model.specs.Nodes.{AtLeaf, AtRoot, Below, Place, Role, place_of, role_by, role_of}
 use Rattle.tree_model.specs.Records.{boot_of, cases_in}
-use Rattle.tree_model.specs.Restarts.{reopens}
+use Rattle.tree_model.specs.Restarts.{recorded_branch, reopens}
 use Rattle.tree_model.specs.SameViews.{SameView}
-use Rattle.tree_model.specs.Standings.{CoordinatorView}
+use Rattle.tree_model.specs.Standings.{CoordinatorView, ManagerView, mark_of}
 use Rattle.tree_model.proofs.LogNameLaws.{reads_back}
 use Rattle.log_rules.specs.order.Logs.{Whole}
 use Rattle.rec_log.specs.Sights.{LogSight, left_by, records_of}
 use Rattle.core_model.specs.States.{CoreState, SameCore, forced_sight, logged}
 use Rattle.core_model.specs.Opening.{IsOpened as OpensAt, first_opened}
-use Rattle.core_model.specs.Restarting.{LeftSo, ReadOff, Restarts, read_of, recorded_branch_at, recorded_view_at, restarted_log}
-use Rattle.core_law.specs.Steps.{restart_of}
+use Rattle.core_model.specs.Restarting.{ReadOff, Restarts, read_of, recorded_branch_at, recorded_view_at, restarted_log}
 use Rattle.core_law.specs.worlds.Worlds.{RestartsData, SameNode, WorldState}
 use Rattle.manager_model.specs.Data.{ManagerData}
-use Rattle.tree_node.specs.Reopenings.{ReopensAs, kind_by}
 use Rattle.tree_node.proofs.Reopened.{all_left}
-use Rattle.node_lives.specs.Lives.{LifeStep, counted, counted_at, counted_log}
+use Rattle.node_lives.specs.Lives.{LifeStep, anew_at, counted, counted_at, counted_log, saying}
 use Rattle.node_lives.specs.Lives as lives
-use Rattle.node_law.specs.Nodes.{Keeps, Started, StartedFirst}
-use Rattle.node_law.proofs.Lines.{same_as_it_is, same_here}
+use Rattle.node_law.specs.Nodes.{Started, StartedFirst}
+use Rattle.node_law.proofs.Lines.{same_as_it_is}
 
 -- Where a listed process sits.
 
@@ -73,6 +72,26 @@ counted_is q n s c stood = elim (same_process_tells q q) [
 counted_others : (q : ProcessId) (n : ℕ) (s : WorldState) (p : ProcessId) → same_process q p ≡ false
     → (counted_at q n s).node_at p ≡ s.node_at p
 counted_others q n s p away = rw away refl
+
+anew_is : (q : ProcessId) (n : ℕ) (said : Case → Option Outcome) (s : WorldState) (c : CoreState)
+    → s.node_at q ≡ Some c → (anew_at q n said s).node_at q ≡ Some (saying (counted c n) said)
+anew_is q n said s c stood = elim (same_process_tells q q) [
+  | inl t ↦ rw (t.0, stood) refl
+  | inr z ↦ absurd (z.1 refl)
+]
+
+anew_others : (q : ProcessId) (n : ℕ) (said : Case → Option Outcome) (s : WorldState) (p : ProcessId)
+    → same_process q p ≡ false → (anew_at q n said s).node_at p ≡ s.node_at p
+anew_others q n said s p away = rw away refl
+
+one_process : (q p : ProcessId) → same_process q p ≡ true → q ≡ p
+one_process q p there = elim (same_process_tells q p) [
+  | inl y ↦ y.1
+  | inr z ↦ absurd (let clash : true ≡ false = sym there ∙ z.0 in cc)
+]
+
+same_core_is : (a b : CoreState) → Some a ≡ Some b → a ≡ b
+same_core_is a b e = cc
 
 -- what each process is sits where the tree has it
 abbrev pub IsPlaced : WorldState → Type 0
@@ -145,11 +164,13 @@ alike v w u h k = record {
   promised = h.promised ∙ sym k.promised;
   named = λ t. h.named t ∙ sym (k.named t);
   owed = λ t. h.owed t ∙ sym (k.owed t);
+  found = h.found ∙ sym k.found;
 }
 
--- two processes that have opened and heard nothing are the same, but for the counts of failures
+-- two processes that have opened and heard nothing are the same, but for the counts of failures, and for what
+-- is said of branches that no operator decided
 module _ (c d : CoreState) (m n : ℕ) (place : Place) where
-  same_opened : OpensAt c place m → OpensAt d place n → SameCore (counted c n) d
+  same_opened : OpensAt c place m → OpensAt d place n → SameCore (saying (counted c n) d.decided_of) d
   same_opened h k =
       let at : d.place ≡ c.place = k.place_is ∙ sym h.place_is in
       record {
@@ -166,8 +187,21 @@ module _ (c d : CoreState) (m n : ℕ) (place : Place) where
               (h.read.views x);
           branches = λ x. k.read.branches x
               ∙ (ap (λ (p : Place). recorded_branch_at p.role (Opened 1 ∷ []) x) at ∙ sym (h.read.branches x));
+          decided = λ x. refl;
         };
       }
+
+-- where a process has opened and heard nothing no operator decided a branch
+none_decided : (role : Role) (x : Case) → (recorded_branch_at role (Opened 1 ∷ []) x).standing ≢ Heuristic
+unfolding recorded_branch mark_of
+none_decided AtRoot x h = absurd (cc)
+none_decided (Below p) x h = absurd (cc)
+none_decided (AtLeaf p) x h = absurd (cc)
+
+undecided_at : (c : CoreState) (place : Place) (n : ℕ) → OpensAt c place n → (x : Case)
+    → (c.branch_of x).standing ≢ Heuristic
+undecided_at c place n opened x is = none_decided c.place.role x
+    (ap (λ (v : ManagerView). v.standing) (sym (opened.read.branches x)) ∙ is)
 
 -- a process that sits there, and left no record
 abbrev nobody : CoreState → ℕ → CoreState
@@ -197,17 +231,24 @@ started_first s t h =
     r.restarts old (record { place_is = at; failures_are = refl }) 0 (none ∙ empty) in
     let opened : OpensAt h.new.core (place_of s.tree q) n =
     opens_again old h.new.core (place_of s.tree q) n h.opening h.heard_nothing.place_is refl none restarts in
-    let same : SameCore (counted h.before n) h.new.core =
+    let said = h.new.core.decided_of in
+    let same : SameCore (saying (counted h.before n) said) h.new.core =
     same_opened h.before h.new.core h.counted n (place_of s.tree q) h.heard_nothing opened in
-    let stood = counted_is q n s h.before h.was in
+    let stood = anew_is q n said s h.before h.was in
     let stands : t.node_at q ≡ Some h.new.core = ap (λ p. t.node_at p) (sym h.same) ∙ h.is.core in
     lives.begins_anew q n (record {
       tree = h.alone.tree;
+      undecided = λ p c there was.
+          let here : s.node_at q ≡ Some c = ap s.node_at (one_process q p there) ∙ was in
+          let is : h.before ≡ c = same_core_is h.before c (sym h.was ∙ here) in
+          subst (λ (b : CoreState). (x : Case) → (b.branch_of x).standing ≢ Heuristic) is
+          (undecided_at h.before (place_of s.tree q) h.counted h.heard_nothing);
+      said = said;
       nodes = λ p. elim (same_process_tells q p) [
-        | inl y ↦ subst (λ x. SameNode ((counted_at q n s).node_at x) (t.node_at x)) y.1
+        | inl y ↦ subst (λ x. SameNode ((anew_at q n said s).node_at x) (t.node_at x)) y.1
             (subst (λ o. SameNode o (t.node_at q)) (sym stood)
-            (subst (λ o. SameNode (Some (counted h.before n)) o) (sym stands) same))
-        | inr z ↦ subst (λ o. SameNode o (t.node_at p)) (sym (counted_others q n s p z.0))
+            (subst (λ o. SameNode (Some (saying (counted h.before n) said)) o) (sym stands) same))
+        | inr z ↦ subst (λ o. SameNode o (t.node_at p)) (sym (anew_others q n said s p z.0))
             (subst (λ o. SameNode (s.node_at p) o) (sym (h.alone.others p z.0)) (same_as_it_is (s.node_at p)))
       ];
       net = h.silent.net;

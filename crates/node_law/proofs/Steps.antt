@@ -1,5 +1,5 @@
 -- What the nodes of a tree come to stands for a run.
-use Rattle.std.proofs.Common.{◌≡◌, ◌∙◌, sym, subst, refl, ℕ, Some, List, [], ◌++◌}
+use Rattle.std.proofs.Common.{◌≡◌, sym, subst, refl, List, [], ◌++◌}
 use Rattle.tree_model.specs.declared.trees.TreeEntry.{TreeEntry}
 use Rattle.tree_model.specs.Trees.{IsTree}
 use Rattle.tree_model.specs.World.{Made, World, opened_world}
@@ -7,7 +7,7 @@ use Rattle.core_law.specs.worlds.Worlds.{WorldState}
 use Rattle.core_law.specs.worlds.Ties.{FollowsBehindFaults, entered_of}
 use Rattle.core_law.proofs.worlds.Events.{GoesOnIn, then_on, waits}
 use Rattle.core_law.proofs.worlds.Journals.{opened_behind_faults}
-use Rattle.core_law.proofs.worlds.Whole.{modelled_behind_faults}
+use Rattle.core_law.proofs.worlds.Whole.{keeps_headline}
 use Rattle.node_lives.specs.Lives.{LifeStep}
 use Rattle.node_lives.specs.Lives as lives
 use Rattle.node_lives.proofs.Lives.{step_on}
@@ -52,8 +52,7 @@ nodes_so tree s t is_tree opened steps =
     let start = opened_behind_faults tree s opened in
     let end = nodes_on tree is_tree s [] opened_world opened.tree_is start t steps in
     let on = end.goes_on_so in
-    record {
+    keeps_headline t (record {
+      is_tree = subst IsTree (sym end.tree_stays) is_tree;
       run = record { moves = on.later ++ []; world = on.world; follows = on.follows };
-      headline = modelled_behind_faults t (on.later ++ []) on.world
-          (subst IsTree (sym end.tree_stays) is_tree) on.follows;
-    }
+    })

@@ -1,1 +1,2 @@
+pub mod FindingLaws
 pub mod MessageLaws

@@ -1,5 +1,5 @@
 -- Texts of messages: what is read is spelled so, and what is spelled so is read.
-use Rattle.std.proofs.Common.{◌≡◌, ◌^◌, ◌<◌, ℕ, true, false, cond, eqb, Option, Some, None, List, [], ◌∷◌, ◌++◌, refl, ap, sym, subst, ◌∙◌, arith, inl, inr, codes, append_assoc}
+use Rattle.std.proofs.Common.{◌≡◌, ◌^◌, ◌<◌, ℕ, true, false, eqb, Option, Some, None, List, [], ◌∷◌, ◌++◌, refl, ap, sym, subst, ◌∙◌, arith, inl, inr, codes, append_assoc}
 use Rattle.std.specs.Fmt.{decimal}
 use Rattle.std.proofs.lemmas.List.{append-nil}
 use Rattle.std.proofs.lemmas.Bool.{cases_eq}
@@ -13,22 +13,23 @@ use Rattle.tree_model.specs.declared.names.Outcome.{Outcome}
 use Rattle.tree_model.specs.declared.names.Outcome.TheVariants.{Committed, Aborted}
 use Rattle.tree_model.specs.declared.names.Case.{Case}
 use Rattle.tree_model.specs.declared.names.Ticket.{Ticket}
-use Rattle.tree_model.specs.declared.messages.Finding.{Finding}
 use Rattle.tree_model.specs.declared.messages.Op.{Op}
 use Rattle.tree_model.specs.declared.messages.Envelope.{Envelope}
 use Rattle.tree_model.specs.declared.messages.Message.{Message}
 use Rattle.tree_model.specs.declared.messages.Message.TheVariants.{Join, Joined, Work, Prepare, Yes, No, Read, Commit, Abort, Ack, Inquire}
-use Rattle.tree_model.specs.Texts.{case_text, ticket_text, op_text, outcome_word, message_text, findings_text, envelope_text}
+use Rattle.tree_model.specs.Texts.{case_text, ticket_text, op_text, outcome_word, message_text, findings_text}
 use Rattle.link_script.specs.Names.{after_at, process_at, case_at, ticket_at}
 use Rattle.link_script.specs.Spellings.{process_text, FitsProcess, FitsCase, FitsOp, FitsTicket, ReadIsSpelled, SpelledIsRead}
-use Rattle.link_script.proofs.Misses.{bind_some, misses, misses_append, misses_without, decimal_misses, same_tells, blank, IsMark}
+use Rattle.link_script.proofs.Misses.{bind_some, cut_none, misses, misses_append, misses_without, decimal_misses, same_tells, blank, IsMark}
 use Rattle.link_script.proofs.NameLaws.{process_takes, process_again, process_misses, ticket_takes, ticket_again, case_takes, case_again}
 use Rattle.link_script.proofs.LineLaws.{chosen, two_words, three_words, two_form, three_form, case_cut, op_takes, op_again}
 use Rattle.script_words.specs.Steps.{same}
 use Rattle.script_words.specs.Operations.{op_at}
-use Rattle.node_lines.specs.Messages.{joined_at, work_at, prepare_at, ending_at, ack_at, of_case, plain_at, message_parts, message_at}
+use Rattle.node_lines.specs.Findings.{found_at}
+use Rattle.node_lines.specs.Messages.{joined_at, work_at, prepare_at, ending_at, or_whole, first_word, ack_words_at, ack_found, ack_at, of_case, plain_at, message_parts, message_at}
 use Rattle.node_lines.specs.Lines.{way_at, head_at, with_head, line_at}
 use Rattle.node_lines.specs.Spellings.{FitsMessage, FitsLine, spelled_line}
+use Rattle.node_lines.proofs.FindingLaws.{FitsTickets, behind, behind_text, both_text, both_words, found_again, found_takes, in_parts, mixed_first, text_of}
 
 -- The forms: what is read.
 
@@ -75,24 +76,35 @@ ending_takes w o h =
     (same_tells w (codes "abort") is))
     (λ _ none. absurd cc))
 
--- behind an acknowledgement that found nothing stands nothing
-ack_text : (t : List ℕ) → t ≡ t ++ findings_text []
-unfolding findings_text
-ack_text t = sym (append-nil t)
+first_takes : (text : List ℕ) (o : Option (List ℕ × List ℕ)) → cut_at 32 text ≡ o
+    → text ≡ (or_whole text o).0 ++ behind_text (or_whole text o).1
+first_takes text None e = sym (append-nil text)
+first_takes text (Some p) e = cut_takes 32 text p e
+
+ack_joined : (rest a b w x y t f : List ℕ) → rest ≡ a ++ 32 ∷ b → a ≡ x → b ≡ w ++ t → w ≡ y → t ≡ f
+    → codes "ACK " ++ rest ≡ codes "ACK " ++ x ++ codes " " ++ y ++ f
+ack_joined rest a b w x y t f e d g h k = rw (e, d, g, h, k) (simp append_assoc)
 
 ack_takes : (root : ProcessId) (rest : List ℕ) (m : Message) → ack_at root rest ≡ Some m
     → Text root (codes "ACK " ++ rest) m
-unfolding ack_at
+unfolding ack_words_at
 ack_takes root rest m h =
-    let a = bind_some (cut_at 32 rest) _ m h in
-    let b = bind_some (case_at root a.0.0) _ m a.2 in
-    let c = bind_some (ending_at a.0.1) _ m b.2 in
+    let o = bind_some (ack_words_at root rest) _ m h in
+    let a = bind_some (cut_at 32 rest) _ o.0 o.1 in
+    let b = bind_some (case_at root a.0.0) _ o.0 a.2 in
+    let c = bind_some (ending_at (first_word a.0.1).0) _ o.0 b.2 in
+    let words : (b.0, c.0, (first_word a.0.1).1) ≡ o.0 = some_is (b.0, c.0, (first_word a.0.1).1) o.0 c.2 in
+    let found : ack_found (b.0, c.0, (first_word a.0.1).1) ≡ Some m =
+    subst (λ (p : Case × Outcome × Option (List ℕ)). ack_found p ≡ Some m) (sym words) o.2 in
+    let d = bind_some (found_at (first_word a.0.1).1) _ m found in
     let case = case_takes root a.0.0 b.0 b.1 in
-    subst (λ (x : Message). Text root (codes "ACK " ++ rest) x) (some_is (Ack b.0 c.0 []) m c.2) (
-      two_words (codes "ACK ") rest a.0.0 a.0.1 (case_text b.0) (outcome_word c.0)
-          (cut_takes 32 rest a.0 a.1) case.0 (ending_takes a.0.1 c.0 c.1)
-          ∙ ack_text (codes "ACK " ++ case_text b.0 ++ codes " " ++ outcome_word c.0),
-      record { case_fits = case.1; nothing_found = refl },
+    let is = found_takes (first_word a.0.1).1 d.0 d.1 in
+    subst (λ (x : Message). Text root (codes "ACK " ++ rest) x) (some_is (Ack b.0 c.0 d.0) m d.2) (
+      ack_joined rest a.0.0 a.0.1 (first_word a.0.1).0 (case_text b.0) (outcome_word c.0)
+          (behind_text (first_word a.0.1).1) (findings_text d.0)
+          (cut_takes 32 rest a.0 a.1) case.0 (first_takes a.0.1 (cut_at 32 a.0.1) refl)
+          (ending_takes (first_word a.0.1).0 c.0 c.1) is.spelled,
+      record { case_fits = case.1; findings_fit = is.fit; findings_ordered = is.ordered },
     )
 
 work_takes : (root : ProcessId) (rest : List ℕ) (m : Message) → work_at root rest ≡ Some m
@@ -158,12 +170,10 @@ plain_takes root word rest m h =
     (λ _ h7. chosen (Text root (word ++ 32 ∷ rest) m) (same word (codes "ABORT")) _ _ m h7
     (λ is here. under root word rest m (codes "ABORT") is
     (of_case_takes root (codes "ABORT") rest (λ c. Abort c) (λ c. refl) (λ c f. f) m here))
-    (λ _ h8. chosen (Text root (word ++ 32 ∷ rest) m) (same word (codes "ACK")) _ _ m h8
-    (λ is here. under root word rest m (codes "ACK") is (ack_takes root rest m here))
-    (λ _ h9. chosen (Text root (word ++ 32 ∷ rest) m) (same word (codes "INQUIRE")) _ _ m h9
+    (λ _ h8. chosen (Text root (word ++ 32 ∷ rest) m) (same word (codes "INQUIRE")) _ _ m h8
     (λ is here. under root word rest m (codes "INQUIRE") is
     (of_case_takes root (codes "INQUIRE") rest (λ c. Inquire c) (λ c. refl) (λ c f. f) m here))
-    (λ _ none. absurd cc))))))))))
+    (λ _ none. absurd cc)))))))))
 
 message_read : (root : ProcessId) (w : List ℕ) (o : Option (List ℕ × List ℕ)) → cut_at 32 w ≡ o
     → (m : Message) → message_parts root o ≡ Some m → Text root w m
@@ -172,7 +182,9 @@ message_read root w (Some p) cut m h =
     subst (λ (v : List ℕ). Text root v m) (sym (cut_takes 32 w p cut))
     (chosen (Text root (p.0 ++ 32 ∷ p.1) m) (same p.0 (codes "WORK")) _ _ m h
     (λ is here. under root p.0 p.1 m (codes "WORK") is (work_takes root p.1 m here))
-    (λ _ here. plain_takes root p.0 p.1 m here))
+    (λ _ other. chosen (Text root (p.0 ++ 32 ∷ p.1) m) (same p.0 (codes "ACK")) _ _ m other
+    (λ is here. under root p.0 p.1 m (codes "ACK") is (ack_takes root p.1 m here))
+    (λ _ here. plain_takes root p.0 p.1 m here)))
 
 pub message_takes : (root : ProcessId) → ReadIsSpelled (message_at root) message_text (FitsMessage root)
 unfolding message_at
@@ -190,11 +202,37 @@ prepare_again : (root : ProcessId) (c : Case) (n : ℕ) → FitsCase root c → 
 unfolding prepare_at
 prepare_again root c n f g = rw (case_cut root c (decimal n) f, case_again root c f, number_again n g) refl
 
-ack_again : (root : ProcessId) (c : Case) (o : Outcome) → FitsCase root c
-    → ack_at root (case_text c ++ 32 ∷ outcome_word o) ≡ Some (Ack c o [])
-unfolding ack_at
-ack_again root c Committed f = rw (case_cut root c (codes "commit") f, case_again root c f) refl
-ack_again root c Aborted f = rw (case_cut root c (codes "abort") f, case_again root c f) refl
+-- the first word in front of words without a blank
+first_again : (w : List ℕ) (ws : List (List ℕ)) → misses 32 w ≡ true → first_word (w ++ behind ws) ≡ (w, text_of ws)
+first_again w [] h = rw (append-nil w, cut_none 32 w h) refl
+first_again w (v ∷ ws) h = rw (cut_again 32 w (v ++ behind ws) (misses_without 32 w h)) refl
+
+ending_again : (o : Outcome) → ending_at (outcome_word o) ≡ Some o
+ending_again Committed = refl
+ending_again Aborted = refl
+
+ending_misses : (o : Outcome) → misses 32 (outcome_word o) ≡ true
+ending_misses Committed = refl
+ending_misses Aborted = refl
+
+ack_words_again : (root : ProcessId) (c : Case) (o : Outcome) (ws : List (List ℕ)) → FitsCase root c
+    → ack_words_at root (case_text c ++ 32 ∷ (outcome_word o ++ behind ws)) ≡ Some (c, o, text_of ws)
+unfolding ack_words_at
+ack_words_again root c o ws f =
+    rw (
+      case_cut root c (outcome_word o ++ behind ws) f,
+      case_again root c f,
+      first_again (outcome_word o) ws (ending_misses o),
+      ending_again o,
+    ) refl
+
+ack_again : (root : ProcessId) (c : Case) (o : Outcome) (ms us : List Ticket) → FitsCase root c → FitsTickets ms
+    → FitsTickets us
+    → ack_at root (case_text c ++ 32 ∷ (outcome_word o ++ findings_text (mixed_first ms us)))
+    ≡ Some (Ack c o (mixed_first ms us))
+ack_again root c o ms us f g h =
+    ap (λ t. ack_at root (case_text c ++ 32 ∷ (outcome_word o ++ t))) (both_text ms us)
+    ∙ rw (ack_words_again root c o (both_words ms us) f, found_again ms us g h) refl
 
 number_cut : (n : ℕ) (rest : List ℕ) → n < 2 ^ 64 → cut_at 32 (decimal n ++ 32 ∷ rest) ≡ Some (decimal n, rest)
 number_cut n rest fits = cut_again 32 (decimal n) rest
@@ -218,14 +256,16 @@ text_by : (root : ProcessId) (word rest : List ℕ) (m : Message) → misses 32 
 unfolding message_at
 text_by root word rest m free h = rw (cut_again 32 word rest (misses_without 32 word free)) h
 
-found_nothing : (root : ProcessId) (c : Case) (o : Outcome) → FitsCase root c
-    → message_at root (message_text (Ack c o [])) ≡ Some (Ack c o [])
-unfolding plain_at
-found_nothing root c o f =
-    ap (message_at root) (sym (ack_text (codes "ACK " ++ case_text c ++ codes " " ++ outcome_word o))
-    ∙ two_form (codes "ACK ") (case_text c) (outcome_word o))
-    ∙ text_by root (codes "ACK") (case_text c ++ 32 ∷ outcome_word o) (Ack c o []) refl
-    (ack_again root c o f)
+ack_form : (c o t : List ℕ) → codes "ACK " ++ c ++ codes " " ++ o ++ t ≡ codes "ACK " ++ (c ++ 32 ∷ (o ++ t))
+ack_form c o t = simp append_assoc
+
+found_so : (root : ProcessId) (c : Case) (o : Outcome) → FitsCase root c → (ms us : List Ticket) → FitsTickets ms
+    → FitsTickets us
+    → message_at root (message_text (Ack c o (mixed_first ms us))) ≡ Some (Ack c o (mixed_first ms us))
+found_so root c o f ms us g h =
+    ap (message_at root) (ack_form (case_text c) (outcome_word o) (findings_text (mixed_first ms us)))
+    ∙ text_by root (codes "ACK") (case_text c ++ 32 ∷ (outcome_word o ++ findings_text (mixed_first ms us)))
+    (Ack c o (mixed_first ms us)) refl (ack_again root c o ms us f g h)
 
 pub message_again : (root : ProcessId) → SpelledIsRead (message_at root) message_text (FitsMessage root)
 unfolding plain_at
@@ -254,8 +294,8 @@ message_again root (Commit c) f = text_by root (codes "COMMIT") (case_text c) (C
 message_again root (Abort c) f = text_by root (codes "ABORT") (case_text c) (Abort c) refl
     (rw (case_again root c f) refl)
 message_again root (Ack c o fs) f =
-    subst (λ (gs : List Finding). message_at root (message_text (Ack c o gs)) ≡ Some (Ack c o gs))
-    (sym f.nothing_found) (found_nothing root c o f.case_fits)
+    in_parts (λ gs. message_at root (message_text (Ack c o gs)) ≡ Some (Ack c o gs)) fs
+    f.findings_fit f.findings_ordered (found_so root c o f.case_fits)
 message_again root (Inquire c) f = text_by root (codes "INQUIRE") (case_text c) (Inquire c) refl
     (rw (case_again root c f) refl)
 

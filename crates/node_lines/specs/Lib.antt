@@ -1,3 +1,4 @@
+pub mod Findings
 pub mod Messages
 pub mod Lines
 pub mod Spellings

@@ -1,13 +1,15 @@
 -- Which messages have a text that is read back, and a line.
-use Rattle.std.specs.Prelude.{◌≡◌, ◌<◌, ◌^◌, ℕ, List, []}
+use Rattle.std.specs.Prelude.{◌≡◌, ◌<◌, ◌^◌, ℕ, List, [], ◌∷◌}
 use Rattle.tree_model.specs.declared.names.Case.{Case}
 use Rattle.tree_model.specs.declared.names.ProcessId.{ProcessId}
 use Rattle.tree_model.specs.declared.names.Ticket.{Ticket}
 use Rattle.tree_model.specs.declared.messages.Envelope.{Envelope}
 use Rattle.tree_model.specs.declared.messages.Finding.{Finding}
+use Rattle.tree_model.specs.declared.messages.Finding.TheVariants.{Mixed, Unreported}
 use Rattle.tree_model.specs.declared.messages.Message.{Message}
 use Rattle.tree_model.specs.declared.messages.Message.TheVariants.{Join, Joined, Work, Prepare, Yes, No, Read, Commit, Abort, Ack, Inquire}
 use Rattle.tree_model.specs.declared.messages.Op.{Op}
+use Rattle.tree_model.specs.Records.{in_order}
 use Rattle.tree_model.specs.Texts.{envelope_text}
 use Rattle.link_script.specs.Spellings.{FitsCase, FitsOp, FitsProcess, FitsTicket}
 
@@ -27,10 +29,17 @@ pub record FitsPrepare (root : ProcessId) (c : Case) (count : ℕ) : Type 0 wher
   pub case_fits : FitsCase root c
   pub count_fits : count < 2 ^ 64
 
--- what an `ACK` names has a spelling, and it found nothing
+-- what was found has a spelling
+abbrev pub FitsFindings : List Finding → Type 0
+FitsFindings [] = Unit {0}
+FitsFindings (Mixed t ∷ fs) = FitsTicket t × FitsFindings fs
+FitsFindings (Unreported t ∷ fs) = FitsTicket t × FitsFindings fs
+
+-- what an `ACK` names has a spelling, and what it found stands in the order of its text
 pub record FitsAck (root : ProcessId) (c : Case) (fs : List Finding) : Type 0 where
   pub case_fits : FitsCase root c
-  pub nothing_found : fs ≡ []
+  pub findings_fit : FitsFindings fs
+  pub findings_ordered : in_order fs ≡ fs
 
 -- what a message names has a spelling, and it is of a transaction of this root
 abbrev pub FitsMessage : ProcessId → Message → Type 0

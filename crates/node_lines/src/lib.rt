@@ -5,6 +5,7 @@
 #![tactic(auto)]
 
 mod asked;
+mod findings;
 pub mod law;
 mod line;
 mod message;

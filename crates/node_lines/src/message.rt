@@ -3,7 +3,10 @@
 ghost use Rattle.std.specs.Prelude.{◌≡◌, IfOk, option_map};
 ghost use Rattle.node_lines.specs.Messages.{
   ack_at,
+  ack_view,
+  ack_words_at,
   ending_at,
+  first_word,
   joined_at,
   message_at,
   plain_at,
@@ -12,12 +15,13 @@ ghost use Rattle.node_lines.specs.Messages.{
   work_view,
 };
 
+use crate::findings::found_in;
 use link_script::{case_of, ticket_of};
 use script_words::{Task, task_of};
 use spellings::numeral::number_of;
 use spellings::word::cut;
 use std::alloc::{AllocError, Global};
-use tree_model::{Case, Findings, Message, Outcome, ProcessId};
+use tree_model::{Case, Message, Outcome, ProcessId};
 
 /// The message of a transaction of this root that a text is; None where it is the text of no message.
 #[tactic(auto, unfolding(crate::specs::Messages::message_at))]
@@ -27,13 +31,14 @@ pub fn message_of(alloc: Global, root: ProcessId, text: &str) -> Result<Option<M
     match cut(text, ' ') {
         None => Ok(None),
         Some(("WORK", rest)) => work_of(alloc, root, rest),
-        Some((word, rest)) => Ok(plain_of(alloc, root, word, rest)),
+        Some(("ACK", rest)) => ack_of(alloc, root, rest),
+        Some((word, rest)) => Ok(plain_of(root, word, rest)),
     }
 }
 
-/// The message of a text but a work's, by its first word and the rest.
+/// The message of a text but a work's and an acknowledgement's, by its first word and the rest.
 #[tactic(auto, unfolding(crate::specs::Messages::plain_at))]
-fn plain_of(alloc: Global, root: ProcessId, word: &str, rest: &str) -> Option<Message>
+fn plain_of(root: ProcessId, word: &str, rest: &str) -> Option<Message>
     ensures { result ≡ plain_at root word.now rest.now }
 {
     match word {
@@ -45,7 +50,6 @@ fn plain_of(alloc: Global, root: ProcessId, word: &str, rest: &str) -> Option<Me
         "READ" => Some(Message::Read(case_of(root, rest)?)),
         "COMMIT" => Some(Message::Commit(case_of(root, rest)?)),
         "ABORT" => Some(Message::Abort(case_of(root, rest)?)),
-        "ACK" => ack_of(alloc, root, rest),
         "INQUIRE" => Some(Message::Inquire(case_of(root, rest)?)),
         _ => None,
     }
@@ -71,15 +75,39 @@ fn prepare_of(root: ProcessId, rest: &str) -> Option<Message>
     Some(Message::Prepare(case, count))
 }
 
-/// An acknowledgement that found nothing, as each one is that this version sends.
-#[tactic(auto, unfolding(crate::specs::Messages::ack_at))]
-fn ack_of(alloc: Global, root: ProcessId, rest: &str) -> Option<Message>
-    ensures { result ≡ ack_at root rest.now }
+/// An acknowledgement, with what was found.
+fn ack_of(alloc: Global, root: ProcessId, rest: &str) -> Result<Option<Message>, AllocError>
+    ensures { IfOk result (λ message. message ≡ ack_at root rest.now) }
 {
-    let (case, outcome) = cut(rest, ' ')?;
+    match ack_words(root, rest) {
+        None => Ok(None),
+        Some((case, outcome, text)) => match found_in(alloc, text)? {
+            None => Ok(None),
+            Some(findings) => Ok(Some(Message::Ack(case, outcome, findings))),
+        },
+    }
+}
+
+/// The case and the outcome that an acknowledgement names, and the text of what was found.
+#[tactic(auto, unfolding(crate::specs::Messages::ack_words_at))]
+fn ack_words(root: ProcessId, rest: &str) -> Option<(Case, Outcome, Option<&str>)>
+    ensures { option_map ack_view result ≡ ack_words_at root rest.now }
+{
+    let (case, rest) = cut(rest, ' ')?;
     let case = case_of(root, case)?;
+    let (outcome, text) = before_blank(rest);
     let outcome = ending_of(outcome)?;
-    Some(Message::Ack(case, outcome, Findings::new(alloc)))
+    Some((case, outcome, text))
+}
+
+/// The first word of a text, and what stands behind it, if anything does.
+fn before_blank(text: &str) -> (&str, Option<&str>)
+    ensures { (result.0.now, option_map (λ t. t.now) result.1) ≡ first_word text.now }
+{
+    match cut(text, ' ') {
+        None => (text, None),
+        Some((word, rest)) => (word, Some(rest)),
+    }
 }
 
 /// The outcome that a word of an acknowledgement names.

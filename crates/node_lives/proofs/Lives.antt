@@ -1,6 +1,9 @@
 -- What the programs of a tree come to stands for a run.
-use Rattle.std.proofs.Common.{◌≡◌, ◌∙◌, ◌⊎◌, ap, sym, subst, refl, inl, inr, ℕ, Bool, true, false, if◌then◌else◌, Option, Some, None, option_map, is_some, List, [], ◌++◌}
+use Rattle.std.proofs.Common.{◌≡◌, ◌≢◌, ◌∙◌, ◌⊎◌, sym, subst, refl, inl, inr, ℕ, Bool, true, false, if◌then◌else◌, Option, Some, None, option_map, is_some, List, [], ◌++◌}
+use Rattle.tree_model.specs.declared.names.Case.{Case}
+use Rattle.tree_model.specs.declared.names.Outcome.{Outcome}
 use Rattle.tree_model.specs.declared.names.ProcessId.{ProcessId}
+use Rattle.tree_model.specs.declared.standings.Standing.TheVariants.{Heuristic}
 use Rattle.tree_model.specs.declared.trees.TreeEntry.{TreeEntry}
 use Rattle.tree_model.specs.Names.{same_process}
 use Rattle.tree_model.specs.Nodes.{Node}
@@ -10,9 +13,7 @@ use Rattle.core_model.specs.States.{CoreState}
 use Rattle.manager_model.specs.Data.{ManagerData}
 use Rattle.core_law.specs.Ties.{Stands}
 use Rattle.core_law.specs.worlds.Worlds.{WorldState}
-use Rattle.core_law.specs.worlds.Runs.{IsOpened}
-use Rattle.core_law.specs.worlds.Ties.{FollowsBehindFaults, GoesOnBehindFaults, StandsAt, entered_of}
-use Rattle.core_law.specs.worlds.Modelled.{KeepsHeadline}
+use Rattle.core_law.specs.worlds.Ties.{FollowsBehindFaults, StandsAt, entered_of}
 use Rattle.core_law.proofs.worlds.Events.{GoesOnIn, then_on, waits}
 use Rattle.core_law.proofs.worlds.Faults.{input_fails_on, restart_fails_on, trim_fails_on}
 use Rattle.core_law.proofs.worlds.Journals.{entered_hides, entered_shows, opened_behind_faults}
@@ -20,8 +21,8 @@ use Rattle.core_law.proofs.worlds.Processes.{as_the_model}
 use Rattle.core_law.proofs.worlds.Restarts.{restart_goes_on, trim_goes_on}
 use Rattle.core_law.proofs.worlds.Steps.{step_goes_on}
 use Rattle.core_law.proofs.worlds.Unchanged.{same_by}
-use Rattle.core_law.proofs.worlds.Whole.{modelled_behind_faults}
-use Rattle.node_lives.specs.Lives.{BeginsAnew, LifeStep, Lives, LivesAreRuns, StepsGoOn, begin_breaks, begins, begins_anew, breaks, counted, counted_at, makes, more, none, rests, trim_breaks, trims}
+use Rattle.core_law.proofs.worlds.Whole.{keeps_headline}
+use Rattle.node_lives.specs.Lives.{BeginsAnew, LifeStep, Lives, LivesAreRuns, StepsGoOn, anew_at, begin_breaks, begins, begins_anew, breaks, counted, counted_at, makes, more, none, rests, saying, trim_breaks, trims}
 
 -- How many failures were counted makes no difference to what a process stands for.
 
@@ -39,46 +40,95 @@ stands_counted m c n h = record {
         tickets = u.tickets;
         views = u.views;
         branches = u.branches;
+        decided = u.decided;
       };
 }
 
--- the process that another is but for the count, or that it is
-counted_is : (b : Bool) (o : Option CoreState) (n : ℕ) (c : CoreState)
-    → (if b then option_map (λ d. counted d n) o else o) ≡ Some c
-    → (d : CoreState) × (o ≡ Some d) × ((counted d n ≡ c) ⊎ (d ≡ c))
-counted_is true None n c h = absurd (cc)
-counted_is true (Some d) n c h = (d, refl, inl (let is : counted d n ≡ c = cc in is))
-counted_is false o n c h = (c, h, inr refl)
+-- Nor does what it says of branches that no operator decided.
 
-counted_is_some : (b : Bool) (o : Option CoreState) (n : ℕ)
-    → is_some (if b then option_map (λ d. counted d n) o else o) ≡ is_some o
-counted_is_some true None n = refl
-counted_is_some true (Some d) n = refl
-counted_is_some false o n = refl
+stands_saying : (m : Node) (c : CoreState) (said : Case → Option Outcome)
+    → ((d : Case) → (c.branch_of d).standing ≢ Heuristic) → Stands m c → Stands m (saying c said)
+stands_saying m c said undecided h = record {
+  forced = h.forced;
+  unforced = h.unforced;
+  failed = h.failed;
+  up = λ runs.
+      let u = h.up runs in
+      record {
+        boot = u.boot;
+        begun = u.begun;
+        given = u.given;
+        tickets = u.tickets;
+        views = u.views;
+        branches = u.branches;
+        decided = λ d is. absurd (undecided d is);
+      };
+}
 
-module _ (q : ProcessId) (n : ℕ) (es : List Made) (w : World) (s : WorldState) where
-  counted_stands : (p : ProcessId) (d c : CoreState) → StandsAt w s p d → (counted d n ≡ c) ⊎ (d ≡ c)
-      → StandsAt w (counted_at q n s) p c
-  counted_stands p d c h (inl is) = subst (λ x. StandsAt w (counted_at q n s) p x) is
-      (record { place = h.place; stands = stands_counted (w.at p) d n h.stands })
-  counted_stands p d c h (inr is) = subst (λ x. StandsAt w (counted_at q n s) p x) is
+-- the tree with another process there, if there is one
+abbrev changed : ProcessId → (CoreState → CoreState) → WorldState → WorldState
+changed q g s = record s {
+  node_at = λ p. if same_process q p then option_map g (s.node_at p) else s.node_at p;
+}
+
+-- the process that another was, or that it is
+changed_is : (b : Bool) (o : Option CoreState) (g : CoreState → CoreState) (c : CoreState)
+    → (if b then option_map g o else o) ≡ Some c
+    → (d : CoreState) × (o ≡ Some d) × (((b ≡ true) × (g d ≡ c)) ⊎ (d ≡ c))
+changed_is true None g c h = absurd (cc)
+changed_is true (Some d) g c h = (d, refl, inl (refl, (let is : g d ≡ c = cc in is)))
+changed_is false o g c h = (c, h, inr refl)
+
+changed_is_some : (b : Bool) (o : Option CoreState) (g : CoreState → CoreState)
+    → is_some (if b then option_map g o else o) ≡ is_some o
+changed_is_some true None g = refl
+changed_is_some true (Some d) g = refl
+changed_is_some false o g = refl
+
+-- what a tree stands for, where the other process stands for it too
+module _ (q : ProcessId) (g : CoreState → CoreState) (es : List Made) (w : World) (s : WorldState)
+    (fits : (p : ProcessId) (c : CoreState) → same_process q p ≡ true → s.node_at p ≡ Some c
+    → StandsAt w s p c → StandsAt w (changed q g s) p (g c)) where
+  changed_stands : (p : ProcessId) (d c : CoreState) → s.node_at p ≡ Some d → StandsAt w s p d
+      → ((same_process q p ≡ true) × (g d ≡ c)) ⊎ (d ≡ c) → StandsAt w (changed q g s) p c
+  changed_stands p d c there h (inl is) =
+      subst (λ x. StandsAt w (changed q g s) p x) is.1 (fits p d is.0 there h)
+  changed_stands p d c there h (inr is) = subst (λ x. StandsAt w (changed q g s) p x) is
       (record { place = h.place; stands = h.stands })
 
-  pub counts_alike : FollowsBehindFaults es w s → FollowsBehindFaults es w (counted_at q n s)
-  counts_alike f = record {
+  changes_alike : FollowsBehindFaults es w s → FollowsBehindFaults es w (changed q g s)
+  changes_alike f = record {
     follows = record {
       is_run = f.follows.is_run;
+      by_this = f.follows.by_this;
       shown = f.follows.shown;
       net = f.follows.net;
       nodes = λ p c there.
-          let d = counted_is (same_process q p) (s.node_at p) n c there in
+          let d = changed_is (same_process q p) (s.node_at p) g c there in
           let h = f.follows.nodes p d.0 d.1 in
-          let here = counted_stands p d.0 c (record { place = h.place; stands = h.stands }) d.2 in
+          let here = changed_stands p d.0 c d.1 (record { place = h.place; stands = h.stands }) d.2 in
           record { place = here.place; stands = here.stands };
-      listed = λ p. counted_is_some (same_process q p) (s.node_at p) n ∙ f.follows.listed p;
+      listed = λ p. changed_is_some (same_process q p) (s.node_at p) g ∙ f.follows.listed p;
     };
     shown = f.shown;
   }
+
+pub counts_alike : (q : ProcessId) (n : ℕ) (es : List Made) (w : World) (s : WorldState)
+    → FollowsBehindFaults es w s → FollowsBehindFaults es w (counted_at q n s)
+counts_alike q n es w s f = changes_alike q (λ c. counted c n) es w s
+    (λ p c is there h. record { place = h.place; stands = stands_counted (w.at p) c n h.stands }) f
+
+anew_alike : (q : ProcessId) (n : ℕ) (said : Case → Option Outcome) (es : List Made) (w : World)
+    (s : WorldState)
+    → ((p : ProcessId) (c : CoreState) → same_process q p ≡ true → s.node_at p ≡ Some c
+    → (d : Case) → (c.branch_of d).standing ≢ Heuristic)
+    → FollowsBehindFaults es w s → FollowsBehindFaults es w (anew_at q n said s)
+anew_alike q n said es w s undecided f = changes_alike q (λ c. saying (counted c n) said) es w s
+    (λ p c is there h. record {
+      place = h.place;
+      stands = stands_saying (w.at p) (counted c n) said (undecided p c is there)
+          (stands_counted (w.at p) c n h.stands);
+    }) f
 
 -- A manager's data make no difference to it.
 
@@ -87,6 +137,7 @@ held_so : (es : List Made) (w : World) (t : WorldState) (d : ProcessId → Manag
 held_so es w t d f = record {
   follows = record {
     is_run = f.follows.is_run;
+    by_this = f.follows.by_this;
     shown = f.follows.shown;
     net = f.follows.net;
     nodes = λ p c there.
@@ -101,7 +152,8 @@ pub anew : (q : ProcessId) (n : ℕ) (es : List Made) (w : World) (s t : WorldSt
     → BeginsAnew s t q n → FollowsBehindFaults es w t
 anew q n es w s t f h =
     held_so es w t s.data_at
-    (same_by entered_of es w (counted_at q n s) (record t { data_at = s.data_at }) (counts_alike q n es w s f)
+    (same_by entered_of es w (anew_at q n h.said s) (record t { data_at = s.data_at })
+    (anew_alike q n h.said es w s h.undecided f)
     (record {
       tree = h.tree;
       nodes = h.nodes;
@@ -168,8 +220,7 @@ lives_so tree s t is_tree opened lives =
     let start = opened_behind_faults tree s opened in
     let end = lives_on tree is_tree s [] opened_world opened.tree_is start t lives in
     let on = end.goes_on_so in
-    let follows = on.follows in
-    record {
-      run = record { moves = on.later ++ []; world = on.world; follows = follows };
-      headline = modelled_behind_faults t (on.later ++ []) on.world (subst IsTree (sym end.tree_stays) is_tree) follows;
-    }
+    keeps_headline t (record {
+      is_tree = subst IsTree (sym end.tree_stays) is_tree;
+      run = record { moves = on.later ++ []; world = on.world; follows = on.follows };
+    })

@@ -1,5 +1,5 @@
 -- What the root's records tell of how a transaction ended is its outcome.
-use Rattle.std.proofs.Common.{◌≡◌, ◌∙◌, ◌⊎◌, ◌||◌, ap, sym, subst, refl, inl, inr, ℕ, Bool, true, false, if◌then◌else◌, Option, Some, None, List, [], ◌∷◌, ◌++◌, map, fold}
+use Rattle.std.proofs.Common.{◌≡◌, ◌∙◌, ◌⊎◌, ◌||◌, ap, sym, subst, refl, inl, inr, Bool, true, false, if◌then◌else◌, Option, Some, List, [], ◌∷◌, ◌++◌, map, fold}
 use Rattle.std.specs.List.{list_any}
 use Rattle.tree_model.specs.declared.names.Case.{Case}
 use Rattle.tree_model.specs.declared.names.Outcome.{Outcome}
@@ -15,11 +15,10 @@ use Rattle.tree_model.specs.LogNames.{in_log, parent_of}
 use Rattle.tree_model.specs.declared.trees.TreeEntry.{TreeEntry}
 use Rattle.tree_model.specs.Names.{process_of, root_case, same_txn}
 use Rattle.tree_model.specs.NameLaws.{same_case-refl, same_txn_tells}
-use Rattle.tree_model.specs.Nodes.{AtRoot, Node, kept, place_of, role_of}
-use Rattle.tree_model.specs.Outcomes.{is_commit_outcome, outcome_of}
+use Rattle.tree_model.specs.Nodes.{AtRoot, Node, kept, role_of}
+use Rattle.tree_model.specs.Outcomes.{outcome_of}
 use Rattle.tree_model.specs.Records.{has, is_abort, is_commit}
 use Rattle.tree_model.specs.World.{IsRun, Made, World}
-use Rattle.tree_nodes.specs.Lasts.{logs_of}
 use Rattle.tree_nodes.specs.Marks.{is_branch_record}
 use Rattle.tree_nodes.specs.WorldHolds.{is_record_of}
 use Rattle.tree_nodes.proofs.RootsHold.{roots_begin}

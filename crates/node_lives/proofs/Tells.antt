@@ -1,5 +1,5 @@
 -- What the application is told is the transaction's outcome.
-use Rattle.std.proofs.Common.{◌≡◌, ◌∙◌, ◌||◌, ◌&&◌, ap, sym, subst, refl, inl, inr, ℕ, Bool, true, false, cond, is_none, Option, Some, None, List, [], ◌∷◌, ◌++◌, filter, zero, suc}
+use Rattle.std.proofs.Common.{◌≡◌, ◌∙◌, ◌||◌, ap, sym, subst, refl, inl, inr, ℕ, Bool, true, false, cond, is_none, Option, Some, None, List, [], ◌∷◌, ◌++◌, filter, zero, suc}
 use Rattle.std.specs.Prelude.{⊤}
 use Rattle.std.specs.List.{AllByRecursion, list_any}
 use Rattle.tree_model.specs.declared.names.Case.{Case}
@@ -8,7 +8,6 @@ use Rattle.tree_model.specs.declared.names.Presumption.TheVariants.{PresumeAbort
 use Rattle.tree_model.specs.declared.names.ProcessId.{ProcessId}
 use Rattle.tree_model.specs.declared.names.Ticket.{Ticket}
 use Rattle.tree_model.specs.declared.names.Txn.{Txn}
-use Rattle.tree_model.specs.declared.records.Record.{Record}
 use Rattle.tree_model.specs.declared.records.Record.TheVariants.{Commit as CommitRecord}
 use Rattle.tree_model.specs.declared.events.Conclusion.{Conclusion}
 use Rattle.tree_model.specs.declared.events.Conclusion.TheVariants.{Committed, Aborted, ReadOnly}
@@ -16,20 +15,20 @@ use Rattle.tree_model.specs.declared.events.Entry.{Entry}
 use Rattle.tree_model.specs.declared.events.Fault.{Fault}
 use Rattle.tree_model.specs.declared.events.Told.{Told}
 use Rattle.tree_model.specs.declared.trees.TreeEntry.{TreeEntry}
-use Rattle.tree_model.specs.Names.{process_of, root_case, same_process}
+use Rattle.tree_model.specs.Names.{root_case, same_process}
 use Rattle.tree_model.specs.NameLaws.{same_case-refl, same_process_tells, same_txn_tells}
 use Rattle.tree_model.specs.Names.{same_txn}
-use Rattle.tree_model.specs.Nodes.{AtLeaf, AtRoot, Below, Effect, Heard, Node, Place, Role, Written, after, appends, entries_written, is_any_forced, place_of, role_of, told_first}
-use Rattle.tree_model.specs.Outcomes.{is_commit_outcome, is_told_aborted, outcome_of, root_ends}
+use Rattle.tree_model.specs.Nodes.{AtLeaf, AtRoot, Below, Effect, Heard, Node, Place, Role, Written, after, appends, is_any_forced, place_of, role_of, told_first}
+use Rattle.tree_model.specs.Outcomes.{is_commit_outcome, is_told_aborted}
 use Rattle.tree_model.specs.CoordinatorRows.{Row, forced}
-use Rattle.tree_model.specs.Reactions.{Does, reacts, row_effect, told_of}
+use Rattle.tree_model.specs.Reactions.{Does, reacts, told_of}
 use Rattle.tree_model.specs.Records.{has, is_commit}
 use Rattle.tree_model.specs.Restarts.{trim_fails}
 use Rattle.tree_model.specs.Trees.{IsTree}
 use Rattle.tree_model.specs.World.{IsRun, Made, Move, World, entry_of, journal_of, makes, opens, put_at, world_makes}
 use Rattle.tree_model.proofs.RunLaws.{makes_at}
 use Rattle.tree_pairs.specs.readings.ReadingOf.{is_told_of_txn}
-use Rattle.tree_pairs.specs.turns.CoordinatorTurns.{CaseTurn, rests, invites, accepts, sends_work, finds_nobody, asks_for_votes, gives_up, counts_vote, reads_only, commits, promises, hears_no, aborts, passes_commit, passes_abort, repeats_yes, asks, refuses, acknowledges, waits_for_acks, ends, answers, CoordinatorTurn, does_nothing, of_case, begins, gives_again, gives_fresh, presumes}
+use Rattle.tree_pairs.specs.turns.CoordinatorTurns.{CaseTurn, rests, invites, accepts, sends_work, finds_nobody, asks_for_votes, gives_up, counts_vote, reads_only, commits, promises, hears_no, aborts, passes_commit, passes_abort, repeats_yes, asks, refuses, acknowledges, waits_for_acks, ends, clears, answers, CoordinatorTurn, does_nothing, of_case, begins, gives_again, gives_fresh, presumes}
 use Rattle.tree_pairs.specs.turns.LeafTurns.{LeafTurn}
 use Rattle.tree_pairs.specs.turns.LeafTurns as leaf
 use Rattle.tree_pairs.specs.turns.Steps.{StepOf, TurnAt, handled, failed_in, passed, failed_passing, reopened, failed_reopening, trimmed, failed_trimming, heard_in}
@@ -39,8 +38,6 @@ use Rattle.tree_nodes.specs.WorldHolds.{Begins, has_begun, is_record_of}
 use Rattle.tree_nodes.proofs.RootsHold.{roots_begin}
 use Rattle.tree_headline.proofs.Grows.{durable_still}
 use Rattle.tree_headline.proofs.runs.Headline as runs
-use Rattle.core_law.specs.worlds.Worlds.{WorldState}
-use Rattle.core_law.specs.worlds.Ties.{FollowsBehindFaults, entered_of}
 use Rattle.node_lives.specs.Tells.{EntriesTellSo, IsOutcome, TellsSo, ToldIsSo}
 
 -- Rows that tell.
@@ -99,6 +96,7 @@ module _ (place : Place) (n : Node) (h : Heard) where
   row_tells parent c _ (acknowledges o fs i e) a g = absurd (cc)
   row_tells parent c _ (waits_for_acks t o fs i e f k) a g = absurd (cc)
   row_tells parent c _ (ends t o fs i e f k) a g = absurd (cc)
+  row_tells parent c _ (clears i e f b) a g = absurd (cc)
   row_tells parent c _ (answers t o i e) a g = absurd (cc)
 
   -- what an input told, of which case

@@ -1,8 +1,11 @@
 -- Lives of the processes of a tree. Each is a program of its own, over a log that outlives it: it starts, makes
 -- steps, and ends in one of them or between two; then another starts over what it left.
-use Rattle.std.specs.Prelude.{◌≡◌, ℕ, Bool, if◌then◌else◌, Option, Some, option_map, List}
+use Rattle.std.specs.Prelude.{◌≡◌, ◌≢◌, ℕ, Bool, true, if◌then◌else◌, Option, Some, option_map, List}
+use Rattle.tree_model.specs.declared.names.Case.{Case}
+use Rattle.tree_model.specs.declared.names.Outcome.{Outcome}
 use Rattle.tree_model.specs.declared.names.ProcessId.{ProcessId}
 use Rattle.tree_model.specs.declared.events.Input.{Input}
+use Rattle.tree_model.specs.declared.standings.Standing.TheVariants.{Heuristic}
 use Rattle.tree_model.specs.declared.trees.TreeEntry.{TreeEntry}
 use Rattle.tree_model.specs.Names.{same_process}
 use Rattle.tree_model.specs.Trees.{IsTree}
@@ -28,11 +31,26 @@ counted_at q n s = record s {
   node_at = λ p. if same_process q p then option_map (λ c. counted c n) (s.node_at p) else s.node_at p;
 }
 
--- A program starts over a log that is as it was made, where the process has opened and heard nothing: but for the
--- count of failures nothing is otherwise. Of a manager's data nothing is said.
+-- the process, where this is said of what operators decided: it counts only of a branch that one decided
+abbrev pub saying : CoreState → (Case → Option Outcome) → CoreState
+saying s said = record s { decided_of = said }
+
+-- the tree with this process over such a device, which says this of what operators decided
+abbrev pub anew_at : ProcessId → ℕ → (Case → Option Outcome) → WorldState → WorldState
+anew_at q n said s = record s {
+  node_at = λ p.
+      if same_process q p then option_map (λ c. saying (counted c n) said) (s.node_at p) else s.node_at p;
+}
+
+-- A program starts over a log that is as it was made, where the process has opened and heard nothing: but for
+-- the count of failures, and what is said of branches that no operator decided, nothing is otherwise. Of a
+-- manager's data nothing is said.
 pub record BeginsAnew (s t : WorldState) (q : ProcessId) (n : ℕ) : Type 0 where
   pub tree : t.tree ≡ s.tree
-  pub nodes : (p : ProcessId) → SameNode ((counted_at q n s).node_at p) (t.node_at p)
+  pub undecided : (p : ProcessId) (c : CoreState) → same_process q p ≡ true → s.node_at p ≡ Some c
+      → (d : Case) → (c.branch_of d).standing ≢ Heuristic
+  pub said : Case → Option Outcome
+  pub nodes : (p : ProcessId) → SameNode ((anew_at q n said s).node_at p) (t.node_at p)
   pub net : t.net ≡ s.net
   pub delivered : t.delivered ≡ s.delivered
   pub entries : t.entries ≡ s.entries

@@ -74,6 +74,14 @@ fn left_of(node: &Node, alloc: Global, chance: &mut Chance) -> Option<Vec<u8>> {
     Some(log)
 }
 
+/// The first of these words.
+fn first_word(words: &str) -> &str {
+    match cut(words, ' ') {
+        Some((first, _)) => first,
+        None => words,
+    }
+}
+
 impl Trial {
     /// What a node wrote.
     fn note(&mut self, text: &[u8]) -> Option<()> {
@@ -330,7 +338,8 @@ impl Trial {
         let mut aborts = 0u64;
         for line in str::from_utf8(&audit).ok()?.lines() {
             let (case, rest) = cut(line, ' ')?;
-            if let Some((own, outcome)) = cut(rest, ' ') {
+            if let Some((own, found)) = cut(rest, ' ') {
+                let outcome = first_word(found);
                 if own == "in-doubt" || !self.agrees(case, outcome) {
                     return None;
                 }

@@ -1,5 +1,5 @@
 -- Boots rise in a coordinator's log, and each case ends once, over every run.
-use Rattle.std.proofs.Common.{◌≡◌, ◌≢◌, ◌∙◌, ◌+◌, ◌<◌, ◌≤◌, ℕ, zero, suc, Bool, true, false, Option, Some, None, List, [], ◌∷◌, ◌++◌, take, drop, refl, sym, ap, subst, append_assoc, arith, if◌then◌else◌}
+use Rattle.std.proofs.Common.{◌≡◌, ◌≢◌, ◌∙◌, ◌+◌, ◌<◌, ◌≤◌, ℕ, zero, suc, Bool, true, false, Option, Some, None, is_some, List, [], ◌∷◌, ◌++◌, take, drop, refl, sym, ap, subst, append_assoc, arith, if◌then◌else◌}
 use Rattle.std.specs.List.{flat_map, fold}
 use Rattle.std.proofs.lemmas.List.{append-nil, take-append-drop}
 use Rattle.std.proofs.lemmas.List.Sums.{fold-append}
@@ -9,25 +9,26 @@ use Rattle.tree_model.specs.declared.names.Outcome.TheVariants.{Committed as Com
 use Rattle.tree_model.specs.declared.names.ProcessId.{ProcessId}
 use Rattle.tree_model.specs.declared.names.Presumption.TheVariants.{PresumeAbort, PresumeCommit}
 use Rattle.tree_model.specs.declared.records.Record.{Record}
-use Rattle.tree_model.specs.declared.records.Record.TheVariants.{Opened, Collecting as CollectingRecord, Prepare as PrepareRecord, Commit as CommitRecord, Abort as AbortRecord, End as EndRecord}
+use Rattle.tree_model.specs.declared.records.Record.TheVariants.{Opened, Collecting as CollectingRecord, Prepare as PrepareRecord, Commit as CommitRecord, Abort as AbortRecord, End as EndRecord, Cleared as ClearedRecord}
 use Rattle.tree_model.specs.declared.standings.Standing.{Standing}
 use Rattle.tree_model.specs.declared.standings.Standing.TheVariants.{Unknown, Active, Collecting, Prepared, Committing, Aborting, Heuristic}
 use Rattle.tree_model.specs.declared.trees.TreeEntry.{TreeEntry}
-use Rattle.tree_model.specs.Records.{has, none_of, is_collecting, is_prepare, is_commit, is_abort, is_end, owing_by, boot_after, boot_of, cases_in}
+use Rattle.tree_model.specs.Names.{same_case}
+use Rattle.tree_model.specs.Records.{has, none_of, is_collecting, is_prepare, is_commit, is_abort, is_end, owing_by, boot_after, boot_of, cases_in, is_reported, record_case, reported_after}
 use Rattle.tree_model.specs.Nodes.{Role, AtRoot, Below, AtLeaf, Place, place_of, role_of, Node, kept, Heard, Effect, entries_written, is_any_forced, after, IsCoordinator}
 use Rattle.tree_model.specs.Memory.{memory_of}
 use Rattle.tree_model.specs.Standings.{CoordinatorView, coordinator_view, phase_standing, standing_by}
 use Rattle.tree_model.specs.CoordinatorRows.{Row}
 use Rattle.tree_model.specs.Reactions.{Does, reacts}
-use Rattle.tree_model.specs.Restarts.{recorded_view, restart_abort, aborts_collecting, coordinator_reopens, reopens, trim_fails, trims, trimmed, staying, stays, data_records}
+use Rattle.tree_model.specs.Restarts.{recorded_view, restart_abort, aborts_collecting, coordinator_reopens, reopens, trim_fails, trims, trimmed, case_stays, staying, stays, data_records}
 use Rattle.tree_model.specs.World.{World, Move, Made, IsRun, opens, makes}
 use Rattle.tree_model.proofs.RunLaws.{makes_at}
-use Rattle.tree_pairs.specs.turns.CoordinatorTurns.{Decided, by_commit, by_abort, CaseTurn, rests, invites, accepts, sends_work, finds_nobody, asks_for_votes, gives_up, counts_vote, reads_only, commits, promises, hears_no, aborts, passes_commit, passes_abort, repeats_yes, asks, refuses, acknowledges, waits_for_acks, ends, answers, CoordinatorTurn, does_nothing, of_case, begins, gives_again, gives_fresh, presumes}
+use Rattle.tree_pairs.specs.turns.CoordinatorTurns.{Decided, by_commit, by_abort, CaseTurn, rests, invites, accepts, sends_work, finds_nobody, asks_for_votes, gives_up, counts_vote, reads_only, commits, promises, hears_no, aborts, passes_commit, passes_abort, repeats_yes, asks, refuses, acknowledges, waits_for_acks, ends, clears, answers, CoordinatorTurn, does_nothing, of_case, begins, gives_again, gives_fresh, presumes}
 use Rattle.tree_pairs.specs.turns.Steps.{StepOf, heard_in, handled, failed_in, passed, failed_passing, reopened, failed_reopening, trimmed as trims_log, failed_trimming}
 use Rattle.tree_pairs.proofs.turns.Steps.{step_of}
 use Rattle.tree_pairs.proofs.turns.CoordinatorReactions.{CoordinatorTurnAt, coordinator_turn_of}
 use Rattle.tree_nodes.specs.Lasts.{Logs, logs_of, standing}
-use Rattle.tree_nodes.proofs.Tests.{has-nil, has-cons, has-append, in_none, neither, first_false, second_false}
+use Rattle.tree_nodes.proofs.Tests.{case_is, has-nil, has-cons, has-append, in_none, neither, first_false, second_false}
 use Rattle.tree_nodes.proofs.Appends.{breaks, breaks_keeps, either_logs, loses}
 use Rattle.tree_nodes.proofs.Cases.{viewed}
 use Rattle.tree_nodes.proofs.Worlds.{put}
@@ -40,6 +41,7 @@ Follows rs (CollectingRecord c ts) = Unit {0}
 Follows rs (PrepareRecord c ts) = Unit {0}
 Follows rs (CommitRecord c ts) = Unit {0}
 Follows rs (AbortRecord c ts) = Unit {0}
+Follows rs (ClearedRecord c) = is_reported rs c ≡ true
 Follows rs _ = ⊥
 
 -- so may each of the list, behind these and those of the list before it
@@ -86,6 +88,11 @@ pub boot_behind : (rs : List Record) (x : Record) → boot_of (rs ++ x ∷ []) �
 unfolding boot_of
 boot_behind rs x = fold-append boot_after 0 rs (x ∷ [])
 
+pub reported_behind : (rs : List Record) (x : Record) (c : Case)
+    → is_reported (rs ++ x ∷ []) c ≡ reported_after c (is_reported rs c) x
+unfolding is_reported
+reported_behind rs x c = fold-append (reported_after c) false rs (x ∷ [])
+
 -- boots only rise along the list
 boot_grows : (rs xs : List Record) → AllFollow rs xs → boot_of rs ≤ boot_of (rs ++ xs)
 boot_grows rs [] f = subst (λ (z : List Record). boot_of rs ≤ boot_of z) (sym (append-nil rs)) (itself (boot_of rs))
@@ -107,6 +114,7 @@ boot_grows rs (x ∷ xs) f =
     by_record (CollectingRecord c ts) h = rw (boot_behind rs (CollectingRecord c ts)) (omega arith)
     by_record (PrepareRecord c ts) h = rw (boot_behind rs (PrepareRecord c ts)) (omega arith)
     by_record (CommitRecord c ts) h = rw (boot_behind rs (CommitRecord c ts)) (omega arith)
+    by_record (ClearedRecord c) h = rw (boot_behind rs (ClearedRecord c)) (omega arith)
     by_record (AbortRecord c ts) h = rw (boot_behind rs (AbortRecord c ts)) (omega arith)
     by_record y h = absurd h
 
@@ -160,6 +168,7 @@ module _ (place : Place) (parent : Option ProcessId) (n : Node) (h : Heard) (c :
   follows_turn _ (refuses j i e) = tt
   follows_turn _ (acknowledges o fs i e) = tt
   follows_turn _ (waits_for_acks t o fs i e f g) = tt
+  follows_turn _ (clears i e f g) = (g, tt)
   follows_turn _ (answers t o i e) = tt
 
 follows_effect : (place : Place) (parent : Option ProcessId) (n : Node) (h : Heard) (e : Effect)
@@ -199,8 +208,10 @@ module _ (rs : List Record) where
 
 -- What a trim leaves.
 
-abbrev Less : List Record → List Record → Type 0
-Less rs less = (q : Record → Bool) → ((k : ℕ) → q (Opened k) ≡ false) → has q rs ≡ false → has q less ≡ false
+-- there is no more than in these, and of each case that stays the same is reported
+record Less (whole rs less : List Record) : Type 0 where
+  fewer : (q : Record → Bool) → ((k : ℕ) → q (Opened k) ≡ false) → has q rs ≡ false → has q less ≡ false
+  reported : (c : Case) → case_stays whole (Some c) ≡ true → is_reported less c ≡ is_reported rs c
 
 module _ (role : Role) (coordinator : IsCoordinator role) (whole : List Record) where
   no_boot_stays : (behind : List Record) (k : ℕ) → stays role whole behind (Opened k) ≡ false
@@ -211,33 +222,68 @@ module _ (role : Role) (coordinator : IsCoordinator role) (whole : List Record) 
       by_role (Below p) i = refl
       by_role (AtLeaf p) i = absurd i
 
-  follows_less : (rs less behind : List Record) → Less rs less → (x : Record)
+  stays_as : (behind : List Record) (x : Record) → stays role whole behind x ≡ case_stays whole (record_case x)
+  stays_as behind x = by_role role coordinator
+    where
+      by_role : (r : Role) → IsCoordinator r → stays r whole behind x ≡ case_stays whole (record_case x)
+      by_role AtRoot i = refl
+      by_role (Below p) i = refl
+      by_role (AtLeaf p) i = absurd i
+
+  -- a record that does not stay says nothing of what is reported of a case that does
+  unstayed : (behind : List Record) (x : Record) → stays role whole behind x ≡ false → (c : Case)
+      → case_stays whole (Some c) ≡ true → (b : Bool) → reported_after c b x ≡ b
+  unstayed behind x s c k b = of_record x (sym (stays_as behind x) ∙ s)
+    where
+      apart : (d : Case) → case_stays whole (Some d) ≡ false → same_case d c ≡ false
+      apart d t = by_same (same_case d c) refl
+        where
+          by_same : (z : Bool) → same_case d c ≡ z → same_case d c ≡ false
+          by_same false e = e
+          by_same true e = absurd
+              (let clash : true ≡ false = sym k ∙ (ap (λ y. case_stays whole (Some y)) (sym (case_is d c e)) ∙ t) in cc)
+
+      of_record : (y : Record) → case_stays whole (record_case y) ≡ false → reported_after c b y ≡ b
+      of_record (EndRecord d rep) t = ap (λ z. if z then is_some rep else b) (apart d t)
+      of_record (ClearedRecord d) t = ap (λ z. if z then false else b) (apart d t)
+      of_record y t = refl
+
+  follows_less : (rs less behind : List Record) → Less whole rs less → (x : Record)
       → stays role whole behind x ≡ true → Follows rs x → Follows less x
   follows_less rs less behind l (Opened k) s f =
       absurd (let y : false ≡ true = sym (no_boot_stays behind k) ∙ s in cc)
-  follows_less rs less behind l (EndRecord c r) s f = l (is_end c) (λ k. refl) f
+  follows_less rs less behind l (EndRecord c r) s f = l.fewer (is_end c) (λ k. refl) f
+  follows_less rs less behind l (ClearedRecord c) s f =
+      l.reported c (sym (stays_as behind (ClearedRecord c)) ∙ s) ∙ f
   follows_less rs less behind l (CollectingRecord c ts) s f = tt
   follows_less rs less behind l (PrepareRecord c ts) s f = tt
   follows_less rs less behind l (CommitRecord c ts) s f = tt
   follows_less rs less behind l (AbortRecord c ts) s f = tt
   follows_less rs less behind l x s f = absurd f
 
-  follows_staying : (rs less xs : List Record) → Less rs less → AllFollow rs xs
+  follows_staying : (rs less xs : List Record) → Less whole rs less → AllFollow rs xs
       → AllFollow less (staying role whole xs)
   follows_staying rs less [] l f = tt
   follows_staying rs less (x ∷ xs) l f =
       by_test (stays role whole xs x) refl
       (follows_staying (rs ++ x ∷ []) (less ++ x ∷ []) xs
-      (λ q g e. in_none q less (x ∷ []) (l q g (first_false _ _ (sym (has-append q rs (x ∷ [])) ∙ e)))
-      (second_false _ _ (sym (has-append q rs (x ∷ [])) ∙ e))) f.1)
-      (follows_staying (rs ++ x ∷ []) less xs
-      (λ q g e. l q g (first_false _ _ (sym (has-append q rs (x ∷ [])) ∙ e))) f.1)
+      (record {
+        fewer = λ q g e. in_none q less (x ∷ []) (l.fewer q g (first_false _ _ (sym (has-append q rs (x ∷ [])) ∙ e)))
+            (second_false _ _ (sym (has-append q rs (x ∷ [])) ∙ e));
+        reported = λ c k. reported_behind less x c
+            ∙ (ap (λ b. reported_after c b x) (l.reported c k) ∙ sym (reported_behind rs x c));
+      }) f.1)
+      (λ s. follows_staying (rs ++ x ∷ []) less xs
+      (record {
+        fewer = λ q g e. l.fewer q g (first_false _ _ (sym (has-append q rs (x ∷ [])) ∙ e));
+        reported = λ c k. l.reported c k ∙ sym (reported_behind rs x c ∙ unstayed xs x s c k (is_reported rs c));
+      }) f.1)
     where
       by_test : (b : Bool) → stays role whole xs x ≡ b → AllFollow (less ++ x ∷ []) (staying role whole xs)
-          → AllFollow less (staying role whole xs)
+          → (stays role whole xs x ≡ false → AllFollow less (staying role whole xs))
           → AllFollow less (if b then x ∷ staying role whole xs else staying role whole xs)
       by_test true s g k = (follows_less rs less xs l x s f.0, g)
-      by_test false s g k = k
+      by_test false s g k = k s
 
   -- the boot of a log that begins with an Opened
   boot_is_some : (rs : List Record) → Begins rs → AllFollow [] rs → 0 < boot_of rs
@@ -249,11 +295,11 @@ module _ (role : Role) (coordinator : IsCoordinator role) (whole : List Record) 
       by_both a b g e = omega arith
 
   follows_trimmed : Begins whole → AllFollow [] whole → AllFollow [] (Opened (boot_of whole) ∷ staying role whole whole)
-  unfolding boot_of
+  unfolding boot_of is_reported
   follows_trimmed b f = (
     boot_is_some whole b f,
     follows_staying [] (Opened (boot_of whole) ∷ []) whole
-        (λ q g k. one_none q (g (boot_of whole))) f,
+        (record { fewer = λ q g k. one_none q (g (boot_of whole)); reported = λ c k. refl }) f,
   )
     where
       one_none : (q : Record → Bool) → q (Opened (boot_of whole)) ≡ false → has q (Opened (boot_of whole) ∷ []) ≡ false

@@ -8,7 +8,7 @@ use Rattle.tree_model.specs.declared.names.Ticket.{Ticket}
 use Rattle.tree_model.specs.declared.records.Branch.TheVariants.{Case as CaseBranch}
 use Rattle.tree_model.specs.declared.records.LogRecord.{LogRecord}
 use Rattle.tree_model.specs.declared.records.Record.{Record}
-use Rattle.tree_model.specs.declared.records.Record.TheVariants.{Opened, Collecting, Prepare, Commit, Abort, End}
+use Rattle.tree_model.specs.declared.records.Record.TheVariants.{Opened, Collecting, Prepare, Commit, Abort, End, Cleared}
 use Rattle.tree_model.specs.declared.trees.TreeEntry.{TreeEntry}
 use Rattle.tree_model.specs.Branches.{FitsBelow}
 use Rattle.tree_model.specs.LogNames.{below_of, in_log, parent_of, ticket_parent}
@@ -19,9 +19,9 @@ use Rattle.tree_model.specs.World.{IsRun, Made, World}
 use Rattle.tree_nodes.proofs.CoordinatorLogs.{all_fit}
 use Rattle.log_rules.specs.order.Orders.{SeenLog, after, nothing_seen}
 use Rattle.log_rules.specs.sound.Sound.{IsSound, IsSoundName}
-use Rattle.kv_core.specs.Replays.{seen_after}
+use Rattle.kv_core.specs.Replays.{seen_after, seen_of}
 use Rattle.core_law.proofs.worlds.Kept.{keeps_own}
-use Rattle.log_grammar.specs.Grammar.{admitted, and_then}
+use Rattle.log_grammar.specs.Grammar.{MayFollow, admitted, and_then}
 use Rattle.log_grammar.proofs.Ordered.{ordered_is_read}
 use Rattle.ordered_logs.specs.Orders.{CanStand, IsReadWhole, NameFits, NamesFit, log_of}
 use Rattle.ordered_logs.proofs.Follows.{begins_still, written_so}
@@ -61,20 +61,32 @@ fits_of p (Prepare c ts) h = name_fits p c h.0
 fits_of p (Commit c ts) h = name_fits p c h.0
 fits_of p (Abort c ts) h = name_fits p c h.0
 fits_of p (End c None) h = name_fits p c h
+fits_of p (End c (Some r)) h = name_fits p c h.0
+fits_of p (Cleared c) h = name_fits p c h
 fits_of p r h = absurd h.1
 
 all_fit_of : (p : Option ProcessId) (rs : List Record) → CanStand (map (in_log p) rs) → NamesFit p rs
 all_fit_of p [] h = tt
 all_fit_of p (r ∷ rs) h = (fits_of p r h.0, all_fit_of p rs h.1)
 
+-- where each record can stand in a coordinator's log, the records of the log may follow one another
+pub ordered_so : (tree : List TreeEntry) (es : List Made) (w : World) → IsTree tree → IsRun tree es w
+    → (q : ProcessId) → is_listed tree q ≡ true → IsCoordinator (role_of tree q) → CanStand (log_of tree w q)
+    → is_some (seen_of (log_of tree w q)) ≡ true
+ordered_so tree es w is_tree run q listed i sound =
+    let rs = kept (w.at q) in
+    let written = written_so tree es w run q i in
+    ordered (place_of tree q) i rs (begins_still (w.at q).forced (w.at q).unforced written.begins)
+    (all_fit tree es w run q i) written.follow (keeps_own tree es w is_tree run q listed)
+    (all_fit_of (parent_of (role_of tree q)) rs sound)
+
+-- likewise, as the grammar of a log's bytes says it
+pub follow_so : (ls : List LogRecord) → is_some (seen_of ls) ≡ true → MayFollow ls
+follow_so ls h = ap is_some (admitted_so nothing_seen ls) ∙ h
+
 pub reads_so : (tree : List TreeEntry) (es : List Made) (w : World) → IsTree tree → IsRun tree es w
     → (q : ProcessId) → is_listed tree q ≡ true → IsCoordinator (role_of tree q) → CanStand (log_of tree w q)
     → IsReadWhole (log_of tree w q)
 reads_so tree es w is_tree run q listed i sound =
-    let rs = kept (w.at q) in
-    let written = written_so tree es w run q i in
     ordered_is_read Coordinator (log_of tree w q) sound
-    (ap is_some (admitted_so nothing_seen (log_of tree w q))
-    ∙ ordered (place_of tree q) i rs (begins_still (w.at q).forced (w.at q).unforced written.begins)
-    (all_fit tree es w run q i) written.follow (keeps_own tree es w is_tree run q listed)
-    (all_fit_of (parent_of (role_of tree q)) rs sound))
+    (follow_so (log_of tree w q) (ordered_so tree es w is_tree run q listed i sound))

@@ -41,7 +41,7 @@ abbrev pub IsReadWhole : List LogRecord → Type 0
 IsReadWhole ls = (tail : List ℕ) → first_frame tail ≡ None
     → read_log Coordinator (header ++ (records_text ls ++ tail)) ≡ Whole ls (length tail)
 
--- each record can stand in the log of a coordinator: its numbers are within their bounds, it names 255 tickets at most, and an
--- End has no report
+-- each record can stand in the log of a coordinator: its numbers are within their bounds, and it names 255 tickets at most,
+-- an End that reports in each of its two lists
 abbrev pub CanStand : List LogRecord → Type 0
 CanStand ls = AllByRecursion (IsSound Coordinator) ls

@@ -10,8 +10,8 @@ ghost use Rattle.tree_model.specs.World.{IsRun, Made, World};
 ghost use Rattle.ordered_logs.specs.Orders.{AreOrdered, CanStand, IsReadWhole, NamesFit, log_of};
 
 /// In every run the records of a coordinator's log may follow one another: an Opened of a higher boot, and of each case
-/// Collecting, Prepare, a decision and End in this order, each at most once. It asks that the cases are the process's own, and
-/// that their numbers fit the bytes of an XID.
+/// Collecting, Prepare, a decision and End in this order, each at most once, and Cleared at most once, behind an End that
+/// reports. It asks that the cases are the process's own, and that their numbers fit the bytes of an XID.
 pub fn coordinators_write_in_order()
     ensures { (tree : List TreeEntry) (es : List Made) (w : World) → IsRun tree es w → (q : ProcessId)
         → IsCoordinator (role_of tree q) → list_all (is_own_record (place_of tree q)) (kept (w.at q)) ≡ true

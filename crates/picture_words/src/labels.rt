@@ -218,7 +218,7 @@ pub fn record_tone(kind: RecordKind) -> Tone {
         RecordKind::Collecting | RecordKind::Prepare | RecordKind::Prepared => Tone::Vote,
         RecordKind::Commit | RecordKind::Committed => Tone::Yes,
         RecordKind::Abort | RecordKind::RolledBack => Tone::No,
-        RecordKind::HeurCommit | RecordKind::HeurRollback => Tone::Operator,
+        RecordKind::HeurCommit | RecordKind::HeurRollback | RecordKind::EndMixed => Tone::Operator,
         _ => Tone::Dim,
     }
 }

@@ -5,6 +5,7 @@ pub mod Keys
 pub mod Settling
 pub mod Written
 pub mod Sizes
+pub mod RecordSizes
 pub mod Within
 pub mod Rewriting
 pub mod Restarting

@@ -1,34 +1,24 @@
 -- What is read of a payload is as long as what is written of it.
-use Rattle.std.proofs.Common.{◌≡◌, ◌≤◌, ◌+◌, ◌*◌, ◌&&◌, ◌||◌, ◌==◌, ◌^◌, ℕ, zero, suc, Bool, true, false, List, [], ◌∷◌, ◌++◌, length, take, drop, Option, Some, None, refl, sym, ap, ◌∙◌, arith, nat_lt, nat_le, if◌then◌else◌, option_map, is_some, take-append-drop, length-append, length-take, length-drop}
+use Rattle.std.proofs.Common.{◌≡◌, ◌≤◌, ◌+◌, ◌*◌, ◌&&◌, ◌==◌, ℕ, zero, suc, Bool, true, false, List, [], ◌∷◌, ◌++◌, length, take, drop, Option, Some, None, refl, ap, ◌∙◌, arith, nat_lt, nat_le, if◌then◌else◌, option_map, is_some, take-append-drop, length-append, length-take, length-drop}
 use Rattle.std.specs.List.{flat_map}
 use Rattle.std.specs.Option.{option_or}
 use Rattle.std.proofs.lemmas.Bool.{and_parts}
 use Rattle.std.proofs.lemmas.Bool.Decides.{nat_tests}
-use Rattle.byteorder.specs.Endian.{big_number}
 use Rattle.xa_xid.specs.declared.error.XidError.{XidError}
 use Rattle.xa_xid.specs.declared.error.XidError.TheVariants.{Truncated}
 use Rattle.xa_xid.specs.Xids.{XidParts, xid_fault}
 use Rattle.xa_xid.specs.Bytes.{format_of, front_fault, front_parts, xid_bytes}
 use Rattle.xa_xid.proofs.Reading.{length-xid_bytes}
-use Rattle.tree_model.specs.declared.names.Case.{Case}
-use Rattle.tree_model.specs.declared.names.Kind.{Kind}
-use Rattle.tree_model.specs.declared.names.Kind.TheVariants.{Coordinator, Manager}
-use Rattle.tree_model.specs.declared.names.Outcome.TheVariants.{Committed as CommittedOutcome, Aborted as AbortedOutcome}
 use Rattle.tree_model.specs.declared.names.ProcessId.{ProcessId}
 use Rattle.tree_model.specs.declared.names.Ticket.{Ticket}
 use Rattle.tree_model.specs.declared.names.Txn.{Txn}
-use Rattle.tree_model.specs.declared.records.Branch.{Branch}
-use Rattle.tree_model.specs.declared.records.Branch.TheVariants.{Case as CaseBranch, Foreign}
-use Rattle.tree_model.specs.declared.records.LogRecord.{LogRecord}
-use Rattle.tree_model.specs.declared.records.Record.{Record}
-use Rattle.tree_model.specs.declared.records.Record.TheVariants.{Opened, Collecting, Prepare, Commit, Abort, End, Prepared, Committed, RolledBack, Direct, HeurCommit, HeurRollback, Told, Forgot, Base, Pair}
+use Rattle.tree_model.specs.declared.records.Branch.TheVariants.{Foreign}
+use Rattle.tree_model.specs.declared.records.Reports.{Reports}
 use Rattle.tree_model.specs.declared.records.Write.{Write}
 use Rattle.tree_model.specs.Branches.{branch_parts}
 use Rattle.tree_model.specs.Records.{same_bytes, same_xid}
-use Rattle.log_text.specs.Parts.{Front, Name, all_of, and_more, below_in, case_name, fits_ticket, key_at, left_at, name_at, name_in, presumption_in, put_of, ticket_at, ticket_in, tickets_of, txn_in, value_at, write_at, write_by, writes_of, xid_at}
-use Rattle.log_text.specs.Payloads.{key_text, left_text, name_text, payload_text, ticket_text, tickets_text, value_text, write_text, writes_text}
-use Rattle.log_text.specs.Reading.{bare, below, branch_record, coordinator_record, listing, manager_record, named, of_branch, of_case, of_name, pair_by, pair_of, read_record, told, writing}
-use Rattle.tree_model.specs.LogNames.{unnamed}
+use Rattle.log_text.specs.Parts.{Front, Name, all_of, alone, and_more, below_in, case_name, fits_ticket, front_of, key_at, left_at, name_at, name_in, presumption_in, put_of, reports_by, reports_of, ticket_at, ticket_in, tickets_at, tickets_of, txn_in, value_at, with_first, write_at, write_by, writes_of, xid_at}
+use Rattle.log_text.specs.Payloads.{key_text, left_text, name_text, reports_text, ticket_text, tickets_text, value_text, write_text, writes_text}
 
 some_is : {A : Type 0} (x y : A) → Some x ≡ Some y → x ≡ y
 some_is x y e = cc
@@ -133,7 +123,7 @@ name_long_by bytes (Some p) n rest f e =
     let more : p.1 ≡ rest = ap (λ z. z.1) (some_is _ _ e) in
     omega (arith, xid_at_long bytes p.0 p.1 f, name_in_long p.0, ap name_size first, ap length more)
 
-name_long : (bytes : List ℕ) (n : Name) (rest : List ℕ) → name_at bytes ≡ Some (n, rest)
+pub name_long : (bytes : List ℕ) (n : Name) (rest : List ℕ) → name_at bytes ≡ Some (n, rest)
     → length bytes ≡ name_size n + length rest
 unfolding name_at
 name_long bytes n rest e = name_long_by bytes (xid_at bytes) n rest refl e
@@ -144,38 +134,67 @@ abbrev AsLong : {A : Type 0} → (List ℕ → Front A) → (A → List ℕ) →
 AsLong {A = A} at text = (bytes : List ℕ) (x : A) (rest : List ℕ) → at bytes ≡ Some (x, rest)
     → length bytes ≡ length (text x) + length rest
 
-more_long_by : {A : Type 0} (text : A → List ℕ) (size : ℕ) (x : A) (rest : List ℕ) (o : Option (List A))
-    (xs : List A) → size ≡ length (text x) + length rest
-    → ((ys : List A) → o ≡ Some ys → length rest ≡ length (flat_map text ys))
-    → option_map (λ (ys : List A). x ∷ ys) o ≡ Some xs → size ≡ length (flat_map text xs)
-more_long_by text size x rest None xs s f e = absurd (cc)
-more_long_by {A = A} text size x rest (Some ys) xs s f e =
-    let is : x ∷ ys ≡ xs = cc in
+-- so many, and what is left
+abbrev AreAsLong : {A : Type 0} → (A → List ℕ) → List ℕ → List A × List ℕ → Type 0
+AreAsLong text bytes p = length bytes ≡ length (flat_map text p.0) + length p.1
+
+more_long_by : {A : Type 0} (text : A → List ℕ) (bytes : List ℕ) (x : A) (rest : List ℕ)
+    (o : Front (List A)) (p : List A × List ℕ) → length bytes ≡ length (text x) + length rest
+    → ((q : List A × List ℕ) → o ≡ Some q → AreAsLong text rest q)
+    → with_first x o ≡ Some p → AreAsLong text bytes p
+more_long_by text bytes x rest None p s f e = absurd (cc)
+more_long_by {A = A} text bytes x rest (Some q) p s f e =
+    let is : ◌≡◌ {A = List A × List ℕ} (x ∷ q.0, q.1) p = some_is _ _ e in
     omega (
       arith,
       s,
-      f ys refl,
-      length-append (text x) (flat_map text ys),
-      ap (λ (zs : List A). length (flat_map text zs)) is,
+      f q refl,
+      length-append (text x) (flat_map text q.0),
+      ap (λ (r : List A × List ℕ). length (flat_map text r.0)) is,
+      ap (λ (r : List A × List ℕ). length r.1) is,
     )
 
 more_long : {A : Type 0} (at : List ℕ → Front A) (text : A → List ℕ) (n : ℕ) (bytes : List ℕ) (o : Front A)
-    (xs : List A) → at bytes ≡ o → AsLong at text
-    → ((rest : List ℕ) (ys : List A) → all_of at n rest ≡ Some ys → length rest ≡ length (flat_map text ys))
-    → and_more o (all_of at n) ≡ Some xs → length bytes ≡ length (flat_map text xs)
-more_long at text n bytes None xs a long f e = absurd (cc)
-more_long at text n bytes (Some p) xs a long f e =
-    more_long_by text (length bytes) p.0 p.1 (all_of at n p.1) xs (long bytes p.0 p.1 a) (λ ys. f p.1 ys) e
+    (p : List A × List ℕ) → at bytes ≡ o → AsLong at text
+    → ((rest : List ℕ) (q : List A × List ℕ) → front_of at n rest ≡ Some q → AreAsLong text rest q)
+    → and_more o (front_of at n) ≡ Some p → AreAsLong text bytes p
+more_long at text n bytes None p a long f e = absurd (cc)
+more_long at text n bytes (Some x) p a long f e =
+    more_long_by text bytes x.0 x.1 (front_of at n x.1) p (long bytes x.0 x.1 a) (λ q. f x.1 q) e
+
+front_long : {A : Type 0} (at : List ℕ → Front A) (text : A → List ℕ) → AsLong at text
+    → (n : ℕ) (bytes : List ℕ) (p : List A × List ℕ) → front_of at n bytes ≡ Some p
+    → AreAsLong text bytes p
+unfolding front_of
+front_long {A = A} at text long zero bytes p e =
+    let is : ◌≡◌ {A = List A × List ℕ} ([], bytes) p = some_is _ _ e in
+    omega (
+      arith,
+      ap (λ (r : List A × List ℕ). length (flat_map text r.0)) is,
+      ap (λ (r : List A × List ℕ). length r.1) is,
+    )
+front_long at text long (suc n) bytes p e = more_long at text n bytes (at bytes) p refl long
+    (λ rest q. front_long at text long n rest q) e
+
+-- what stands alone is all that was left
+alone_long : {A : Type 0} (p : A × List ℕ) (x : A) (none : Bool) → (length p.1 == 0) ≡ none
+    → (if none then Some p.0 else None) ≡ Some x → (p.0 ≡ x) × (length p.1 ≡ 0)
+alone_long p x false n e = absurd (cc)
+alone_long p x true n e = (some_is _ _ e, grind (arith, nat_tests))
+
+all_long_by : {A : Type 0} (text : A → List ℕ) (bytes : List ℕ) (xs : List A) (o : Front (List A))
+    → ((q : List A × List ℕ) → o ≡ Some q → AreAsLong text bytes q)
+    → alone o ≡ Some xs → length bytes ≡ length (flat_map text xs)
+all_long_by text bytes xs None f e = absurd (cc)
+all_long_by {A = A} text bytes xs (Some p) f e =
+    let is = alone_long p xs (length p.1 == 0) refl e in
+    omega (arith, f p refl, ap (λ (ys : List A). length (flat_map text ys)) is.0, is.1)
 
 all_long : {A : Type 0} (at : List ℕ → Front A) (text : A → List ℕ) → AsLong at text
     → (n : ℕ) (bytes : List ℕ) (xs : List A) → all_of at n bytes ≡ Some xs
     → length bytes ≡ length (flat_map text xs)
-unfolding all_of
-all_long at text long zero [] [] e = refl
-all_long at text long zero [] (x ∷ xs) e = absurd (cc)
-all_long at text long zero (b ∷ bs) xs e = absurd (cc)
-all_long at text long (suc n) bytes xs e = more_long at text n bytes (at bytes) xs refl long
-    (λ rest ys. all_long at text long n rest ys) e
+all_long at text long n bytes xs e =
+    all_long_by text bytes xs (front_of at n bytes) (λ q. front_long at text long n bytes q) e
 
 -- Tickets.
 
@@ -197,10 +216,41 @@ unfolding ticket_at
 ticket_long bytes t rest e = ticket_long_by bytes
     (nat_le 20 (length bytes) && fits_ticket (ticket_in bytes)) t rest refl e
 
-tickets_long : (bytes : List ℕ) (ts : List Ticket) → tickets_of bytes ≡ Some ts
+pub tickets_long : (bytes : List ℕ) (ts : List Ticket) → tickets_of bytes ≡ Some ts
     → length bytes ≡ length (tickets_text ts)
 tickets_long [] ts e = absurd (cc)
 tickets_long (count ∷ rest) ts e = ap suc (all_long ticket_at ticket_text ticket_long count rest ts e)
+
+front_tickets_long : (bytes : List ℕ) (p : List Ticket × List ℕ) → tickets_at bytes ≡ Some p
+    → length bytes ≡ length (tickets_text p.0) + length p.1
+front_tickets_long [] p e = absurd (cc)
+front_tickets_long (count ∷ rest) p e =
+    omega (arith, front_long ticket_at ticket_text ticket_long count rest p e)
+
+rest_reports_long : (bytes : List ℕ) (p : List Ticket × List ℕ) (r : Reports) (o : Option (List Ticket))
+    → length bytes ≡ length (tickets_text p.0) + length p.1 → tickets_of p.1 ≡ o
+    → option_map (λ ts. record { mixed = p.0; unreported = ts }) o ≡ Some r
+    → length bytes ≡ length (reports_text r)
+rest_reports_long bytes p r None l f e = absurd (cc)
+rest_reports_long bytes p r (Some ts) l f e =
+    let is : record { mixed = p.0; unreported = ts } ≡ r = some_is _ _ e in
+    omega (
+      arith,
+      l,
+      tickets_long p.1 ts f,
+      length-append (tickets_text p.0) (tickets_text ts),
+      ap (λ q. length (reports_text q)) is,
+    )
+
+reports_long_by : (bytes : List ℕ) (r : Reports) (o : Front (List Ticket)) → tickets_at bytes ≡ o
+    → reports_by o ≡ Some r → length bytes ≡ length (reports_text r)
+reports_long_by bytes r None f e = absurd (cc)
+reports_long_by bytes r (Some p) f e =
+    rest_reports_long bytes p r (tickets_of p.1) (front_tickets_long bytes p f) refl e
+
+pub reports_long : (bytes : List ℕ) (r : Reports) → reports_of bytes ≡ Some r
+    → length bytes ≡ length (reports_text r)
+reports_long bytes r e = reports_long_by bytes r (tickets_at bytes) refl e
 
 -- Keys, values, writes.
 
@@ -219,14 +269,14 @@ piece_long_by true size bytes piece rest e =
       ap length more,
     )
 
-key_long : AsLong key_at key_text
+pub key_long : AsLong key_at key_text
 key_long [] k rest e = absurd (cc)
 key_long (size ∷ bytes) k rest e = omega (
   arith,
   piece_long_by (nat_le 1 size && nat_le size 64 && nat_le size (length bytes)) size bytes k rest e,
 )
 
-value_long : AsLong value_at value_text
+pub value_long : AsLong value_at value_text
 unfolding value_text
 value_long [] v rest e = absurd (cc)
 value_long (high ∷ []) v rest e = absurd (cc)
@@ -290,238 +340,7 @@ writes_long_by : (ok : Bool) (count : ℕ) (rest : List ℕ) (ws : List Write)
 writes_long_by false count rest ws e = absurd (cc)
 writes_long_by true count rest ws e = ap suc (all_long write_at write_text write_long count rest ws e)
 
-writes_long : (bytes : List ℕ) (ws : List Write) → writes_of bytes ≡ Some ws
+pub writes_long : (bytes : List ℕ) (ws : List Write) → writes_of bytes ≡ Some ws
     → length bytes ≡ length (writes_text ws)
 writes_long [] ws e = absurd (cc)
 writes_long (count ∷ rest) ws e = writes_long_by (nat_le 1 count && nat_le count 64) count rest ws e
-
--- Records.
-
-abbrev size_of : LogRecord → ℕ
-size_of l = length (payload_text l.parent l.entry)
-
-listing_long_by : (p : Option ProcessId) (c : Case) (ts : List Ticket) (two three four : Bool)
-    → length (payload_text p (if two then Collecting c ts else if three then Prepare c ts
-    else if four then Commit c ts else Abort c ts))
-    ≡ length (name_text p (CaseBranch c)) + length (tickets_text ts)
-listing_long_by p c ts true three four = length-append (name_text p (CaseBranch c)) (tickets_text ts)
-listing_long_by p c ts false true four = length-append (name_text p (CaseBranch c)) (tickets_text ts)
-listing_long_by p c ts false false true = length-append (name_text p (CaseBranch c)) (tickets_text ts)
-listing_long_by p c ts false false false = length-append (name_text p (CaseBranch c)) (tickets_text ts)
-
-listed_long : (kind : ℕ) (p : Option ProcessId) (c : Case) (rest : List ℕ) (o : Option (List Ticket))
-    (l : LogRecord) → tickets_of rest ≡ o
-    → option_map (λ ts. named p (listing kind c ts)) o ≡ Some l
-    → length (name_text p (CaseBranch c)) + length rest ≡ size_of l
-listed_long kind p c rest None l f e = absurd (cc)
-listed_long kind p c rest (Some ts) l f e =
-    let is : named p (listing kind c ts) ≡ l = cc in
-    omega (
-      arith,
-      tickets_long rest ts f,
-      listing_long_by p c ts (kind == 2) (kind == 3) (kind == 4),
-      ap size_of is,
-    )
-
-ended_long : (none : Bool) (p : Option ProcessId) (c : Case) (rest : List ℕ) (l : LogRecord)
-    → (length rest == 0) ≡ none
-    → (if none then Some (named p (End c None)) else None) ≡ Some l
-    → length (name_text p (CaseBranch c)) + length rest ≡ size_of l
-ended_long false p c rest l n e = absurd (cc)
-ended_long true p c rest l n e =
-    let is : named p (End c None) ≡ l = cc in
-    let nothing : length rest ≡ 0 = grind (arith, nat_tests) in
-    omega (arith, nothing, ap size_of is)
-
-case_record_long : (six mid : Bool) (kind : ℕ) (p : Option ProcessId) (c : Case) (rest : List ℕ)
-    (l : LogRecord)
-    → (if six then (if length rest == 0 then Some (named p (End c None)) else None)
-    else if mid then option_map (λ ts. named p (listing kind c ts)) (tickets_of rest) else None) ≡ Some l
-    → length (name_text p (CaseBranch c)) + length rest ≡ size_of l
-case_record_long true mid kind p c rest l e = ended_long (length rest == 0) p c rest l refl e
-case_record_long false true kind p c rest l e = listed_long kind p c rest (tickets_of rest) l refl e
-case_record_long false false kind p c rest l e = absurd (cc)
-
-of_case_long : (kind : ℕ) (p : Option ProcessId) (b : Branch) (rest : List ℕ) (l : LogRecord)
-    → of_case kind p b rest ≡ Some l
-    → length (name_text p b) + length rest ≡ size_of l
-of_case_long kind p (CaseBranch c) rest l e =
-    case_record_long (kind == 6) (nat_le 2 kind && nat_le kind 5) kind p c rest l e
-of_case_long kind p (Foreign x) rest l e = absurd (cc)
-
-of_name_long : (kind : ℕ) (payload : List ℕ) (o : Front Name) (l : LogRecord) → name_at payload ≡ o
-    → of_name kind o ≡ Some l → length payload ≡ size_of l
-of_name_long kind payload None l f e = absurd (cc)
-of_name_long kind payload (Some n) l f e = omega
-    (arith, name_long payload n.0 n.1 f, of_case_long kind n.0.0 n.0.1 n.1 l e)
-
-coordinator_long : (kind : ℕ) (payload : List ℕ) (l : LogRecord) → coordinator_record kind payload ≡ Some l
-    → length payload ≡ size_of l
-unfolding coordinator_record
-coordinator_long kind payload l e = of_name_long kind payload (name_at payload) l refl e
-
-abbrev bare_by : Bool → Bool → Bool → Bool → Bool → Branch → Option Record
-bare_by a b c d f x =
-    if a then Some (Committed x) else if b then Some (RolledBack x) else if c then Some (HeurCommit x)
-    else if d then Some (HeurRollback x) else if f then Some (Forgot x) else None
-
-bare_long : (a b c d f : Bool) (p : Option ProcessId) (x : Branch) (r : Record) → bare_by a b c d f x ≡ Some r
-    → length (payload_text p r) ≡ length (name_text p x)
-bare_long true b c d f p x r e = let is : Committed x ≡ r = cc in ap (λ z. length (payload_text p z)) (sym is)
-bare_long false true c d f p x r e = let is : RolledBack x ≡ r = cc in
-    ap (λ z. length (payload_text p z)) (sym is)
-bare_long false false true d f p x r e = let is : HeurCommit x ≡ r = cc in
-    ap (λ z. length (payload_text p z)) (sym is)
-bare_long false false false true f p x r e = let is : HeurRollback x ≡ r = cc in
-    ap (λ z. length (payload_text p z)) (sym is)
-bare_long false false false false true p x r e = let is : Forgot x ≡ r = cc in
-    ap (λ z. length (payload_text p z)) (sym is)
-bare_long false false false false false p x r e = absurd (cc)
-
-told_long_by : (one none : Bool) (p : Option ProcessId) (b : Branch) (r : Record)
-    → (if one then Some (Told b CommittedOutcome) else if none then Some (Told b AbortedOutcome) else None)
-    ≡ Some r → length (payload_text p r) ≡ length (name_text p b) + 1
-told_long_by true none p b r e = let is : Told b CommittedOutcome ≡ r = cc in
-    ap (λ z. length (payload_text p z)) (sym is) ∙ length-append (name_text p b) (1 ∷ [])
-told_long_by false true p b r e = let is : Told b AbortedOutcome ≡ r = cc in
-    ap (λ z. length (payload_text p z)) (sym is) ∙ length-append (name_text p b) (0 ∷ [])
-told_long_by false false p b r e = absurd (cc)
-
-told_long : (p : Option ProcessId) (b : Branch) (rest : List ℕ) (r : Record) → told b rest ≡ Some r
-    → length (payload_text p r) ≡ length (name_text p b) + length rest
-told_long p b [] r e = absurd (cc)
-told_long p b (o ∷ []) r e = told_long_by (o == 1) (o == 0) p b r e
-told_long p b (o ∷ q ∷ rest) r e = absurd (cc)
-
-writing_long_by : (p : Option ProcessId) (b : Branch) (ws : List Write) (prepared : Bool)
-    → length (payload_text p (if prepared then Prepared b ws else Direct b ws))
-    ≡ length (name_text p b) + length (writes_text ws)
-writing_long_by p b ws true = length-append (name_text p b) (writes_text ws)
-writing_long_by p b ws false = length-append (name_text p b) (writes_text ws)
-
-written_long : (kind : ℕ) (p : Option ProcessId) (b : Branch) (rest : List ℕ) (o : Option (List Write))
-    (r : Record) → writes_of rest ≡ o
-    → option_map (writing kind b) o ≡ Some r → length (payload_text p r)
-    ≡ length (name_text p b) + length rest
-written_long kind p b rest None r f e = absurd (cc)
-written_long kind p b rest (Some ws) r f e =
-    let is : writing kind b ws ≡ r = cc in
-    omega (
-      arith,
-      writes_long rest ws f,
-      writing_long_by p b ws (kind == 17),
-      ap (λ z. length (payload_text p z)) is,
-    )
-
-branch_bare_long : (none : Bool) (kind : ℕ) (p : Option ProcessId) (b : Branch) (rest : List ℕ) (r : Record)
-    → (length rest == 0) ≡ none
-    → (if none then bare kind b else None) ≡ Some r
-    → length (payload_text p r) ≡ length (name_text p b) + length rest
-branch_bare_long false kind p b rest r n e = absurd (cc)
-branch_bare_long true kind p b rest r n e =
-    let nothing : length rest ≡ 0 = grind (arith, nat_tests) in
-    omega (arith, nothing, bare_long (kind == 18) (kind == 19) (kind == 21) (kind == 22) (kind == 24) p b r e)
-
-branch_long_by : (writes tells : Bool) (kind : ℕ) (p : Option ProcessId) (b : Branch) (rest : List ℕ)
-    (r : Record)
-    → (if writes then option_map (writing kind b) (writes_of rest) else if tells then told b rest
-    else if length rest == 0 then bare kind b else None) ≡ Some r
-    → length (payload_text p r) ≡ length (name_text p b) + length rest
-branch_long_by true tells kind p b rest r e = written_long kind p b rest (writes_of rest) r refl e
-branch_long_by false true kind p b rest r e = told_long p b rest r e
-branch_long_by false false kind p b rest r e = branch_bare_long (length rest == 0) kind p b rest r refl e
-
-named_long : (kind : ℕ) (p : Option ProcessId) (b : Branch) (rest : List ℕ) (o : Option Record)
-    (l : LogRecord) → branch_record kind b rest ≡ o
-    → option_map (named p) o ≡ Some l → length (name_text p b) + length rest ≡ size_of l
-named_long kind p b rest None l f e = absurd (cc)
-named_long kind p b rest (Some r) l f e =
-    let is : named p r ≡ l = cc in
-    omega (arith, branch_long_by ((kind == 17) || (kind == 20)) (kind == 23) kind p b rest r f, ap size_of is)
-
-of_branch_long : (kind : ℕ) (payload : List ℕ) (o : Front Name) (l : LogRecord) → name_at payload ≡ o
-    → of_branch kind o ≡ Some l → length payload ≡ size_of l
-of_branch_long kind payload None l f e = absurd (cc)
-of_branch_long kind payload (Some n) l f e = omega (
-  arith,
-  name_long payload n.0 n.1 f,
-  named_long kind n.0.0 n.0.1 n.1
-      (branch_record kind n.0.1 n.1) l refl e,
-)
-
-pair_end_long : (none : Bool) (k : List ℕ) (v : List ℕ × List ℕ) (l : LogRecord) → (length v.1 == 0) ≡ none
-    → (if none then Some (unnamed (Pair k v.0)) else None) ≡ Some l
-    → length (key_text k) + (length (value_text v.0) + length v.1) ≡ size_of l
-pair_end_long false k v l n e = absurd (cc)
-pair_end_long true k v l n e =
-    let is : unnamed (Pair k v.0) ≡ l = cc in
-    let nothing : length v.1 ≡ 0 = grind (arith, nat_tests) in
-    omega (arith, nothing, length-append (key_text k) (value_text v.0), ap size_of is)
-
-pair_value_long : (k bytes : List ℕ) (o : Front (List ℕ)) (l : LogRecord) → value_at bytes ≡ o
-    → pair_of k o ≡ Some l → length (key_text k) + length bytes ≡ size_of l
-pair_value_long k bytes None l f e = absurd (cc)
-pair_value_long k bytes (Some v) l f e = omega
-    (arith, value_long bytes v.0 v.1 f, pair_end_long (length v.1 == 0) k v l refl e)
-
-pair_long : (payload : List ℕ) (o : Front (List ℕ)) (l : LogRecord) → key_at payload ≡ o → pair_by o ≡ Some l
-    → length payload ≡ size_of l
-pair_long payload None l f e = absurd (cc)
-pair_long payload (Some k) l f e = omega (
-  arith,
-  key_long payload k.0 k.1 f,
-  pair_value_long k.0 k.1 (value_at k.1) l refl e,
-)
-
-abbrev number_by : Bool → List ℕ → Option ℕ
-number_by ok payload = if ok then Some (big_number 8 payload) else None
-
-below_long : (ok : Bool) (payload : List ℕ) (n : ℕ)
-    → ((length payload == 8) && nat_lt (big_number 8 payload) (2 ^ 63)) ≡ ok → number_by ok payload ≡ Some n
-    → length payload ≡ 8
-below_long false payload n b e = absurd (cc)
-below_long true payload n b e = let a = (and_parts (length payload == 8)
-    (nat_lt (big_number 8 payload) (2 ^ 63)) b).0 in grind (arith, nat_tests)
-
-numbered_long : (payload : List ℕ) (o : Option ℕ) (make : ℕ → Record) (l : LogRecord) → below payload ≡ o
-    → ((n : ℕ) → length (payload_text None (make n)) ≡ 8)
-    → option_map (λ n. unnamed (make n)) o ≡ Some l → length payload ≡ size_of l
-numbered_long payload None make l f m e = absurd (cc)
-numbered_long payload (Some n) make l f m e =
-    let is : unnamed (make n) ≡ l = cc in
-    omega (
-      arith,
-      m n,
-      below_long ((length payload == 8) && nat_lt (big_number 8 payload) (2 ^ 63)) payload n
-          refl f,
-      ap size_of is,
-    )
-
-manager_long_by : (base pair : Bool) (kind : ℕ) (payload : List ℕ) (l : LogRecord)
-    → (if base then option_map (λ n. unnamed (Base n)) (below payload)
-    else if pair then pair_by (key_at payload) else of_branch kind (name_at payload)) ≡ Some l
-    → length payload ≡ size_of l
-manager_long_by true pair kind payload l e = numbered_long payload (below payload) Base l refl (λ n. refl) e
-manager_long_by false true kind payload l e = pair_long payload (key_at payload) l refl e
-manager_long_by false false kind payload l e = of_branch_long kind payload (name_at payload) l refl e
-
-manager_long : (kind : ℕ) (payload : List ℕ) (l : LogRecord) → manager_record kind payload ≡ Some l
-    → length payload ≡ size_of l
-unfolding manager_record
-manager_long kind payload l e = manager_long_by (kind == 25) (kind == 26) kind payload l e
-
-record_long_by : (first : Bool) (payload : List ℕ) (o : Option LogRecord) (l : LogRecord)
-    → (o ≡ Some l → length payload ≡ size_of l)
-    → (if first then option_map (λ n. unnamed (Opened n)) (below payload) else o) ≡ Some l
-    → length payload ≡ size_of l
-record_long_by true payload o l f e = numbered_long payload (below payload) Opened l refl (λ n. refl) e
-record_long_by false payload o l f e = f e
-
--- a payload that is read as a record is as long as this record's
-pub read_long : (p : Kind) (kind : ℕ) (payload : List ℕ) (l : LogRecord) → read_record p kind payload ≡ Some l
-    → length payload ≡ length (payload_text l.parent l.entry)
-unfolding read_record
-read_long Coordinator kind payload l e = record_long_by (kind == 1) payload
-    (coordinator_record kind payload) l (coordinator_long kind payload l) e
-read_long Manager kind payload l e = record_long_by (kind == 1) payload (manager_record kind payload) l
-    (manager_long kind payload l) e

@@ -12,7 +12,7 @@ use Rattle.rec_log.specs.Texts.{and_records, is_whole, records_in, size_by, size
 use Rattle.rec_log.specs.Sights.{LogState, body, front, left_by, log_state, record_size, whole_within}
 use Rattle.rec_log.proofs.Frames.{Cuts, cuts, frame_more, front_of, no_frame, shorter, step, step_whole, taken}
 use Rattle.rec_log.proofs.Openings.{Frame, frame_at}
-use Rattle.rec_log.proofs.Sizes.{read_long}
+use Rattle.rec_log.proofs.RecordSizes.{read_long}
 use Rattle.rec_log.proofs.Written.{body_taken}
 
 -- Steps of the definition.

@@ -13,7 +13,7 @@
 //!
 //! | Offset in a frame | Bytes | What |
 //! |---|---|---|
-//! | 0 | 1 | the record's kind, 01 to 06 or 11 to 1a |
+//! | 0 | 1 | the record's kind, 01 to 08 or 11 to 1a |
 //! | 1 | 2 | the length of the payload |
 //! | 3 | .. | the payload |
 //!

@@ -46,39 +46,14 @@ use Rattle.audit_engine.specs.declared.detail.Detail.{Detail}
 use Rattle.audit_engine.specs.declared.ending.Ending.{Ending}
 use Rattle.audit_engine.specs.declared.ending.Ending.TheVariants as ending
 use Rattle.rstar.specs.Laws.{AuditsOfLeftLogsAreTrue, AuditsTruly}
-use Rattle.rstar.proofs.Entries.{none_failed}
+use Rattle.left_logs.proofs.Entries.{none_failed}
 use Rattle.rstar.proofs.Kept.{own_kept}
-use Rattle.rstar.proofs.Left.{logs_fit, spells_at}
+use Rattle.left_logs.proofs.Left.{logs_fit, spells_at}
 use Rattle.rstar.proofs.Reading.{IsSoundLog, sound_at, sound_records}
-use Rattle.rstar.proofs.Unfailed.{NoneFailed, all_up}
+use Rattle.left_logs.proofs.Undamaged.{entry_log, none_damaged, some_node}
+use Rattle.left_logs.proofs.Unfailed.{NoneFailed, all_up}
 
 -- What a run left.
-
-kind_again : (k : Kind) (o : Option ProcessId) → (is_none o && is_manager_kind k) ≡ false
-    → log_kind (role_by k o) ≡ k
-kind_again Coordinator None h = refl
-kind_again Coordinator (Some p) h = refl
-kind_again Manager (Some p) h = refl
-kind_again Manager None h = absurd (cc)
-
-second_false : (a b : Bool) → (a || b) ≡ false → b ≡ false
-second_false true b h = absurd (cc)
-second_false false b h = h
-
--- the kind of a listed process's log is its entry's
-entry_log : (tree : List TreeEntry) → IsTree tree → (q : ProcessId) (e : TreeEntry)
-    → find (λ x. same_process x.id q) tree ≡ Some e → log_kind (role_of tree q) ≡ e.kind
-unfolding has_wrong_roots
-entry_log tree t q e found =
-    ap log_kind (role_if tree q e found)
-    ∙ kind_again e.kind e.parent
-    (not_found (λ x. is_top x && is_manager_kind x.kind) (λ x. same_process x.id q) tree e
-    (second_false _ _ t.one_coordinator_on_top) found)
-
--- a process that is there
-some_node : (o : Option CoreState) → is_some o ≡ true → (c : CoreState) × (o ≡ Some c)
-some_node None h = absurd (cc)
-some_node (Some c) h = (c, refl)
 
 module _ (end : WorldState) (t : IsTree end.tree) (es : List Made) (w : World) (follows : Follows es w end)
     (logs : List ProcessLog) (left : AreLogs end end.tree logs)
@@ -125,40 +100,28 @@ module _ (end : WorldState) (t : IsTree end.tree) (es : List Made) (w : World) (
 
 -- What is written of it.
 
--- lines that are the audit's are true of the run
-abbrev TrueLines : List TreeEntry → World → List ProcessLog → Type 0
-TrueLines tree w logs = first_damage tree logs ≡ None → AreTrue w (audit_lines tree logs)
-
-same_damage : (a b : ProcessId × ℕ) → Some a ≡ Some b → a ≡ b
-same_damage a b e = cc
-
 no_damage : {A : Type 0} (d : Damage) (x : ProcessId × ℕ) → d ≡ None → d ≡ Some x → A
 no_damage d x none some = absurd (let both = sym none ∙ some in cc)
 
 module _ (d : Detail) (tree : List TreeEntry) (logs : List ProcessLog) (w : World) (text report : List ℕ)
-    (says : IsLogsText text tree logs) (lines : TrueLines tree w logs) where
+    (says : IsLogsText text tree logs) (none : first_damage tree logs ≡ None)
+    (lines : AreTrue w (audit_lines tree logs)) where
   reported : (e : Ending) → e ≡ ending_by (mismatches_in (audit_lines tree logs)) → Reports d tree logs report
       → AuditsTruly d tree w text e report
   reported e ends reports = record {
     logs = logs;
     says = says;
-    sound = λ none. record {
+    undamaged = none;
+    truly = record {
       lines = audit_lines tree logs;
       text = reports.report;
       ends = ends;
-      lines_true = lines none;
+      lines_true = lines;
     };
-    damaged = λ q place damage. no_damage (first_damage tree logs) (q, place) reports.sound damage;
   }
 
   told : (e : Ending) → TellsDamage tree logs report → AuditsTruly d tree w text e report
-  told e damage = record {
-    logs = logs;
-    says = says;
-    sound = λ none. no_damage (first_damage tree logs) (damage.0, damage.1) none damage.2;
-    damaged = λ q place there. damage.3 ∙ ap (λ (x : ProcessId × ℕ). damage_text x.0 x.1)
-        (same_damage (damage.0, damage.1) (q, place) (sym damage.2 ∙ there));
-  }
+  told e damage = no_damage (first_damage tree logs) (damage.0, damage.1) none damage.2
 
   audited : (e : Ending) → IsAudited d e tree logs report → AuditsTruly d tree w text e report
   audited ending.Agrees (reports, ends) = reported ending.Agrees (ap
@@ -195,8 +158,9 @@ left_audit end t fit es w follows whole text report d e left a =
     let fits : FitsTree end.tree = record { entries_fit = fit; is_tree = t } in
     let says = subst (λ x. IsLogsText x end.tree left.logs) (sym left.is)
     (written_is_read end.tree left.logs fits (logs_fit end end.tree left.logs t fit left.bytes left.are)) in
-    of_report d end.tree left.logs w text report says
-    (λ none. true_of_runs end.tree t left.logs es w
+    let none = none_damaged end t es w follows whole left.logs left.are left.stand in
+    of_report d end.tree left.logs w text report says none
+    (true_of_runs end.tree t left.logs es w
     (left_behind end t es w follows left.logs left.are none whole)) e a
 
 ended : (start end : WorldState) (tree : List TreeEntry) (events : List Event)

@@ -1,11 +1,10 @@
 -- That the audit of the logs which a run of a tree script leaves is the audit of that run.
-use Rattle.std.specs.Prelude.{◌≡◌, ℕ, List, Some, None}
-use Rattle.tree_model.specs.declared.names.ProcessId.{ProcessId}
+use Rattle.std.specs.Prelude.{◌≡◌, ℕ, List, None}
 use Rattle.tree_model.specs.declared.trees.TreeEntry.{TreeEntry}
 use Rattle.tree_model.specs.World.{World}
 use Rattle.logs_script.specs.declared.line.ProcessLog.{ProcessLog}
 use Rattle.logs_script.specs.Logs.{IsLogsText}
-use Rattle.logs_script.specs.Faults.{damage_text, first_damage}
+use Rattle.logs_script.specs.Faults.{first_damage}
 use Rattle.tree_audit.specs.declared.report.Line.{Line}
 use Rattle.tree_audit.specs.Reports.{kept_lists, mismatches_in}
 use Rattle.tree_audit.specs.Truths.{AreTrue}
@@ -25,15 +24,13 @@ pub record ReportsTruly (d : Detail) (tree : List TreeEntry) (logs : List Proces
   pub ends : ending ≡ ending_by (mismatches_in lines)
   pub lines_true : AreTrue w lines
 
--- The text says this tree and some logs of it. Where each of these is sound, the report is true in this
--- world; else it is the line of the first that is damaged.
+-- The text says this tree and some logs of it, none of which is damaged, and the report is true in this world.
 pub record AuditsTruly (d : Detail) (tree : List TreeEntry) (w : World) (text : List ℕ) (ending : Ending)
     (report : List ℕ) : Type 0 where
   pub logs : List ProcessLog
   pub says : IsLogsText text tree logs
-  pub sound : first_damage tree logs ≡ None → ReportsTruly d tree logs w ending report
-  pub damaged : (q : ProcessId) (place : ℕ) → first_damage tree logs ≡ Some (q, place)
-      → report ≡ damage_text q place
+  pub undamaged : first_damage tree logs ≡ None
+  pub truly : ReportsTruly d tree logs w ending report
 
 -- Whatever an audit writes of the logs that the run of a script left is true of just that run: of the world
 -- that its moves lead to, for which the tree's state at its end stands.

@@ -4,8 +4,8 @@ ghost use Rattle.rstar.specs.Laws.{AuditsOfLeftLogsAreTrue};
 
 /// Whatever `rstar audit` writes of the logs that `rstar tree --logs` left of a run is true of just that
 /// run: each case's outcome is its transaction's, and the mismatches that are shown are just those that
-/// stand. Or a log of the run is damaged, and it tells the first that is. It never refuses the text. The
-/// same run is that of which the headline holds.
+/// stand. It never refuses the text, and finds none of these logs damaged. The same run is that of which
+/// the headline holds.
 pub fn audits_of_left_logs_are_true()
     ensures { AuditsOfLeftLogsAreTrue }
 {}

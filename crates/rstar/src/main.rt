@@ -7,7 +7,9 @@
 mod explainer;
 mod law;
 mod node;
+mod running;
 
+use crate::running::Run;
 use audit_engine::{Detail, run_audit, run_log};
 use clap::error::ErrorKind;
 use clap::{Arg, ArgAction, ArgMatches, Command, Error};
@@ -19,6 +21,8 @@ use std::alloc::{AllocError, Global};
 use std::io;
 use std::io::Read;
 use std::process::ExitCode;
+use std::sync::Wait;
+use std::thread::Threads;
 use tree_engine::{Failure, Output, Status, run_tree};
 use xa_engine::run_xa;
 
@@ -27,6 +31,8 @@ use xa_engine::run_xa;
 enum Request {
     /// The events of a tree script, and what is written of them.
     Tree(Output),
+    /// The events of a tree script, on processes that run at the same time.
+    Run(Run),
     /// The calls of an XA script.
     Xa,
     /// What the logs of a tree hold.
@@ -61,6 +67,7 @@ const EXAMPLES: &str = "\
 Examples:
   rstar tree < examples/commit.tree
   rstar tree --logs < examples/commit.tree
+  rstar run < examples/commit.tree
   rstar xa < examples/migrate.xa
   rstar log < examples/commit.logs
   rstar audit < examples/commit.logs
@@ -87,7 +94,7 @@ In: the processes as TOML, a line ---, and an event a line:
                                        kept behind those that are forced (without K: all)
   trim P                               the log of process P
   heur CASE commit|rollback            an operator decides a manager's case in doubt
-  forget CASE                          and lets it go
+  forget CASE                          and lets it go; at the root: clears what its End reports
 TXN is as a1.1, CASE as a1.1 or a1.1@2.1.1, KEY and VALUE are visible ASCII characters, up to
 64 and 256. Empty lines and lines that begin with # are skipped.
 
@@ -170,14 +177,14 @@ Then messages are delivered as by settle, every case that its log shows in doubt
 parent, messages are delivered again, and the logs are audited. Out: first 'no crash:' and what
 all events leave without one, where they leave something: 'in-doubt CASE ..', 'mismatch CASE
 ..', or both. Then a line for each crash that leaves more than that: 'event N restart P K:' and
-likewise the cases that it adds; it is the run of the first N events and 'restart P K'. 'damaged
-P PLACE' or 'refused N E' would stand there, too, were there such a crash; none was found. The
-last line is 'points N in-doubt D mismatches M': so many crashes were tried, and so many add a
-case in doubt, and a mismatch. 'refused N E' stands behind it where event N of the script is
-refused, and 'error ..' alone where the script is. The status is 2 where an event is refused,
-else 3 where the script or a crash leaves something. Standard error has a line for each percent
-of the events. Each crash runs its script anew, so the time goes with the square of the number
-of events: of three processes some 1,000 events take ten seconds, and some 2,500 a minute.
+likewise the cases that it adds; it is the run of the first N events and 'restart P K'.
+'refused N E' would stand there, too, were there such a crash; none was found. The last line is
+'points N in-doubt D mismatches M': so many crashes were tried, and so many add a case in doubt,
+and a mismatch. 'refused N E' stands behind it where event N of the script is refused, and
+'error ..' alone where the script is. The status is 2 where an event is refused, else 3 where
+the script or a crash leaves something. Standard error has a line for each percent of the
+events. Each crash runs its script anew, so the time goes with the square of the number of
+events: of three processes some 1,000 events take ten seconds, and some 2,500 a minute.
 
 Examples: rstar crash < examples/commit.tree
           rstar crash < examples/operator.tree";
@@ -330,6 +337,7 @@ fn grammar<'a>(alloc: Global) -> Result<Command<'a>, AllocError> {
     .version(VERSION)
     .subcommand_required(true)
     .subcommand(tree(alloc)?)?
+    .subcommand(running::words(alloc)?)?
     .subcommand(explaining(
         alloc,
         "xa",
@@ -400,6 +408,7 @@ fn read_words<'a>(alloc: Global, words: &'a [String]) -> Result<Asked<'a>, Error
     match matches.subcommand() {
         Some((name, found)) => Ok(match name {
             "tree" => Asked::Request(Request::Tree(output_of(found)), told_of(found)),
+            "run" => Asked::Request(Request::Run(running::asked(found)), told_of(found)),
             "log" => Asked::Request(Request::Log, told_of(found)),
             "audit" => Asked::Request(Request::Audit(detail_of(found)), Told::Silent),
             "crash" => Asked::Request(Request::Crash, told_of(found)),
@@ -422,11 +431,17 @@ fn number(ended: Result<Status, Failure>) -> Result<u8, Failure> {
 }
 
 /// Runs what was asked on this input: the exit status, or why it could not go on.
-fn run<R: Read>(rt: &HostRuntime, request: Request, reader: &mut R) -> Result<u8, Failure> {
+fn run<R: Read, T: Threads + Wait + Sync>(
+    rt: &HostRuntime,
+    threads: &T,
+    request: Request,
+    reader: &mut R,
+) -> Result<u8, Failure> {
     let mut writer = io::writer(rt);
     let alloc = rt.alloc();
     match request {
         Request::Tree(output) => number(run_tree(alloc, output, reader, &mut writer)),
+        Request::Run(run) => number(running::start(threads, alloc, run, reader, &mut writer)),
         Request::Xa => number(run_xa(alloc, reader, &mut writer)),
         Request::Log => number(run_log(alloc, reader, &mut writer)),
         Request::Audit(detail) => match run_audit(alloc, detail, reader, &mut writer) {
@@ -451,7 +466,7 @@ fn status_by(ended: Result<u8, Failure>) -> u8 {
 /// What is read for a request.
 fn script_of(request: Request) -> Script {
     match request {
-        Request::Tree(_) | Request::Crash => Script::Tree,
+        Request::Tree(_) | Request::Run(_) | Request::Crash => Script::Tree,
         Request::Xa => Script::Xa,
         Request::Log | Request::Audit(_) => Script::Logs,
     }
@@ -466,11 +481,15 @@ fn tell(rt: &HostRuntime, text: Result<String, AllocError>) {
 
 /// Runs what was asked, tells on standard error why it was refused or could not go on, and answers the exit
 /// status.
-fn explained(rt: &HostRuntime, request: Request) -> Result<u8, Failure> {
+fn explained<T: Threads + Wait + Sync>(
+    rt: &HostRuntime,
+    threads: &T,
+    request: Request,
+) -> Result<u8, Failure> {
     let alloc = rt.alloc();
     let input = read_all(alloc, &mut rt.reader())?;
     let mut reader = input.as_slice();
-    let status = run(rt, request, &mut reader)?;
+    let status = run(rt, threads, request, &mut reader)?;
     if status == 1 || status == 2 {
         tell(rt, refusal_text(alloc, script_of(request), &input));
     }
@@ -478,11 +497,16 @@ fn explained(rt: &HostRuntime, request: Request) -> Result<u8, Failure> {
 }
 
 /// Runs what was asked, and answers the exit status.
-fn perform(rt: &HostRuntime, request: Request, told: Told) -> u8 {
+fn perform<T: Threads + Wait + Sync>(
+    rt: &HostRuntime,
+    threads: &T,
+    request: Request,
+    told: Told,
+) -> u8 {
     if told == Told::Silent {
-        return status_by(run(rt, request, &mut rt.reader()));
+        return status_by(run(rt, threads, request, &mut rt.reader()));
     }
-    let ended = explained(rt, request);
+    let ended = explained(rt, threads, request);
     if let Err(failure) = ended {
         tell(rt, failure_text(rt.alloc(), failure));
     }
@@ -490,7 +514,7 @@ fn perform(rt: &HostRuntime, request: Request, told: Told) -> u8 {
 }
 
 /// Reads the command line and runs it.
-fn status_of(rt: &HostRuntime) -> u8 {
+fn status_of<T: Threads + Wait + Sync>(rt: &HostRuntime, threads: &T) -> u8 {
     let alloc = rt.alloc();
     let args = match std::env::args(rt) {
         Ok(args) => args,
@@ -505,7 +529,7 @@ fn status_of(rt: &HostRuntime) -> u8 {
         return 4;
     };
     match read_words(alloc, words.as_slice()) {
-        Ok(Asked::Request(request, told)) => perform(rt, request, told),
+        Ok(Asked::Request(request, told)) => perform(rt, threads, request, told),
         Ok(Asked::Node(words)) => node::run(rt, words),
         Ok(Asked::Memory) => 4,
         Err(error) => {
@@ -522,5 +546,5 @@ fn status_of(rt: &HostRuntime) -> u8 {
 }
 
 fn main(rt: HostRuntime) -> ExitCode {
-    ExitCode::from(status_of(&rt))
+    ExitCode::from(status_of(&rt, &rt))
 }

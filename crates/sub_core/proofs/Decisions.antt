@@ -1,11 +1,13 @@
 -- What comes of an operator's decision, of the outcome behind it, and of its end.
-use Rattle.std.proofs.Common.{◌≡◌, ◌∙◌, ℕ, true, false, Option, Some, None, List, [], ◌∷◌, refl, sym, ap, subst, if◌then◌else◌}
+use Rattle.std.proofs.Common.{◌≡◌, ◌∙◌, ℕ, Bool, true, false, Option, Some, None, List, [], ◌∷◌, refl, sym, ap, subst, if◌then◌else◌}
+use Rattle.std.specs.Prelude.{option_map}
 use Rattle.xa_tables.specs.declared.call.Call.TheVariants as call
+use Rattle.xa_assoc.specs.Answers.{state_at}
 use Rattle.xa_tables.specs.declared.states.BranchState.{BranchState}
 use Rattle.xa_tables.specs.declared.states.BranchState.TheVariants.{S5}
 use Rattle.xa_xid.specs.declared.xid.Xid.{Xid}
 use Rattle.xa_heur.specs.declared.decision.Decision.{Decision}
-use Rattle.xa_heur.specs.Decisions.{first_told}
+use Rattle.xa_heur.specs.Decisions.{decided_as, decision_at, first_told}
 use Rattle.tree_model.specs.declared.names.Case.{Case}
 use Rattle.tree_model.specs.declared.names.Ticket.{Ticket}
 use Rattle.tree_model.specs.declared.names.Outcome.{Outcome}
@@ -20,11 +22,13 @@ use Rattle.tree_model.specs.declared.records.Record.TheVariants.{HeurCommit, Heu
 use Rattle.tree_model.specs.declared.records.RecordKind.TheVariants as kind
 use Rattle.tree_model.specs.declared.records.Write.{Write}
 use Rattle.tree_model.specs.Names.{same_outcome}
+use Rattle.tree_model.specs.Records.{decision_of as case_decision}
 use Rattle.tree_model.specs.CoordinatorRows.{forced, tells_outcome}
 use Rattle.tree_model.specs.ManagerRows.{Leaf, LeafRow, acknowledgement, heuristic_forget, heuristic_outcome, is_acknowledged, on_abort, on_commit, prepared_decide, unmoved}
 use Rattle.log_text.specs.Parts.{Name}
-use Rattle.core_model.specs.Turns.{Handles, Turn, decide_turn, forget_turn, leaf_in, this_version}
-use Rattle.core_model.specs.Makes.{retired_by}
+use Rattle.core_model.specs.Turns.{Handles, Turn, decide_turn, decision_records, forget_turn, leaf_in, this_version}
+use Rattle.live_table.proofs.Writes.{same_case-itself}
+use Rattle.core_model.specs.Makes.{decided_by, retired_by}
 use Rattle.manager_model.specs.Sights.{ManagerSight, manager_data}
 use Rattle.manager_model.specs.Deciding.{decision_writes}
 use Rattle.manager_model.specs.Ends.{decided_behind, row_for, row_of, tells, written_by}
@@ -33,14 +37,14 @@ use Rattle.manager_model.specs.Data as model_data
 use Rattle.manager_model.specs.Turns.{DataTurn, MovesData, abort_data, commit_data, decide_data, forget_data, message_data, told_data}
 use Rattle.sub_branch.specs.declared.branch.Branch.{Branch}
 use Rattle.sub_branch.specs.declared.branch.Stage.TheVariants.{Heuristic}
-use Rattle.sub_table.specs.Tables.{BranchTable, IsKept, Notes, Retires, kept_view, nothing, ticket_in, view_in}
-use Rattle.sub_core.specs.Subordinates.{Hears, IsAt, IsNamed, IsTied, NotHeard, NotTurned, SubState, Turns, answer_for, core_of, decided, decision_kind, logged_alone, outcome_reply, prepared, turn_for, xid_of}
+use Rattle.sub_table.specs.Tables.{BranchTable, IsKept, Notes, Retires, branch_in, kept_view, nothing, ticket_in, view_in}
+use Rattle.sub_core.specs.Subordinates.{Hears, IsAt, IsNamed, IsTied, NotHeard, NotTurned, SubState, Turns, answer_for, core_of, decided, decided_at, decided_found, decision_kind, found_against, logged_alone, outcome_reply, prepared, turn_for, xid_of}
 use Rattle.sub_deeds.specs.Replies.{shown}
 use Rattle.sub_core.specs.Steps.{Acts, NotActed, turn_at}
-use Rattle.sub_core.proofs.Ties.{behind, moved_tied}
+use Rattle.sub_core.proofs.Ties.{behind, keeps_decided, moved_tied}
 use Rattle.sub_core.proofs.Rows.{handled}
 use Rattle.sub_core.proofs.Ends.{AreOf, log_by, log_is, not_done, not_turned, retires_at}
-use Rattle.sub_core.proofs.Outcomes.{decided_data, ended_data, never_retired, retired_abort, untouched}
+use Rattle.sub_core.proofs.Outcomes.{decided_data, decided_records, ended_data, never_retired, retired_abort, untouched}
 use Rattle.sub_core.proofs.Staying.{Stays, data_rest}
 use Rattle.sub_core.proofs.Doing.{notes_at}
 
@@ -65,6 +69,12 @@ decision_shown : (s : SubState) (c : Case) (o : Outcome)
     → shown (prepared_decide (leaf_in (core_of s) s.parent c) o).written [] ≡ logged_alone (decision_kind o) c
 decision_shown s c Committed = refl
 decision_shown s c Aborted = refl
+
+-- what an operator decided of the case behind the decision
+decided_now : (c : Case) (o : Outcome) (k : Option Outcome) (d : Decision) → d ≡ decided_as o
+    → Some d.outcome ≡ decided_by (ActInput (Decide c o)) c k
+decided_now c o k d is = ap (λ (e : Decision). Some e.outcome) is
+    ∙ sym (ap (λ (b : Bool). if b then Some o else k) (same_case-itself c))
 
 module _ (s : SubState) (key : ℕ) (c : Case) (x : Xid) (o : Outcome) (tied : IsTied s)
     (at : IsAt s.table key c (prepared x)) where
@@ -91,6 +101,10 @@ module _ (s : SubState) (key : ℕ) (c : Case) (x : Xid) (o : Outcome) (tied : I
             (ap kept_view r.branches.own) (λ d apart. ap kept_view (r.branches.others d apart))
             (λ d. ap (λ ts. ticket_in (record { tickets = ts; branches = t.branches }) d) r.tickets
             ∙ no_retire (Decide c o) d (ticket_in s.table d))
+            (keeps_decided s t m c (prepared x) (Some (decided x None)) tied at.live r.branches
+            made.comes.others_decided (ActInput (Decide c o))
+            (λ d k apart. ap (λ (b : Bool). if b then Some o else k) apart)
+            (λ is. decided_now c o (Some (s.manager.decided x).outcome) (m.decided x) made.decided))
             made.comes.boot));
         writes = subst (λ (q : DataTurn). MovesData (manager_data s.manager) (manager_data m) (λ c. xid_of s c) q)
             (sym (ap (λ (k : Option Branch). decide_data c (kept_view k).standing) at.live))
@@ -115,20 +129,41 @@ module _ (s : SubState) (key : ℕ) (c : Case) (x : Xid) (o : Outcome) (tied : I
 
 -- An outcome behind it.
 
+-- the decision of a case is read back from its record
+read_back : (c : Case) (k : Option Outcome) → case_decision (decision_records c k) c ≡ k
+unfolding case_decision
+read_back c None = refl
+read_back c (Some Committed) = ap (λ (b : Bool). if b then Some Committed else None) (same_case-itself c)
+read_back c (Some Aborted) = ap (λ (b : Bool). if b then Some Aborted else None) (same_case-itself c)
+
+-- what is found by the decision that the manager has
+pub found_is : (s : SubState) (c : Case) (x : Xid) (told : Option Outcome) (o : Outcome)
+    → branch_in s.table c ≡ Some (decided x told) → state_at s.manager.tables x ≡ S5
+    → found_against c (option_map (λ (d : Decision). d.outcome)
+    (decision_at (state_at s.manager.tables x) (s.manager.decided x))) o ≡ decided_found s c o
+found_is s c x told o at there =
+    ap (λ (q : BranchState). found_against c (option_map (λ (d : Decision). d.outcome)
+    (decision_at q (s.manager.decided x))) o) there
+    ∙ ap (λ (k : Option Branch). found_against c (decided_at s.manager k) o) (sym at)
+    ∙ ap (λ (k : Option Outcome). found_against c k o) (sym (read_back c ((core_of s).decided_of c)))
+
 module _ (s : SubState) (key : ℕ) (c : Case) (x : Xid) (told : Option Outcome) (kept : IsKept s.table)
     (at : IsAt s.table key c (decided x told)) where
   outcome_is : (o : Outcome) → turn_for s (tells_outcome o c)
-      ≡ Handles c (heuristic_outcome (leaf_in (core_of s) s.parent c) o [] (view_in s.table c) told)
+      ≡ Handles c (heuristic_outcome (leaf_in (core_of s) s.parent c) o (decided_found s c o) (view_in s.table c)
+      told)
   outcome_is Committed =
       let l : Leaf = leaf_in (core_of s) s.parent c in
-      ap (λ (k : Option Branch). Handles c (on_commit this_version l [] (view_in s.table c) (kept_view k).standing)) at.live
-      ∙ ap (λ (k : Option Branch). Handles c (heuristic_outcome l Committed [] (view_in s.table c)
-      (kept_view k).told)) at.live
+      ap (λ (k : Option Branch). Handles c (on_commit this_version l (decided_records s c) (view_in s.table c)
+      (kept_view k).standing)) at.live
+      ∙ ap (λ (k : Option Branch). Handles c (heuristic_outcome l Committed (decided_found s c Committed)
+      (view_in s.table c) (kept_view k).told)) at.live
   outcome_is Aborted =
       let l : Leaf = leaf_in (core_of s) s.parent c in
-      ap (λ (k : Option Branch). Handles c (on_abort this_version l [] (view_in s.table c) (kept_view k).standing)) at.live
-      ∙ ap (λ (k : Option Branch). Handles c (heuristic_outcome l Aborted [] (view_in s.table c)
-      (kept_view k).told)) at.live
+      ap (λ (k : Option Branch). Handles c (on_abort this_version l (decided_records s c) (view_in s.table c)
+      (kept_view k).standing)) at.live
+      ∙ ap (λ (k : Option Branch). Handles c (heuristic_outcome l Aborted (decided_found s c Aborted)
+      (view_in s.table c) (kept_view k).told)) at.live
 
   outcome_data : (o : Outcome) → message_data (core_of s) (answer_for s (tells_outcome o c)) (tells_outcome o c)
       ≡ told_data c told
@@ -148,7 +183,7 @@ pub told_same : (s : SubState) (key : ℕ) (c : Case) (x : Xid) (told o : Outcom
     → Stays s c (tells_outcome o c)
     (record {
       written = [];
-      messages = acknowledgement (leaf_in (core_of s) s.parent c) o [];
+      messages = acknowledgement (leaf_in (core_of s) s.parent c) o (decided_found s c o);
       view = view_in s.table c;
     })
 told_same s key c x told o kept at is =
@@ -158,7 +193,7 @@ told_same s key c x told o kept at is =
       turn = outcome_is s key c x (Some told) kept at o
           ∙ ap (λ b. Handles c (if b then record {
             written = [];
-            messages = acknowledgement l o [];
+            messages = acknowledgement l o (decided_found s c o);
             view = v;
           } else unmoved v)) is;
       view = refl;
@@ -178,7 +213,7 @@ told_other s key c x told o kept at is =
       turn = outcome_is s key c x (Some told) kept at o
           ∙ ap (λ b. Handles c (if b then record {
             written = [];
-            messages = acknowledgement l o [];
+            messages = acknowledgement l o (decided_found s c o);
             view = v;
           } else unmoved v)) is;
       view = refl;
@@ -198,6 +233,12 @@ told_then : (o : Outcome) (d : Decision) → (decided_behind (outcome_call o) d)
 told_then Committed d = refl
 told_then Aborted d = refl
 
+-- and what was decided stays
+outcome_then : (o : Outcome) (d : Decision)
+    → Some (decided_behind (outcome_call o) d).outcome ≡ Some d.outcome
+outcome_then Committed d = refl
+outcome_then Aborted d = refl
+
 -- the record of the first outcome
 tells_is : (s : SubState) (c : Case) (o : Outcome) (ws : List Write) (d : Decision) → d.told ≡ None
     → written_by (outcome_call o) S5 (CaseBranch c) ws d
@@ -212,7 +253,7 @@ module _ (s : SubState) (key : ℕ) (c : Case) (x : Xid) (o : Outcome) (tied : I
   l = leaf_in (core_of s) s.parent c
 
   abbrev row : LeafRow
-  row = heuristic_outcome (leaf_in (core_of s) s.parent c) o [] (view_in s.table c) None
+  row = heuristic_outcome (leaf_in (core_of s) s.parent c) o (decided_found s c o) (view_in s.table c) None
 
   none_told : (s.manager.decided x).told ≡ None
   none_told = tied.told c (decided x None) at.live
@@ -222,14 +263,15 @@ module _ (s : SubState) (key : ℕ) (c : Case) (x : Xid) (o : Outcome) (tied : I
 
   pub told_first : (t : BranchTable) (m : ManagerSight) → Notes s.table t key (Heuristic (Some o))
       → Finishes s.manager m x (outcome_call o)
-      → Hears s (behind s t m) (tells_outcome o c) (outcome_reply kind.Told c o s.me s.parent)
+      → Hears s (behind s t m) (tells_outcome o c)
+      (outcome_reply kind.Told c o (decided_found s c o) s.me s.parent)
   told_first t m notes f =
       let named = tied.named c (decided x None) at.live in
       let r = notes_at s.table t key (Heuristic (Some o)) c (decided x None) at notes in
       record {
         turns = λ k.
             subst (λ (turn : Turn). Turns s (behind s t m) (MessageInput k (tells_outcome o c)) turn
-            (outcome_reply kind.Told c o s.me s.parent))
+            (outcome_reply kind.Told c o (decided_found s c o) s.me s.parent))
             (sym (outcome_is s key c x None kept at o))
             (handled s t m (MessageInput k (tells_outcome o c)) c row
             (log_is s c x named (tied.given_before c (decided x None) at.live) m S5 (s.manager.writes x)
@@ -239,6 +281,10 @@ module _ (s : SubState) (key : ℕ) (c : Case) (x : Xid) (o : Outcome) (tied : I
             (ap kept_view r.branches.own) (λ d apart. ap kept_view (r.branches.others d apart))
             (λ d. ap (λ ts. ticket_in (record { tickets = ts; branches = t.branches }) d) r.tickets
             ∙ outcome_tickets s key c x None kept at o k d)
+            (keeps_decided s t m c (decided x None) (Some (decided x (Some o))) tied at.live r.branches
+            f.comes.others_decided (MessageInput k (tells_outcome o c)) (λ d q apart. refl)
+            (λ is. ap (λ (q : Decision). Some q.outcome) (f.decided there)
+            ∙ outcome_then o (s.manager.decided x)))
             f.comes.boot);
         writes = subst (λ (q : DataTurn). MovesData (manager_data s.manager) (manager_data m) (λ c. xid_of s c) q)
             (sym (outcome_data s key c x None kept at o))
@@ -295,6 +341,8 @@ module _ (s : SubState) (key : ℕ) (c : Case) (x : Xid) (told : Option Outcome)
             (ap kept_view r.branches.own) (λ d apart. ap kept_view (r.branches.others d apart))
             (λ d. r.tickets d ∙ untouched s.table c (decided x told) kept at.live refl d
             ∙ no_retire (Forget c) d (ticket_in s.table d))
+            (keeps_decided s t m c (decided x told) None tied at.live r.branches f.comes.others_decided
+            (ActInput (Forget c)) (λ d q apart. refl) (λ is. absurd (cc)))
             f.comes.boot);
         writes = subst (λ (q : DataTurn). MovesData (manager_data s.manager) (manager_data m) (λ c. xid_of s c) q)
             (sym (ap (λ (k : Option Branch). forget_data c (kept_view k).standing) at.live))

@@ -24,7 +24,7 @@ use Rattle.sub_branch.specs.declared.branch.Stage.TheVariants.{Active}
 use Rattle.sub_table.specs.Tables.{BranchTable, Notes, kept_view, stage_view, ticket_in}
 use Rattle.sub_core.specs.Subordinates.{Hears, IsAt, IsTied, SubState, Turns, active, answer_for, core_of, turn_for, xid_of}
 use Rattle.sub_deeds.specs.Replies.{shown}
-use Rattle.sub_core.proofs.Ties.{behind, moved_tied}
+use Rattle.sub_core.proofs.Ties.{behind, keeps_decided, moved_tied}
 use Rattle.sub_core.proofs.Rows.{handled}
 use Rattle.sub_core.proofs.Staying.{no_record}
 use Rattle.sub_core.proofs.Votes.{same_number}
@@ -105,7 +105,11 @@ module _ (s : SubState) (key : ℕ) (c g : Case) (n i : ℕ) (x : Xid) (op : Op)
             (w.log ∙ no_record s.manager.log)
             (ap kept_view r.branches.own ∙ view) (λ d apart. ap kept_view (r.branches.others d apart))
             (λ d. ap (λ ts. ticket_in (record { tickets = ts; branches = t.branches }) d) r.tickets
-            ∙ never k i op c d (ticket_in s.table d)) w.comes.boot);
+            ∙ never k i op c d (ticket_in s.table d))
+            (keeps_decided s t m c (active x g n false) (Some (active x g done spoiled)) tied at.live
+            r.branches
+            w.comes.others_decided (MessageInput k (Work c i op)) (λ d o apart. refl) (λ e. absurd (cc)))
+            w.comes.boot);
         writes = subst (λ (t : DataTurn). MovesData (manager_data s.manager) (manager_data m) (λ c. xid_of s c) t)
             (sym (data_is does w.allowed)) (moves_as does m w);
       }

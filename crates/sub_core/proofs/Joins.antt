@@ -15,21 +15,23 @@ use Rattle.tree_model.specs.declared.messages.Envelope.{Envelope}
 use Rattle.tree_model.specs.declared.messages.Message.TheVariants.{Join, Joined}
 use Rattle.tree_model.specs.declared.events.Input.{Input}
 use Rattle.tree_model.specs.declared.events.Input.TheVariants.{Message as MessageInput}
+use Rattle.tree_model.specs.declared.standings.Standing.TheVariants.{Heuristic as HeuristicStanding}
 use Rattle.tree_model.specs.Branches.{branch_format, branch_parts}
 use Rattle.tree_model.specs.Names.{same_case}
 use Rattle.tree_model.specs.CoordinatorRows.{post}
 use Rattle.tree_model.specs.Reactions.{sends_only}
+use Rattle.tree_model.specs.Standings.{ManagerView}
 use Rattle.core_model.specs.States.{SameCore}
 use Rattle.core_model.specs.Turns.{Issues, Says, Turn, leaf_joined_turn, next_ticket}
 use Rattle.manager_model.specs.Sights.{ManagerSight, SameManager}
 use Rattle.sub_deeds.specs.Deeds.{Begins, HasBegun, starts}
 use Rattle.sub_branch.specs.declared.branch.Branch.{Branch}
-use Rattle.sub_table.specs.Tables.{BranchTable, Opens, SameTable, branch_in, kept_view, opened, ticket_in}
-use Rattle.sub_core.specs.Subordinates.{AgreesWith, Hears, IsGiven, IsNamed, IsTied, Joins, Keeps, SubState, Turns, core_of, next_case, stage_state, xid_of}
+use Rattle.sub_table.specs.Tables.{BranchTable, Opens, SameTable, branch_in, kept_view, opened, ticket_in, view_in}
+use Rattle.sub_core.specs.Subordinates.{AgreesWith, Hears, IsGiven, IsNamed, IsTied, Joins, Keeps, SubState, Turns, core_of, decided_at, next_case, stage_state, xid_of}
 use Rattle.sub_deeds.specs.Replies.{shown}
 use Rattle.sub_deeds.proofs.Kept.{same_kept}
 use Rattle.sub_core.proofs.Ties.{apart_xids, behind, one, same_tied}
-use Rattle.sub_core.proofs.Rows.{no_view}
+use Rattle.sub_core.proofs.Rows.{no_view, same_decided}
 
 some_same : {A : Type 0} (a b : A) → Some a ≡ Some b → a ≡ b
 some_same a b e = cc
@@ -55,6 +57,7 @@ stays_core s = record {
     views = λ d.
         no_view;
     branches = λ d. refl;
+    decided = λ d. refl;
   };
 }
 
@@ -192,6 +195,19 @@ module _ (s : SubState) (d : Case) (t : BranchTable) (m : ManagerSight) (x : Xid
     given_before = λ c w h. given_at b c w (same_case own c) refl h;
   }
 
+  begun_decided : Begins s.manager m x → (c : Case) (r : Bool) → same_case own c ≡ r
+      → (view_in t c).standing ≡ HeuristicStanding
+      → decided_at m (branch_in t c) ≡ decided_at s.manager (branch_in s.table c)
+  begun_decided b c true e h =
+      let view : kept_view (Some (opened x d)) ≡ view_in t c =
+      ap kept_view (sym opens.branches.own ∙ ap (branch_in t) (one own c e)) in
+      let is : (kept_view (Some (opened x d))).standing ≡ HeuristicStanding =
+      ap (λ (k : ManagerView). k.standing) view ∙ h in
+      absurd (cc)
+  begun_decided b c false e h =
+      ap (decided_at m) (opens.branches.others c e)
+      ∙ same_decided s m b.rest.decided (branch_in s.table c)
+
   pub begun : HasBegun s.manager m x true → Joins s new d true
   begun h = (
     ap (starts s.manager) (sym named.is) ∙ h.0,
@@ -205,6 +221,7 @@ module _ (s : SubState) (d : Case) (t : BranchTable) (m : ManagerSight) (x : Xid
       );
       ticket = opens.tickets.own;
       tickets = λ e apart. opens.tickets.others e apart;
+      decided = λ e is. begun_decided h.1 e (same_case own e) refl is;
       begun = refl;
       given = refl;
       place = refl;
@@ -242,6 +259,8 @@ undone_core s t m same stays = record {
     tickets = same.tickets;
     views = λ c. no_view;
     branches = λ c. ap kept_view (same.branches c);
+    decided = λ c. ap (decided_at m) (same.branches c)
+        ∙ same_decided s m stays.rest.decided (branch_in s.table c);
   };
 }
 

@@ -84,5 +84,10 @@ module _ (old m : ManagerSight) (new : IsNew old) (refuses : Code → Type 0) (a
           views = read.views;
           branches = λ c. ap (λ bs. view_in (record { tickets = t.tickets; branches = bs }) c) branches
               ∙ ap kept_view (no_branch c) ∙ read.branches c;
+          decided = λ c is. absurd (
+              let none : (kept_view (live_value t.branches c)).standing ≡ (kept_view None).standing =
+              ap (λ bs. (kept_view (live_value bs c)).standing) branches
+              ∙ ap (λ o. (kept_view o).standing) (no_branch c) in
+              let no = sym none ∙ is in cc);
         };
       }

@@ -12,12 +12,13 @@ use Rattle.tree_model.specs.declared.messages.Message.TheVariants.{Prepare, Comm
 use Rattle.tree_model.specs.declared.events.Input.TheVariants.{Message as MessageInput}
 use Rattle.tree_model.specs.declared.events.StepError.{StepError}
 use Rattle.tree_model.specs.declared.records.Branch.TheVariants.{Case as CaseBranch}
+use Rattle.tree_model.specs.declared.records.Record.{Record}
 use Rattle.tree_model.specs.declared.records.Write.{Write}
 use Rattle.tree_model.specs.Names.{child_case, same_case}
 use Rattle.tree_model.specs.ManagerRows.{Leaf, LeafRow, active_abort, active_prepare_holding, on_abort, on_commit, on_prepare, prepared_outcome, replies}
 use Rattle.tree_model.specs.Plays.{held_writes}
 use Rattle.tree_model.specs.Standings.{unknown_branch}
-use Rattle.core_model.specs.Turns.{Handles, Turn, leaf_in, this_version}
+use Rattle.core_model.specs.Turns.{Handles, Turn, decision_records, leaf_in, this_version}
 use Rattle.core_model.specs.Makes.{retired_by}
 use Rattle.manager_model.specs.Sights.{ManagerSight, manager_data}
 use Rattle.xa_heur.specs.declared.decision.Decision.{Decision}
@@ -34,7 +35,7 @@ use Rattle.sub_branch.specs.declared.branch.Stage.TheVariants.{Active, Heuristic
 use Rattle.sub_table.specs.Tables.{BranchTable, IsGivenFor, IsKept, Retires, branch_in, has_promised, kept_view, nothing, retired_at, ticket_in}
 use Rattle.sub_core.specs.Subordinates.{Hears, IsAt, IsTied, NotHeard, NotTurned, SubState, Turns, active, answer_for, core_of, prepared, stage_state, turn_for, xid_of}
 use Rattle.sub_deeds.specs.Replies.{shown}
-use Rattle.sub_core.proofs.Ties.{behind, moved_tied, one}
+use Rattle.sub_core.proofs.Ties.{behind, keeps_decided, moved_tied, one}
 use Rattle.sub_core.proofs.Rows.{handled}
 use Rattle.sub_core.proofs.Ends.{AreOf, log_is, not_turned, retires_at}
 use Rattle.sub_core.proofs.Votes.{retired_prepare}
@@ -62,6 +63,10 @@ decided_data old new x call f is = record {
   };
   held = λ k. f.held k ∙ ap (λ (q : BranchState). held_with q x (old.holders k)) is;
 }
+
+-- the record of what an operator decided of a case, as any process is seen
+abbrev pub decided_records : SubState → Case → List Record
+decided_records s c = decision_records c ((core_of s).decided_of c)
 
 -- a row that ends a branch, by one call of its manager
 pub record EndsBy (s : SubState) (c : Case) (b : Branch) (message : Message) (call : Call)
@@ -93,7 +98,10 @@ module _ (s : SubState) (key : ℕ) (c : Case) (b : Branch) (message : Message) 
             (s.manager.writes b.xid) call row.written
             (tied.stands c b at.live) refl ends.written ends.of f.log)
             (ap kept_view r.branches.own ∙ ends.view) (λ d apart. ap kept_view (r.branches.others d apart))
-            (λ d. r.tickets d ∙ ends.tickets k d) f.comes.boot);
+            (λ d. r.tickets d ∙ ends.tickets k d)
+            (keeps_decided s t m c b None tied at.live r.branches f.comes.others_decided
+            (MessageInput k message)
+            (λ d o apart. refl) (λ e. absurd (cc))) f.comes.boot);
         writes = subst (λ (t : DataTurn). MovesData (manager_data s.manager) (manager_data m) (λ c. xid_of s c) t) (sym ends.drops)
             (subst (λ (y : Xid). model_data.Releases (manager_data s.manager) (manager_data m) y) (tied.named c b at.live).is
             (ended_data s.manager m b.xid call f (ap (λ (q : BranchState).
@@ -191,7 +199,8 @@ pub abort_row : (s : SubState) (key : ℕ) (c g : Case) (n : ℕ) (p : Bool) (x 
 abort_row s key c g n p x at =
     let l : Leaf = leaf_in (core_of s) s.parent c in
     record {
-      turn = ap (λ (o : Option Branch). Handles c (on_abort this_version l [] (kept_view o) (kept_view o).standing)) at.live;
+      turn = ap (λ (o : Option Branch). Handles c
+          (on_abort this_version l (decided_records s c) (kept_view o) (kept_view o).standing)) at.live;
       view = refl;
       written = none_written g c n p (s.manager.writes x) (s.manager.decided x);
       of = tt;
@@ -207,7 +216,8 @@ pub rolled_row : (s : SubState) (key : ℕ) (c : Case) (x : Xid) → IsKept s.ta
 rolled_row s key c x kept at =
     let l : Leaf = leaf_in (core_of s) s.parent c in
     record {
-      turn = ap (λ (o : Option Branch). Handles c (on_abort this_version l [] (kept_view o) (kept_view o).standing)) at.live;
+      turn = ap (λ (o : Option Branch). Handles c
+          (on_abort this_version l (decided_records s c) (kept_view o) (kept_view o).standing)) at.live;
       view = refl;
       written = refl;
       of = (refl, tt);
@@ -223,7 +233,8 @@ pub commit_row : (s : SubState) (key : ℕ) (c : Case) (x : Xid) → IsKept s.ta
 commit_row s key c x kept at =
     let l : Leaf = leaf_in (core_of s) s.parent c in
     record {
-      turn = ap (λ (o : Option Branch). Handles c (on_commit this_version l [] (kept_view o) (kept_view o).standing)) at.live;
+      turn = ap (λ (o : Option Branch). Handles c
+          (on_commit this_version l (decided_records s c) (kept_view o) (kept_view o).standing)) at.live;
       view = refl;
       written = refl;
       of = (refl, tt);

@@ -1,5 +1,5 @@
 -- A subordinate over the log that an earlier one left.
-use Rattle.std.proofs.Common.{◌≡◌, ◌∙◌, ◌+◌, ◌-◌, ◌∷◌, ◌++◌, [], ℕ, false, List, length, take, ap, sym, subst, arith, length-append}
+use Rattle.std.proofs.Common.{◌≡◌, ◌∙◌, ◌+◌, ◌-◌, ◌∷◌, ◌++◌, [], ℕ, false, List, length, take, ap, subst, arith, length-append}
 use Rattle.std.proofs.lemmas.List.{append-nil, take_at}
 use Rattle.xa_codes.specs.declared.code.Code.{Code}
 use Rattle.xa_assoc.specs.Answers.{Opens}

@@ -1,5 +1,6 @@
 -- A subordinate behind a restart.
-use Rattle.std.proofs.Common.{◌≡◌, ◌∙◌, ◌+◌, ◌∷◌, ◌++◌, [], ℕ, true, false, List, map, Some, None, refl, sym, ap, subst, arith}
+use Rattle.std.proofs.lemmas.Grind.{fold-append}
+use Rattle.std.proofs.Common.{◌≡◌, ◌∙◌, ◌+◌, ◌∷◌, ◌++◌, [], ℕ, true, false, List, map, Option, Some, None, refl, sym, ap, subst, arith}
 use Rattle.xa_codes.specs.declared.code.Code.{Code}
 use Rattle.xa_tables.specs.declared.states.BranchState.{BranchState}
 use Rattle.xa_xid.specs.declared.xid.Xid.{Xid}
@@ -17,10 +18,14 @@ use Rattle.tree_model.specs.declared.events.Reaction.{Reaction}
 use Rattle.tree_model.specs.declared.events.StepError.TheVariants as error
 use Rattle.tree_model.specs.LogNames.{below_of, name_xid, own_records, by_xid}
 use Rattle.tree_model.specs.Branches.{branch_parts}
-use Rattle.tree_model.specs.Records.{boot_of}
+use Rattle.tree_model.specs.declared.names.Outcome.{Outcome}
+use Rattle.tree_model.specs.declared.standings.Standing.TheVariants.{Heuristic as HeuristicStanding}
+use Rattle.tree_model.specs.Records.{boot_of, decision_after, decision_of as case_decision}
 use Rattle.tree_model.specs.Restarts.{recorded_branch}
-use Rattle.tree_model.specs.Standings.{mark_of, unknown_view, mark_at}
+use Rattle.tree_model.specs.Standings.{Decided, Finished, Mark, Promised, ToldOf, Unmarked, mark_at, mark_of, unknown_view}
+use Rattle.xa_tables.specs.declared.states.BranchState.TheVariants.{S5}
 use Rattle.xa_heur.specs.declared.decision.Decision.{Decision}
+use Rattle.xa_heur.specs.Decisions.{decided_in, decision_of}
 use Rattle.log_text.specs.Parts.{name_in}
 use Rattle.rec_log.specs.Sights.{RestartBreaks, left_by}
 use Rattle.core_model.specs.States.{forced_sight}
@@ -32,16 +37,17 @@ use Rattle.manager_model.specs.Sights.{Calls, ManagerSight}
 use Rattle.sub_deeds.specs.Deeds.{IsIdle}
 use Rattle.sub_deeds.proofs.Quiet.{same_idle}
 use Rattle.sub_table.specs.declared.rebuilt.Rebuilt.{Rebuilt}
-use Rattle.sub_table.specs.Rebuilt.{IsLeft, Rebuilds}
+use Rattle.sub_table.specs.Rebuilt.{IsLeft, Rebuilds, Recalls}
+use Rattle.sub_table.specs.Tables.{branch_in, kept_view, stage_view}
 use Rattle.tree_model.specs.Views.{leaf_place}
 use Rattle.sub_table.proofs.Booting.{boot_branch, boot_last, boot_read, boot_resumes}
-use Rattle.sub_table.proofs.Marks.{boots_alike, marks_alike}
+use Rattle.sub_table.proofs.Marks.{boots_alike, decisions_alike, marks_alike}
 use Rattle.sub_table.proofs.Steps.{left_xid}
 use Rattle.sub_core.proofs.Told.{left_mark, left_state, told_by_mark}
 use Rattle.sub_branch.specs.declared.branch.Branch.{Branch}
 use Rattle.sub_branch.specs.declared.branch.Stage.{Stage}
 use Rattle.sub_branch.specs.declared.branch.Stage.TheVariants.{Active, Heuristic, Prepared}
-use Rattle.sub_core.specs.Subordinates.{AgreesWith, IsGiven, IsNamed, IsTied, SubState, core_of, stage_state}
+use Rattle.sub_core.specs.Subordinates.{AgreesWith, IsGiven, IsNamed, IsTied, SubState, core_of, decided_at, stage_state}
 use Rattle.sub_core.proofs.Joins.{is_real}
 use Rattle.sub_core.proofs.Opened.{bare_quiet}
 use Rattle.sub_core.proofs.Ties.{behind, still_tied}
@@ -163,6 +169,40 @@ module _ (s : SubState) (keep : ℕ) (r : Rebuilt) (mid m : ManagerSight)
     given_before = λ c b e. given_by c b (made.live c b e);
   }
 
+  -- what an operator decided is what the records say that he did
+  decided_is : (c : Case) (o : Option Branch) → branch_in r.branches c ≡ o
+      → (kept_view o).standing ≡ HeuristicStanding → decided_at m o ≡ case_decision rs c
+  decided_is c None at is = absurd (cc)
+  decided_is c (Some b) at is =
+      let d = made.live c b at in
+      let heuristic = by_stage b.stage is in
+      ap (λ (k : Decision). Some k.outcome)
+      (calls.rest.decided b.xid ∙ restarts.decided b.xid (state_is c b d ∙ heuristic)
+      ∙ ap (λ (x : Xid). decided_in (left_by s.manager.log keep) x)
+      (left_xid s.parent c b (mark_of (CaseBranch c) rs) d.kept)
+      ∙ decisions_alike s.me s.parent s.tree c d.own.own d.own.reads (left_by s.manager.log keep) made.reads)
+      ∙ sym (recalled (mark_of (CaseBranch c) rs) (case_decision rs c) (decision_of (CaseBranch c) rs)
+      (left_state s.parent c b (mark_of (CaseBranch c) rs) d.kept ∙ heuristic) (made.recalls c))
+    where
+      by_stage : (st : Stage) → (stage_view st).standing ≡ HeuristicStanding → stage_state st ≡ S5
+      by_stage (Active g n p) e = absurd (cc)
+      by_stage Prepared e = absurd (cc)
+      by_stage (Heuristic told) e = refl
+
+      recalled : (k : Mark) (o : Option Outcome) (d : Decision) → marked_state k ≡ S5 → Recalls k o d
+          → o ≡ Some d.outcome
+      recalled Unmarked o d e h = absurd (cc)
+      recalled Promised o d e h = absurd (cc)
+      recalled Decided o d e h = h
+      recalled (ToldOf q) o d e h = h
+      recalled Finished o d e h = absurd (cc)
+
+  -- the record of a boot says nothing of it
+  boot_decides : (c : Case) (ks : List Record) (n : ℕ)
+      → case_decision (ks ++ Opened n ∷ []) c ≡ case_decision ks c
+  unfolding case_decision
+  boot_decides c ks n = fold-append (decision_after c) None ks (Opened n ∷ [])
+
   log_is : m.log ≡ forced_sight (restarted_log (core_of s) keep) s.manager.log.failures
   log_is = calls.log ∙ restarts.log
       ∙ ap (λ n. forced_sight (left_by s.manager.log keep ++ boot_record n ∷ []) s.manager.log.failures) boots
@@ -183,6 +223,9 @@ module _ (s : SubState) (keep : ℕ) (r : Rebuilt) (mid m : ManagerSight)
       views = λ c. same_view unknown_view;
       branches = λ c. made.views c ∙ sym (boot_branch rs (boot_of rs + 1) c)
           ∙ ap (λ ks. recorded_branch ks c) (sym read);
+      decided = λ c is. decided_is c (branch_in r.branches c) refl is
+          ∙ sym (boot_decides c rs (boot_of rs + 1))
+          ∙ ap (λ ks. case_decision ks c) (sym read);
     };
     shown = ap (λ n. shown_restart n r.messages) (ap (λ n. n + 1) made.boot)
         ∙ ap (shown_restart (boot_of rs + 1))

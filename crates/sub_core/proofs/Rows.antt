@@ -1,5 +1,7 @@
 -- What a row makes of a subordinate, as any process is seen.
-use Rattle.std.proofs.Common.{◌≡◌, false, refl}
+use Rattle.std.proofs.Common.{◌≡◌, false, Option, Some, None, ap, refl}
+use Rattle.xa_xid.specs.declared.xid.Xid.{Xid}
+use Rattle.xa_heur.specs.declared.decision.Decision.{Decision}
 use Rattle.tree_model.specs.declared.names.Case.{Case}
 use Rattle.tree_model.specs.declared.events.Input.{Input}
 use Rattle.tree_model.specs.Names.{same_case}
@@ -11,11 +13,12 @@ use Rattle.core_model.specs.States.{SameCore, log_behind}
 use Rattle.core_model.specs.Turns.{Handles}
 use Rattle.core_model.specs.Makes.{retired_by}
 use Rattle.manager_model.specs.Sights.{ManagerSight, SameManager}
-use Rattle.sub_table.specs.Tables.{BranchTable, ticket_in, view_in}
+use Rattle.sub_branch.specs.declared.branch.Branch.{Branch}
+use Rattle.sub_table.specs.Tables.{BranchTable, branch_in, ticket_in, view_in}
 use Rattle.sub_deeds.proofs.Kept.{same_kept}
-use Rattle.sub_core.specs.Subordinates.{Keeps, SubState, Turns, core_of}
+use Rattle.sub_core.specs.Subordinates.{Keeps, SubState, Turns, core_of, decided_at}
 use Rattle.sub_deeds.specs.Replies.{shown}
-use Rattle.sub_core.proofs.Ties.{behind}
+use Rattle.sub_core.proofs.Ties.{KeepsDecided, behind}
 
 pub no_view : SameView unknown_view unknown_view
 no_view = record {
@@ -26,15 +29,17 @@ no_view = record {
   promised = refl;
   named = λ t. refl;
   owed = λ t. refl;
+  found = refl;
 }
 
 -- a manager's row was made
 pub handled : (s : SubState) (t : BranchTable) (m : ManagerSight) (i : Input) (c : Case) (row : LeafRow)
     → m.log ≡ log_behind (core_of s) row.written
     → view_in t c ≡ row.view → ((d : Case) → same_case c d ≡ false → view_in t d ≡ view_in s.table d)
-    → ((d : Case) → ticket_in t d ≡ retired_by i d (ticket_in s.table d)) → m.boot ≡ s.manager.boot
+    → ((d : Case) → ticket_in t d ≡ retired_by i d (ticket_in s.table d)) → KeepsDecided s t m i
+    → m.boot ≡ s.manager.boot
     → Turns s (behind s t m) i (Handles c row) (shown row.written row.messages)
-handled s t m i c row log own others tickets boot = record {
+handled s t m i c row log own others tickets decided boot = record {
   moves = record {
     log = log;
     own = own;
@@ -42,12 +47,18 @@ handled s t m i c row log own others tickets boot = record {
     views = λ d. no_view;
     begun = refl;
     given = refl;
-    stays = record { place = refl; boot = boot; tickets = tickets };
+    stays = record { place = refl; boot = boot; tickets = tickets; decided = decided };
   };
   effect = leaf_effect row;
   does = refl;
   shown = refl;
 }
+
+-- where the manager has what operators decided, it is what it was
+pub same_decided : (s : SubState) (m : ManagerSight) → ((x : Xid) → m.decided x ≡ s.manager.decided x)
+    → (o : Option Branch) → decided_at m o ≡ decided_at s.manager o
+same_decided s m h None = refl
+same_decided s m h (Some b) = ap (λ (d : Decision). Some d.outcome) (h b.xid)
 
 -- nothing changed but room
 same_core : (s : SubState) (m : ManagerSight) → SameManager s.manager m
@@ -62,6 +73,7 @@ same_core s m stays = record {
     tickets = λ d. refl;
     views = λ c. no_view;
     branches = λ c. refl;
+    decided = λ c. same_decided s m stays.rest.decided (branch_in s.table c);
   };
 }
 

@@ -31,7 +31,7 @@ use Rattle.manager_model.specs.Sights.{ManagerSight, manager_data, obstacle}
 use Rattle.sub_deeds.specs.Replies.{shown}
 use Rattle.sub_core.proofs.Ties.{one}
 use Rattle.sub_core.proofs.Rows.{handled}
-use Rattle.sub_core.proofs.Outcomes.{never_retired, retired_abort, untouched}
+use Rattle.sub_core.proofs.Outcomes.{decided_records, never_retired, retired_abort, untouched}
 use Rattle.sub_core.proofs.Votes.{retired_prepare}
 
 -- no record leaves the log as it is
@@ -57,7 +57,7 @@ heard s c message row stays = record {
       (subst (λ ws. Turns s s (MessageInput k message) (Handles c row) (shown ws row.messages)) stays.written
       (handled s s.table s.manager (MessageInput k message) c row
       (no_record s.manager.log ∙ ap (λ ws. log_behind (core_of s) ws) (sym stays.written)) stays.view
-      (λ d apart. refl) (stays.tickets k) refl));
+      (λ d apart. refl) (stays.tickets k) (λ d e. refl) refl));
   writes = stays.writes;
 }
 
@@ -146,7 +146,7 @@ module _ (s : SubState) (c : Case) (kept : IsKept s.table) where
       let l : Leaf = leaf_in (core_of s) s.parent c in
       record {
         turn = ap (λ (o : Option Branch). Handles c
-            (on_commit this_version l [] (view_in s.table c) (kept_view o).standing)) none;
+            (on_commit this_version l (decided_records s c) (view_in s.table c) (kept_view o).standing)) none;
         view = refl;
         written = refl;
         tickets = λ k d. never_retired k c d (ticket_in s.table d);
@@ -160,7 +160,8 @@ module _ (s : SubState) (c : Case) (kept : IsKept s.table) where
       let l : Leaf = leaf_in (core_of s) s.parent c in
       record {
         turn = ap (λ (o : Option Branch). Handles c
-            (on_commit this_version l [] (view_in s.table c) (kept_view o).standing)) at.live;
+            (on_commit this_version l (decided_records s c) (view_in s.table c)
+            (kept_view o).standing)) at.live;
         view = refl;
         written = refl;
         tickets = λ k d. never_retired k c d (ticket_in s.table d);
@@ -175,7 +176,7 @@ module _ (s : SubState) (c : Case) (kept : IsKept s.table) where
       let l : Leaf = leaf_in (core_of s) s.parent c in
       record {
         turn = ap (λ (o : Option Branch). Handles c
-            (on_abort this_version l [] (view_in s.table c) (kept_view o).standing)) none;
+            (on_abort this_version l (decided_records s c) (view_in s.table c) (kept_view o).standing)) none;
         view = refl;
         written = refl;
         tickets = λ k d. unknown_untouched s.table c kept none d ∙ retired_abort k c d (ticket_in s.table d);

@@ -78,7 +78,7 @@ asked s c b at is =
           (shown [] (post s.me s.parent (Inquire c) ∷ []))) (sym turn)
           (handled s s.table s.manager (ActInput (Ask c)) c (untold_ask l (stage_view b.stage))
           (no_record s.manager.log) (ap kept_view (sym at))
-          (λ d apart. refl) (λ d. no_retire (Ask c) d (ticket_in s.table d)) refl);
+          (λ d apart. refl) (λ d. no_retire (Ask c) d (ticket_in s.table d)) (λ d e. refl) refl);
       writes = rests s.manager;
     }
 

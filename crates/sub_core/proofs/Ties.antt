@@ -8,6 +8,10 @@ use Rattle.xa_branch.proofs.Names.{same_is}
 use Rattle.xa_assoc.specs.Answers.{state_at}
 use Rattle.xa_heur.specs.declared.decision.Decision.{Decision}
 use Rattle.tree_model.specs.declared.names.Case.{Case}
+use Rattle.tree_model.specs.declared.names.Outcome.{Outcome}
+use Rattle.tree_model.specs.declared.events.Input.{Input}
+use Rattle.tree_model.specs.declared.standings.Standing.TheVariants.{Heuristic}
+use Rattle.core_model.specs.Makes.{decided_by}
 use Rattle.tree_model.specs.declared.names.ProcessId.{ProcessId}
 use Rattle.tree_model.specs.declared.records.Branch.TheVariants.{Case as CaseBranch}
 use Rattle.tree_model.specs.Names.{same_case}
@@ -16,11 +20,12 @@ use Rattle.log_text.specs.Parts.{Name}
 use Rattle.live_table.specs.Tables.{Moves}
 use Rattle.live_table.proofs.Writes.{same_case-itself}
 use Rattle.manager_model.specs.Sights.{ManagerSight, SameManager}
+use Rattle.manager_model.specs.Ends.{OthersStayDecided}
 use Rattle.sub_deeds.specs.Deeds.{Comes, IsIdle}
 use Rattle.sub_deeds.proofs.Quiet.{same_idle}
 use Rattle.sub_branch.specs.declared.branch.Branch.{Branch}
-use Rattle.sub_table.specs.Tables.{BranchTable, branch_in}
-use Rattle.sub_core.specs.Subordinates.{AgreesWith, IsGiven, IsNamed, IsTied, SubState, stage_state}
+use Rattle.sub_table.specs.Tables.{BranchTable, branch_in, kept_view, view_in}
+use Rattle.sub_core.specs.Subordinates.{AgreesWith, IsGiven, IsNamed, IsTied, SubState, decided_at, stage_state}
 
 -- a subordinate with another table and another manager
 abbrev pub behind : SubState → BranchTable → ManagerSight → SubState
@@ -52,6 +57,50 @@ apart_xids p c d x y a b apart true e =
 abbrev pub Fits : Option Branch → Branch → BranchState → Decision → Type 0
 Fits None b st d = Unit {0}
 Fits (Some w) b st d = (w.xid ≡ b.xid) × (stage_state w.stage ≡ st) × AgreesWith w.stage d
+
+-- what an operator decided of a case that he decided stays, or is what he decided now
+abbrev pub KeepsDecided : SubState → BranchTable → ManagerSight → Input → Type 0
+KeepsDecided s t m i = (d : Case) → (view_in t d).standing ≡ Heuristic
+    → decided_at m (branch_in t d) ≡ decided_by i d (decided_at s.manager (branch_in s.table d))
+
+-- one branch moved, and of the others what operators decided stays
+module _ (s : SubState) (t : BranchTable) (m : ManagerSight) (owner : Case) (b : Branch) (v : Option Branch)
+    (tied : IsTied s) (at : branch_in s.table owner ≡ Some b)
+    (moves : Moves s.table.branches t.branches owner v)
+    (others : OthersStayDecided s.manager m b.xid) where
+  others_decide : (c : Case) → same_case owner c ≡ false
+      → decided_at m (branch_in t c) ≡ decided_at s.manager (branch_in s.table c)
+  others_decide c e = ap (decided_at m) (moves.others c e) ∙ by_branch (branch_in s.table c) refl
+    where
+      by_branch : (o : Option Branch) → branch_in s.table c ≡ o → decided_at m o ≡ decided_at s.manager o
+      by_branch None stood = refl
+      by_branch (Some w) stood =
+          ap (λ (d : Decision). Some d.outcome) (others w.xid
+          (apart_xids s.parent owner c b.xid w.xid (tied.named owner b at) (tied.named c w stood) e
+          (same b.xid w.xid) refl))
+
+  pub keeps_decided : (i : Input)
+      → ((d : Case) (o : Option Outcome) → same_case owner d ≡ false → decided_by i d o ≡ o)
+      → ((kept_view v).standing ≡ Heuristic
+      → decided_at m v ≡ decided_by i owner (decided_at s.manager (Some b)))
+      → KeepsDecided s t m i
+  keeps_decided i quiet own d is = by_case d (same_case owner d) refl is
+    where
+      here : (view_in t owner).standing ≡ Heuristic
+          → decided_at m (branch_in t owner)
+          ≡ decided_by i owner (decided_at s.manager (branch_in s.table owner))
+      here h = ap (decided_at m) moves.own
+          ∙ own (ap (λ (o : Option Branch). (kept_view o).standing) (sym moves.own) ∙ h)
+          ∙ ap (λ (o : Option Branch). decided_by i owner (decided_at s.manager o)) (sym at)
+
+      by_case : (c : Case) (r : Bool) → same_case owner c ≡ r → (view_in t c).standing ≡ Heuristic
+          → decided_at m (branch_in t c) ≡ decided_by i c (decided_at s.manager (branch_in s.table c))
+      by_case c false e h =
+          others_decide c e ∙ sym (quiet c (decided_at s.manager (branch_in s.table c)) e)
+      by_case c true e h =
+          subst (λ (k : Case). (view_in t k).standing ≡ Heuristic
+          → decided_at m (branch_in t k) ≡ decided_by i k (decided_at s.manager (branch_in s.table k)))
+          (one owner c e) here h
 
 -- one branch moved, here and at the manager
 module _ (s : SubState) (t : BranchTable) (m : ManagerSight) (owner : Case) (b : Branch) (v : Option Branch)

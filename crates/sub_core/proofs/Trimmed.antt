@@ -33,7 +33,9 @@ use Rattle.manager_model.specs.declared.errors.TrimError.{TrimError}
 use Rattle.manager_model.specs.declared.errors.TrimError.TheVariants as trim_error
 use Rattle.manager_model.specs.Trimming.{NotTrimmed as NotTrimmedBy, TrimFails, Trims as ManagerTrims, trimmed}
 use Rattle.tree_model.specs.Views.{leaf_place}
+use Rattle.sub_table.specs.Tables.{branch_in}
 use Rattle.sub_core.specs.Subordinates.{SubState, core_of}
+use Rattle.sub_core.proofs.Rows.{same_decided}
 use Rattle.sub_core.proofs.Ties.{behind}
 
 -- A manager's data are those of its log's records by their XIDs.
@@ -181,6 +183,7 @@ module _ (s : SubState) (m : ManagerSight) (sound : AllByRecursion (IsSound Mana
       tickets = λ d. refl;
       views = λ c. same_view unknown_view;
       branches = λ c. refl;
+      decided = λ c. same_decided s m h.rest.decided (branch_in s.table c);
     };
   }
 
@@ -209,6 +212,7 @@ module _ (s : SubState) (m : ManagerSight) (sound : AllByRecursion (IsSound Mana
       tickets = λ d. refl;
       views = λ c. same_view unknown_view;
       branches = λ c. refl;
+      decided = λ c. same_decided s m same.rest.decided (branch_in s.table c);
     };
   }
 

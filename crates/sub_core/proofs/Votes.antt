@@ -18,6 +18,7 @@ use Rattle.tree_model.specs.declared.records.Record.TheVariants.{Prepared as Pre
 use Rattle.tree_model.specs.declared.records.Write.{Write}
 use Rattle.tree_model.specs.declared.standings.Vote.{Vote}
 use Rattle.tree_model.specs.declared.standings.Vote.TheVariants.{Yes, Read}
+use Rattle.tree_model.specs.declared.standings.Standing.TheVariants.{Heuristic as HeuristicStanding}
 use Rattle.tree_model.specs.CoordinatorRows.{forced, post}
 use Rattle.tree_model.specs.ManagerRows.{Leaf, LeafRow, active_prepare_holding, on_prepare, replies}
 use Rattle.tree_model.specs.Nodes.{Holds}
@@ -38,7 +39,7 @@ use Rattle.sub_branch.specs.declared.branch.Branch.{Branch}
 use Rattle.sub_table.specs.Tables.{BranchTable, Retires, kept_view, nothing, promised, retired_at, ticket_in}
 use Rattle.sub_core.specs.Subordinates.{Hears, IsAt, IsTied, NotHeard, NotTurned, SubState, Turns, active, answer_for, core_of, turn_for, xid_of}
 use Rattle.sub_deeds.specs.Replies.{shown}
-use Rattle.sub_core.proofs.Ties.{behind, moved_tied}
+use Rattle.sub_core.proofs.Ties.{behind, keeps_decided, moved_tied}
 use Rattle.sub_core.proofs.Rows.{handled}
 use Rattle.sub_core.proofs.Ends.{AreOf, RetiresAt, log_is, not_turned, retires_at}
 
@@ -136,10 +137,10 @@ module _ (s : SubState) (key : ℕ) (c g : Case) (n : ℕ) (x : Xid) (tied : IsT
       (s.manager.decided x) refl) (held_of c l (s.manager.writes (xid_of s c)) refl) h)
 
   voted : (t : BranchTable) (m : ManagerSight) (v : Option Branch) → RetiresAt s.table t c v
-      → kept_view v ≡ (row s c).view
+      → kept_view v ≡ (row s c).view → ((kept_view v).standing ≡ HeuristicStanding → ⊥)
       → Finishes s.manager m x call.Prepare → Hears s (behind s t m) (Prepare c n)
       (shown (row s c).written (row s c).messages)
-  voted t m v r view f =
+  voted t m v r view undecided f =
       let l : Leaf = leaf_in (core_of s) s.parent c in
       let ws = s.manager.writes (xid_of s c) in
       record {
@@ -151,7 +152,9 @@ module _ (s : SubState) (key : ℕ) (c g : Case) (n : ℕ) (x : Xid) (tied : IsT
             (row s c).written (tied.stands c _ at.live) writes_is
             (held_record c l ws (s.manager.decided x) refl) (held_of c l ws refl) f.log)
             (ap kept_view r.branches.own ∙ view) (λ d apart. ap kept_view (r.branches.others d apart))
-            (λ d. r.tickets d ∙ retired_prepare k n c d (ticket_in s.table d)) f.comes.boot);
+            (λ d. r.tickets d ∙ retired_prepare k n c d (ticket_in s.table d))
+            (keeps_decided s t m c (active x g n false) v tied at.live r.branches f.comes.others_decided
+            (MessageInput k (Prepare c n)) (λ d o apart. refl) (λ e. absurd (undecided e))) f.comes.boot);
         writes = subst (λ (t : DataTurn). MovesData (manager_data s.manager) (manager_data m) (λ c. xid_of s c) t) (sym data_is)
             (voted_data m ws writes_is f);
       }
@@ -172,7 +175,7 @@ module _ (s : SubState) (key : ℕ) (c g : Case) (n : ℕ) (x : Xid) (tied : IsT
           (leaf_in (core_of s) s.parent c) (held_writes vs)) none in
           subst (λ (q : LeafRow). Hears s (behind s t m) (Prepare c n) (shown q.written q.messages)) row_is
           (voted t m None (retires_at s.table t key nothing c (active x g n false) at r)
-          (ap (λ (q : LeafRow). q.view) (sym row_is)) f)
+          (ap (λ (q : LeafRow). q.view) (sym row_is)) (λ e. cc) f)
 
   pub yes : (t : BranchTable) (m : ManagerSight) → Retires s.table t key promised
       → Yes ≡ vote_of (s.manager.writes x) → Finishes s.manager m x call.Prepare
@@ -200,7 +203,7 @@ module _ (s : SubState) (key : ℕ) (c g : Case) (n : ℕ) (x : Xid) (tied : IsT
           (leaf_in (core_of s) s.parent c) (held_writes vs)) is in
           subst (λ (q : LeafRow). Hears s (behind s t m) (Prepare c n) (shown q.written q.messages)) row_is
           (voted t m (promised (active x g n false)) (retires_at s.table t key promised c (active x g n false)
-          at r) (ap (λ (q : LeafRow). q.view) (sym row_is)) f)
+          at r) (ap (λ (q : LeafRow). q.view) (sym row_is)) (λ e. cc) f)
 
   pub read_tied : (t : BranchTable) (m : ManagerSight) → Retires s.table t key nothing
       → Finishes s.manager m x call.Prepare → IsTied (behind s t m)

@@ -10,9 +10,10 @@ use Rattle.tree_model.specs.declared.names.Case.{Case}
 use Rattle.tree_model.specs.declared.names.ProcessId.{ProcessId}
 use Rattle.tree_model.specs.declared.names.Ticket.{Ticket}
 use Rattle.tree_model.specs.declared.messages.Envelope.{Envelope}
+use Rattle.tree_model.specs.declared.messages.Finding.{Finding}
+use Rattle.tree_model.specs.declared.messages.Finding.TheVariants.{Mixed}
 use Rattle.tree_model.specs.declared.messages.Message.{Message}
-use Rattle.tree_model.specs.declared.messages.Message.TheVariants.{Join, Work, Prepare, Commit, Abort, Ack}
-use Rattle.tree_model.specs.declared.messages.Op.{Op}
+use Rattle.tree_model.specs.declared.messages.Message.TheVariants.{Join, Work, Prepare, Ack}
 use Rattle.tree_model.specs.declared.records.Branch.TheVariants.{Case as CaseBranch}
 use Rattle.tree_model.specs.declared.trees.TreeEntry.{TreeEntry}
 use Rattle.tree_model.specs.declared.events.Input.{Input}
@@ -33,10 +34,10 @@ use Rattle.tree_model.specs.Nodes.{AtLeaf, DataAnswer, Effect, Place, ReadsOnly,
 use Rattle.tree_model.specs.LogNames.{name_xid}
 use Rattle.tree_model.specs.Plays.{held_writes}
 use Rattle.tree_model.specs.Reactions.{Does}
-use Rattle.tree_model.specs.Standings.{unknown_view}
+use Rattle.tree_model.specs.Standings.{decided_against, decided_findings, own_finding, unknown_view}
 use Rattle.log_text.specs.Parts.{name_in}
 use Rattle.core_model.specs.States.{CoreState, SameCore}
-use Rattle.core_model.specs.Turns.{Refuses, Turn, manager_turn, next_ticket, reacted}
+use Rattle.core_model.specs.Turns.{Refuses, Turn, decision_records, manager_turn, next_ticket, reacted, this_version}
 use Rattle.core_model.specs.Makes.{BreaksIn, IssuesTicket, Moves}
 use Rattle.manager_model.specs.Sights.{ManagerSight, manager_data, obstacle}
 use Rattle.sub_deeds.specs.Deeds.{IsIdle, KeepsManager, starts}
@@ -83,6 +84,12 @@ seen sight s =
 abbrev pub place_of : SubState → Place
 place_of s = record { me = s.me; role = AtLeaf s.parent; tree = s.tree }
 
+-- what an operator decided of a branch, as its manager has it; of one that no operator decided it says
+-- nothing
+abbrev pub decided_at : ManagerSight → Option Branch → Option Outcome
+decided_at m None = None
+decided_at m (Some b) = Some (m.decided b.xid).outcome
+
 -- the same as any process is seen: its log and its boot are its manager's
 abbrev pub core_of : SubState → CoreState
 core_of s =
@@ -95,6 +102,7 @@ core_of s =
       ticket_for = λ d. ticket_in s.table d;
       view_of = λ c. unknown_view;
       branch_of = λ c. view_in s.table c;
+      decided_of = λ c. decided_at s.manager (branch_in s.table c);
     }
 
 -- the XID by which the manager knows a case
@@ -222,18 +230,28 @@ abbrev pub decision_kind : Outcome → RecordKind
 decision_kind Committed = HeurCommit
 decision_kind Aborted = HeurRollback
 
--- the acknowledgement of an outcome, unless the presumption covers it
-abbrev pub acknowledged : ProcessId → ProcessId → Case → Outcome → List Envelope
-acknowledged from to c o = if is_acknowledged c.txn.presumption o then post from to (Ack c o []) ∷ [] else []
+-- what is found of a case that an operator decided so, as an outcome comes: its ticket, where he decided
+-- against it
+abbrev pub found_against : Case → Option Outcome → Outcome → List Finding
+found_against c decision o = if decided_against decision o then own_finding Mixed c.ticket else []
+
+-- what is found of a case that an operator decided, as an outcome comes
+abbrev pub decided_found : SubState → Case → Outcome → List Finding
+decided_found s c o = decided_findings this_version (decision_records c ((core_of s).decided_of c)) c o
+
+-- the acknowledgement of an outcome, with what was found, unless the presumption covers it
+abbrev pub acknowledged : ProcessId → ProcessId → Case → Outcome → List Finding → List Envelope
+acknowledged from to c o fs =
+    if is_acknowledged c.txn.presumption o then post from to (Ack c o fs) ∷ [] else []
 
 -- the reaction that shows the record of an outcome, and its acknowledgement
-abbrev pub outcome_reply : RecordKind → Case → Outcome → ProcessId → ProcessId → Reaction
-outcome_reply kind c o from to =
+abbrev pub outcome_reply : RecordKind → Case → Outcome → List Finding → ProcessId → ProcessId → Reaction
+outcome_reply kind c o fs from to =
     record {
       begun = None;
       written = record { kind = kind; subject = OfCase c; forced = is_acknowledged c.txn.presumption o } ∷ [];
       told = None;
-      messages = acknowledged from to c o;
+      messages = acknowledged from to c o fs;
       kept = None;
     }
 

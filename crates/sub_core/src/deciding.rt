@@ -1,12 +1,13 @@
 //! An operator's decision of a case in doubt, the outcome that comes behind it, and its end.
 
-ghost use Rattle.std.specs.Prelude.{◌≡◌, ℕ, false, None, Some, IfErr, IfOk};
+ghost use Rattle.std.specs.Prelude.{◌≡◌, ℕ, false, None, Some, Option, IfErr, IfOk, option_map};
 ghost use Rattle.tree_model.specs.Names.{same_outcome};
 ghost use Rattle.tree_model.specs.CoordinatorRows.{tells_outcome};
 ghost use Rattle.tree_model.specs.declared.events.Act.TheVariants as act;
+ghost use Rattle.tree_model.specs.declared.names.Outcome.{Outcome as AnyOutcome};
 ghost use Rattle.xa_xid.specs.declared.xid.Xid.{Xid as AnyXid};
 ghost use Rattle.sub_table.specs.Tables.{IsKept};
-ghost use Rattle.sub_core.specs.Subordinates.{Hears, IsAt, NotHeard, decided, decision_kind, logged_alone, prepared, seen};
+ghost use Rattle.sub_core.specs.Subordinates.{Hears, IsAt, NotHeard, decided, decided_found, decision_kind, found_against, logged_alone, prepared, seen};
 ghost use Rattle.sub_core.specs.Steps.{Acts, NotActed};
 
 use crate::ending::{acknowledges, ends_by};
@@ -15,7 +16,8 @@ use manager_model::ResourceManager;
 use std::alloc::{AllocError, Global};
 use sub_branch::Stage;
 use sub_deeds::{decide, forget, logged, silence, tell};
-use tree_model::{Case, Outcome, Reaction, RecordKind, StepError};
+use tree_model::{Case, Finding, Findings, Outcome, Reaction, RecordKind, Sequence, StepError};
+use xa_heur::Decision;
 use xa_xid::Xid;
 
 /// The kind of the record of a decision.
@@ -47,7 +49,36 @@ fn is_same(one: Outcome, other: Outcome) -> bool
     one == other
 }
 
+/// What is found of a branch that an operator decided, as this outcome comes: its ticket is mixed where he
+/// decided against it.
+fn decided_findings(
+    alloc: Global,
+    case: Case,
+    decision: Option<Decision>,
+    outcome: Outcome,
+) -> Result<Findings, AllocError>
+    ensures { IfOk result (λ findings. findings
+        ≡ found_against case (option_map (λ d. d.outcome) decision) outcome) }
+{
+    let mut findings = Sequence::new(alloc);
+    if let (Some(decision), Some(ticket)) = (decision, case.ticket) {
+        if !is_same(decision.outcome, outcome) {
+            findings.push(Finding::Mixed(ticket))?;
+        }
+    }
+    Ok(findings)
+}
+
 impl<M: ResourceManager> Subordinate<M> {
+    /// What is found of a branch that an operator decided, as this outcome comes.
+    fn findings(&self, case: Case, xid: &Xid, outcome: Outcome) -> Result<Findings, AllocError>
+        requires at { (key : ℕ) × (told : Option AnyOutcome)
+            × IsAt self.now.table key case (decided xid.now told) }
+        ensures { IfOk result (λ findings. findings ≡ decided_found (seen M.sight self.now) case outcome) }
+    {
+        decided_findings(self.alloc, case, self.manager.decision(xid), outcome)
+    }
+
     /// An operator decides a case in doubt, without its parent.
     fn decide_prepared(
         &mut self,
@@ -108,12 +139,14 @@ impl<M: ResourceManager> Subordinate<M> {
         ensures err { IfErr result (NotHeard (seen M.sight self.old) (seen M.sight self.new)
             (tells_outcome outcome case)) }
     {
+        let found = self.findings(case, &xid, outcome)?;
         let reaction = ends_by(
             self.me,
             self.parent,
             case,
             RecordKind::Told,
             outcome,
+            found,
             self.alloc,
         )?;
         match tell(&mut self.manager, &xid, outcome) {
@@ -127,8 +160,14 @@ impl<M: ResourceManager> Subordinate<M> {
 
     /// A further outcome of a case that an operator decided: the same is acknowledged again, the other does
     /// nothing.
-    fn told_again(&self, case: Case, told: Outcome, outcome: Outcome) -> Result<Reaction, StepError>
-        requires at { (key : ℕ) × (xid : AnyXid) × IsAt self.now.table key case (decided xid (Some told)) }
+    fn told_again(
+        &self,
+        case: Case,
+        xid: &Xid,
+        told: Outcome,
+        outcome: Outcome,
+    ) -> Result<Reaction, StepError>
+        requires at { (key : ℕ) × IsAt self.now.table key case (decided xid.now (Some told)) }
         requires kept { IsKept self.now.table }
         ensures ok { IfOk result (Hears (seen M.sight self.now) (seen M.sight self.now)
             (tells_outcome outcome case)) }
@@ -136,7 +175,8 @@ impl<M: ResourceManager> Subordinate<M> {
             (tells_outcome outcome case)) }
     {
         if is_same(told, outcome) {
-            Ok(acknowledges(self.me, self.parent, case, outcome, self.alloc)?)
+            let found = self.findings(case, xid, outcome)?;
+            Ok(acknowledges(self.me, self.parent, case, outcome, found, self.alloc)?)
         } else {
             Ok(silence(self.alloc))
         }
@@ -161,7 +201,7 @@ impl<M: ResourceManager> Subordinate<M> {
     {
         match told {
             None => self.told_first(key, case, xid, outcome),
-            Some(told) => self.told_again(case, told, outcome),
+            Some(told) => self.told_again(case, &xid, told, outcome),
         }
     }
 

@@ -14,46 +14,44 @@ use manager_model::ResourceManager;
 use std::alloc::{AllocError, Global};
 use sub_deeds::{commit, logged, reply, roll_back, silence};
 use tree_model::{
-    Case, Envelopes, Message, Outcome, ProcessId, Reaction, RecordKind, Sequence, StepError,
+    Case, Envelopes, Findings, Message, Outcome, ProcessId, Reaction, RecordKind, Sequence,
+    StepError,
 };
 use xa_xid::Xid;
 
-/// The acknowledgement of an outcome, where it has one.
+/// The acknowledgement of an outcome, with what was found, where the outcome has one.
 fn acknowledgement(
     me: ProcessId,
     parent: ProcessId,
     case: Case,
     outcome: Outcome,
+    findings: Findings,
     alloc: Global,
 ) -> Result<Envelopes, AllocError>
-    ensures { IfOk result (λ messages. messages ≡ acknowledged me parent case outcome) }
+    ensures { IfOk result (λ messages. messages ≡ acknowledged me parent case outcome findings) }
 {
     if outcome.is_acknowledged(case.txn.presumption) {
-        one_message(
-            alloc,
-            me,
-            parent,
-            Message::Ack(case, outcome, Sequence::new(alloc)),
-        )
+        one_message(alloc, me, parent, Message::Ack(case, outcome, findings))
     } else {
         Ok(Sequence::new(alloc))
     }
 }
 
-/// The record of an outcome, and its acknowledgement.
+/// The record of an outcome, and its acknowledgement, with what was found.
 pub(crate) fn ends_by(
     me: ProcessId,
     parent: ProcessId,
     case: Case,
     kind: RecordKind,
     outcome: Outcome,
+    findings: Findings,
     alloc: Global,
 ) -> Result<Reaction, AllocError>
-    ensures { IfOk result (λ reaction. reaction ≡ outcome_reply kind case outcome me parent) }
+    ensures { IfOk result (λ reaction. reaction ≡ outcome_reply kind case outcome findings me parent) }
 {
     let forced = outcome.is_acknowledged(case.txn.presumption);
     let written = logged(kind, case, forced, alloc)?;
-    let messages = acknowledgement(me, parent, case, outcome, alloc)?;
+    let messages = acknowledgement(me, parent, case, outcome, findings, alloc)?;
     Ok(Reaction {
         written,
         messages,
@@ -61,17 +59,18 @@ pub(crate) fn ends_by(
     })
 }
 
-/// The acknowledgement of an outcome alone.
+/// The acknowledgement of an outcome alone, with what was found.
 pub(crate) fn acknowledges(
     me: ProcessId,
     parent: ProcessId,
     case: Case,
     outcome: Outcome,
+    findings: Findings,
     alloc: Global,
 ) -> Result<Reaction, AllocError>
-    ensures { IfOk result (λ reaction. reaction ≡ shown [] (acknowledged me parent case outcome)) }
+    ensures { IfOk result (λ reaction. reaction ≡ shown [] (acknowledged me parent case outcome findings)) }
 {
-    let messages = acknowledgement(me, parent, case, outcome, alloc)?;
+    let messages = acknowledgement(me, parent, case, outcome, findings, alloc)?;
     Ok(Reaction {
         messages,
         ..silence(alloc)
@@ -120,7 +119,15 @@ impl<M: ResourceManager> Subordinate<M> {
         ensures err { IfErr result (NotHeard (seen M.sight self.old)
             (seen M.sight self.new) (message.Abort case)) }
     {
-        let reaction = acknowledges(self.me, self.parent, case, Outcome::Aborted, self.alloc)?;
+        let found = Sequence::new(self.alloc);
+        let reaction = acknowledges(
+            self.me,
+            self.parent,
+            case,
+            Outcome::Aborted,
+            found,
+            self.alloc,
+        )?;
         match roll_back(&mut self.manager, &xid) {
             Ok(()) => {
                 self.branches.remove(key);
@@ -151,6 +158,7 @@ impl<M: ResourceManager> Subordinate<M> {
             case,
             RecordKind::RolledBack,
             Outcome::Aborted,
+            Sequence::new(self.alloc),
             self.alloc,
         )?;
         match roll_back(&mut self.manager, &xid) {
@@ -183,6 +191,7 @@ impl<M: ResourceManager> Subordinate<M> {
             case,
             RecordKind::Committed,
             Outcome::Committed,
+            Sequence::new(self.alloc),
             self.alloc,
         )?;
         match commit(&mut self.manager, &xid) {

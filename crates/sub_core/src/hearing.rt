@@ -1,17 +1,32 @@
 //! PREPARE, COMMIT and ABORT, in whatever standing they find their case.
 
-ghost use Rattle.std.specs.Prelude.{◌≡◌, false, IfErr, IfOk};
+ghost use Rattle.std.specs.Prelude.{◌≡◌, [], false, IfErr, IfOk};
 ghost use Rattle.tree_model.specs.declared.messages.Message.TheVariants as message;
-ghost use Rattle.sub_core.specs.Subordinates.{Hears, NotHeard, seen};
+ghost use Rattle.tree_model.specs.Standings.{unknown_findings};
+ghost use Rattle.core_model.specs.Turns.{this_version};
+ghost use Rattle.sub_deeds.specs.Replies.{shown};
+ghost use Rattle.sub_core.specs.Subordinates.{Hears, NotHeard, acknowledged, seen};
 
 use crate::ending::acknowledges;
 use crate::subordinate::{Subordinate, find_branch};
+use core_model::unknown_findings;
 use manager_model::ResourceManager;
+use std::alloc::AllocError;
 use sub_branch::Stage;
 use sub_deeds::{reply, silence};
 use tree_model::{Case, Message, Outcome, Reaction, StepError};
 
 impl<M: ResourceManager> Subordinate<M> {
+    /// An outcome of a case of which nothing is known: it is acknowledged, and the case's ticket is
+    /// unreported.
+    fn unreported(&self, case: Case, outcome: Outcome) -> Result<Reaction, AllocError>
+        ensures { IfOk result (λ reaction. reaction ≡ shown []
+            (acknowledged self.now.me self.now.parent case outcome (unknown_findings this_version case))) }
+    {
+        let found = unknown_findings(self.alloc, case)?;
+        acknowledges(self.me, self.parent, case, outcome, found, self.alloc)
+    }
+
     /// PREPARE: an Active case votes, one that promised says YES again, and of any other nothing is known.
     pub fn prepare(&mut self, case: Case, works: u64) -> Result<Reaction, StepError>
         requires up { (M.sight self.old.manager).log.failed ≡ false }
@@ -48,7 +63,7 @@ impl<M: ResourceManager> Subordinate<M> {
             (seen M.sight self.new) (message.Commit case)) }
     {
         let Some((key, branch)) = find_branch(&self.branches, &case) else {
-            return Ok(acknowledges(self.me, self.parent, case, Outcome::Committed, self.alloc)?);
+            return Ok(self.unreported(case, Outcome::Committed)?);
         };
         match branch.stage {
             Stage::Prepared => self.commit_prepared(key, case, branch.xid),
@@ -69,7 +84,7 @@ impl<M: ResourceManager> Subordinate<M> {
             (seen M.sight self.new) (message.Abort case)) }
     {
         let Some((key, branch)) = find_branch(&self.branches, &case) else {
-            return Ok(acknowledges(self.me, self.parent, case, Outcome::Aborted, self.alloc)?);
+            return Ok(self.unreported(case, Outcome::Aborted)?);
         };
         match branch.stage {
             Stage::Prepared => self.abort_prepared(key, case, branch.xid),

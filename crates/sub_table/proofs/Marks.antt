@@ -17,6 +17,9 @@ use Rattle.tree_model.specs.Nodes.{AtLeaf}
 use Rattle.tree_model.specs.Records.{boot_after, boot_of, branch_case, record_branch, record_case, same_branch, same_xid}
 use Rattle.tree_model.specs.Standings.{Decided, Finished, Mark, Promised, ToldOf, Unmarked, mark_after, mark_of}
 use Rattle.tree_model.proofs.NameTests.{case_tells, process_tells}
+use Rattle.tree_model.specs.declared.names.Outcome.TheVariants.{Committed as CommittedOutcome, Aborted as AbortedOutcome}
+use Rattle.xa_heur.specs.declared.decision.Decision.{Decision}
+use Rattle.xa_heur.specs.Decisions.{decided_as, decision_after, decision_of}
 use Rattle.log_text.specs.Parts.{Name, name_in}
 use Rattle.log_text.proofs.NameReading.{same_xid_is, same_xid_refl}
 use Rattle.sub_table.specs.Rebuilt.{NameReads, ReadsBack, own_case}
@@ -96,7 +99,21 @@ module _ (me p : ProcessId) (tree : List TreeEntry) (c : Case)
   unfolding same_branch
   branch_alike q b h = read_is (leaf_place me p tree) q b c ∙ sym (alike q b h)
 
-  -- what one record of a branch makes of the mark
+  -- what one record of a branch makes of what is read off a branch's own records
+  followed : {A : Type 0} (after : Branch → A → Record → A) (r : Branch → Record) (q : Option ProcessId) (b : Branch)
+      (v : A → A) (m : A) → NameReads q b
+      → ((c d : Branch) → renamed d (r c) ≡ r d)
+      → ((c : Branch) → record_case (r c) ≡ branch_case c)
+      → ((c d : Branch) (m : A) → after d m (r c) ≡ cond (same_branch c d) (v m) m)
+      → fold (after (CaseBranch c)) m (own_records (leaf_place me p tree)
+      (record { entry = r b; parent = q } ∷ []))
+      ≡ after (Foreign x) m (renamed (Foreign (name_xid q b)) (r b))
+  followed after r q b v m h names case marks =
+      ap (fold (after (CaseBranch c)) m) (read_as me p tree r q b names case)
+      ∙ marks (read_name (leaf_place me p tree) q b) (CaseBranch c) m ∙ ap (λ t. cond t (v m) m) (branch_alike q b h)
+      ∙ sym (marks (Foreign (name_xid q b)) (Foreign x) m)
+      ∙ ap (after (Foreign x) m) (sym (names b (Foreign (name_xid q b))))
+
   marked : (r : Branch → Record) (q : Option ProcessId) (b : Branch) (v m : Mark) → NameReads q b
       → ((c d : Branch) → renamed d (r c) ≡ r d)
       → ((c : Branch) → record_case (r c) ≡ branch_case c)
@@ -104,11 +121,7 @@ module _ (me p : ProcessId) (tree : List TreeEntry) (c : Case)
       → fold (mark_after (CaseBranch c)) m (own_records (leaf_place me p tree)
       (record { entry = r b; parent = q } ∷ []))
       ≡ mark_after (Foreign x) m (renamed (Foreign (name_xid q b)) (r b))
-  marked r q b v m h names case marks =
-      ap (fold (mark_after (CaseBranch c)) m) (read_as me p tree r q b names case)
-      ∙ marks (read_name (leaf_place me p tree) q b) (CaseBranch c) m ∙ ap (λ t. cond t v m) (branch_alike q b h)
-      ∙ sym (marks (Foreign (name_xid q b)) (Foreign x) m)
-      ∙ ap (mark_after (Foreign x) m) (sym (names b (Foreign (name_xid q b))))
+  marked r q b v m h names case marks = followed mark_after r q b (λ k. v) m h names case marks
 
   one_marked : (r : Record) (q : Option ProcessId) (m : Mark) → ReadsBack (record { entry = r; parent = q })
       → fold (mark_after (CaseBranch c)) m (own_records (leaf_place me p tree)
@@ -188,6 +201,93 @@ module _ (me p : ProcessId) (tree : List TreeEntry) (c : Case)
       ≡ mark_of (CaseBranch c) (own_records (leaf_place me p tree) ls)
   unfolding mark_of
   marks_alike ls h = sym (marks_from ls Unmarked h)
+
+  -- what an operator decided
+
+  same_either : {A : Type 0} (t : Bool) (m : A) → m ≡ cond t m m
+  same_either true m = refl
+  same_either false m = refl
+
+  one_decided : (r : Record) (q : Option ProcessId) (k : Decision) → ReadsBack (record { entry = r; parent = q })
+      → fold (decision_after (CaseBranch c)) k (own_records (leaf_place me p tree)
+      (record { entry = r; parent = q } ∷ []))
+      ≡ decision_after (Foreign x) k (named_by q (record_branch r) r)
+  unfolding own_records
+  one_decided (Opened n) q k h = refl
+  one_decided (Base n) q k h = refl
+  one_decided (Pair key v) q k h = refl
+  one_decided (Collecting d ts) q k h = by_own (is_own (leaf_place me p tree) q d)
+    where
+      by_own : (t : Bool) → fold (decision_after (CaseBranch c)) k
+          (cond t (Collecting d ts ∷ []) (foreign_to (AtLeaf p) q d (Collecting d ts)) ++ []) ≡ k
+      by_own true = refl
+      by_own false = refl
+  one_decided (Prepare d ts) q k h = by_own (is_own (leaf_place me p tree) q d)
+    where
+      by_own : (t : Bool) → fold (decision_after (CaseBranch c)) k
+          (cond t (Prepare d ts ∷ []) (foreign_to (AtLeaf p) q d (Prepare d ts)) ++ []) ≡ k
+      by_own true = refl
+      by_own false = refl
+  one_decided (Commit d ts) q k h = by_own (is_own (leaf_place me p tree) q d)
+    where
+      by_own : (t : Bool) → fold (decision_after (CaseBranch c)) k
+          (cond t (Commit d ts ∷ []) (foreign_to (AtLeaf p) q d (Commit d ts)) ++ []) ≡ k
+      by_own true = refl
+      by_own false = refl
+  one_decided (Abort d ts) q k h = by_own (is_own (leaf_place me p tree) q d)
+    where
+      by_own : (t : Bool) → fold (decision_after (CaseBranch c)) k
+          (cond t (Abort d ts ∷ []) (foreign_to (AtLeaf p) q d (Abort d ts)) ++ []) ≡ k
+      by_own true = refl
+      by_own false = refl
+  one_decided (End d rep) q k h = by_own (is_own (leaf_place me p tree) q d)
+    where
+      by_own : (t : Bool) → fold (decision_after (CaseBranch c)) k
+          (cond t (End d rep ∷ []) (foreign_to (AtLeaf p) q d (End d rep)) ++ []) ≡ k
+      by_own true = refl
+      by_own false = refl
+  one_decided (Cleared d) q k h = by_own (is_own (leaf_place me p tree) q d)
+    where
+      by_own : (t : Bool) → fold (decision_after (CaseBranch c)) k
+          (cond t (Cleared d ∷ []) (foreign_to (AtLeaf p) q d (Cleared d)) ++ []) ≡ k
+      by_own true = refl
+      by_own false = refl
+  one_decided (Prepared b ws) q k h = followed decision_after (λ c. Prepared c ws) q b (λ d. decided_as AbortedOutcome) k h
+      (λ c d. refl) (λ c. refl) (λ c d m. refl)
+  one_decided (Committed b) q k h = followed decision_after Committed q b (λ d. d) k h
+      (λ c d. refl) (λ c. refl) (λ c d m. same_either (same_branch c d) m)
+  one_decided (RolledBack b) q k h = followed decision_after RolledBack q b (λ d. d) k h
+      (λ c d. refl) (λ c. refl) (λ c d m. same_either (same_branch c d) m)
+  one_decided (Direct b ws) q k h = followed decision_after (λ c. Direct c ws) q b (λ d. d) k h
+      (λ c d. refl) (λ c. refl) (λ c d m. same_either (same_branch c d) m)
+  one_decided (HeurCommit b) q k h = followed decision_after HeurCommit q b (λ d. decided_as CommittedOutcome) k h
+      (λ c d. refl) (λ c. refl) (λ c d m. refl)
+  one_decided (HeurRollback b) q k h = followed decision_after HeurRollback q b (λ d. decided_as AbortedOutcome) k h
+      (λ c d. refl) (λ c. refl) (λ c d m. refl)
+  one_decided (Told b o) q k h = followed decision_after (λ c. Told c o) q b
+      (λ d. record { outcome = d.outcome; told = Some o }) k h (λ c d. refl) (λ c. refl) (λ c d m. refl)
+  one_decided (Forgot b) q k h = followed decision_after Forgot q b (λ d. decided_as AbortedOutcome) k h
+      (λ c d. refl) (λ c. refl) (λ c d m. refl)
+
+  decisions_from : (ls : List LogRecord) (k : Decision) → AllByRecursion ReadsBack ls
+      → fold (decision_after (CaseBranch c)) k (own_records (leaf_place me p tree) ls)
+      ≡ fold (decision_after (Foreign x)) k (map by_xid ls)
+  unfolding own_records
+  decisions_from [] k h = refl
+  decisions_from (l ∷ ls) k h =
+      ap (fold (decision_after (CaseBranch c)) k) (own_append (leaf_place me p tree) (l ∷ []) ls)
+      ∙ fold-append (decision_after (CaseBranch c)) k (own_records (leaf_place me p tree) (l ∷ []))
+      (own_records (leaf_place me p tree) ls)
+      ∙ ap (λ v. fold (decision_after (CaseBranch c)) v (own_records (leaf_place me p tree) ls))
+      (one_decided l.entry l.parent k h.0)
+      ∙ decisions_from ls (decision_after (Foreign x) k (by_xid l)) h.1
+
+  -- what the records say that an operator decided of the case, they say of its XID
+  pub decisions_alike : (ls : List LogRecord) → AllByRecursion ReadsBack ls
+      → decision_of (Foreign (name_xid (Some p) (CaseBranch c))) (map by_xid ls)
+      ≡ decision_of (CaseBranch c) (own_records (leaf_place me p tree) ls)
+  unfolding decision_of
+  decisions_alike ls h = sym (decisions_from ls (decided_as AbortedOutcome) h)
 
 -- the boot is that of the records as the process reads them
 module _ (me p : ProcessId) (tree : List TreeEntry) where

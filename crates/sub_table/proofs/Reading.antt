@@ -57,11 +57,28 @@ case_is place q (CaseBranch d) = by_test (is_own place q d)
     by_test true = refl
     by_test false = refl
 
+-- behind this mark an operator decided
+abbrev pub IsDecidedMark : Mark → Type 0
+IsDecidedMark Decided = Unit {0}
+IsDecidedMark (ToldOf o) = Unit {0}
+IsDecidedMark _ = ⊥
+
+-- an outcome that is told comes behind an operator's decision
+abbrev pub MayFollow : Mark → Mark → Type 0
+MayFollow (ToldOf o) m = IsDecidedMark m
+MayFollow _ m = Unit {0}
+
+-- the same of a record that tells the case an outcome
+abbrev pub FitsTold : Mark → Branch → Record → Type 0
+FitsTold m b (Told a o) = same_branch a b ≡ true → IsDecidedMark m
+FitsTold m b _ = Unit {0}
+
 -- one record as it is read: of which case, and what becomes of its mark
 pub record One (place : Place) (l : LogRecord) (o : Option Case) (x : Mark → Mark) : Type 0 where
   pub read : Record
   pub is : own_records place (l ∷ []) ≡ read ∷ []
   pub marks : (c : Case) (m : Mark) → mark_after (CaseBranch c) m read ≡ cond (is_it o c) (x m) m
+  pub fits : (c : Case) (m : Mark) → (is_it o c ≡ true → MayFollow (x m) m) → FitsTold m (CaseBranch c) read
   pub case : record_case read ≡ o
   pub boot : (n : ℕ) → boot_after n read ≡ boot_after n l.entry
 
@@ -92,12 +109,15 @@ module _ (me p : ProcessId) (tree : List TreeEntry) where
       → ((c : Branch) → record_case (r c) ≡ branch_case c)
       → ((c d : Branch) (m : Mark) → mark_after d m (r c) ≡ cond (same_branch c d) x m)
       → ((c : Branch) (n : ℕ) → boot_after n (r c) ≡ n)
+      → ((c d : Branch) (m : Mark) → (same_branch c d ≡ true → MayFollow x m) → FitsTold m d (r c))
       → One (leaf_place me p tree) (record { entry = r b; parent = q }) (own_case (leaf_place me p tree) q b) (λ m. x)
-  one_branch r q b x names case marks boots = record {
+  one_branch r q b x names case marks boots fits = record {
     read = r (read_name (leaf_place me p tree) q b);
     is = read_as r q b names case;
     marks = λ c m. marks (read_name (leaf_place me p tree) q b) (CaseBranch c) m
         ∙ ap (λ t. cond t x m) (read_is (leaf_place me p tree) q b c);
+    fits = λ c m h. fits (read_name (leaf_place me p tree) q b) (CaseBranch c) m
+        (λ e. h (sym (read_is (leaf_place me p tree) q b c) ∙ e));
     case = case (read_name (leaf_place me p tree) q b) ∙ case_is (leaf_place me p tree) q b;
     boot = λ n. boots (read_name (leaf_place me p tree) q b) n ∙ sym (boots b n);
   }
@@ -106,61 +126,61 @@ module _ (me p : ProcessId) (tree : List TreeEntry) where
       → One (leaf_place me p tree) (record { entry = PreparedRecord b ws; parent = q })
       (own_case (leaf_place me p tree) q b) (λ m. Promised)
   one_prepared q b ws = one_branch (λ c. PreparedRecord c ws) q b Promised (λ c d. refl) (λ c. refl)
-      (λ c d m. refl) (λ c n. refl)
+      (λ c d m. refl) (λ c n. refl) (λ c d m h. tt)
 
   pub one_committed : (q : Option ProcessId) (b : Branch)
       → One (leaf_place me p tree) (record { entry = Committed b; parent = q })
       (own_case (leaf_place me p tree) q b) (λ m. Finished)
   one_committed q b = one_branch Committed q b Finished (λ c d. refl) (λ c. refl)
-      (λ c d m. refl) (λ c n. refl)
+      (λ c d m. refl) (λ c n. refl) (λ c d m h. tt)
 
   pub one_rolled_back : (q : Option ProcessId) (b : Branch)
       → One (leaf_place me p tree) (record { entry = RolledBack b; parent = q })
       (own_case (leaf_place me p tree) q b) (λ m. Finished)
   one_rolled_back q b = one_branch RolledBack q b Finished (λ c d. refl) (λ c. refl)
-      (λ c d m. refl) (λ c n. refl)
+      (λ c d m. refl) (λ c n. refl) (λ c d m h. tt)
 
   pub one_direct : (q : Option ProcessId) (b : Branch) (ws : List Write)
       → One (leaf_place me p tree) (record { entry = Direct b ws; parent = q })
       (own_case (leaf_place me p tree) q b) (λ m. Finished)
   one_direct q b ws = one_branch (λ c. Direct c ws) q b Finished (λ c d. refl) (λ c. refl)
-      (λ c d m. refl) (λ c n. refl)
+      (λ c d m. refl) (λ c n. refl) (λ c d m h. tt)
 
   pub one_forgot : (q : Option ProcessId) (b : Branch)
       → One (leaf_place me p tree) (record { entry = Forgot b; parent = q })
       (own_case (leaf_place me p tree) q b) (λ m. Finished)
-  one_forgot q b = one_branch Forgot q b Finished (λ c d. refl) (λ c. refl) (λ c d m. refl) (λ c n. refl)
+  one_forgot q b = one_branch Forgot q b Finished (λ c d. refl) (λ c. refl) (λ c d m. refl) (λ c n. refl) (λ c d m h. tt)
 
   pub one_committed_so : (q : Option ProcessId) (b : Branch)
       → One (leaf_place me p tree) (record { entry = HeurCommit b; parent = q })
       (own_case (leaf_place me p tree) q b) (λ m. Decided)
   one_committed_so q b = one_branch HeurCommit q b Decided (λ c d. refl) (λ c. refl)
-      (λ c d m. refl) (λ c n. refl)
+      (λ c d m. refl) (λ c n. refl) (λ c d m h. tt)
 
   pub one_rolled_back_so : (q : Option ProcessId) (b : Branch)
       → One (leaf_place me p tree) (record { entry = HeurRollback b; parent = q })
       (own_case (leaf_place me p tree) q b) (λ m. Decided)
   one_rolled_back_so q b = one_branch HeurRollback q b Decided (λ c d. refl) (λ c. refl)
-      (λ c d m. refl) (λ c n. refl)
+      (λ c d m. refl) (λ c n. refl) (λ c d m h. tt)
 
   pub one_told : (q : Option ProcessId) (b : Branch) (o : Outcome)
       → One (leaf_place me p tree) (record { entry = Told b o; parent = q })
       (own_case (leaf_place me p tree) q b) (λ m. ToldOf o)
   one_told q b o = one_branch (λ c. Told c o) q b (ToldOf o) (λ c d. refl) (λ c. refl)
-      (λ c d m. refl) (λ c n. refl)
+      (λ c d m. refl) (λ c n. refl) (λ c d m h. h)
 
   -- a record of no branch
   pub one_opened : (q : Option ProcessId) (n : ℕ)
       → One (leaf_place me p tree) (record { entry = Opened n; parent = q }) None (λ m. m)
   unfolding own_records
-  one_opened q n = record { read = Opened n; is = refl; marks = λ c m. refl; case = refl; boot = λ k. refl }
+  one_opened q n = record { read = Opened n; is = refl; marks = λ c m. refl; fits = λ c m h. tt; case = refl; boot = λ k. refl }
 
   pub one_base : (q : Option ProcessId) (n : ℕ)
       → One (leaf_place me p tree) (record { entry = Base n; parent = q }) None (λ m. m)
   unfolding own_records
-  one_base q n = record { read = Base n; is = refl; marks = λ c m. refl; case = refl; boot = λ k. refl }
+  one_base q n = record { read = Base n; is = refl; marks = λ c m. refl; fits = λ c m h. tt; case = refl; boot = λ k. refl }
 
   pub one_pair : (q : Option ProcessId) (k v : List ℕ)
       → One (leaf_place me p tree) (record { entry = Pair k v; parent = q }) None (λ m. m)
   unfolding own_records
-  one_pair q k v = record { read = Pair k v; is = refl; marks = λ c m. refl; case = refl; boot = λ n. refl }
+  one_pair q k v = record { read = Pair k v; is = refl; marks = λ c m. refl; fits = λ c m h. tt; case = refl; boot = λ n. refl }

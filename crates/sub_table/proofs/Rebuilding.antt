@@ -63,6 +63,7 @@ module _ (place : Place) (p : ProcessId) (ls : List LogRecord) (s : Cases) (left
       own = more_own place p s.newest s.boot c within (left.live c b e);
       kept = sym (left.branches c) ∙ e;
     };
+    recalls = left.recalls;
     messages = sent ∙ same_flat (asks place.me p s.branches)
         (manager_resumes place.me p (own_records place ls)) asked s.order.keys
         ∙ ap (flat_map (manager_resumes place.me p (own_records place ls))) left.order;

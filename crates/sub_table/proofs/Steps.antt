@@ -15,16 +15,19 @@ use Rattle.tree_model.specs.LogNames.{is_own, name_xid, own_records, same_parent
 use Rattle.tree_model.specs.Names.{same_case}
 use Rattle.tree_model.proofs.NameTests.{case_tells, process_tells}
 use Rattle.tree_model.specs.Nodes.{Place}
-use Rattle.tree_model.specs.Records.{boot_after, boot_of, cases_in, with_case, with_record}
+use Rattle.tree_model.specs.Records.{boot_after, boot_of, cases_in, decision_after as case_decision_after, decision_of as case_decision, is_branch, same_branch, with_case, with_record}
+use Rattle.tree_model.specs.declared.names.Outcome.TheVariants.{Committed as CommittedOutcome, Aborted as AbortedOutcome}
+use Rattle.xa_heur.specs.declared.decision.Decision.{Decision}
+use Rattle.xa_heur.specs.Decisions.{decided_as, decision_after, decision_of}
 use Rattle.tree_model.specs.Standings.{Decided, Finished, Mark, Promised, ToldOf, Unmarked, mark_after, mark_of}
 use Rattle.live_table.specs.Tables.{live_value}
 use Rattle.sub_branch.specs.declared.branch.Branch.{Branch}
 use Rattle.sub_branch.specs.declared.branch.Stage.TheVariants.{Heuristic, Prepared}
 use Rattle.sub_table.specs.Tables.{branch_in, ticket_in}
 use Rattle.sub_table.specs.declared.cases.Cases.{Cases}
-use Rattle.sub_table.specs.Rebuilt.{DecidesBy, DecidesCase, Ends, EndsBy, IsGivenBy, IsOwn, Leaves, NameReads, Promises, PromisesBy, ReadsBack, Takes, branch_left, kept_at, own_case}
+use Rattle.sub_table.specs.Rebuilt.{DecidesBy, DecidesCase, Ends, EndsBy, IsGivenBy, IsOwn, Leaves, NameReads, Promises, PromisesBy, ReadsBack, Recalls, RecallsCase, Takes, branch_left, fits_told, kept_at, own_case}
 use Rattle.tree_model.specs.Views.{leaf_place}
-use Rattle.sub_table.proofs.Reading.{One, is_it, one_base, one_committed, one_committed_so, one_direct, one_forgot, one_opened, one_pair, one_prepared, one_rolled_back, one_rolled_back_so, one_told, own_append}
+use Rattle.sub_table.proofs.Reading.{FitsTold, IsDecidedMark, MayFollow, One, is_it, one_base, one_committed, one_committed_so, one_direct, one_forgot, one_opened, one_pair, one_prepared, one_rolled_back, one_rolled_back_so, one_told, own_append}
 
 one : (c d : Case) → same_case c d ≡ true → c ≡ d
 one c d e = (case_tells c d).0 e
@@ -52,6 +55,84 @@ cases_more : (rs : List Record) (r : Record) → cases_in (rs ++ r ∷ []) ≡ w
 unfolding cases_in
 cases_more rs r = fold-append _ _ rs (r ∷ [])
 
+-- What an operator decided.
+
+recalls_if : (t u : Bool) → t ≡ u → (m n : Mark) (o k : Option Outcome) (d e : Decision) → Recalls m o d
+    → Recalls n k e → Recalls (cond t m n) (cond u o k) (cond t d e)
+recalls_if true u is m n o k d e h g = subst (λ w. Recalls m (cond w o k) d) is h
+recalls_if false u is m n o k d e h g = subst (λ w. Recalls n (cond w o k) e) is g
+
+-- a record that says nothing of a decision leaves a mark behind which nothing is known of it
+recalls_quiet : (t : Bool) (m n : Mark) (o : Option Outcome) (d : Decision) → Recalls m o d → Recalls n o d
+    → Recalls (cond t m n) o d
+recalls_quiet true m n o d h g = h
+recalls_quiet false m n o d h g = g
+
+recalls_decided : (m : Mark) (o : Option Outcome) (d : Decision) → IsDecidedMark m → Recalls m o d
+    → o ≡ Some d.outcome
+recalls_decided Unmarked o d at h = absurd at
+recalls_decided Promised o d at h = absurd at
+recalls_decided Decided o d at h = h
+recalls_decided (ToldOf told) o d at h = h
+recalls_decided Finished o d at h = absurd at
+
+same_is : (c : Case) (a : AnyBranch) → same_branch a (CaseBranch c) ≡ is_branch c a
+unfolding same_branch
+same_is c (CaseBranch d) = refl
+same_is c (Foreign x) = refl
+
+recalls_told : (c : Case) (a : AnyBranch) (told : Outcome) (t : Bool) → same_branch a (CaseBranch c) ≡ t
+    → (m : Mark) (o : Option Outcome) (d : Decision)
+    → (same_branch a (CaseBranch c) ≡ true → IsDecidedMark m) → Recalls m o d
+    → Recalls (cond t (ToldOf told) m) o (cond t (record { outcome = d.outcome; told = Some told }) d)
+recalls_told c a told true e m o d at h = recalls_decided m o d (at e) h
+recalls_told c a told false e m o d at h = h
+
+recalls_after : (c : Case) (m : Mark) (o : Option Outcome) (d : Decision) (r : Record) → FitsTold m (CaseBranch c) r
+    → Recalls m o d
+    → Recalls (mark_after (CaseBranch c) m r) (case_decision_after c o r) (decision_after (CaseBranch c) d r)
+recalls_after c m o d (PreparedRecord a ws) f h =
+    recalls_if (same_branch a (CaseBranch c)) (is_branch c a) (same_is c a) Promised m None o
+    (decided_as AbortedOutcome) d tt h
+recalls_after c m o d (Committed a) f h = recalls_quiet (same_branch a (CaseBranch c)) Finished m o d tt h
+recalls_after c m o d (RolledBack a) f h = recalls_quiet (same_branch a (CaseBranch c)) Finished m o d tt h
+recalls_after c m o d (Direct a ws) f h = recalls_quiet (same_branch a (CaseBranch c)) Finished m o d tt h
+recalls_after c m o d (Forgot a) f h = by_test (same_branch a (CaseBranch c))
+  where
+    by_test : (t : Bool) → Recalls (cond t Finished m) o (cond t (decided_as AbortedOutcome) d)
+    by_test true = tt
+    by_test false = h
+recalls_after c m o d (HeurCommit a) f h =
+    recalls_if (same_branch a (CaseBranch c)) (is_branch c a) (same_is c a) Decided m (Some CommittedOutcome) o
+    (decided_as CommittedOutcome) d refl h
+recalls_after c m o d (HeurRollback a) f h =
+    recalls_if (same_branch a (CaseBranch c)) (is_branch c a) (same_is c a) Decided m (Some AbortedOutcome) o
+    (decided_as AbortedOutcome) d refl h
+recalls_after c m o d (Told a told) f h =
+    recalls_told c a told (same_branch a (CaseBranch c)) refl m o d f h
+recalls_after c m o d (Opened n) f h = h
+recalls_after c m o d (Collecting e ts) f h = h
+recalls_after c m o d (Prepare e ts) f h = h
+recalls_after c m o d (Commit e ts) f h = h
+recalls_after c m o d (Abort e ts) f h = h
+recalls_after c m o d (End e rep) f h = h
+recalls_after c m o d (Cleared e) f h = h
+recalls_after c m o d (Base n) f h = h
+recalls_after c m o d (Pair k v) f h = h
+
+recalls_more : (c : Case) (ks : List Record) (r : Record) → RecallsCase ks c
+    → FitsTold (mark_of (CaseBranch c) ks) (CaseBranch c) r → RecallsCase (ks ++ r ∷ []) c
+unfolding case_decision decision_of
+recalls_more c ks r h f =
+    subst (λ m. Recalls m (case_decision (ks ++ r ∷ []) c) (decision_of (CaseBranch c) (ks ++ r ∷ [])))
+    (sym (mark_more (CaseBranch c) ks r))
+    (subst (λ o. Recalls (mark_after (CaseBranch c) (mark_of (CaseBranch c) ks) r) o
+    (decision_of (CaseBranch c) (ks ++ r ∷ []))) (sym (fold-append (case_decision_after c) None ks (r ∷ [])))
+    (subst (λ d. Recalls (mark_after (CaseBranch c) (mark_of (CaseBranch c) ks) r)
+    (case_decision_after c (case_decision ks c) r) d)
+    (sym (fold-append (decision_after (CaseBranch c)) (decided_as AbortedOutcome) ks (r ∷ [])))
+    (recalls_after c (mark_of (CaseBranch c) ks) (case_decision ks c) (decision_of (CaseBranch c) ks) r f h)))
+
 module _ (place : Place) (p : ProcessId) (ls : List LogRecord) (l : LogRecord) (o : Option Case)
     (x : Mark → Mark) (reads : One place l o x) where
   rs : List Record
@@ -66,6 +147,13 @@ module _ (place : Place) (p : ProcessId) (ls : List LogRecord) (l : LogRecord) (
   marked c = ap (mark_of (CaseBranch c)) behind ∙ mark_more (CaseBranch c) (own_records place ls) reads.read
       ∙ reads.marks c (mark_of (CaseBranch c) (own_records place ls))
 
+  recalled : (c : Case) → RecallsCase (own_records place ls) c
+      → (is_it o c ≡ true → MayFollow (x (mark_of (CaseBranch c) (own_records place ls)))
+      (mark_of (CaseBranch c) (own_records place ls))) → RecallsCase (own_records place (ls ++ l ∷ [])) c
+  recalled c h may = subst (λ ks. RecallsCase ks c) (sym behind)
+      (recalls_more c (own_records place ls) reads.read h
+      (reads.fits c (mark_of (CaseBranch c) (own_records place ls)) may))
+
   pub leaves_more : (old new : Cases) → Leaves place p ls old → ReadsBack l
       → new.boot ≡ boot_after old.boot l.entry
       → new.order.keys ≡ with_case old.order.keys o → ((d : Case) → ticket_in new.branches d ≡ None)
@@ -73,8 +161,10 @@ module _ (place : Place) (p : ProcessId) (ls : List LogRecord) (l : LogRecord) (
       ≡ cond (is_it o c) (branch_left p c (x (mark_of (CaseBranch c) (own_records place ls))))
       (branch_in old.branches c))
       → ((c : Case) (b : Branch) → branch_in new.branches c ≡ Some b → IsOwn place p new.newest c)
+      → ((c : Case) → is_it o c ≡ true → MayFollow (x (mark_of (CaseBranch c) (own_records place ls)))
+      (mark_of (CaseBranch c) (own_records place ls)))
       → Leaves place p (ls ++ l ∷ []) new
-  leaves_more old new left back boot order tickets branches live = record {
+  leaves_more old new left back boot order tickets branches live may = record {
     reads = all_more ReadsBack ls l left.reads back;
     boot = boot ∙ ap (λ n. boot_after n l.entry) left.boot ∙ sym (reads.boot (boot_of (own_records place ls)))
         ∙ sym (boot_more (own_records place ls) reads.read) ∙ ap boot_of (sym behind);
@@ -83,6 +173,7 @@ module _ (place : Place) (p : ProcessId) (ls : List LogRecord) (l : LogRecord) (
         ∙ sym (cases_more (own_records place ls) reads.read) ∙ ap cases_in (sym behind);
     tickets = tickets;
     branches = λ c. branches c ∙ by_branch c (is_it o c) ∙ ap (branch_left p c) (sym (marked c));
+    recalls = λ c. recalled c (left.recalls c) (may c);
     live = live;
   }
     where
@@ -94,8 +185,6 @@ module _ (place : Place) (p : ProcessId) (ls : List LogRecord) (l : LogRecord) (
       by_branch c true = refl
       by_branch c false = left.branches c
 
--- What an operator decided.
-
 -- the mark of a case that was told this since
 abbrev pub mark_told : Option Outcome → Mark
 mark_told None = Decided
@@ -105,6 +194,19 @@ left_told : (p : ProcessId) (c : Case) (told : Option Outcome)
     → Some (kept_at p c (Heuristic told)) ≡ branch_left p c (mark_told told)
 left_told p c None = refl
 left_told p c (Some o) = refl
+
+-- what is kept of a case that is told an outcome
+may_tell : (p : ProcessId) (c : Case) (m : Mark) (told : Option Outcome) (was : Option Branch) (b : Branch)
+    → was ≡ Some b → was ≡ branch_left p c m → fits_told told b.stage ≡ true → MayFollow (mark_told told) m
+may_tell p c m None was b at left fits = tt
+may_tell p c Unmarked (Some o) was b at left fits = absurd (let none : None ≡ Some b = sym left ∙ at in cc)
+may_tell p c Finished (Some o) was b at left fits = absurd (let none : None ≡ Some b = sym left ∙ at in cc)
+may_tell p c Promised (Some o) was b at left fits =
+    let is : kept_at p c Prepared ≡ b = some_same (kept_at p c Prepared) b (sym left ∙ at) in
+    absurd (let no : fits_told (Some o) Prepared ≡ true = subst (λ (v : Branch). fits_told (Some o) v.stage ≡ true)
+    (sym is) fits in cc)
+may_tell p c Decided (Some o) was b at left fits = tt
+may_tell p c (ToldOf q) (Some o) was b at left fits = tt
 
 -- a case is kept under its own XID
 pub left_xid : (p : ProcessId) (c : Case) (b : Branch) (m : Mark) → branch_left p c m ≡ Some b
@@ -165,6 +267,7 @@ module _ (me p : ProcessId) (tree : List TreeEntry) (ls : List LogRecord) (old :
       (λ d. ap (λ t. ticket_in t d) branches ∙ left.tickets d) (λ c. ap (λ t. branch_in t c) branches)
       (λ c b e. subst (λ n. IsOwn (leaf_place me p tree) p n c) (sym newest)
       (left.live c b (ap (λ t. branch_in t c) (sym branches) ∙ e)))
+      (λ c e. absurd (cc))
 
   quiet : (l : LogRecord) (new : Cases) (x : Mark → Mark) → One (leaf_place me p tree) l None x → ReadsBack l
       → boot_after old.boot l.entry ≡ old.boot → new ≡ old → Leaves (leaf_place me p tree) p (ls ++ l ∷ []) new
@@ -193,7 +296,7 @@ module _ (me p : ProcessId) (tree : List TreeEntry) (ls : List LogRecord) (old :
       (λ d. ap (λ ts. ticket_in (record { tickets = ts; branches = new.branches.branches }) d) makes.tickets
       ∙ ap (λ s. ticket_in s.branches d) adds.0 ∙ left.tickets d)
       (λ d. by_case d (same_case c d) refl adds.0 makes)
-      (λ d v e. by_live d v (same_case c d) refl adds.0 makes mine named e)
+      (λ d v e. by_live d v (same_case c d) refl adds.0 makes mine named e) (λ d e. tt)
     where
       by_case : (d : Case) (t : Bool) → same_case c d ≡ t
           → made.0 ≡ record old { order = made.0.order } → Promises made.0 new p c
@@ -229,7 +332,7 @@ module _ (me p : ProcessId) (tree : List TreeEntry) (ls : List LogRecord) (old :
       (makes.boot ∙ ap (λ s. s.boot) adds.0 ∙ sym boot) (ap (λ s. s.keys) makes.order ∙ adds.1)
       (makes.tickets (λ d. ap (λ s. ticket_in s.branches d) adds.0 ∙ left.tickets d))
       (λ d. by_case d (same_case c d) refl adds.0 makes)
-      (λ d v e. by_live d v (same_case c d) refl adds.0 makes e)
+      (λ d v e. by_live d v (same_case c d) refl adds.0 makes e) (λ d e. tt)
     where
       by_case : (d : Case) (t : Bool) → same_case c d ≡ t
           → made.0 ≡ record old { order = made.0.order } → Ends made.0 new c
@@ -261,6 +364,10 @@ module _ (me p : ProcessId) (tree : List TreeEntry) (ls : List LogRecord) (old :
       ∙ ap (λ s. ticket_in s.branches d) adds.0 ∙ left.tickets d)
       (λ d. by_case d (same_case c d) refl adds.0 makes)
       (λ d v e. by_live d v (same_case c d) refl adds.0 makes e)
+      (λ d e. may_tell p d (mark_of (CaseBranch d) (own_records (leaf_place me p tree) ls)) told
+      (branch_in old.branches d) makes.branch
+      (subst (λ k. branch_in old.branches k ≡ Some makes.branch) (one c d e) (stood adds.0 makes))
+      (left.branches d) makes.fits)
     where
       stood : made.0 ≡ record old { order = made.0.order } → (m : DecidesCase made.0 new c told)
           → branch_in old.branches c ≡ Some m.branch
@@ -331,12 +438,13 @@ module _ (me p : ProcessId) (tree : List TreeEntry) (ls : List LogRecord) (old :
 pub nothing_left : (place : Place) (p : ProcessId) (s : Cases) → s.order.keys ≡ []
     → s.branches.tickets ≡ [] → s.branches.branches ≡ []
     → s.boot ≡ 0 → Leaves place p [] s
-unfolding own_records mark_of boot_of cases_in live_value
+unfolding own_records mark_of boot_of cases_in live_value case_decision decision_of
 nothing_left place p s order tickets branches boot = record {
   reads = tt;
   boot = boot;
   order = order;
   tickets = λ d. ap (λ ts. live_value ts d) tickets;
   branches = λ c. ap (λ bs. live_value bs c) branches;
+  recalls = λ c. tt;
   live = λ c b e. absurd (let none = ap (λ bs. live_value bs c) branches in cc);
 }

@@ -1,5 +1,5 @@
 -- What the records of a log leave of a subordinate.
-use Rattle.std.specs.Prelude.{◌≡◌, ◌≤◌, ◌<◌, ◌+◌, ◌^◌, ⊤, ℕ, Bool, true, false, if◌then◌else◌, Option, Some, None, List, [], ◌∷◌}
+use Rattle.std.specs.Prelude.{◌≡◌, ◌≤◌, ◌<◌, ◌+◌, ◌^◌, ⊤, ℕ, Bool, true, false, if◌then◌else◌, Option, Some, None, is_none, List, [], ◌∷◌}
 use Rattle.std.specs.List.{AllByRecursion, flat_map}
 use Rattle.tree_model.specs.declared.names.Case.{Case}
 use Rattle.tree_model.specs.declared.names.Outcome.{Outcome}
@@ -15,14 +15,16 @@ use Rattle.tree_model.specs.declared.records.Record.TheVariants.{Opened, Prepare
 use Rattle.tree_model.specs.CoordinatorRows.{post}
 use Rattle.tree_model.specs.LogNames.{is_own, name_xid, own_records}
 use Rattle.tree_model.specs.Nodes.{Place}
-use Rattle.tree_model.specs.Records.{boot_of, cases_in, record_branch, with_case}
+use Rattle.tree_model.specs.Records.{boot_of, cases_in, decision_of as case_decision, record_branch, with_case}
 use Rattle.tree_model.specs.Restarts.{manager_resumes, recorded_branch}
 use Rattle.tree_model.specs.Standings.{Decided, Mark, Promised, ToldOf, mark_of}
+use Rattle.xa_heur.specs.declared.decision.Decision.{Decision}
+use Rattle.xa_heur.specs.Decisions.{decision_of}
 use Rattle.log_text.specs.Parts.{name_in}
 use Rattle.live_table.specs.Tables.{Moves}
 use Rattle.sub_branch.specs.declared.branch.Branch.{Branch}
 use Rattle.sub_branch.specs.declared.branch.Stage.{Stage}
-use Rattle.sub_branch.specs.declared.branch.Stage.TheVariants.{Heuristic, Prepared}
+use Rattle.sub_branch.specs.declared.branch.Stage.TheVariants.{Active, Heuristic, Prepared}
 use Rattle.sub_branch.specs.Stages.{awaits}
 use Rattle.sub_table.specs.Tables.{BranchTable, branch_in, ticket_in, view_in}
 use Rattle.sub_table.specs.declared.names.Saying.{Saying}
@@ -90,6 +92,17 @@ pub record IsOwn (place : Place) (p : ProcessId) (boot : ℕ) (c : Case) : Type 
   pub reads : NameReads (Some p) (CaseBranch c)
   pub given : IsGivenBy boot c
 
+-- what the records say that an operator decided, where the last of them says that he did: for the process, and
+-- for its manager
+abbrev pub Recalls : Mark → Option Outcome → Decision → Type 0
+Recalls Decided o d = o ≡ Some d.outcome
+Recalls (ToldOf told) o d = o ≡ Some d.outcome
+Recalls _ o d = ⊤
+
+-- the same of a case
+abbrev pub RecallsCase : List Record → Case → Type 0
+RecallsCase rs c = Recalls (mark_of (CaseBranch c) rs) (case_decision rs c) (decision_of (CaseBranch c) rs)
+
 -- what some records leave
 pub record Leaves (place : Place) (p : ProcessId) (ls : List LogRecord) (s : Cases) : Type 0 where
   pub reads : AllByRecursion ReadsBack ls
@@ -98,6 +111,7 @@ pub record Leaves (place : Place) (p : ProcessId) (ls : List LogRecord) (s : Cas
   pub tickets : (d : Case) → ticket_in s.branches d ≡ None
   pub branches : (c : Case)
       → branch_in s.branches c ≡ branch_left p c (mark_of (CaseBranch c) (own_records place ls))
+  pub recalls : (c : Case) → RecallsCase (own_records place ls) c
   pub live : (c : Case) (b : Branch) → branch_in s.branches c ≡ Some b → IsOwn place p s.newest c
 
 -- One record more.
@@ -116,12 +130,19 @@ pub record Promises (old new : Cases) (p : ProcessId) (c : Case) : Type 0 where
   pub given : IsGivenBy new.newest c
   pub grows : old.newest ≤ new.newest
 
--- an operator decided the case, which promised, and it was told this outcome since
+-- an operator can decide a branch at this stage, which promised; or it can be told an outcome since, where he did
+abbrev pub fits_told : Option Outcome → Stage → Bool
+fits_told told (Active d done spoiled) = false
+fits_told told Prepared = is_none told
+fits_told told (Heuristic before) = true
+
+-- an operator decided the case, which promised, or it was told this outcome since
 pub record DecidesCase (old new : Cases) (c : Case) (told : Option Outcome) : Type 0 where
   pub boot : new.boot ≡ old.boot
   pub order : new.order ≡ old.order
   pub branch : Branch
   pub was : branch_in old.branches c ≡ Some branch
+  pub fits : fits_told told branch.stage ≡ true
   pub branches : Moves old.branches.branches new.branches.branches c
       (Some (record { xid = branch.xid; stage = Heuristic told }))
   pub tickets : new.branches.tickets ≡ old.branches.tickets
@@ -198,5 +219,6 @@ pub record Rebuilds (place : Place) (p : ProcessId) (ls : List LogRecord) (r : R
   pub views : (c : Case) → view_in r.branches c ≡ recorded_branch (own_records place ls) c
   pub live : (c : Case) (b : Branch) → branch_in r.branches c ≡ Some b
       → IsLeft place p (own_records place ls) r.boot c b
+  pub recalls : (c : Case) → RecallsCase (own_records place ls) c
   pub messages : r.messages
       ≡ flat_map (manager_resumes place.me p (own_records place ls)) (cases_in (own_records place ls))

@@ -1,7 +1,7 @@
 //! The cases of the records that were read so far.
 
 ghost use Rattle.std.specs.Prelude.{◌≡◌, [], OnOk};
-ghost use Rattle.sub_table.specs.Rebuilt.{AddsCase, DecidesCase, Ends, Promises, Takes};
+ghost use Rattle.sub_table.specs.Rebuilt.{AddsCase, DecidesCase, Ends, Promises, Takes, fits_told};
 ghost use Rattle.tree_model.specs.Views.{leaf_place};
 
 use crate::names::{RebuildError, Saying, own_case, saying_of};
@@ -20,6 +20,18 @@ pub(crate) struct Cases {
     pub(crate) order: IndexSet<Case>,
     pub(crate) boot: u64,
     pub(crate) newest: u64,
+}
+
+/// Whether an operator can decide a branch at this stage, or it can be told this outcome: it promised, and it is
+/// told what comes behind his decision alone.
+fn can_be_told(stage: Stage, told: Option<Outcome>) -> bool
+    ensures { result ≡ fits_told told stage }
+{
+    match stage {
+        Stage::Active { .. } => false,
+        Stage::Prepared => told.is_none(),
+        Stage::Heuristic { .. } => true,
+    }
 }
 
 impl Cases {
@@ -64,7 +76,8 @@ impl Cases {
         Ok(())
     }
 
-    /// An operator decided the case, and it was told this outcome since. Unfit: it did not promise.
+    /// An operator decided the case, or it was told this outcome since. Unfit: it did not promise, or it was told
+    /// before an operator decided it.
     fn decide(&mut self, case: &Case, told: Option<Outcome>) -> Result<(), RebuildError>
         ensures { OnOk result (DecidesCase self.old self.new case.now told) }
     {
@@ -74,13 +87,11 @@ impl Cases {
         let Some(branch) = self.branches.get(key) else {
             return Err(RebuildError::Unfit);
         };
-        match branch.stage {
-            Stage::Active { .. } => Err(RebuildError::Unfit),
-            Stage::Prepared | Stage::Heuristic { .. } => {
-                self.branches.decide(key, told);
-                Ok(())
-            }
+        if !can_be_told(branch.stage, told) {
+            return Err(RebuildError::Unfit);
         }
+        self.branches.decide(key, told);
+        Ok(())
     }
 
     /// The case is finished.
@@ -93,7 +104,8 @@ impl Cases {
     }
 
     /// One record more. Unfit: it is of a coordinator's case; or it names a branch whose XID reads as
-    /// another name; or a case promised that has done so already, or was decided that did not promise.
+    /// another name; or a case promised that has done so already, or was decided that did not promise, or told
+    /// that was not decided.
     pub(crate) fn take(
         &mut self,
         me: ProcessId,

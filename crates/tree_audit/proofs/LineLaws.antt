@@ -1,7 +1,8 @@
 -- The lines are the audit's.
-use Rattle.std.proofs.Common.{◌≡◌, ◌∙◌, ◌&&◌, Bool, true, false, if◌then◌else◌, Option, List, [], ◌∷◌, ◌++◌, map, filter, refl, sym, ap, append-nil, append_assoc}
+use Rattle.std.proofs.Common.{◌≡◌, ◌∙◌, ◌&&◌, Bool, true, false, if◌then◌else◌, Option, Some, None, List, [], ◌∷◌, ◌++◌, map, filter, refl, sym, ap, append-nil, append_assoc}
 use Rattle.std.specs.List.{flat_map, list_all}
 use Rattle.tree_model.specs.declared.names.Case.{Case}
+use Rattle.tree_model.specs.declared.names.Ticket.{Ticket}
 use Rattle.tree_model.specs.declared.records.Record.{Record}
 use Rattle.tree_model.specs.declared.trees.TreeEntry.{TreeEntry}
 use Rattle.tree_model.specs.Nodes.{Role, is_listed, role_by, role_of}
@@ -14,8 +15,8 @@ use Rattle.audit_cases.specs.Sayings.{Outcomes, outcome_in}
 use Rattle.audit_cases.proofs.KindLaws.{decided_is, decision_is, line_is, own_is}
 use Rattle.audit_cases.proofs.NoteLaws.{note_is}
 use Rattle.tree_audit.specs.declared.report.Line.{Line}
-use Rattle.tree_audit.specs.Reports.{line_of, lines_at, lines_of, other}
-use Rattle.tree_audit.specs.Tables.{AllTrue, AreNotes, SaidFor, TreeOutcomes, TreeTables, above_of, all_lines, entry_lines, has_above, line_by, line_if, lines_by, lines_in, notes_or}
+use Rattle.tree_audit.specs.Reports.{line_of, lines_at, lines_of, other, reports_for}
+use Rattle.tree_audit.specs.Tables.{AllTrue, AreNotes, SaidFor, TreeOutcomes, TreeTables, above_of, all_lines, entry_lines, has_above, line_by, line_if, lines_by, lines_in, notes_or, reports_at}
 use Rattle.tree_audit.proofs.Climbs.{above_is}
 use Rattle.tree_audit.proofs.Outcomes.{case_at, outcome_is}
 use Rattle.tree_audit.proofs.OwnCases.{EachCase, each_if}
@@ -39,7 +40,13 @@ line_from tree logs rs c = record {
   decision = own_decision c rs;
   outcome = audited tree logs c;
   mismatch = has (is_decided c (other (audited tree logs c))) (since_promise c rs);
+  reports = reports_for c.ticket rs c;
 }
+
+-- what is noted of reports is what the process's list says of them
+reports_are : (t : Option Ticket) (rs : List Record) (c : Case) → reports_at t (note_of rs c) ≡ reports_for t rs c
+reports_are None rs c = refl
+reports_are (Some t) rs c = refl
 
 module _ (tree : List TreeEntry) (logs : Logs) (e : TreeEntry)
     (found : IsFound tree e) (above : Option Outcomes)
@@ -56,6 +63,7 @@ module _ (tree : List TreeEntry) (logs : Logs) (e : TreeEntry)
         outcome = says c own i;
         mismatch = (ap (λ o. decided_in (kinds_of c (since_promise c (logs e.id))) (other o)) (says c own)
             ∙ decided_is c (other (audited tree logs c)) (since_promise c (logs e.id))) i;
+        reports = reports_are c.ticket (logs e.id) c i;
       })
       ∙ ap (λ q. line_from tree logs (logs q) c) (sym (case_at tree logs e.id c own))
 

@@ -13,7 +13,7 @@ use Rattle.tree_model.specs.Trees.{IsTree}
 use Rattle.tree_nodes.specs.WorldHolds.{parent_in}
 use Rattle.tree_headline.specs.auditor.Audits.{Logs, asked_above, audited, decided_or, has_line, has_line_in, has_place, is_case_at, naming_case, outcome_within, own_decision, said_above, since_promise}
 use Rattle.audit_cases.specs.Kinds.{own_of}
-use Rattle.tree_audit.specs.Reports.{line_of, other}
+use Rattle.tree_audit.specs.Reports.{line_of, other, reports_for}
 use Rattle.tree_audit.specs.declared.report.Line.{Line}
 use Rattle.tree_audit.proofs.Outcomes.{case_at, child_has, naming_own, owner_is, place_of_case}
 use Rattle.tree_audit.proofs.TreePlaces.{listed_entry, parent_listed, role_if}
@@ -94,6 +94,7 @@ module _ (tree : List TreeEntry) (t : IsTree tree) (logs kept : Logs)
     decision = own_decision c rs;
     outcome = o;
     mismatch = has (is_decided c (other o)) (since_promise c rs);
+    reports = reports_for c.ticket rs c;
   }
 
   pub line_same : (c : Case) → is_listed tree (process_of c) ≡ true → is_case_at tree (process_of c) c ≡ true

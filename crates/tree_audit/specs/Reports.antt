@@ -7,7 +7,10 @@ use Rattle.tree_model.specs.declared.names.Kind.TheVariants.{Coordinator}
 use Rattle.tree_model.specs.declared.names.Outcome.{Outcome}
 use Rattle.tree_model.specs.declared.names.Outcome.TheVariants.{Committed, Aborted}
 use Rattle.tree_model.specs.declared.names.ProcessId.{ProcessId}
+use Rattle.tree_model.specs.declared.names.Ticket.{Ticket}
 use Rattle.tree_model.specs.declared.records.LogRecord.{LogRecord}
+use Rattle.tree_model.specs.declared.records.Record.{Record}
+use Rattle.tree_model.specs.declared.records.Reports.{Reports}
 use Rattle.tree_model.specs.declared.trees.TreeEntry.{TreeEntry}
 use Rattle.tree_model.specs.LogNames.{own_records}
 use Rattle.tree_model.specs.Names.{process_of, same_process}
@@ -19,7 +22,7 @@ use Rattle.logs_script.specs.declared.line.ProcessLog.{ProcessLog}
 use Rattle.logs_script.specs.Logs.{bytes_of}
 use Rattle.tree_headline.specs.auditor.Audits.{Logs, ShowsMismatch, audited, has_line, own_decision, since_promise}
 use Rattle.audit_cases.specs.Kinds.{own_of}
-use Rattle.audit_cases.specs.Notes.{listed_cases}
+use Rattle.audit_cases.specs.Notes.{listed_cases, reported_in}
 use Rattle.tree_audit.specs.declared.report.AuditError.{AuditError}
 use Rattle.tree_audit.specs.declared.report.AuditError.TheVariants as error
 use Rattle.tree_audit.specs.declared.report.Line.{Line}
@@ -57,8 +60,13 @@ other Aborted = Committed
 abbrev pub is_against : List TreeEntry → Logs → Case → Outcome → Bool
 is_against tree logs c o = has (is_decided c (other o)) (since_promise c (logs (process_of c)))
 
--- the line of a case: how it stands by its own records, its own decision, its outcome, and whether an
--- operator decided against that
+-- what the root's End reports of a case, until it is cleared; of a case below the root nothing
+abbrev pub reports_for : Option Ticket → List Record → Case → Option Reports
+reports_for None rs c = reported_in rs c
+reports_for (Some t) rs c = None
+
+-- the line of a case: how it stands by its own records, its own decision, its outcome, whether an operator
+-- decided against that, and at the root what its End reports
 abbrev pub line_of : List TreeEntry → Logs → Case → Line
 line_of tree logs c = record {
   case = c;
@@ -66,6 +74,7 @@ line_of tree logs c = record {
   decision = own_decision c (logs (process_of c));
   outcome = audited tree logs c;
   mismatch = is_against tree logs c (audited tree logs c);
+  reports = reports_for c.ticket (logs (process_of c)) c;
 }
 
 -- the lines of a process's cases, in the order in which an audit lists them

@@ -9,6 +9,7 @@ use Rattle.tree_model.specs.declared.names.ProcessId.{ProcessId}
 use Rattle.tree_model.specs.declared.names.Ticket.{Ticket}
 use Rattle.tree_model.specs.declared.names.Txn.{Txn}
 use Rattle.tree_model.specs.declared.records.LogRecord.{LogRecord}
+use Rattle.tree_model.specs.declared.records.Reports.{Reports}
 use Rattle.tree_model.specs.declared.trees.TreeEntry.{TreeEntry}
 use Rattle.tree_model.specs.contracts.names.ProcessIdPartialEq.TheImpl as processes
 use Rattle.tree_model.specs.LogNames.{own_records}
@@ -132,6 +133,15 @@ pub record SaidFor (tree : List TreeEntry) (ts : TreeTables) (es : List TreeEntr
 
 -- The lines.
 
+-- what a line says of reports: at the root what is noted, and nothing below it
+abbrev pub reports_at : Option Ticket → CaseNote → Option Reports
+reports_at None n = n.reports
+reports_at (Some t) n = None
+
+-- what the line of a case says of reports
+abbrev pub reports_by : Case → CaseNote → Option Reports
+reports_by c n = reports_at c.ticket n
+
 -- the line of a case of which this is noted, where this is said above
 abbrev pub line_by : Option Outcomes → Case → CaseNote → Line
 line_by above c n = record {
@@ -140,6 +150,7 @@ line_by above c n = record {
   decision = decision_in n.kinds;
   outcome = outcome_in above c n;
   mismatch = decided_in n.kinds (other (outcome_in above c n));
+  reports = reports_by c n;
 }
 
 -- the line of a case of which this is noted, if it has one

@@ -6,7 +6,7 @@ ghost use Rattle.tree_model.specs.Trees.{IsTree};
 ghost use Rattle.tree_audit.specs.Reports.{IsNoReport, IsReport, lines_of as lines_in_logs, mismatches_in, other as other_of};
 ghost use Rattle.tree_audit.specs.Truths.{AreTrueOfRuns};
 ghost use Rattle.tree_headline.specs.auditor.Audits.{Logs};
-ghost use Rattle.tree_audit.specs.Tables.{AreNotes, all_lines, entry_lines, line_by, line_if, lines_in};
+ghost use Rattle.tree_audit.specs.Tables.{AreNotes, all_lines, entry_lines, line_by, line_if, lines_in, reports_by};
 ghost use Rattle.tree_model.specs.Nodes.{role_by};
 
 use crate::logs::{TreeNotes, all_notes};
@@ -15,7 +15,7 @@ use crate::report::{AuditError, Line, Report};
 use audit_cases::{Noted, Notes, Sayings, outcome_of};
 use logs_script::ProcessLog;
 use std::alloc::{AllocError, Global};
-use tree_model::{Case, Outcome, Tree, TreeEntry};
+use tree_model::{Case, Outcome, Reports, Tree, TreeEntry};
 
 /// The other outcome.
 fn other(outcome: Outcome) -> Outcome
@@ -27,23 +27,40 @@ fn other(outcome: Outcome) -> Outcome
     }
 }
 
+/// What a case's line says of reports: at the root what is noted.
+fn reports_of(alloc: Global, case: &Case, note: &Noted) -> Result<Option<Reports>, AllocError>
+    ensures { IfOk result (λ reports. reports ≡ reports_by case.now note.now) }
+{
+    match case.ticket {
+        None => note.reports(alloc),
+        Some(_) => Ok(None),
+    }
+}
+
 /// The line of a case of which this is noted, and this is said above.
-fn line_of(above: Option<&Sayings>, case: &Case, note: &Noted) -> Line
-    ensures { result ≡ line_by (option_copied above.entry) case.now note.now }
+fn line_of(
+    alloc: Global,
+    above: Option<&Sayings>,
+    case: &Case,
+    note: &Noted,
+) -> Result<Line, AllocError>
+    ensures { IfOk result (λ line. line ≡ line_by (option_copied above.entry) case.now note.now) }
 {
     let outcome = outcome_of(above, case, note);
     let kinds = note.kinds();
-    Line {
+    Ok(Line {
         case: *case,
         own: kinds.own(),
         decision: kinds.decision(),
         outcome,
         mismatch: kinds.is_decided(other(outcome)),
-    }
+        reports: reports_of(alloc, case, note)?,
+    })
 }
 
 /// The line of a case of which this is noted, where this is said above, if it has one.
 fn push_case(
+    alloc: Global,
     lines: &mut Vec<Line>,
     entry: &TreeEntry,
     above: Option<&Sayings>,
@@ -55,13 +72,14 @@ fn push_case(
         (option_copied above.entry) case.now note.now) }
 {
     if note.kinds().has_line(entry.kind, entry.parent) {
-        lines.push(line_of(above, case, note))?;
+        lines.push(line_of(alloc, above, case, note)?)?;
     }
     Ok(())
 }
 
 /// The lines of the cases of a process of which this is noted, where this is said above them.
 fn push_cases(
+    alloc: Global,
     lines: &mut Vec<Line>,
     entry: &TreeEntry,
     above: Option<&Sayings>,
@@ -74,7 +92,7 @@ fn push_cases(
     let listed = own.listed(entry.kind, entry.parent)?;
     for case in &listed {
         if let Some(note) = own.of(case) {
-            push_case(lines, entry, above, case, note)?;
+            push_case(alloc, lines, entry, above, case, note)?;
         }
     }
     Ok(())
@@ -82,6 +100,7 @@ fn push_cases(
 
 /// The lines of a process's cases.
 fn push_lines(
+    alloc: Global,
     lines: &mut Vec<Line>,
     entry: &TreeEntry,
     notes: &TreeNotes,
@@ -92,7 +111,7 @@ fn push_lines(
 {
     match notes.get(&entry.id) {
         None => Ok(()),
-        Some(own) => push_cases(lines, entry, above(said, entry.parent), own),
+        Some(own) => push_cases(alloc, lines, entry, above(said, entry.parent), own),
     }
 }
 
@@ -108,7 +127,7 @@ fn lines_of(
     let mut lines = Vec::new(alloc);
     let entries = tree.entries();
     for entry in entries {
-        push_lines(&mut lines, entry, notes, said)?;
+        push_lines(alloc, &mut lines, entry, notes, said)?;
     }
     Ok(lines)
 }

@@ -2,10 +2,10 @@
 
 use audit_cases::Own;
 use std::alloc::AllocError;
-use tree_model::{Case, Outcome, ProcessId};
+use tree_model::{Case, Outcome, ProcessId, Reports};
 
 /// What an audit says of a case.
-#[derive(Clone, Copy, PartialEq, Eq)]
+#[derive(Drop)]
 pub struct Line {
     pub case: Case,
     /// How the case stands by the records of its own process.
@@ -17,6 +17,8 @@ pub struct Line {
     pub outcome: Outcome,
     /// Whether an operator decided it the other way.
     pub mismatch: bool,
+    /// At the root what its End reports, until that is cleared.
+    pub reports: Option<Reports>,
 }
 
 /// A line for each case that is told of, in the order of the tree; in a coordinator of first records, in a

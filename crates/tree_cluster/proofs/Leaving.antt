@@ -13,10 +13,11 @@ use Rattle.tree_model.specs.Trees.{IsTree}
 use Rattle.tree_model.specs.World.{entries_of, made_by}
 use Rattle.manager_model.specs.Data.{no_data}
 use Rattle.core_model.specs.States.{CoreState}
+use Rattle.core_model.specs.Turns.{this_version}
 use Rattle.core_law.specs.worlds.Worlds.{WorldState}
 use Rattle.tree_cut.specs.Cuts.{IsCut, net_of}
 use Rattle.tree_cut.specs.Owns.{CutHolds, OwnRun}
-use Rattle.tree_cut.proofs.Cuts.{runs_are_cut, self}
+use Rattle.tree_cut.proofs.Cuts.{made_by_all, runs_are_cut, self}
 use Rattle.tree_cut.proofs.Owns.{ends_modelled}
 use Rattle.tree_ties.specs.Views.{entries_in}
 use Rattle.tree_threads.specs.Locked.{LeavesLog}
@@ -97,6 +98,7 @@ cut_of : (tree : List TreeEntry) (xs : List Entry) (h : CutHolds tree xs) → Is
 cut_of tree xs h = record {
   moves = λ q. made_by q h.moves;
   made = λ q. (runs_are_cut tree h.moves h.world h.is_run q).0;
+  by_this = made_by_all this_version h.moves h.by_this;
   shown = λ q. (runs_are_cut tree h.moves h.world h.is_run q).1 ∙ ap (entries_of q) h.are_entries;
   given = h.given;
 }

@@ -12,9 +12,11 @@ use Rattle.tree_model.specs.declared.events.Input.TheVariants.{Act as ActInput, 
 use Rattle.tree_model.specs.declared.trees.TreeEntry.{TreeEntry}
 use Rattle.tree_model.specs.Names.{same_process}
 use Rattle.tree_model.specs.NameLaws.{same_process_tells}
-use Rattle.tree_model.specs.Nodes.{Effect, Node, Place, is_listed, opened_node, place_of}
+use Rattle.tree_model.specs.Nodes.{Effect, Node, Place, is_listed, opened_node, place_of, Version}
 use Rattle.tree_model.specs.World.{IsRun, Made, Makes, Move, Stands, World, entries_of, entry_of, journal_of, made_by, makes, node_makes, opened_world, opens, process_of_entry, put_at, shown, world_makes, world_stepped}
 use Rattle.tree_model.proofs.RunLaws.{makes_at}
+use Rattle.tree_reports.specs.SecondRuns.{AllBy}
+use Rattle.core_model.specs.Turns.{this_version}
 use Rattle.tree_cut.specs.Cuts.{AreGiven, CutsAreRuns, CutsGrow, FindsMessage, IsGiven, IsNodeRun, IsOneRun, RunsAreCut, begins, net_of, none_given, one_more, steps}
 
 -- Lists.
@@ -110,15 +112,16 @@ record LastMove (place : Place) (n' : Node) (ys : List Entry) (x : Entry) : Type
   pub move : Move
   pub effect : Effect
   pub run : IsNodeRun place before node
+  pub by_this : AllBy this_version (record { move = move; effect = effect } ∷ before)
   pub mine : move.step.process ≡ place.me
   pub does : node_makes place node move ≡ Makes effect n'
   pub fronts : journal_of before ≡ ys
   pub is : entry_of (record { move = move; effect = effect }) ≡ x
 
 last_move : (place : Place) (ms : List Made) (n' : Node) (ys : List Entry) (x : Entry) → IsNodeRun place ms n'
-    → journal_of ms ≡ ys ++ x ∷ [] → LastMove place n' ys x
-last_move place _ _ ys x begins h = absurd (nil_snoc ys x (sym h ∙ journal_none))
-last_move place _ _ ys x (steps ms n m e n' run mine does) h =
+    → AllBy this_version ms → journal_of ms ≡ ys ++ x ∷ [] → LastMove place n' ys x
+last_move place _ _ ys x begins by h = absurd (nil_snoc ys x (sym h ∙ journal_none))
+last_move place _ _ ys x (steps ms n m e n' run mine does) by h =
     let s = snoc_same (journal_of ms) ys (entry_of (record { move = m; effect = e })) x
     (sym (journal_step (record { move = m; effect = e }) ms) ∙ h) in
     record {
@@ -127,6 +130,7 @@ last_move place _ _ ys x (steps ms n m e n' run mine does) h =
       move = m;
       effect = e;
       run = run;
+      by_this = by;
       mine = mine;
       does = does;
       fronts = s.fronts;
@@ -143,12 +147,12 @@ unfolding world_makes
 world_more tree w m e n listed done = rw listed (ap (λ s. world_stepped w m.step.process s) done)
 
 run_more : (tree : List TreeEntry) (xs : List Entry) (before left : ProcessId → Node) (m : Move) (e : Effect)
-    → IsOneRun tree xs before
+    → IsOneRun tree xs before → m.version ≡ this_version
     → node_makes (place_of tree m.step.process) (before m.step.process) m ≡ Makes e (left m.step.process)
     → ((r : ProcessId) → same_process m.step.process r ≡ false → before r ≡ left r)
     → IsGiven tree (net_of xs) (entry_of (record { move = m; effect = e }))
     → IsOneRun tree (xs ++ entry_of (record { move = m; effect = e }) ∷ []) left
-run_more tree xs before left m e run does others is =
+run_more tree xs before left m e run by does others is =
     let q = m.step.process in
     let made : Made = record { move = m; effect = e } in
     let w = run.world in
@@ -161,6 +165,7 @@ run_more tree xs before left m e run does others is =
       moves = made ∷ run.moves;
       world = w';
       is_run = makes run.moves w m e w' run.is_run stands (world_more tree w m e (left q) is.listed done);
+      by_this = (by, run.by_this);
       are_entries = journal_step made run.moves ∙ ap (λ l. l ++ entry_of made ∷ []) run.are_entries;
       nodes = λ r. elim (same_process_tells q r) [
         | inl t ↦ rw t.0 (ap left t.1)
@@ -174,20 +179,22 @@ run_more tree xs before left m e run does others is =
 joined : (tree : List TreeEntry) (xs : List Entry) → AreGiven tree xs → (left : ProcessId → Node)
     (moves : ProcessId → List Made)
     → ((q : ProcessId) → IsNodeRun (place_of tree q) (moves q) (left q))
+    → ((q : ProcessId) → AllBy this_version (moves q))
     → ((q : ProcessId) → journal_of (moves q) ≡ entries_of q xs) → IsOneRun tree xs left
 unfolding entries_of
-joined tree _ none_given left moves made shows = record {
+joined tree _ none_given left moves made by shows = record {
   moves = [];
   world = opened_world;
   is_run = opens;
+  by_this = tt;
   are_entries = journal_none;
   nodes = λ q. sym (opened_alone (place_of tree q) (moves q) (left q) (made q) (shows q));
   net = refl;
 }
-joined tree _ (one_more xs x given is) left moves made shows =
+joined tree _ (one_more xs x given is) left moves made by shows =
     let q = x.step.process in
     let last = last_move (place_of tree q) (moves q) (left q) (entries_of q xs) x (made q)
-    (shows q ∙ own_more q xs x (self q)) in
+    (by q) (shows q ∙ own_more q xs x (self q)) in
     let before : ProcessId → Node = at_one q last.node left in
     let moves' : ProcessId → List Made = at_one q last.before moves in
     let made' : (r : ProcessId) → IsNodeRun (place_of tree r) (moves' r) (before r) =
@@ -195,12 +202,14 @@ joined tree _ (one_more xs x given is) left moves made shows =
       | inl t ↦ rw t.0 (subst (λ s. IsNodeRun (place_of tree s) last.before last.node) t.1 last.run)
       | inr z ↦ rw z.0 (made r)
     ] in
+    let by' : (r : ProcessId) → AllBy this_version (moves' r) =
+    λ r. elim (same_process_tells q r) [ inl t ↦ rw t.0 last.by_this.1 | inr z ↦ rw z.0 (by r) ] in
     let shows' : (r : ProcessId) → journal_of (moves' r) ≡ entries_of r xs =
     λ r. elim (same_process_tells q r) [
       | inl t ↦ rw t.0 (last.fronts ∙ ap (λ s. entries_of s xs) t.1)
       | inr z ↦ rw z.0 (shows r ∙ none_more r xs x z.0)
     ] in
-    let run = joined tree xs given before moves' made' shows' in
+    let run = joined tree xs given before moves' made' by' shows' in
     let same : last.move.step.process ≡ q = last.mine in
     let does : node_makes (place_of tree last.move.step.process) (before last.move.step.process) last.move
     ≡ Makes last.effect (left last.move.step.process) =
@@ -209,11 +218,11 @@ joined tree _ (one_more xs x given is) left moves made shows =
     let others : (r : ProcessId) → same_process last.move.step.process r ≡ false → before r ≡ left r =
     λ r away. there_one q r last.node left (ap (λ s. same_process s r) (sym same) ∙ away) in
     subst (λ y. IsOneRun tree (xs ++ y ∷ []) left) last.is
-    (run_more tree xs before left last.move last.effect run does others
+    (run_more tree xs before left last.move last.effect run last.by_this.0 does others
     (subst (λ y. IsGiven tree (net_of xs) y) (sym last.is) is))
 
 pub cuts_are_runs : CutsAreRuns
-cuts_are_runs tree xs left cut = joined tree xs cut.given left cut.moves cut.made cut.shown
+cuts_are_runs tree xs left cut = joined tree xs cut.given left cut.moves cut.made cut.by_this cut.shown
 
 -- A cut grows.
 
@@ -231,6 +240,7 @@ cuts_grow tree xs old q x n' cut one is =
               (steps one.moves one.node one.move one.effect n' one.made one.mine one.makes))
           | inr z ↦ rw z.0 (cut.made r)
         ];
+        by_this = λ r. elim (same_process_tells q r) [ inl t ↦ rw t.0 one.by_this | inr z ↦ rw z.0 (cut.by_this r) ];
         shown = λ r. elim (same_process_tells q r) [
           | inl t ↦ rw t.0 (journal_step m one.moves ∙ (ap (λ l. l ++ entry_of m ∷ []) one.shown
               ∙ (ap (λ y. entries_of q xs ++ y ∷ []) one.is
@@ -279,6 +289,16 @@ node_run tree _ _ (makes es w m e w' run stands step) q =
           subst (λ l. IsNodeRun (place_of tree q) l (w'.at q)) (sym ms)
           (subst (λ k. IsNodeRun (place_of tree q) (made_by q es) k) (sym n) (before q))
     ]
+
+-- of moves that a version made, those of a process it made too
+pub made_by_all : (v : Version) (es : List Made) → AllBy v es → (q : ProcessId) → AllBy v (made_by q es)
+unfolding made_by
+made_by_all v [] by q = tt
+made_by_all v (e ∷ es) by q = by_test (same_process e.move.step.process q) (made_by_all v es by.1 q)
+  where
+    by_test : (b : Bool) → AllBy v (made_by q es) → AllBy v (if b then e ∷ made_by q es else made_by q es)
+    by_test true all = (by.0, all)
+    by_test false all = all
 
 pub own_entries : (es : List Made) (q : ProcessId) → journal_of (made_by q es) ≡ entries_of q (journal_of es)
 unfolding made_by journal_of entries_of

@@ -13,6 +13,8 @@ use Rattle.tree_model.proofs.RunLaws.{makes_at}
 use Rattle.tree_headline.proofs.runs.Headline as runs
 use Rattle.core_model.specs.States.{CoreState}
 use Rattle.core_model.specs.Turns.{no_answer, this_version, turn_of}
+use Rattle.tree_reports.specs.SecondRuns.{AllBy}
+use Rattle.tree_reports.proofs.SecondRuns.{second_runs_report}
 use Rattle.core_law.specs.Ties.{Stands}
 use Rattle.core_law.specs.Steps.{restart_of, trim_reaction}
 use Rattle.core_law.specs.worlds.Laws.{MovesWorld}
@@ -27,7 +29,7 @@ use Rattle.core_law.proofs.worlds.RunRestarts.{restarts_move, trims_move}
 use Rattle.core_law.proofs.worlds.Whole.{modelled}
 use Rattle.tree_cut.specs.Cuts.{IsCut, IsNodeRun}
 use Rattle.tree_cut.specs.Owns.{CutsHold, EndsModelled, EntersOwn, InputsAreMade, OneStands, OpensOwn, OwnMakes, OwnRun, RestartsAreMade, SameStays, TrimsAreMade}
-use Rattle.tree_cut.proofs.Cuts.{at_one, cuts_are_runs, here_one, node_run, own_entries, self}
+use Rattle.tree_cut.proofs.Cuts.{at_one, cuts_are_runs, here_one, made_by_all, node_run, own_entries, self}
 
 -- A move of the world at a process, seen from it alone.
 
@@ -68,6 +70,7 @@ module _ (tree : List TreeEntry) (q : ProcessId) (own : List Entry) (old new : C
           made = node_run tree run.moves run.world run.is_run q;
           shown = run.shown;
           mine = refl;
+          by_this = (refl, made_by_all this_version run.moves run.by_this q);
           makes = at.made ∙ ap (λ n. Leaves moves.effect n) same;
           is = ap (λ y. step_entry q h y) (sym moves.shown);
         };
@@ -85,6 +88,7 @@ opens_own tree q s failures opened =
       moves = [];
       world = opened_world;
       is_run = opens;
+      by_this = tt;
       shown = nothing_shown q;
       place = opened.place_is;
       stands = opened_stands s (place_of tree q) failures opened;
@@ -118,6 +122,7 @@ same_stays tree q own old new run same = record {
   moves = run.moves;
   world = run.world;
   is_run = run.is_run;
+  by_this = run.by_this;
   shown = run.shown;
   place = same.rest.place ∙ run.place;
   stands = same_stands (run.world.at q) old new same run.stands;
@@ -130,6 +135,7 @@ enters_own tree xs x q s left node cut at place stands =
       moves = one.moves;
       world = one.world;
       is_run = one.is_run;
+      by_this = one.by_this;
       shown = own_entries one.moves q ∙ ap (λ l. entries_of q l) one.are_entries;
       place = place;
       stands = subst (λ n. Stands n s) (sym (one.nodes q ∙ at)) stands;
@@ -142,9 +148,11 @@ cuts_hold tree xs left is_tree cut =
       moves = one.moves;
       world = one.world;
       is_run = one.is_run;
+      by_this = one.by_this;
       are_entries = one.are_entries;
       given = cut.given;
       headline = runs.headline tree is_tree one.moves one.world one.is_run;
+      mismatches_are_reported = second_runs_report tree is_tree one.moves one.world one.is_run one.by_this;
     }
 
 -- One process in the run of all.
@@ -160,6 +168,10 @@ one_stands tree xs left q s is_tree cut own =
             (node_run tree own.moves own.world own.is_run q))
         | inr z ↦ rw z.0 (cut.made r)
       ];
+      by_this = λ r. elim (same_process_tells q r) [
+        | inl t ↦ rw t.0 (made_by_all this_version own.moves own.by_this q)
+        | inr z ↦ rw z.0 (cut.by_this r)
+      ];
       shown = λ r. elim (same_process_tells q r) [
         | inl t ↦ rw t.0 (own.shown ∙ ap (λ p. entries_of p xs) t.1)
         | inr z ↦ rw z.0 (cut.shown r)
@@ -173,6 +185,7 @@ one_stands tree xs left q s is_tree cut own =
       is_run = one.is_run;
       are_entries = one.are_entries;
       headline = runs.headline tree is_tree one.moves one.world one.is_run;
+      mismatches_are_reported = second_runs_report tree is_tree one.moves one.world one.is_run one.by_this;
       place = own.place;
       stands = subst (λ n. Stands n s) (sym (one.nodes q ∙ here_one q node left)) own.stands;
     }
@@ -184,6 +197,7 @@ record Picked (tree : List TreeEntry) (xs : List Entry) (q : ProcessId) (o : Opt
   pub node : Node
   pub moves : List Made
   pub made : IsNodeRun (place_of tree q) moves node
+  pub by_this : AllBy this_version moves
   pub shown : journal_of moves ≡ entries_of q xs
   pub stands : (c : CoreState) → o ≡ Some c → (c.place ≡ place_of tree q) × Stands node c
 
@@ -197,6 +211,7 @@ picked tree xs left cut q None own = record {
   node = left q;
   moves = cut.moves q;
   made = cut.made q;
+  by_this = cut.by_this q;
   shown = cut.shown q;
   stands = λ c h. absurd (cc);
 }
@@ -206,6 +221,7 @@ picked tree xs left cut q (Some d) own =
       node = run.world.at q;
       moves = made_by q run.moves;
       made = node_run tree run.moves run.world run.is_run q;
+      by_this = made_by_all this_version run.moves run.by_this q;
       shown = run.shown;
       stands = λ c h. subst (λ k. (k.place ≡ place_of tree q) × Stands (run.world.at q) k) (some_one d c h)
           (run.place, run.stands);
@@ -218,12 +234,14 @@ ends_modelled s left is_tree end =
     let cut : IsCut s.tree s.entries (λ q. (pick q).node) = record {
       moves = λ q. (pick q).moves;
       made = λ q. (pick q).made;
+      by_this = λ q. (pick q).by_this;
       shown = λ q. (pick q).shown;
       given = end.cut.given;
     } in
     let one = cuts_are_runs s.tree s.entries (λ q. (pick q).node) cut in
     let f : Follows one.moves one.world s = record {
       is_run = one.is_run;
+      by_this = one.by_this;
       shown = one.are_entries;
       net = end.net ∙ sym one.net;
       nodes = λ q c there.

@@ -8,6 +8,8 @@ use Rattle.tree_model.specs.declared.trees.TreeEntry.{TreeEntry}
 use Rattle.tree_model.specs.Names.{same_process}
 use Rattle.tree_model.specs.Nodes.{Effect, Node, Place, is_listed, opened_node, place_of}
 use Rattle.tree_model.specs.World.{IsNew, IsRun, Made, Makes, Move, World, entries_of, entry_of, journal_of, made_by, node_makes}
+use Rattle.tree_reports.specs.SecondRuns.{AllBy}
+use Rattle.core_model.specs.Turns.{this_version}
 
 -- the messages that entries sent, one after another
 abbrev pub net_of : List Entry → List Envelope
@@ -43,11 +45,12 @@ pub data AreGiven (tree : List TreeEntry) : List Entry → Type 0 where
       → IsGiven tree (net_of xs) x
       → AreGiven tree (xs ++ x ∷ [])
 
--- The entries of each process are those of moves that it made, alone, which leave it so; and each entry may
--- come where it does.
+-- The entries of each process are those of moves that it made, alone and by the version that processes have, which
+-- leave it so; and each entry may come where it does.
 pub record IsCut (tree : List TreeEntry) (xs : List Entry) (left : ProcessId → Node) : Type 0 where
   pub moves : ProcessId → List Made
   pub made : (q : ProcessId) → IsNodeRun (place_of tree q) (moves q) (left q)
+  pub by_this : (q : ProcessId) → AllBy this_version (moves q)
   pub shown : (q : ProcessId) → journal_of (moves q) ≡ entries_of q xs
   pub given : AreGiven tree xs
 
@@ -56,6 +59,7 @@ pub record IsOneRun (tree : List TreeEntry) (xs : List Entry) (left : ProcessId 
   pub moves : List Made
   pub world : World
   pub is_run : IsRun tree moves world
+  pub by_this : AllBy this_version moves
   pub are_entries : journal_of moves ≡ xs
   pub nodes : (q : ProcessId) → world.at q ≡ left q
   pub net : world.net ≡ net_of xs
@@ -75,6 +79,7 @@ pub record MakesOne (tree : List TreeEntry) (q : ProcessId) (own : List Entry) (
   pub made : IsNodeRun (place_of tree q) moves node
   pub shown : journal_of moves ≡ own
   pub mine : move.step.process ≡ q
+  pub by_this : AllBy this_version (record { move = move; effect = effect } ∷ moves)
   pub makes : node_makes (place_of tree q) node move ≡ Makes effect n'
   pub is : entry_of (record { move = move; effect = effect }) ≡ x
 

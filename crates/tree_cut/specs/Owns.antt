@@ -10,6 +10,8 @@ use Rattle.tree_model.specs.Nodes.{Node, is_listed, place_of}
 use Rattle.tree_model.specs.Outcomes.{Headline}
 use Rattle.tree_model.specs.Trees.{IsTree}
 use Rattle.tree_model.specs.World.{IsRun, Made, World, entries_of, journal_of, made_by}
+use Rattle.tree_reports.specs.SecondRuns.{AllBy, EndsReported}
+use Rattle.core_model.specs.Turns.{this_version}
 use Rattle.core_model.specs.States.{CoreState, SameCore}
 use Rattle.core_model.specs.Opening.{IsOpened}
 use Rattle.core_model.specs.Restarting.{Restarts, Trims}
@@ -25,6 +27,7 @@ pub record OwnRun (tree : List TreeEntry) (q : ProcessId) (own : List Entry) (s 
   pub moves : List Made
   pub world : World
   pub is_run : IsRun tree moves world
+  pub by_this : AllBy this_version moves
   pub shown : journal_of (made_by q moves) ≡ own
   pub place : s.place ≡ place_of tree q
   pub stands : Stands (world.at q) s
@@ -75,27 +78,30 @@ EntersOwn = (tree : List TreeEntry) (xs : List Entry) (x : Entry) (q : ProcessId
     → OwnRun tree q (entries_of q (xs ++ x ∷ [])) s
 
 -- a journal that is cut so is a run, in which each message that is delivered was sent before, under its
--- number; the headline holds of it
+-- number; the headline holds of it, and mismatches are reported in it
 pub record CutHolds (tree : List TreeEntry) (xs : List Entry) : Type 0 where
   pub moves : List Made
   pub world : World
   pub is_run : IsRun tree moves world
+  pub by_this : AllBy this_version moves
   pub are_entries : journal_of moves ≡ xs
   pub given : AreGiven tree xs
   pub headline : Headline tree moves world
+  pub mismatches_are_reported : EndsReported tree moves world is_run
 
 abbrev pub CutsHold : Type 0
 CutsHold = (tree : List TreeEntry) (xs : List Entry) (left : ProcessId → Node) → IsTree tree
     → IsCut tree xs left → CutHolds tree xs
 
 -- Of some run the journal is this one, and it leaves the process as what that keeps stands for; the
--- headline holds of it.
+-- headline holds of it, and mismatches are reported in it.
 pub record StandsInRun (tree : List TreeEntry) (xs : List Entry) (q : ProcessId) (s : CoreState) : Type 0 where
   pub moves : List Made
   pub world : World
   pub is_run : IsRun tree moves world
   pub are_entries : journal_of moves ≡ xs
   pub headline : Headline tree moves world
+  pub mismatches_are_reported : EndsReported tree moves world is_run
   pub place : s.place ≡ place_of tree q
   pub stands : Stands (world.at q) s
 
@@ -114,6 +120,6 @@ pub record IsAtEnd (s : WorldState) (left : ProcessId → Node) : Type 0 where
   pub own : (q : ProcessId) (c : CoreState) → s.node_at q ≡ Some c
       → OwnRun s.tree q (entries_of q s.entries) c
 
--- the state stands for one run, whose journal it has, and of which the headline holds
+-- the state stands for one run, whose journal it has, of which the headline holds, and in which mismatches are reported
 abbrev pub EndsModelled : Type 0
 EndsModelled = (s : WorldState) (left : ProcessId → Node) → IsTree s.tree → IsAtEnd s left → IsModelled s

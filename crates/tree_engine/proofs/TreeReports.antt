@@ -56,6 +56,7 @@ run_reported text_of output input tree events refusal end r script plays text st
       tree_is = plays.run.tree_is;
       follows = plays.run.follows;
       headline = plays.run.headline;
+      mismatches_are_reported = plays.run.mismatches_are_reported;
       refuses = plays.run.refuses;
       status_is = status;
       tells = text;

@@ -3,11 +3,13 @@ use Rattle.std.specs.Prelude.{◌≡◌, ℕ, List}
 use Rattle.logs_script.specs.declared.line.ProcessLog.{ProcessLog}
 use Rattle.logs_script.specs.Trees.{logs_text}
 use Rattle.core_law.specs.worlds.Worlds.{WorldState}
-use Rattle.tree_world.specs.LogsLeft.{AreByteLogs, AreLogs}
+use Rattle.tree_world.specs.LogsLeft.{AreByteLogs, AreLogs, LogsStand}
 
--- the text is that of the tree and of the log of each process, each of bytes
+-- the text is that of the tree and of the log of each process, each of bytes; and each record can stand in its log, and a
+-- manager's may follow one another
 pub record LeavesLogs (w : WorldState) (text : List ℕ) : Type 0 where
   pub logs : List ProcessLog
   pub are : AreLogs w w.tree logs
   pub bytes : AreByteLogs logs
+  pub stand : LogsStand w w.tree
   pub is : text ≡ logs_text w.tree logs

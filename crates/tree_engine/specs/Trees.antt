@@ -20,6 +20,7 @@ use Rattle.tree_engine.specs.Texts.{rows_text, total_text}
 use Rattle.trace_lines.specs.Trace.{entries_text, entry_text, lines_text}
 use Rattle.report_io.specs.declared.status.Status.{Status}
 use Rattle.report_io.specs.declared.status.Status.TheVariants.{Ended, Refused, Stopped}
+use Rattle.tree_reports.specs.SecondRuns.{EndsReported}
 use Rattle.core_law.specs.worlds.Refusals.{IsRunOf, LeadsTo, Refusal, RefusesIn}
 use Rattle.core_law.specs.worlds.Runs.{IsOpened}
 use Rattle.core_law.specs.worlds.Ties.{Follows}
@@ -101,8 +102,9 @@ Tells Picture w refusal text = IsPicture w.entries text
 Tells Counts w refusal text = text ≡ (trace_of w ++ last_line refusal) ++ counts_text w
 
 -- The text is that of the run of just these events: they led the tree, opened, to a state that stands for a
--- run of the model, with its journal, its messages and its processes; of this run the headline holds; and the
--- text tells that state. A refused event is one that the model refuses there by that number.
+-- run of the model, with its journal, its messages and its processes; of this run the headline holds, each End
+-- of the root in it reports mismatches truly, and the text tells that state. A refused event is one that the
+-- model refuses there by that number.
 pub record RunsOver (output : Output) (tree : List TreeEntry) (events : List Event) (status : Status)
     (text : List ℕ) : Type 0 where
   pub refusal : Refusal
@@ -115,6 +117,7 @@ pub record RunsOver (output : Output) (tree : List TreeEntry) (events : List Eve
   pub tree_is : end.tree ≡ tree
   pub follows : Follows moves world end
   pub headline : Headline tree moves world
+  pub mismatches_are_reported : EndsReported end.tree moves world follows.is_run
   pub refuses : RefusesIn tree world end.delivered events refusal
   pub status_is : status ≡ ending refusal
   pub tells : Tells output end refusal text

@@ -18,7 +18,7 @@ use Rattle.tree_model.specs.Records.{cases_in}
 use Rattle.tree_model.specs.Standings.{CoordinatorView}
 use Rattle.tree_model.specs.World.{Move}
 use Rattle.tree_pairs.specs.turns.Steps.{StepOf, TurnAt, heard_in, handled, failed_in, passed, failed_passing, reopened, failed_reopening, trimmed, failed_trimming}
-use Rattle.tree_pairs.specs.turns.Written.{AllSent, Sends, Writes, down, for_act, for_child, for_parent, gives, invites, presumes, upward, writes_nothing}
+use Rattle.tree_pairs.specs.turns.Written.{AllSent, Sends, Writes, down, for_act, for_child, for_parent, for_report, gives, invites, presumes, upward, writes_nothing}
 use Rattle.tree_pairs.proofs.turns.Steps.{turn_of}
 use Rattle.tree_steps.specs.cascades.Messages.{AllSentBy}
 
@@ -42,6 +42,7 @@ writes_from : (place : Place) (parent : Option ProcessId) (n : Node) (i : Input)
     → Writes place parent n i ws ls → AllSentBy place.me ls
 writes_from place parent n i ws ls (writes_nothing e f) = none_from place.me ls f
 writes_from place parent n i ws ls (for_act a c e k o s) = all_from _ ls s
+writes_from place parent n i ws ls (for_report c e f g o h) = none_from place.me ls h
 writes_from place parent n i ws ls (for_child c x t e o s) = all_from _ ls s
 writes_from place parent n i ws ls (for_parent c k m e f o s) = all_from _ ls s
 writes_from place parent n i ws ls (presumes x t o e f) = one_from place.me _ ls f refl

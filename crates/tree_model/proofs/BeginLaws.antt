@@ -21,12 +21,12 @@ use Rattle.tree_model.specs.declared.standings.Standing.TheVariants.{Active}
 use Rattle.tree_model.specs.Names.{same_txn, same_case, root_case}
 use Rattle.tree_model.specs.NameLaws.{same_case-refl}
 use Rattle.tree_model.specs.Records.{boot_of}
-use Rattle.tree_model.specs.Nodes.{AtRoot, Node, kept, Heard, DataAnswer}
+use Rattle.tree_model.specs.Nodes.{Version, AtRoot, Node, kept, Heard, DataAnswer}
 use Rattle.tree_model.specs.Memory.{Memory, Phase, Idle, Open, Asked, Over, memory_of, remembers, root_remembers, asks_votes, closes, with_vote, takes_vote, takes_ack, is_counted, opens_case, next_txn, sends_work, accepts_ticket, hears_child, of_ticket, of_child, fresh_memory, has_child, ticket_of_child}
 use Rattle.tree_model.specs.Standings.{some_case, coordinator_view, coordinator_standing, view_at}
 use Rattle.tree_model.specs.Views.{root_place, hears_act, IsUnrecorded, RootBegins, next_begun, begin_effect}
 use Rattle.tree_model.proofs.StandingLaws.{view-after, standing_with}
-use Rattle.tree_model.proofs.AckLaws.{owed_none}
+use Rattle.tree_model.proofs.AckLaws.{found_nobody, owed_none}
 use Rattle.tree_model.proofs.RootViewLaws.{apart_case}
 
 -- A transaction that begins.
@@ -141,23 +141,24 @@ pub begun_pure : (rs : List Record) (c : Case) (m : Memory) → IsUnrecorded rs 
       promised = [];
       named = [];
       owed = [];
+      found = [];
     }
 begun_pure rs c m u = simp (append-nil, u.no_end, u.no_commit, u.no_abort, u.no_prepare, u.no_collecting)
-    (simp (u.promised, u.named, u.owing, owed_none) refl)
+    (simp (u.promised, u.named, u.owing, owed_none, found_nobody) refl)
 
 pub counted_pure : (rs : List Record) (c : Case) (m : Memory) (k : ℕ)
     → view_at (coordinator_standing (rs ++ []) c (record m { begun = k })) (rs ++ []) c
     (record m { begun = k }) ≡ view_at (coordinator_standing rs c m) rs c m
 counted_pure rs c m k = simp append-nil refl
 
-pub root_begins : (me : ProcessId) (tree : List TreeEntry) (n : Node) (p : Presumption) (a : DataAnswer)
-    → RootBegins me tree n p a
+pub root_begins : (ver : Version) (me : ProcessId) (tree : List TreeEntry) (n : Node) (p : Presumption) (a : DataAnswer)
+    → RootBegins ver me tree n p a
 unfolding coordinator_view
-root_begins me tree n p a =
+root_begins ver me tree n p a =
     let place = root_place me tree in
     let boot = boot_of (kept n) in
     let x = next_begun place n p in
-    let h = hears_act (Begin p) a in
+    let h = hears_act ver (Begin p) a in
     let named : (c : Case) → next_txn me boot (memory_of place n c) p ≡ x =
     λ c. ap (λ (k : ℕ). record { root = me; boot = boot; sequence = k + 1; presumption = p })
     (same_begun me tree n c (some_case place)) in

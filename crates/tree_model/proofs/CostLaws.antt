@@ -10,6 +10,7 @@ use Rattle.tree_model.specs.declared.names.Presumption.{Presumption}
 use Rattle.tree_model.specs.declared.names.Presumption.TheVariants.{PresumeAbort, PresumeCommit}
 use Rattle.tree_model.specs.declared.names.Outcome.{Outcome}
 use Rattle.tree_model.specs.declared.names.Ticket.{Ticket}
+use Rattle.tree_model.specs.declared.messages.Finding.{Finding}
 use Rattle.tree_model.specs.declared.records.Write.{Write}
 use Rattle.tree_model.specs.declared.standings.Standing.TheVariants.{Active as ActiveStanding, Collecting, Committing}
 use Rattle.tree_model.specs.declared.standings.Vote.{Vote}
@@ -377,7 +378,7 @@ no_votes_yet me own v order is = record {
 }
 
 module _ (me : ProcessId) (own : Case) (a : List Ticket) (works promised named owed : List Ticket)
-    (takes : none_of a ≡ false) where
+    (found : List Finding) (takes : none_of a ≡ false) where
   abbrev begins : CoordinatorView
   begins = record {
     standing = ActiveStanding;
@@ -387,6 +388,7 @@ module _ (me : ProcessId) (own : Case) (a : List Ticket) (works promised named o
     promised = promised;
     named = named;
     owed = owed;
+    found = found;
   }
 
   abbrev root : Seat
@@ -519,7 +521,7 @@ committed_update_costs s =
           let Q : CoordinatorView → Type 0 = λ x. root_walk (record s { parent = None }) x votes acks
           ≡ record { cost = root_price s.own.txn.presumption (length v.accepted); view = unknown_view } in
           subst P (sym at_root) (subst Q (sym begun)
-          (paid s.me s.own v.accepted v.works v.promised v.named v.owed takes s.own.txn.presumption refl votes
+          (paid s.me s.own v.accepted v.works v.promised v.named v.owed v.found takes s.own.txn.presumption refl votes
           acks is is'));
       manager = λ l n ws v active done sound.
           let stands : v ≡ record { standing = ActiveStanding; done = n; spoiled = false; told = v.told } = rw

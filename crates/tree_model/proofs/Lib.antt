@@ -5,6 +5,8 @@ pub mod ManagerViewLaws
 pub mod TicketLaws
 pub mod StandingLaws
 pub mod AckLaws
+pub mod FoundLaws
+pub mod FindingLaws
 pub mod RootRowLaws
 pub mod PhaseLaws
 pub mod RootViewLaws

@@ -24,7 +24,7 @@ use Rattle.tree_model.specs.declared.standings.Standing.TheVariants.{Unknown, Ac
 use Rattle.tree_model.specs.Names.{same_case, same_outcome, child_case}
 use Rattle.tree_model.specs.NameLaws.{same_case-refl}
 use Rattle.tree_model.specs.Records.{boot_of, boot_after, same_branch}
-use Rattle.tree_model.specs.Nodes.{Version, First, Place, AtLeaf, Node, kept, Heard, Effect, entries_written, after, Holding, ReadsOnly, Holds, DataAnswer}
+use Rattle.tree_model.specs.Nodes.{Version, Place, AtLeaf, Node, kept, Heard, Effect, entries_written, after, Holding, ReadsOnly, Holds, DataAnswer}
 use Rattle.tree_model.specs.Memory.{Memory, Phase, Idle, Open, Asked, Over, fresh_memory, memory_of, remembers, manager_remembers, manager_hears, joins, gives, opens_case, next_ticket, active_ticket, without_ticket, works, closes, retires}
 use Rattle.tree_model.specs.Standings.{ManagerView, unknown_branch, decided_findings, manager_view, marked_branch, heard_branch, active_branch, Mark, Unmarked, Promised, Decided, ToldOf, Finished, mark_of, mark_after}
 use Rattle.tree_model.specs.ManagerRows.{Leaf, LeafRow, untold_ask, prepared_decide, heuristic_forget}
@@ -453,7 +453,7 @@ given_here : (me : ProcessId) (boot : ℕ) (c d : Case) (m : Memory)
     ≡ record { standing = Active; done = 0; spoiled = false; told = None }
 given_here me boot c d m h = rw h refl
 
-module _ (me p : ProcessId) (tree : List TreeEntry) (n : Node) (d : Case) where
+module _ (ver : Version) (me p : ProcessId) (tree : List TreeEntry) (n : Node) (d : Case) where
   abbrev place : Place
   place = leaf_place me p tree
 
@@ -461,7 +461,7 @@ module _ (me p : ProcessId) (tree : List TreeEntry) (n : Node) (d : Case) where
   own = leaf_of place p d
 
   pub work_views : (k i : ℕ) (op : Op) (a : DataAnswer) → let v = manager_view place n d in
-      MovesBranch place n (hears_message k (Work d i op) a) d (leaf.on_work i a.does v v.standing)
+      MovesBranch place n (hears_message ver k (Work d i op) a) d (leaf.on_work i a.does v v.standing)
   unfolding manager_view
   work_views k i op a =
       let m = memory_of place n d in
@@ -476,7 +476,7 @@ module _ (me p : ProcessId) (tree : List TreeEntry) (n : Node) (d : Case) where
       (λ c w o. rw o refl)
 
   pub prepare_views : (k i : ℕ) (a : DataAnswer) → let v = manager_view place n d in
-      MovesBranch place n (hears_message k (Prepare d i) a) d (leaf.on_prepare own i a.holding v v.standing)
+      MovesBranch place n (hears_message ver k (Prepare d i) a) d (leaf.on_prepare own i a.holding v v.standing)
   unfolding manager_view
   prepare_views k i a =
       let m = memory_of place n d in
@@ -487,33 +487,33 @@ module _ (me p : ProcessId) (tree : List TreeEntry) (n : Node) (d : Case) where
       (λ c w o. rw o (view_retires (memory_of place n c) d w))
 
   pub commit_views : (k : ℕ) (a : DataAnswer) (rs : List Record) → let v = manager_view place n d in
-      MovesBranch place n (hears_message k (Commit d) a) d (leaf.on_commit First own rs v v.standing)
+      MovesBranch place n (hears_message ver k (Commit d) a) d (leaf.on_commit ver own rs v v.standing)
   unfolding manager_view
   commit_views k a rs =
       let m = memory_of place n d in
       let mark = mark_of (CaseBranch d) (kept n) in
       let v = marked_branch m mark in
-      assembled place n _ own _ (commit_own First rs own v v.standing)
-      (commit_moves First rs own m mark) (λ c w o. refl)
+      assembled place n _ own _ (commit_own ver rs own v v.standing)
+      (commit_moves ver rs own m mark) (λ c w o. refl)
 
   pub abort_views : (k : ℕ) (a : DataAnswer) (rs : List Record) → let v = manager_view place n d in
-      MovesBranch place n (hears_message k (Abort d) a) d (leaf.on_abort First own rs v v.standing)
+      MovesBranch place n (hears_message ver k (Abort d) a) d (leaf.on_abort ver own rs v v.standing)
   unfolding manager_view
   abort_views k a rs =
       let m = memory_of place n d in
       let mark = mark_of (CaseBranch d) (kept n) in
       let v = marked_branch m mark in
-      assembled place n _ own _ (abort_own First rs own v v.standing)
-      (rw (same_case-refl d) (abort_moves First rs own m mark))
+      assembled place n _ own _ (abort_own ver rs own v v.standing)
+      (rw (same_case-refl d) (abort_moves ver rs own m mark))
       (λ c w o. rw o (view_retires (memory_of place n c) d w))
 
-  pub ask_views : (a : DataAnswer) → MovesBranch place n (hears_act (Ask d) a) d
+  pub ask_views : (a : DataAnswer) → MovesBranch place n (hears_act ver (Ask d) a) d
       (untold_ask own (manager_view place n d))
   unfolding manager_view
   ask_views a = assembled place n _ own _ (quiet_own own _ refl) refl (λ c w o. refl)
 
   pub decide_views : (o : Outcome) (a : DataAnswer)
-      → MovesBranch place n (hears_act (Decide d o) a) d (prepared_decide own o)
+      → MovesBranch place n (hears_act ver (Decide d o) a) d (prepared_decide own o)
   decide_views CommittedOutcome a =
       assembled place n _ own _ (record { boot = λ b. refl; others = λ c w q. rw (other_branch d c q) refl })
       (rw (same_branch-refl d) refl) (λ c w q. refl)
@@ -521,7 +521,7 @@ module _ (me p : ProcessId) (tree : List TreeEntry) (n : Node) (d : Case) where
       assembled place n _ own _ (record { boot = λ b. refl; others = λ c w q. rw (other_branch d c q) refl })
       (rw (same_branch-refl d) refl) (λ c w q. refl)
 
-  pub forget_views : (a : DataAnswer) → MovesBranch place n (hears_act (Forget d) a) d (heuristic_forget own)
+  pub forget_views : (a : DataAnswer) → MovesBranch place n (hears_act ver (Forget d) a) d (heuristic_forget own)
   forget_views a =
       assembled place n _ own _ (record { boot = λ b. refl; others = λ c w q. rw (other_branch d c q) refl })
       (rw (same_branch-refl d) refl) (λ c w q. refl)
@@ -540,36 +540,36 @@ module _ (me p : ProcessId) (tree : List TreeEntry) (n : Node) (d : Case) where
   joins_quiet true = refl
   joins_quiet false = refl
 
-  pub join_views : (k : ℕ) (a : DataAnswer) → JoinsBranch place p n (hears_message k (Join d) a) d a.starts
+  pub join_views : (k : ℕ) (a : DataAnswer) → JoinsBranch place p n (hears_message ver k (Join d) a) d a.starts
   unfolding manager_view
   join_views k a =
       record {
         given_again = λ t h c.
-            quiet-after place n (hears_message k (Join d) a)
+            quiet-after place n (hears_message ver k (Join d) a)
             (leaf_joins place p n d (memory_of place n d) a.starts (Some t)) c refl
             ∙ ap (λ (m : Memory). marked_branch m (mark_of (CaseBranch c) (kept n)))
             (again me (boot_of (kept n)) c d (memory_of place n c) t a.starts (same_active c ∙ h));
-        not_started = λ h s c. quiet-after place n (hears_message k (Join d) a)
+        not_started = λ h s c. quiet-after place n (hears_message ver k (Join d) a)
             (leaf_joins place p n d (memory_of place n d) a.starts None) c (joins_quiet a.starts) ∙ rw s refl;
         fresh = λ h s unmarked.
             let c = fresh_case place n d in
             let alike : same_case c (child_case d.txn
             (next_ticket me (boot_of (kept n)) (memory_of place n c))) ≡ true =
             rw (same_next c) (same_case-refl c) in
-            quiet-after place n (hears_message k (Join d) a)
+            quiet-after place n (hears_message ver k (Join d) a)
             (leaf_joins place p n d (memory_of place n d) a.starts None) c (joins_quiet a.starts)
             ∙ rw (s, same_active c, h, unmarked)
             (given_here me (boot_of (kept n)) c d (memory_of place n c) alike);
         others = λ h s c o.
             let apart : same_case c (child_case d.txn
             (next_ticket me (boot_of (kept n)) (memory_of place n c))) ≡ false = rw (same_next c) o in
-            quiet-after place n (hears_message k (Join d) a)
+            quiet-after place n (hears_message ver k (Join d) a)
             (leaf_joins place p n d (memory_of place n d) a.starts None) c (joins_quiet a.starts)
             ∙ rw (s, same_active c, h) (given_elsewhere me (boot_of (kept n)) c d (memory_of place n c)
             (mark_of (CaseBranch c) (kept n)) apart);
       }
 
-  pub manager_views : ManagerViews me p tree n d
+  pub manager_views : ManagerViews ver me p tree n d
   manager_views =
       record {
         work = work_views;

@@ -12,7 +12,7 @@ use Rattle.tree_model.specs.declared.standings.Standing.{Standing}
 use Rattle.tree_model.specs.declared.standings.Standing.TheVariants.{Active, Collecting}
 use Rattle.tree_model.specs.Records.{has, none_of, is_end, is_commit, is_abort, is_prepare, is_collecting, owing_by}
 use Rattle.tree_model.specs.Nodes.{entries_written}
-use Rattle.tree_model.specs.Memory.{Memory, Phase, Idle, Open, Asked, Over, has_acked}
+use Rattle.tree_model.specs.Memory.{Memory, Phase, Idle, Open, Asked, Over, has_acked, found_of}
 use Rattle.tree_model.specs.Standings.{CoordinatorView, unknown_view, standing_by, phase_standing, view_at, still_owed}
 use Rattle.tree_model.specs.CoordinatorRows.{Seat, Row, active_commit_alone, active_commit_with, Reason, collecting_abort_by, read_only_end, root_commits}
 use Rattle.tree_model.proofs.TicketLaws.{pushed}
@@ -65,6 +65,11 @@ abort_pure me c PresumeCommit rs m f = simp (
   f.no_collecting,
 ) refl
 
+-- with no finding remembered nothing is found
+pub found_empty : (o : Outcome) (ts : List Ticket) → found_of [] o ts ≡ []
+unfolding found_of
+found_empty o ts = refl
+
 -- Aborts of a case that collects votes.
 
 pub record CollectingFacts (E C A P : Bool) : Type 0 where
@@ -103,18 +108,18 @@ owed_by_all o (t ∷ ts) = ap (λ l. t ∷ l) (owed_by_all o ts)
 pub collecting_abort_pure : (me : ProcessId) (c : Case) (p : Presumption) (why : Reason) (none : Bool)
     (us : List Ticket) (rs : List Record) (m : Memory)
     → CollectingFacts (has (is_end c) rs) (has (is_commit c) rs) (has (is_abort c) rs) (has (is_prepare c) rs)
-    → owing_by c rs ≡ [] → m.acks ≡ [] → none_of us ≡ none
+    → owing_by c rs ≡ [] → m.acks ≡ [] → m.found ≡ [] → none_of us ≡ none
     → let s : Seat = record { me = me; parent = None; own = c } in
     let row = collecting_abort_by s why (view_at Collecting rs c m) us p in
     let rs' = rs ++ entries_written row.written in
     let m' : Memory = record m { phase = Over } in
     view_at (standing_with p rs' c m') rs' c m' ≡ row.view
-collecting_abort_pure me c PresumeAbort why none us rs m f owes acks u =
+collecting_abort_pure me c PresumeAbort why none us rs m f owes acks found u =
     simp (pushed, f.no_end, f.no_commit, f.no_abort, f.no_prepare, owes) refl
-collecting_abort_pure me c PresumeCommit why true us rs m f owes acks u =
+collecting_abort_pure me c PresumeCommit why true us rs m f owes acks found u =
     simp (pushed, f.no_end, f.no_commit, f.no_abort, f.no_prepare, owes, u) refl
-collecting_abort_pure me c PresumeCommit why false us rs m f owes acks u =
-    simp (pushed, f.no_end, f.no_commit, f.no_abort, f.no_prepare, owes, u, acks, owed_by_all) refl
+collecting_abort_pure me c PresumeCommit why false us rs m f owes acks found u =
+    simp (pushed, f.no_end, f.no_commit, f.no_abort, f.no_prepare, owes, u, acks, owed_by_all, found, found_empty) refl
 
 -- A vote of a case that collects votes.
 
@@ -139,13 +144,13 @@ read_only_pure me c PresumeCommit rs m f no_record = simp (pushed) refl
 pub root_commits_pure : (me : ProcessId) (c : Case) (p : Presumption) (ys : List Ticket) (rs : List Record)
     (m : Memory)
     → CollectingFacts (has (is_end c) rs) (has (is_commit c) rs) (has (is_abort c) rs) (has (is_prepare c) rs)
-    → owing_by c rs ≡ [] → m.acks ≡ [] → none_of ys ≡ false
+    → owing_by c rs ≡ [] → m.acks ≡ [] → m.found ≡ [] → none_of ys ≡ false
     → let s : Seat = record { me = me; parent = None; own = c } in
     let row = root_commits s (view_at Collecting rs c m) ys p in
     let rs' = rs ++ entries_written row.written in
     let m' : Memory = record m { phase = Over } in
     view_at (standing_with p rs' c m') rs' c m' ≡ row.view
-root_commits_pure me c PresumeAbort ys rs m f owes acks some =
-    simp (pushed, f.no_end, f.no_commit, f.no_abort, f.no_prepare, owes, some, acks, owed_by_all) refl
-root_commits_pure me c PresumeCommit ys rs m f owes acks some =
+root_commits_pure me c PresumeAbort ys rs m f owes acks found some =
+    simp (pushed, f.no_end, f.no_commit, f.no_abort, f.no_prepare, owes, some, acks, owed_by_all, found, found_empty) refl
+root_commits_pure me c PresumeCommit ys rs m f owes acks found some =
     simp (pushed, f.no_end, f.no_commit, f.no_abort, f.no_prepare, owes) refl

@@ -1,6 +1,6 @@
 -- The root's new view is what the extended lists read as.
 use Rattle.std.proofs.Common.{◌≡◌, subst, ◌∙◌, ap, sym, ℕ, Bool, true, false, Some, None, List, [], ◌∷◌, ◌++◌, refl, if◌then◌else◌, Option}
-use Rattle.std.specs.Prelude.{fold}
+use Rattle.std.specs.Prelude.{fold, is_some}
 use Rattle.std.proofs.lemmas.List.{append-nil}
 use Rattle.tree_model.specs.declared.names.Case.{Case}
 use Rattle.tree_model.specs.declared.names.ProcessId.{ProcessId}
@@ -25,15 +25,16 @@ use Rattle.tree_model.specs.declared.standings.Standing.TheVariants.{Unknown, Ac
 use Rattle.tree_model.specs.Names.{same_txn, same_case, root_case, child_case}
 use Rattle.tree_model.specs.NameLaws.{same_case-refl, same_txn-refl}
 use Rattle.tree_model.specs.Records.{has, in_list, none_of, boot_of, boot_after, is_end, is_commit, is_abort, is_prepare, is_collecting, owing_by}
-use Rattle.tree_model.specs.Nodes.{First, Place, Node, kept, Heard, entries_written, DataAnswer}
+use Rattle.tree_model.specs.Nodes.{Version, Place, Node, kept, Heard, entries_written, DataAnswer}
 use Rattle.tree_model.specs.Memory.{Memory, Phase, Idle, Open, Asked, Over, memory_of, root_remembers, asks_votes, closes, with_vote, takes_vote, takes_ack, is_counted, all_voted, yes_of, undecided_of, sends_work, accepts_ticket, has_child, ticket_of_child}
 use Rattle.tree_model.specs.Standings.{CoordinatorView, unknown_view, coordinator_view, coordinator_standing, view_at}
-use Rattle.tree_model.specs.CoordinatorRows.{Seat, Row, active_commit, active_abort, Reason, ByVote, ByAct, collecting_abort, collecting_abort_by, collecting_after, collecting_vote, collecting_full, collecting_read_only, read_only_end, decides, root_commits, decided_ack, other_tickets, on_ack, on_vote, on_joined, on_inquiry, quiet, sends, post, plain, active_joined, active_join, active_work}
+use Rattle.tree_model.specs.CoordinatorRows.{Seat, Row, active_commit, active_abort, Reason, ByVote, ByAct, collecting_abort, collecting_abort_by, collecting_after, collecting_vote, collecting_full, collecting_read_only, read_only_end, decides, root_commits, decided_ack, other_tickets, on_ack, on_vote, on_joined, on_inquiry, quiet, sends, post, ends_with, end_reports, acknowledges_at_last, active_joined, active_join, active_work}
 use Rattle.tree_model.specs.Reactions.{row_effect}
 use Rattle.tree_model.specs.Views.{root_place, root_seat, hears_act, hears_message, vote_message, MovesTxn, RootViews, IsOpenAlike}
 use Rattle.tree_model.proofs.TicketLaws.{pushed, undecided_owes}
 use Rattle.tree_model.proofs.StandingLaws.{ActiveFacts, active_facts, phase_active, view_standing, view-after, standing_with, not_accepted, not_taken, phase_standing_known, never_heuristic, prepared_facts, phase_unprepared}
 use Rattle.tree_model.proofs.AckLaws.{acked, acked_commit, acked_abort, refused_commit, refused_abort, unawaited, promised_ack}
+use Rattle.tree_model.proofs.FoundLaws.{nothing_noted, root_noted_all}
 use Rattle.tree_model.proofs.RootRowLaws.{commit_row, commit_pure, abort_pure, CollectingFacts, collecting_facts, collecting_abort_pure, same_pure, read_only_pure, root_commits_pure}
 use Rattle.tree_model.proofs.PhaseLaws.{memory_quiet, asked_quiet}
 use Rattle.tree_model.specs.declared.records.Reports.{Reports}
@@ -81,7 +82,7 @@ read_view rs c m = view_at (standing_with c.txn.presumption rs c m) rs c m
 pub here : (c : Case) (m r : Memory) → (if same_case c c then r else m) ≡ r
 here c m r = rw (same_case-refl c) refl
 
-module _ (me : ProcessId) (tree : List TreeEntry) (n : Node) (x : Txn) where
+module _ (ver : Version) (me : ProcessId) (tree : List TreeEntry) (n : Node) (x : Txn) where
   abbrev place : Place
   place = root_place me tree
 
@@ -138,7 +139,7 @@ module _ (me : ProcessId) (tree : List TreeEntry) (n : Node) (x : Txn) where
   commit_is_of v PresumeCommit false = collecting_of c v.accepted _ true refl
 
   commit_at : (a : DataAnswer) → standing_with x.presumption rs c m ≡ Active
-      → MovesTxn place n (hears_act (CommitAct x) a) x (active_commit seat (view_at Active rs c m))
+      → MovesTxn place n (hears_act ver (CommitAct x) a) x (active_commit seat (view_at Active rs c m))
   commit_at a h =
       let f = active_facts _ _ _ _ _ _ _ h in
       let opened : m.phase ≡ Open = phase_active x.presumption m.phase f.heard in
@@ -153,7 +154,7 @@ module _ (me : ProcessId) (tree : List TreeEntry) (n : Node) (x : Txn) where
         heard = refl;
       } in
       let row = active_commit seat (view_at Active rs c m) in
-      assembled (hears_act (CommitAct x) a) row
+      assembled (hears_act ver (CommitAct x) a) row
       (commit_is_of (view_at Active rs c m) x.presumption (none_of m.accepted))
       (ap (λ w. read_view (rs ++ entries_written row.written) c w)
       (here c m (asks_votes m m.phase) ∙ ap (λ ph. asks_votes m ph) opened)
@@ -161,17 +162,17 @@ module _ (me : ProcessId) (tree : List TreeEntry) (n : Node) (x : Txn) where
       (λ y o. elsewhere y _ _ o)
 
   pub commit_views : (a : DataAnswer) → let v = coordinator_view place n c in
-      v.standing ≡ Active → MovesTxn place n (hears_act (CommitAct x) a) x (active_commit seat v)
+      v.standing ≡ Active → MovesTxn place n (hears_act ver (CommitAct x) a) x (active_commit seat v)
   commit_views a h =
       let s = stands_as Active h in
-      let P : CoordinatorView → Type 0 = λ v. MovesTxn place n (hears_act (CommitAct x) a) x
+      let P : CoordinatorView → Type 0 = λ v. MovesTxn place n (hears_act ver (CommitAct x) a) x
       (active_commit seat v) in
       subst P (sym (seen_as Active s)) (commit_at a s)
 
   -- the abort act
 
   abort_at : (a : DataAnswer) → standing_with x.presumption rs c m ≡ Active
-      → MovesTxn place n (hears_act (AbortAct x) a) x (active_abort seat (view_at Active rs c m))
+      → MovesTxn place n (hears_act ver (AbortAct x) a) x (active_abort seat (view_at Active rs c m))
   abort_at a h =
       let f = active_facts _ _ _ _ _ _ _ h in
       let opened : m.phase ≡ Open = phase_active x.presumption m.phase f.heard in
@@ -185,16 +186,16 @@ module _ (me : ProcessId) (tree : List TreeEntry) (n : Node) (x : Txn) where
         no_collecting = f.no_collecting;
         heard = refl;
       } in
-      assembled (hears_act (AbortAct x) a) (active_abort seat (view_at Active rs c m)) (quiet_of c _ refl)
+      assembled (hears_act ver (AbortAct x) a) (active_abort seat (view_at Active rs c m)) (quiet_of c _ refl)
       (ap (λ w. read_view (rs ++ []) c w) (here c m (closes m m.phase) ∙ ap (λ ph. closes m ph) opened)
       ∙ abort_pure me c x.presumption rs m g)
       (λ y o. elsewhere y _ _ o)
 
   pub abort_active_views : (a : DataAnswer) → let v = coordinator_view place n c in
-      v.standing ≡ Active → MovesTxn place n (hears_act (AbortAct x) a) x (active_abort seat v)
+      v.standing ≡ Active → MovesTxn place n (hears_act ver (AbortAct x) a) x (active_abort seat v)
   abort_active_views a h =
       let s = stands_as Active h in
-      let P : CoordinatorView → Type 0 = λ v. MovesTxn place n (hears_act (AbortAct x) a) x
+      let P : CoordinatorView → Type 0 = λ v. MovesTxn place n (hears_act ver (AbortAct x) a) x
       (active_abort seat v) in
       subst P (sym (seen_as Active s)) (abort_at a s)
 
@@ -211,31 +212,34 @@ module _ (me : ProcessId) (tree : List TreeEntry) (n : Node) (x : Txn) where
       asked_quiet m (memory_quiet me tree n c)
       (alike.collecting_is_asked (view_standing (coordinator_standing rs c m) rs c m ∙ h))
 
+  found_of_none : IsOpenAlike place n c → standing_with x.presumption rs c m ≡ Collecting → m.found ≡ []
+  found_of_none alike h = nothing_noted m.acks m.found (root_noted_all me tree n c) (acks_of alike h)
+
   asked_of : IsOpenAlike place n c → standing_with x.presumption rs c m ≡ Collecting → m.phase ≡ Asked
   unfolding coordinator_view
   asked_of alike h = alike.collecting_is_asked (view_standing (coordinator_standing rs c m) rs c m ∙ h)
 
   collecting_at : (a : DataAnswer) → IsOpenAlike place n c → standing_with x.presumption rs c m ≡ Collecting
-      → MovesTxn place n (hears_act (AbortAct x) a) x
+      → MovesTxn place n (hears_act ver (AbortAct x) a) x
       (collecting_abort seat ByAct (view_at Collecting rs c m))
   collecting_at a alike h =
       let f = collecting_facts _ _ _ _ _ _ _ h in
       let us = undecided_of m.accepted m.votes in
       let row = collecting_abort seat ByAct (view_at Collecting rs c m) in
-      assembled (hears_act (AbortAct x) a) row
+      assembled (hears_act ver (AbortAct x) a) row
       (collecting_of_abort ByAct (view_at Collecting rs c m) us x.presumption)
       (ap (λ w. read_view (rs ++ entries_written row.written) c w)
       (here c m (closes m m.phase) ∙ ap (λ ph. closes m ph) (asked_of alike h))
       ∙ collecting_abort_pure me c x.presumption ByAct (none_of us) us rs m f
-      (undecided_owes c rs f.no_commit f.no_abort) (acks_of alike h) refl)
+      (undecided_owes c rs f.no_commit f.no_abort) (acks_of alike h) (found_of_none alike h) refl)
       (λ y o. elsewhere y _ _ o)
 
   pub abort_collecting_views : (a : DataAnswer) → let v = coordinator_view place n c in
       IsOpenAlike place n c → v.standing ≡ Collecting
-      → MovesTxn place n (hears_act (AbortAct x) a) x (collecting_abort seat ByAct v)
+      → MovesTxn place n (hears_act ver (AbortAct x) a) x (collecting_abort seat ByAct v)
   abort_collecting_views a alike h =
       let s = stands_as Collecting h in
-      let P : CoordinatorView → Type 0 = λ v. MovesTxn place n (hears_act (AbortAct x) a) x
+      let P : CoordinatorView → Type 0 = λ v. MovesTxn place n (hears_act ver (AbortAct x) a) x
       (collecting_abort seat ByAct v) in
       subst P (sym (seen_as Collecting s)) (collecting_at a alike s)
 
@@ -258,11 +262,11 @@ module _ (me : ProcessId) (tree : List TreeEntry) (n : Node) (x : Txn) where
   join_row q v false = (refl, refl)
 
   pub join_views : (a : DataAnswer) (q : ProcessId) → let v = coordinator_view place n c in
-      MovesTxn place n (hears_act (JoinAct c q) a) x (active_join seat q v)
+      MovesTxn place n (hears_act ver (JoinAct c q) a) x (active_join seat q v)
   join_views a q =
       let v = coordinator_view place n c in
       let r = join_row q v (has_child v.accepted q) in
-      quiet_views (hears_act (JoinAct c q) a) (active_join seat q v) r.0 r.1 refl (λ y o. refl)
+      quiet_views (hears_act ver (JoinAct c q) a) (active_join seat q v) r.0 r.1 refl (λ y o. refl)
 
   inquiry_row : (t : Ticket) (v : CoordinatorView) (s : Standing)
       → ((on_inquiry seat t v s).written ≡ []) × ((on_inquiry seat t v s).view ≡ v)
@@ -275,23 +279,23 @@ module _ (me : ProcessId) (tree : List TreeEntry) (n : Node) (x : Txn) where
   inquiry_row t v Heuristic = (refl, refl)
 
   pub inquiry_views : (k : ℕ) (a : DataAnswer) (t : Ticket) → let v = coordinator_view place n c in
-      MovesTxn place n (hears_message k (Inquire (child_case x t)) a) x (on_inquiry seat t v v.standing)
+      MovesTxn place n (hears_message ver k (Inquire (child_case x t)) a) x (on_inquiry seat t v v.standing)
   inquiry_views k a t =
       let v = coordinator_view place n c in
       let r = inquiry_row t v v.standing in
-      quiet_views (hears_message k (Inquire (child_case x t)) a) (on_inquiry seat t v v.standing) r.0 r.1 refl
+      quiet_views (hears_message ver k (Inquire (child_case x t)) a) (on_inquiry seat t v v.standing) r.0 r.1 refl
       (λ y o. refl)
 
   -- work
 
   work_at : (a : DataAnswer) (q : ProcessId) (t : Ticket) (op : Op)
       → standing_with x.presumption rs c m ≡ Active → ticket_of_child m.accepted q ≡ Some t
-      → MovesTxn place n (hears_act (WorkAct c q op) a) x (active_work seat t op (view_at Active rs c m))
+      → MovesTxn place n (hears_act ver (WorkAct c q op) a) x (active_work seat t op (view_at Active rs c m))
   work_at a q t op h found =
       let f = active_facts _ _ _ _ _ _ _ h in
       let opened : m.phase ≡ Open = phase_active x.presumption m.phase f.heard in
       let m' : Memory = record m { works = m.works ++ t ∷ [] } in
-      assembled (hears_act (WorkAct c q op) a) (active_work seat t op (view_at Active rs c m))
+      assembled (hears_act ver (WorkAct c q op) a) (active_work seat t op (view_at Active rs c m))
       (quiet_of c _ refl)
       (ap (λ w. read_view (rs ++ []) c w)
       (here c m (sends_work m (ticket_of_child m.accepted q) m.phase) ∙ ap (λ u. sends_work m u m.phase) found
@@ -302,10 +306,10 @@ module _ (me : ProcessId) (tree : List TreeEntry) (n : Node) (x : Txn) where
   pub work_views : (a : DataAnswer) (q : ProcessId) (t : Ticket) (op : Op) → let v =
       coordinator_view place n c in
       v.standing ≡ Active → ticket_of_child v.accepted q ≡ Some t
-      → MovesTxn place n (hears_act (WorkAct c q op) a) x (active_work seat t op v)
+      → MovesTxn place n (hears_act ver (WorkAct c q op) a) x (active_work seat t op v)
   work_views a q t op h found =
       let s = stands_as Active h in
-      let P : CoordinatorView → Type 0 = λ v. MovesTxn place n (hears_act (WorkAct c q op) a) x
+      let P : CoordinatorView → Type 0 = λ v. MovesTxn place n (hears_act ver (WorkAct c q op) a) x
       (active_work seat t op v) in
       let here_found : ticket_of_child m.accepted q ≡ Some t =
       ap (λ (v : CoordinatorView). ticket_of_child v.accepted q) (sym (seen_as Active s)) ∙ found in
@@ -345,13 +349,13 @@ module _ (me : ProcessId) (tree : List TreeEntry) (n : Node) (x : Txn) where
   )
 
   joined_active : (k : ℕ) (a : DataAnswer) (t : Ticket) → standing_with x.presumption rs c m ≡ Active
-      → MovesTxn place n (hears_message k (Joined c t) a) x (active_joined t (view_at Active rs c m))
+      → MovesTxn place n (hears_message ver k (Joined c t) a) x (active_joined t (view_at Active rs c m))
   joined_active k a t h =
       let f = active_facts _ _ _ _ _ _ _ h in
       let opened : m.phase ≡ Open = phase_active x.presumption m.phase f.heard in
       let r = accepted_at t (has_child m.accepted t.child) h in
       let row = active_joined t (view_at Active rs c m) in
-      assembled (hears_message k (Joined c t) a) row (quiet_of c row r.0)
+      assembled (hears_message ver k (Joined c t) a) row (quiet_of c row r.0)
       (ap (λ w. read_view (rs ++ entries_written row.written) c w)
       (here c m (accepts_ticket m t m.phase) ∙ ap (λ ph. accepts_ticket m t ph) opened)
       ∙ rw r.0 r.1)
@@ -359,17 +363,17 @@ module _ (me : ProcessId) (tree : List TreeEntry) (n : Node) (x : Txn) where
 
   joined_other : (k : ℕ) (a : DataAnswer) (t : Ticket) → IsOpenAlike place n c → (s : Standing)
       → standing_with x.presumption rs c m ≡ s → (s ≡ Active → ⊥)
-      → MovesTxn place n (hears_message k (Joined c t) a) x (quiet (coordinator_view place n c))
+      → MovesTxn place n (hears_message ver k (Joined c t) a) x (quiet (coordinator_view place n c))
   joined_other k a t alike s h d =
-      quiet_views (hears_message k (Joined c t) a) (quiet (coordinator_view place n c)) refl refl
+      quiet_views (hears_message ver k (Joined c t) a) (quiet (coordinator_view place n c)) refl refl
       (here c m (accepts_ticket m t m.phase) ∙ not_accepted m t m.phase (not_open alike s h d))
       (λ y o. elsewhere y _ _ o)
 
   joined_at : (k : ℕ) (a : DataAnswer) (t : Ticket) → IsOpenAlike place n c → (s : Standing)
       → standing_with x.presumption rs c m ≡ s
-      → MovesTxn place n (hears_message k (Joined c t) a) x (on_joined t (coordinator_view place n c) s)
+      → MovesTxn place n (hears_message ver k (Joined c t) a) x (on_joined t (coordinator_view place n c) s)
   joined_at k a t alike Active h =
-      let P : CoordinatorView → Type 0 = λ v. MovesTxn place n (hears_message k (Joined c t) a) x
+      let P : CoordinatorView → Type 0 = λ v. MovesTxn place n (hears_message ver k (Joined c t) a) x
       (active_joined t v) in
       subst P (sym (seen_as Active h)) (joined_active k a t h)
   joined_at k a t alike Unknown h = joined_other k a t alike Unknown h (λ e. cc)
@@ -380,7 +384,7 @@ module _ (me : ProcessId) (tree : List TreeEntry) (n : Node) (x : Txn) where
   joined_at k a t alike Heuristic h = joined_other k a t alike Heuristic h (λ e. cc)
 
   pub joined_views : (k : ℕ) (a : DataAnswer) (t : Ticket) → let v = coordinator_view place n c in
-      IsOpenAlike place n c → MovesTxn place n (hears_message k (Joined c t) a) x (on_joined t v v.standing)
+      IsOpenAlike place n c → MovesTxn place n (hears_message ver k (Joined c t) a) x (on_joined t v v.standing)
   joined_views k a t alike = joined_at k a t alike (coordinator_view place n c).standing
       (stands_as (coordinator_view place n c).standing refl)
 
@@ -404,14 +408,14 @@ module _ (me : ProcessId) (tree : List TreeEntry) (n : Node) (x : Txn) where
   full_at : (b : Bool) (w : Memory) → none_of (yes_of w.accepted w.votes) ≡ b
       → CollectingFacts (has (is_end c) rs) (has (is_commit c) rs) (has (is_abort c) rs)
       (has (is_prepare c) rs)
-      → (x.presumption ≡ PresumeAbort → has (is_collecting c) rs ≡ false) → owing_by c rs ≡ [] → w.acks ≡ []
+      → (x.presumption ≡ PresumeAbort → has (is_collecting c) rs ≡ false) → owing_by c rs ≡ [] → w.acks ≡ [] → w.found ≡ []
       → let v = view_at Collecting rs c w in
       let ys = yes_of w.accepted w.votes in
       let row = if b then collecting_read_only seat else decides seat v ys None in
       read_view (rs ++ entries_written row.written) c (record w { phase = Over }) ≡ row.view
-  full_at true w e f no_record owes acks = read_only_pure me c x.presumption rs w f no_record
-  full_at false w e f no_record owes acks = root_commits_pure me c x.presumption
-      (yes_of w.accepted w.votes) rs w f owes acks e
+  full_at true w e f no_record owes acks none_found = read_only_pure me c x.presumption rs w f no_record
+  full_at false w e f no_record owes acks none_found = root_commits_pure me c x.presumption
+      (yes_of w.accepted w.votes) rs w f owes acks none_found e
 
   read_only_of : (p : Presumption) (row : Row) → row.written ≡ read_only_end seat p → IsOf c row
   read_only_of PresumeAbort row h = quiet_of c row h
@@ -436,17 +440,17 @@ module _ (me : ProcessId) (tree : List TreeEntry) (n : Node) (x : Txn) where
 
   counted_consent : (t : Ticket) (w : Vote) (all : Bool) → standing_with x.presumption rs c m ≡ Collecting
       → m.phase ≡ Asked → Collects
-      → (x.presumption ≡ PresumeAbort → has (is_collecting c) rs ≡ false) → owing_by c rs ≡ [] → m.acks ≡ []
+      → (x.presumption ≡ PresumeAbort → has (is_collecting c) rs ≡ false) → owing_by c rs ≡ [] → m.acks ≡ [] → m.found ≡ []
       → let v = view_at Collecting rs c (with_one t w) in
       let row = if all then collecting_full seat v else quiet v in
       (IsOf c row) × (read_view (rs ++ entries_written row.written) c
       (record (with_one t w) { phase = if all then Over else Asked }) ≡ row.view)
-  counted_consent t w true h asked f no_record owes acks =
+  counted_consent t w true h asked f no_record owes acks none_found =
       let ys = yes_of m.accepted (m.votes ++ (t, w) ∷ []) in (
         full_of (none_of ys) (view_at Collecting rs c (with_one t w)) ys,
-        full_at (none_of ys) (with_one t w) refl f no_record owes acks,
+        full_at (none_of ys) (with_one t w) refl f no_record owes acks none_found,
       )
-  counted_consent t w false h asked f no_record owes acks = (
+  counted_consent t w false h asked f no_record owes acks none_found = (
     quiet_of c _ refl,
     same_pure c x.presumption Collecting rs m
         (record (with_one t w) { phase = Asked }) h (sym asked),
@@ -454,67 +458,67 @@ module _ (me : ProcessId) (tree : List TreeEntry) (n : Node) (x : Txn) where
 
   counted_vote : (t : Ticket) (w : Vote) → standing_with x.presumption rs c m ≡ Collecting → m.phase ≡ Asked
       → Collects
-      → (x.presumption ≡ PresumeAbort → has (is_collecting c) rs ≡ false) → owing_by c rs ≡ [] → m.acks ≡ []
+      → (x.presumption ≡ PresumeAbort → has (is_collecting c) rs ≡ false) → owing_by c rs ≡ [] → m.acks ≡ [] → m.found ≡ []
       → let row = collecting_after seat (view_at Collecting rs c (with_one t w)) w in
       (IsOf c row) × (read_view (rs ++ entries_written row.written) c (with_vote m t w) ≡ row.view)
-  counted_vote t VoteNo h asked f no_record owes acks =
+  counted_vote t VoteNo h asked f no_record owes acks none_found =
       let us = undecided_of m.accepted (m.votes ++ (t, VoteNo) ∷ []) in (
         collecting_of_abort ByVote (view_at Collecting rs c (with_one t VoteNo)) us x.presumption,
         collecting_abort_pure me c x.presumption ByVote (none_of us) us rs
-            (with_one t VoteNo) f owes acks refl,
+            (with_one t VoteNo) f owes acks none_found refl,
       )
-  counted_vote t VoteYes h asked f no_record owes acks =
+  counted_vote t VoteYes h asked f no_record owes acks none_found =
       counted_consent t VoteYes (all_voted m.accepted (m.votes ++ (t, VoteYes) ∷ [])) h asked f no_record owes
-      acks
-  counted_vote t VoteRead h asked f no_record owes acks =
+      acks none_found
+  counted_vote t VoteRead h asked f no_record owes acks none_found =
       counted_consent t VoteRead (all_voted m.accepted (m.votes ++ (t, VoteRead) ∷ [])) h asked f no_record
-      owes acks
+      owes acks none_found
 
   taken_vote : (t : Ticket) (w : Vote) (b : Bool) → standing_with x.presumption rs c m ≡ Collecting
       → m.phase ≡ Asked → Collects
-      → (x.presumption ≡ PresumeAbort → has (is_collecting c) rs ≡ false) → owing_by c rs ≡ [] → m.acks ≡ []
+      → (x.presumption ≡ PresumeAbort → has (is_collecting c) rs ≡ false) → owing_by c rs ≡ [] → m.acks ≡ [] → m.found ≡ []
       → let row = if b then record (collecting_after seat (view_at Collecting rs c (with_one t w)) w)
       { counts = (t, w) ∷ [] } else quiet (view_at Collecting rs c m) in
       (IsOf c row) × (read_view (rs ++ entries_written row.written) c (if b then with_vote m t w else m)
       ≡ row.view)
-  taken_vote t w true h asked f no_record owes acks =
-      let r = counted_vote t w h asked f no_record owes acks in
+  taken_vote t w true h asked f no_record owes acks none_found =
+      let r = counted_vote t w h asked f no_record owes acks none_found in
       (record { boot = r.0.boot; others = r.0.others }, r.1)
-  taken_vote t w false h asked f no_record owes acks =
+  taken_vote t w false h asked f no_record owes acks none_found =
       (quiet_of c _ refl, same_pure c x.presumption Collecting rs m m h refl)
 
   vote_collecting : (k : ℕ) (a : DataAnswer) (t : Ticket) (w : Vote) → IsOpenAlike place n c
       → standing_with x.presumption rs c m ≡ Collecting
-      → MovesTxn place n (hears_message k (vote_message w (child_case x t)) a) x
+      → MovesTxn place n (hears_message ver k (vote_message w (child_case x t)) a) x
       (collecting_vote seat t w (view_at Collecting rs c m))
   vote_collecting k a t w alike h =
       let f = collecting_facts _ _ _ _ _ _ _ h in
       let asked = asked_of alike h in
       let r = taken_vote t w (is_counted m.accepted m.votes t) h asked f alike.no_record_collects
-      (undecided_owes c rs f.no_commit f.no_abort) (acks_of alike h) in
+      (undecided_owes c rs f.no_commit f.no_abort) (acks_of alike h) (found_of_none alike h) in
       let row = collecting_vote seat t w (view_at Collecting rs c m) in
-      assembled (hears_message k (vote_message w (child_case x t)) a) row r.0
+      assembled (hears_message ver k (vote_message w (child_case x t)) a) row r.0
       (ap (λ u. read_view (rs ++ entries_written row.written) c u)
       (vote_memory k t w ∙ ap (λ ph. takes_vote m t w ph) asked) ∙ r.1)
       (λ y o. vote_elsewhere k t w y o)
 
   vote_other : (k : ℕ) (a : DataAnswer) (t : Ticket) (w : Vote) → IsOpenAlike place n c → (s : Standing)
       → standing_with x.presumption rs c m ≡ s → (s ≡ Collecting → ⊥)
-      → MovesTxn place n (hears_message k (vote_message w (child_case x t)) a) x
+      → MovesTxn place n (hears_message ver k (vote_message w (child_case x t)) a) x
       (quiet (coordinator_view place n c))
   vote_other k a t w alike s h d =
-      quiet_views (hears_message k (vote_message w (child_case x t)) a)
+      quiet_views (hears_message ver k (vote_message w (child_case x t)) a)
       (quiet (coordinator_view place n c)) refl refl
       (vote_memory k t w ∙ not_taken m t w m.phase (not_asked alike s h d))
       (λ y o. vote_elsewhere k t w y o)
 
   vote_at : (k : ℕ) (a : DataAnswer) (t : Ticket) (w : Vote) → IsOpenAlike place n c → (s : Standing)
       → standing_with x.presumption rs c m ≡ s
-      → MovesTxn place n (hears_message k (vote_message w (child_case x t)) a) x
+      → MovesTxn place n (hears_message ver k (vote_message w (child_case x t)) a) x
       (on_vote seat t w (coordinator_view place n c) s)
   vote_at k a t w alike Collecting h =
       let P : CoordinatorView → Type 0 = λ v. MovesTxn place n
-      (hears_message k (vote_message w (child_case x t)) a) x (collecting_vote seat t w v) in
+      (hears_message ver k (vote_message w (child_case x t)) a) x (collecting_vote seat t w v) in
       subst P (sym (seen_as Collecting h)) (vote_collecting k a t w alike h)
   vote_at k a t w alike Unknown h = vote_other k a t w alike Unknown h (λ e. cc)
   vote_at k a t w alike Active h = vote_other k a t w alike Active h (λ e. cc)
@@ -524,7 +528,7 @@ module _ (me : ProcessId) (tree : List TreeEntry) (n : Node) (x : Txn) where
   vote_at k a t w alike Heuristic h = vote_other k a t w alike Heuristic h (λ e. cc)
 
   pub vote_views : (k : ℕ) (a : DataAnswer) (t : Ticket) (w : Vote) → let v = coordinator_view place n c in
-      IsOpenAlike place n c → MovesTxn place n (hears_message k (vote_message w (child_case x t)) a) x
+      IsOpenAlike place n c → MovesTxn place n (hears_message ver k (vote_message w (child_case x t)) a) x
       (on_vote seat t w v v.standing)
   vote_views k a t w alike = vote_at k a t w alike (coordinator_view place n c).standing
       (stands_as (coordinator_view place n c).standing refl)
@@ -544,99 +548,99 @@ module _ (me : ProcessId) (tree : List TreeEntry) (n : Node) (x : Txn) where
   ack_noted : (k : ℕ) (a : DataAnswer) (t : Ticket) (o : Outcome) (fs : List Finding) (row : Row)
       → takes_ack m t o fs m.phase ≡ acked m t o fs → IsOf c row
       → read_view (rs ++ entries_written row.written) c (acked m t o fs) ≡ row.view
-      → MovesTxn place n (hears_message k (Ack (child_case x t) o fs) a) x row
+      → MovesTxn place n (hears_message ver k (Ack (child_case x t) o fs) a) x row
   ack_noted k a t o fs row noted own moved =
-      assembled (hears_message k (Ack (child_case x t) o fs) a) row own
+      assembled (hears_message ver k (Ack (child_case x t) o fs) a) row own
       (ap (λ u. read_view (rs ++ entries_written row.written) c u) (ack_memory k t o fs ∙ noted) ∙ moved)
       (λ y q. ack_elsewhere k t o fs y q)
 
-  last_of : (t : Ticket) (v : CoordinatorView) (b none : Bool)
+  last_of : (o : Outcome) (t : Ticket) (gs : List Finding) (v : CoordinatorView) (b none : Bool)
       → IsOf c (if b then (if none then record {
-        written = plain (EndRecord c None);
+        written = ends_with ver seat gs;
         told = None;
-        messages = [];
+        messages = acknowledges_at_last ver seat o gs;
         accepts = [];
         counts = [];
         view = unknown_view;
       }
-      else quiet (record v { owed = other_tickets t v.owed })) else quiet v)
-  last_of t v true true = end_of c None _ false refl
-  last_of t v true false = quiet_of c _ refl
-  last_of t v false none = quiet_of c _ refl
+      else quiet (record v { owed = other_tickets t v.owed; found = gs })) else quiet v)
+  last_of o t gs v true true = end_of c (end_reports ver None gs) _ (is_some (end_reports ver None gs)) refl
+  last_of o t gs v true false = quiet_of c _ refl
+  last_of o t gs v false none = quiet_of c _ refl
 
-  ack_by : (k : ℕ) (a : DataAnswer) (t : Ticket) (o : Outcome) (fs gs : List Finding) (s : Standing)
+  ack_by : (k : ℕ) (a : DataAnswer) (t : Ticket) (o : Outcome) (fs : List Finding) (s : Standing)
       → standing_with x.presumption rs c m ≡ s
       → (s ≡ Active → ⊥) → (s ≡ Collecting → ⊥) → takes_ack m t o fs m.phase ≡ acked m t o fs
-      → MovesTxn place n (hears_message k (Ack (child_case x t) o fs) a) x (on_ack First seat t o gs (view_at s rs c m) s)
-  ack_by k a t CommittedOutcome fs gs Committing h na nc noted =
+      → MovesTxn place n (hears_message ver k (Ack (child_case x t) o fs) a) x (on_ack ver seat t o ((view_at s rs c m).found ++ fs) (view_at s rs c m) s)
+  ack_by k a t CommittedOutcome fs Committing h na nc noted =
       let v = view_at Committing rs c m in
-      ack_noted k a t CommittedOutcome fs (decided_ack First seat CommittedOutcome t gs v) noted
-      (last_of t v (in_list v.owed t) (none_of (other_tickets t v.owed)))
-      (acked_commit me c x.presumption t rs m fs gs (in_list v.owed t)
+      ack_noted k a t CommittedOutcome fs (decided_ack ver seat CommittedOutcome t (v.found ++ fs) v) noted
+      (last_of CommittedOutcome t (v.found ++ fs) v (in_list v.owed t) (none_of (other_tickets t v.owed)))
+      (acked_commit ver seat x.presumption t rs m fs (in_list v.owed t)
       (none_of (other_tickets t v.owed)) h refl refl)
-  ack_by k a t AbortedOutcome fs gs Committing h na nc noted =
+  ack_by k a t AbortedOutcome fs Committing h na nc noted =
       ack_noted k a t AbortedOutcome fs (quiet (view_at Committing rs c m)) noted (quiet_of c _ refl)
       (refused_commit c x.presumption t rs m fs h)
-  ack_by k a t AbortedOutcome fs gs Aborting h na nc noted =
+  ack_by k a t AbortedOutcome fs Aborting h na nc noted =
       let v = view_at Aborting rs c m in
-      ack_noted k a t AbortedOutcome fs (decided_ack First seat AbortedOutcome t gs v) noted
-      (last_of t v (in_list v.owed t) (none_of (other_tickets t v.owed)))
-      (acked_abort me c x.presumption t rs m fs gs (in_list v.owed t)
+      ack_noted k a t AbortedOutcome fs (decided_ack ver seat AbortedOutcome t (v.found ++ fs) v) noted
+      (last_of AbortedOutcome t (v.found ++ fs) v (in_list v.owed t) (none_of (other_tickets t v.owed)))
+      (acked_abort ver seat x.presumption t rs m fs (in_list v.owed t)
       (none_of (other_tickets t v.owed)) h refl refl)
-  ack_by k a t CommittedOutcome fs gs Aborting h na nc noted =
+  ack_by k a t CommittedOutcome fs Aborting h na nc noted =
       ack_noted k a t CommittedOutcome fs (quiet (view_at Aborting rs c m)) noted (quiet_of c _ refl)
       (refused_abort c x.presumption t rs m fs h)
-  ack_by k a t CommittedOutcome fs gs Unknown h na nc noted =
+  ack_by k a t CommittedOutcome fs Unknown h na nc noted =
       ack_noted k a t CommittedOutcome fs (quiet unknown_view) noted (quiet_of c _ refl)
       (unawaited c x.presumption t CommittedOutcome rs m fs h)
-  ack_by k a t AbortedOutcome fs gs Unknown h na nc noted =
+  ack_by k a t AbortedOutcome fs Unknown h na nc noted =
       ack_noted k a t AbortedOutcome fs (quiet unknown_view) noted (quiet_of c _ refl)
       (unawaited c x.presumption t AbortedOutcome rs m fs h)
-  ack_by k a t CommittedOutcome fs gs Prepared h na nc noted =
+  ack_by k a t CommittedOutcome fs Prepared h na nc noted =
       let f = prepared_facts _ _ _ _ _ _ _ (phase_unprepared x.presumption m.phase) h in
       ack_noted k a t CommittedOutcome fs (quiet (view_at Prepared rs c m)) noted (quiet_of c _ refl)
       (promised_ack c x.presumption t CommittedOutcome rs m fs h (undecided_owes c rs f.0 f.1))
-  ack_by k a t AbortedOutcome fs gs Prepared h na nc noted =
+  ack_by k a t AbortedOutcome fs Prepared h na nc noted =
       let f = prepared_facts _ _ _ _ _ _ _ (phase_unprepared x.presumption m.phase) h in
       ack_noted k a t AbortedOutcome fs (quiet (view_at Prepared rs c m)) noted (quiet_of c _ refl)
       (promised_ack c x.presumption t AbortedOutcome rs m fs h (undecided_owes c rs f.0 f.1))
-  ack_by k a t o fs gs Active h na nc noted = absurd (na refl)
-  ack_by k a t o fs gs Collecting h na nc noted = absurd (nc refl)
-  ack_by k a t o fs gs Heuristic h na nc noted = absurd
+  ack_by k a t o fs Active h na nc noted = absurd (na refl)
+  ack_by k a t o fs Collecting h na nc noted = absurd (nc refl)
+  ack_by k a t o fs Heuristic h na nc noted = absurd
       (never_heuristic _ _ _ _ _ _ _ (phase_standing_known x.presumption m.phase) h)
 
   -- while children or votes can come, it does nothing
   ack_unheard : (k : ℕ) (a : DataAnswer) (t : Ticket) (o : Outcome) (fs : List Finding) (row : Row) → takes_ack m t o fs m.phase ≡ m
       → row ≡ quiet (coordinator_view place n c)
-      → MovesTxn place n (hears_message k (Ack (child_case x t) o fs) a) x row
+      → MovesTxn place n (hears_message ver k (Ack (child_case x t) o fs) a) x row
   ack_unheard k a t o fs row unheard e =
-      quiet_views (hears_message k (Ack (child_case x t) o fs) a) row (ap (λ (r : Row). r.written) e)
+      quiet_views (hears_message ver k (Ack (child_case x t) o fs) a) row (ap (λ (r : Row). r.written) e)
       (ap (λ (r : Row). r.view) e)
       (ack_memory k t o fs ∙ unheard)
       (λ y q. ack_elsewhere k t o fs y q)
 
   on_ack_open : (t : Ticket) (o : Outcome) (gs : List Finding) (v : CoordinatorView)
-      → on_ack First seat t o gs v Active ≡ quiet v
+      → on_ack ver seat t o gs v Active ≡ quiet v
   on_ack_open t CommittedOutcome gs v = refl
   on_ack_open t AbortedOutcome gs v = refl
 
   on_ack_asked : (t : Ticket) (o : Outcome) (gs : List Finding) (v : CoordinatorView)
-      → on_ack First seat t o gs v Collecting ≡ quiet v
+      → on_ack ver seat t o gs v Collecting ≡ quiet v
   on_ack_asked t CommittedOutcome gs v = refl
   on_ack_asked t AbortedOutcome gs v = refl
 
-  ack_closed : (k : ℕ) (a : DataAnswer) (t : Ticket) (o : Outcome) (fs gs : List Finding) → IsOpenAlike place n c → (s : Standing)
+  ack_closed : (k : ℕ) (a : DataAnswer) (t : Ticket) (o : Outcome) (fs : List Finding) → IsOpenAlike place n c → (s : Standing)
       → standing_with x.presumption rs c m ≡ s
       → (m.phase ≡ Open → ⊥) → (m.phase ≡ Asked → ⊥) → takes_ack m t o fs m.phase ≡ acked m t o fs
-      → MovesTxn place n (hears_message k (Ack (child_case x t) o fs) a) x
-      (on_ack First seat t o gs (coordinator_view place n c) s)
-  ack_closed k a t o fs gs alike s h closed decided noted =
+      → MovesTxn place n (hears_message ver k (Ack (child_case x t) o fs) a) x
+      (on_ack ver seat t o ((coordinator_view place n c).found ++ fs) (coordinator_view place n c) s)
+  ack_closed k a t o fs alike s h closed decided noted =
       let not_active : s ≡ Active → ⊥ = λ e. closed
       (phase_active x.presumption m.phase (active_facts _ _ _ _ _ _ _ (h ∙ e)).heard) in
       let not_collecting : s ≡ Collecting → ⊥ = λ e. decided (asked_of alike (h ∙ e)) in
-      let P : CoordinatorView → Type 0 = λ v. MovesTxn place n (hears_message k (Ack (child_case x t) o fs) a) x
-      (on_ack First seat t o gs v s) in
-      subst P (sym (seen_as s h)) (ack_by k a t o fs gs s h not_active not_collecting noted)
+      let P : CoordinatorView → Type 0 = λ v. MovesTxn place n
+      (hears_message ver k (Ack (child_case x t) o fs) a) x (on_ack ver seat t o (v.found ++ fs) v s) in
+      subst P (sym (seen_as s h)) (ack_by k a t o fs s h not_active not_collecting noted)
 
   now_active : IsOpenAlike place n c → (s : Standing) → standing_with x.presumption rs c m ≡ s
       → m.phase ≡ Open → s ≡ Active
@@ -650,19 +654,19 @@ module _ (me : ProcessId) (tree : List TreeEntry) (n : Node) (x : Txn) where
   now_collecting alike s h e = sym h ∙ (sym (view_standing (coordinator_standing rs c m) rs c m)
       ∙ alike.asked_is_collecting e)
 
-  ack_phase : (k : ℕ) (a : DataAnswer) (t : Ticket) (o : Outcome) (fs gs : List Finding) → IsOpenAlike place n c → (ph : Phase)
+  ack_phase : (k : ℕ) (a : DataAnswer) (t : Ticket) (o : Outcome) (fs : List Finding) → IsOpenAlike place n c → (ph : Phase)
       → m.phase ≡ ph → (s : Standing) → standing_with x.presumption rs c m ≡ s
-      → MovesTxn place n (hears_message k (Ack (child_case x t) o fs) a) x
-      (on_ack First seat t o gs (coordinator_view place n c) s)
-  ack_phase k a t o fs gs alike Open e s h =
+      → MovesTxn place n (hears_message ver k (Ack (child_case x t) o fs) a) x
+      (on_ack ver seat t o ((coordinator_view place n c).found ++ fs) (coordinator_view place n c) s)
+  ack_phase k a t o fs alike Open e s h =
       let v = coordinator_view place n c in
       ack_unheard k a t o fs _ (ap (λ ph. takes_ack m t o fs ph) e)
-      (ap (λ q. on_ack First seat t o gs v q) (now_active alike s h e) ∙ on_ack_open t o gs v)
-  ack_phase k a t o fs gs alike Asked e s h =
+      (ap (λ q. on_ack ver seat t o (v.found ++ fs) v q) (now_active alike s h e) ∙ on_ack_open t o (v.found ++ fs) v)
+  ack_phase k a t o fs alike Asked e s h =
       let v = coordinator_view place n c in
       ack_unheard k a t o fs _ (ap (λ ph. takes_ack m t o fs ph) e)
-      (ap (λ q. on_ack First seat t o gs v q) (now_collecting alike s h e) ∙ on_ack_asked t o gs v)
-  ack_phase k a t o fs gs alike Idle e s h = ack_closed k a t o fs gs alike s h (λ q. not_idle (sym e ∙ q))
+      (ap (λ q. on_ack ver seat t o (v.found ++ fs) v q) (now_collecting alike s h e) ∙ on_ack_asked t o (v.found ++ fs) v)
+  ack_phase k a t o fs alike Idle e s h = ack_closed k a t o fs alike s h (λ q. not_idle (sym e ∙ q))
       (λ q. not_idle_asked (sym e ∙ q)) (ap (λ ph. takes_ack m t o fs ph) e)
     where
       not_idle : Idle ≡ Open → ⊥
@@ -670,7 +674,7 @@ module _ (me : ProcessId) (tree : List TreeEntry) (n : Node) (x : Txn) where
 
       not_idle_asked : Idle ≡ Asked → ⊥
       not_idle_asked q = cc
-  ack_phase k a t o fs gs alike Over e s h = ack_closed k a t o fs gs alike s h (λ q. not_over (sym e ∙ q))
+  ack_phase k a t o fs alike Over e s h = ack_closed k a t o fs alike s h (λ q. not_over (sym e ∙ q))
       (λ q. not_over_asked (sym e ∙ q)) (ap (λ ph. takes_ack m t o fs ph) e)
     where
       not_over : Over ≡ Open → ⊥
@@ -679,13 +683,13 @@ module _ (me : ProcessId) (tree : List TreeEntry) (n : Node) (x : Txn) where
       not_over_asked : Over ≡ Asked → ⊥
       not_over_asked q = cc
 
-  pub ack_views : (k : ℕ) (a : DataAnswer) (t : Ticket) (o : Outcome) (fs gs : List Finding) → let v = coordinator_view place n c in
-      IsOpenAlike place n c → MovesTxn place n (hears_message k (Ack (child_case x t) o fs) a) x
-      (on_ack First seat t o gs v v.standing)
-  ack_views k a t o fs gs alike = ack_phase k a t o fs gs alike m.phase refl (coordinator_view place n c).standing
+  pub ack_views : (k : ℕ) (a : DataAnswer) (t : Ticket) (o : Outcome) (fs : List Finding) → let v = coordinator_view place n c in
+      IsOpenAlike place n c → MovesTxn place n (hears_message ver k (Ack (child_case x t) o fs) a) x
+      (on_ack ver seat t o (v.found ++ fs) v v.standing)
+  ack_views k a t o fs alike = ack_phase k a t o fs alike m.phase refl (coordinator_view place n c).standing
       (stands_as (coordinator_view place n c).standing refl)
 
-  pub root_views : RootViews me tree n x
+  pub root_views : RootViews ver me tree n x
   root_views =
       record {
         commit = commit_views;

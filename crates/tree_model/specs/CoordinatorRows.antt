@@ -15,7 +15,7 @@ use Rattle.tree_model.specs.declared.messages.Message.TheVariants.{Join, Work, P
 use Rattle.tree_model.specs.declared.messages.Envelope.{Envelope}
 use Rattle.tree_model.specs.declared.records.Record.{Record}
 use Rattle.tree_model.specs.declared.records.Reports.{Reports}
-use Rattle.tree_model.specs.declared.records.Record.TheVariants.{Collecting as CollectingRecord, Prepare as PrepareRecord, Commit as CommitRecord, Abort as AbortRecord, End as EndRecord}
+use Rattle.tree_model.specs.declared.records.Record.TheVariants.{Collecting as CollectingRecord, Prepare as PrepareRecord, Commit as CommitRecord, Abort as AbortRecord, End as EndRecord, Cleared as ClearedRecord}
 use Rattle.tree_model.specs.declared.standings.Standing.{Standing}
 use Rattle.tree_model.specs.declared.standings.Standing.TheVariants.{Unknown, Active, Collecting, Prepared, Committing, Aborting}
 use Rattle.tree_model.specs.declared.standings.Vote.{Vote}
@@ -23,7 +23,7 @@ use Rattle.tree_model.specs.declared.standings.Vote.TheVariants.{No as VoteNo}
 use Rattle.tree_model.specs.declared.events.Conclusion.{Conclusion}
 use Rattle.tree_model.specs.declared.events.Conclusion.TheVariants.{Committed as ConcludedCommitted, Aborted as ConcludedAborted, ReadOnly}
 use Rattle.tree_model.specs.Names.{same_ticket, child_case, presumed}
-use Rattle.tree_model.specs.Records.{in_list, none_of, mixed_of, unreported_of}
+use Rattle.tree_model.specs.Records.{in_list, none_of, mixed_of, unreported_of, in_order}
 use Rattle.tree_model.specs.Nodes.{Written, Version, First, Second}
 use Rattle.tree_model.specs.Memory.{has_child, is_counted, all_voted, yes_of, undecided_of, works_of}
 use Rattle.tree_model.specs.Standings.{CoordinatorView, unknown_view, unknown_findings}
@@ -382,7 +382,7 @@ other_tickets t ts = filter (λ u. not (same_ticket t u)) ts
 -- by the second version a decision is acknowledged behind the last acknowledgement of it, with what was found below
 abbrev pub acknowledges_at_last : Version → Seat → Outcome → List Finding → List Envelope
 acknowledges_at_last First s o fs = []
-acknowledges_at_last Second s o fs = up s (Ack s.own o fs)
+acknowledges_at_last Second s o fs = up s (Ack s.own o (in_order fs))
 
 -- what an End reports: by the second version the root, which has nobody above it, writes down what was found
 abbrev pub end_reports : Version → Option ProcessId → List Finding → Option Reports
@@ -397,7 +397,8 @@ ends_with ver s fs =
     let reports = end_reports ver s.parent fs in
     record { entry = EndRecord s.own reports; is_forced = is_some reports } ∷ []
 
--- these still owe an acknowledgement; where there are none, an End record ends the case
+-- these still owe an acknowledgement, and so much was found by now; where there are none, an End record ends the
+-- case
 abbrev pub decided_ack_by : Version → Seat → Outcome → List Ticket → List Finding → CoordinatorView → Row
 decided_ack_by ver s o left fs v =
     if none_of left
@@ -409,7 +410,7 @@ decided_ack_by ver s o left fs v =
       counts = [];
       view = unknown_view;
     }
-    else quiet (record v { owed = left })
+    else quiet (record v { owed = left; found = fs })
 
 -- an acknowledgement that agrees with the decision; the last one that is owed ends the case, with all that was found
 abbrev pub decided_ack : Version → Seat → Outcome → Ticket → List Finding → CoordinatorView → Row
@@ -452,6 +453,17 @@ unknown_abort ver s v = unknown_abort_by ver s v s.own.txn.presumption
 -- an inquiry without information gets what is presumed
 abbrev pub unknown_inquiry : Seat → Ticket → CoordinatorView → Row
 unknown_inquiry s t v = sends (to_child s (tells_outcome (presumed s.own.txn.presumption)) t ∷ []) v
+
+-- an operator has seen to what the root reported of the case: it is cleared, forced
+abbrev pub unknown_forget : Seat → CoordinatorView → Row
+unknown_forget s v = record {
+  written = forced (ClearedRecord s.own);
+  told = None;
+  messages = [];
+  accepts = [];
+  counts = [];
+  view = v;
+}
 
 -- The table by messages.
 

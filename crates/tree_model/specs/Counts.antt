@@ -62,9 +62,9 @@ asks s v = record { cost = row_cost (active_commit s v); view = (active_commit s
 abbrev pub hears_yes : Seat → Walked → Ticket → Walked
 hears_yes s w t = walks w (on_vote s t VoteYes w.view w.view.standing)
 
--- the acknowledgement of a child comes
+-- the acknowledgement of a child comes, which finds nothing
 abbrev pub hears_ack : Seat → Walked → Ticket → Walked
-hears_ack s w t = walks w (on_ack First s t Committed [] w.view w.view.standing)
+hears_ack s w t = walks w (on_ack First s t Committed w.view.found w.view w.view.standing)
 
 -- the children that acknowledge a commit: under Presumed Commit none does
 abbrev pub acknowledging : Presumption → List Ticket → List Ticket

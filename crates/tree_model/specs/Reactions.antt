@@ -1,7 +1,7 @@
 -- What a process does with an input: an effect, or a refusal after which nothing has changed. The refusals
 -- come in this order: no such process (9), the process has failed (6), no such case here (3), the case is not
 -- in doubt (7) or has nothing to forget (8), it is closed (5), the child cannot take it (4).
-use Rattle.std.specs.Prelude.{Bool, true, false, not, ◌&&◌, if◌then◌else◌, Option, Some, None, List, [], ◌∷◌, map}
+use Rattle.std.specs.Prelude.{Bool, true, false, not, ◌&&◌, if◌then◌else◌, Option, Some, None, is_none, List, [], ◌∷◌, map}
 use Rattle.tree_model.specs.declared.names.Case.{Case}
 use Rattle.tree_model.specs.declared.names.ProcessId.{ProcessId}
 use Rattle.tree_model.specs.declared.names.Ticket.{Ticket}
@@ -27,11 +27,11 @@ use Rattle.tree_model.specs.declared.events.StepError.TheVariants.{UnknownTxn, N
 use Rattle.tree_model.specs.declared.events.Told.{Told}
 use Rattle.tree_model.specs.declared.trees.TreeEntry.{TreeEntry}
 use Rattle.tree_model.specs.Names.{child_case, root_case, presumed}
-use Rattle.tree_model.specs.Records.{boot_of}
+use Rattle.tree_model.specs.Records.{boot_of, is_reported}
 use Rattle.tree_model.specs.Nodes.{Version, Role, AtRoot, Below, AtLeaf, Place, is_listed, is_child, is_leaf, role_of, DataAnswer, Heard, Node, kept, Effect, no_effect}
 use Rattle.tree_model.specs.Memory.{Memory, memory_of, next_txn, next_ticket, active_ticket, ticket_of_child, of_ticket}
 use Rattle.tree_model.specs.Standings.{CoordinatorView, ManagerView, coordinator_view, manager_view, some_case, case_of_child, found_below}
-use Rattle.tree_model.specs.CoordinatorRows.{Seat, Row, post, active_join, active_work, active_commit, active_abort, collecting_abort, ByAct, prepared_ask, tells_outcome, on_vote, on_ack, on_inquiry, on_joined, on_prepare, on_commit, on_abort}
+use Rattle.tree_model.specs.CoordinatorRows.{Seat, Row, post, active_join, active_work, active_commit, active_abort, collecting_abort, ByAct, prepared_ask, tells_outcome, on_vote, on_ack, on_inquiry, on_joined, on_prepare, on_commit, on_abort, unknown_forget}
 use Rattle.tree_model.specs.ManagerRows.{Leaf, LeafRow, prepared_decide, heuristic_forget, untold_ask}
 use Rattle.tree_model.specs.ManagerRows as leaf
 
@@ -160,7 +160,13 @@ abbrev pub live_by : StepError → Standing → Reacts
 live_by e Unknown = Refused UnknownTxn
 live_by e _ = Refused e
 
--- the acts at a coordinator; it has nothing for an operator to decide or to forget
+-- forget: nothing is known of the case, and the root's log reports what was found of it
+abbrev pub clear_by : Seat → Bool → CoordinatorView → Standing → Reacts
+clear_by s reported v Unknown =
+    if reported then Does (row_effect s.own (unknown_forget s v)) else Refused UnknownTxn
+clear_by s reported v _ = Refused NothingToForget
+
+-- the acts at a coordinator; it has nothing for an operator to decide
 abbrev pub coordinator_acts : Place → Option ProcessId → Node → Act → Reacts
 coordinator_acts place parent n (Begin p) = begins_at parent place n p
 coordinator_acts place parent n (JoinAct c q) =
@@ -176,7 +182,9 @@ coordinator_acts place parent n (AbortAct x) =
 coordinator_acts place parent n (Ask c) =
     let v = coordinator_view place n c in ask_by (seat_of place parent c) v v.standing
 coordinator_acts place parent n (Decide c o) = live_by NotInDoubt (coordinator_view place n c).standing
-coordinator_acts place parent n (Forget c) = live_by NothingToForget (coordinator_view place n c).standing
+coordinator_acts place parent n (Forget c) =
+    let v = coordinator_view place n c in
+    clear_by (seat_of place parent c) (is_none parent && is_reported (kept n) c) v v.standing
 
 -- Messages of children.
 

@@ -1,5 +1,5 @@
 -- What a record says of a case.
-use Rattle.std.specs.Prelude.{Bool, true, false, ◌==◌, ◌&&◌, if◌then◌else◌, ℕ, Option, Some, None, List, [], ◌∷◌, ◌++◌, fold}
+use Rattle.std.specs.Prelude.{Bool, true, false, ◌==◌, ◌&&◌, if◌then◌else◌, ℕ, Option, Some, None, is_some, List, [], ◌∷◌, ◌++◌, fold, map}
 use Rattle.std.specs.List.{list_any, flat_map}
 use Rattle.std.specs.Ordering.{int_eq}
 use Rattle.xa_xid.specs.Xids.{XidParts}
@@ -112,6 +112,27 @@ is_decided c CommittedOutcome (HeurCommit b) = is_branch c b
 is_decided c CommittedOutcome _ = false
 is_decided c AbortedOutcome (HeurRollback b) = is_branch c b
 is_decided c AbortedOutcome _ = false
+
+-- what an operator decided of the case behind one more record: the last decision behind its last promise counts
+abbrev pub decision_after : Case → Option Outcome → Record → Option Outcome
+decision_after c d (Prepared b ws) = if is_branch c b then None else d
+decision_after c d (HeurCommit b) = if is_branch c b then Some CommittedOutcome else d
+decision_after c d (HeurRollback b) = if is_branch c b then Some AbortedOutcome else d
+decision_after c d _ = d
+
+-- what an operator decided of the case by these records
+unfoldable pub decision_of : List Record → Case → Option Outcome
+decision_of rs c = fold (decision_after c) None rs
+
+-- the report of the case stands behind one more record: an End with reports sets it up, and Cleared undoes it
+abbrev pub reported_after : Case → Bool → Record → Bool
+reported_after c b (End d rep) = if same_case d c then is_some rep else b
+reported_after c b (Cleared d) = if same_case d c then false else b
+reported_after c b _ = b
+
+-- these records report what was found of the case, and it was not cleared since
+unfoldable pub is_reported : List Record → Case → Bool
+is_reported rs c = fold (reported_after c) false rs
 
 -- a manager's Told record of the case, of either outcome
 abbrev pub is_told : Case → Record → Bool
@@ -237,6 +258,10 @@ unfoldable pub unreported_of : List Finding → List Ticket
 unreported_of [] = []
 unreported_of (Mixed t ∷ fs) = unreported_of fs
 unreported_of (Unreported t ∷ fs) = t ∷ unreported_of fs
+
+-- these findings in the order of an acknowledgement's text: the mixed tickets, and the unreported ones behind them
+abbrev pub in_order : List Finding → List Finding
+in_order fs = map (λ t. Mixed t) (mixed_of fs) ++ map (λ t. Unreported t) (unreported_of fs)
 
 -- How a trace names records.
 

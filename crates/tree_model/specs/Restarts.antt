@@ -1,5 +1,5 @@
 -- Restart and trim of one process.
-use Rattle.std.specs.Prelude.{◌+◌, ℕ, zero, suc, Bool, true, false, not, ◌&&◌, if◌then◌else◌, Option, Some, None, List, [], ◌∷◌, ◌++◌, take, filter, map, length, reverse}
+use Rattle.std.specs.Prelude.{◌+◌, ℕ, zero, suc, Bool, true, false, not, ◌&&◌, ◌||◌, if◌then◌else◌, Option, Some, None, List, [], ◌∷◌, ◌++◌, take, filter, map, length, reverse}
 use Rattle.std.specs.List.{list_any, flat_map}
 use Rattle.tree_model.specs.declared.names.Case.{Case}
 use Rattle.tree_model.specs.declared.names.ProcessId.{ProcessId}
@@ -15,7 +15,7 @@ use Rattle.tree_model.specs.declared.standings.Standing.TheVariants.{Unknown, Co
 use Rattle.tree_model.specs.declared.names.Outcome.{Outcome}
 use Rattle.tree_model.specs.declared.events.Told.{Told}
 use Rattle.tree_model.specs.Names.{same_txn, root_case}
-use Rattle.tree_model.specs.Records.{has, is_commit, record_case, record_branch, prepares_branch, cases_in, boot_of}
+use Rattle.tree_model.specs.Records.{has, is_commit, record_case, record_branch, prepares_branch, cases_in, boot_of, is_reported}
 use Rattle.tree_model.specs.Nodes.{Role, AtRoot, Below, AtLeaf, Place, Node, kept, Written, Effect, fails_with}
 use Rattle.tree_model.specs.Memory.{fresh_memory}
 use Rattle.tree_model.specs.Standings.{CoordinatorView, ManagerView, coordinator_standing, view_at, marked_branch, Mark, Unmarked, Finished, mark_of}
@@ -164,10 +164,10 @@ is_open Unmarked = false
 is_open Finished = false
 is_open _ = true
 
--- a coordinator's record stays if its case is not forgotten
+-- a coordinator's record stays if its case is not forgotten, or what was found of it is reported
 abbrev pub case_stays : List Record → Option Case → Bool
 case_stays rs None = false
-case_stays rs (Some c) = is_known (recorded_view rs c).standing
+case_stays rs (Some c) = is_known (recorded_view rs c).standing || is_reported rs c
 
 -- a manager's record stays if its branch is not forgotten and was not prepared again behind it
 abbrev pub branch_stays : List Record → List Record → Option Branch → Bool

@@ -19,6 +19,7 @@ pub record SameView (v w : CoordinatorView) : Type 0 where
   pub promised : v.promised ≡ w.promised
   pub named : (t : Ticket) → in_list v.named t ≡ in_list w.named t
   pub owed : (t : Ticket) → in_list v.owed t ≡ in_list w.owed t
+  pub found : v.found ≡ w.found
 
 -- Two rows write, tell and send the same, accept and count the same, and leave views that say the same.
 pub record SameRow (r q : Row) : Type 0 where
@@ -32,4 +33,4 @@ pub record SameRow (r q : Row) : Type 0 where
 -- a case that takes children and work, and has none
 abbrev pub open_view : CoordinatorView
 open_view =
-    record { standing = Active; accepted = []; votes = []; works = []; promised = []; named = []; owed = [] }
+    record { standing = Active; accepted = []; votes = []; works = []; promised = []; named = []; owed = []; found = [] }

@@ -17,8 +17,8 @@ use Rattle.tree_model.specs.declared.records.Record.TheVariants.{Prepared as Pre
 use Rattle.tree_model.specs.declared.standings.Standing.{Standing}
 use Rattle.tree_model.specs.declared.standings.Standing.TheVariants.{Unknown, Active, Collecting, Prepared, Committing, Aborting, Heuristic}
 use Rattle.tree_model.specs.declared.standings.Vote.{Vote}
-use Rattle.tree_model.specs.Names.{same_txn, root_case}
-use Rattle.tree_model.specs.Records.{has, in_list, none_of, same_branch, is_collecting, is_prepare, is_commit, is_abort, is_end, is_decided, named_by, promised_by, owing_by, cases_in}
+use Rattle.tree_model.specs.Names.{same_txn, same_outcome, root_case}
+use Rattle.tree_model.specs.Records.{has, in_list, none_of, same_branch, is_collecting, is_prepare, is_commit, is_abort, is_end, decision_of, named_by, promised_by, owing_by, cases_in}
 use Rattle.tree_model.specs.Nodes.{Version, First, Second, Place, Role, AtRoot, AtLeaf, Node, kept}
 use Rattle.tree_model.specs.Memory.{Memory, Phase, Open, Asked, memory_of, has_acked, found_of}
 use Rattle.tree_model.specs.declared.records.LogRecord.{LogRecord}
@@ -28,7 +28,8 @@ use Rattle.xa_xid.specs.declared.xid.Xid.{Xid}
 -- A coordinator.
 
 -- Its standing; the accepted tickets, their first votes, a ticket for each work sent; the tickets that its
--- Prepare record names, those that any of its records names, and those that still owe an acknowledgement.
+-- Prepared record names, those that any of its records names, and those that still owe an acknowledgement; and
+-- what those found that acknowledged its decision.
 pub record CoordinatorView : Type 0 where
   pub standing : Standing
   pub accepted : List Ticket
@@ -37,6 +38,7 @@ pub record CoordinatorView : Type 0 where
   pub promised : List Ticket
   pub named : List Ticket
   pub owed : List Ticket
+  pub found : List Finding
 
 -- the view of a case of which nothing is known
 abbrev pub unknown_view : CoordinatorView
@@ -48,6 +50,7 @@ unknown_view = record {
   promised = [];
   named = [];
   owed = [];
+  found = [];
 }
 
 -- the standing of a decided case, but Unknown where the decision names nobody
@@ -102,6 +105,7 @@ view_at s rs c m =
       promised = promised_by c rs;
       named = named_by c rs;
       owed = still_owed m.acks (decided_outcome s) (owing_by c rs);
+      found = found_of m.found (decided_outcome s) (owing_by c rs);
     })
 
 -- a coordinator's view of the case
@@ -131,11 +135,16 @@ abbrev pub other_outcome : Outcome → Outcome
 other_outcome CommittedOutcome = AbortedOutcome
 other_outcome AbortedOutcome = CommittedOutcome
 
+-- an operator decided, and otherwise than this outcome
+abbrev pub decided_against : Option Outcome → Outcome → Bool
+decided_against None o = false
+decided_against (Some d) o = not (same_outcome d o)
+
 -- by the second version a branch is mixed that an operator decided against the outcome that it is told
 abbrev pub decided_findings : Version → List Record → Case → Outcome → List Finding
 decided_findings First rs c o = []
 decided_findings Second rs c o =
-    if has (is_decided c (other_outcome o)) rs then own_finding Mixed c.ticket else []
+    if decided_against (decision_of rs c) o then own_finding Mixed c.ticket else []
 
 -- Whose case a child is of.
 

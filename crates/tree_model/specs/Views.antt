@@ -1,5 +1,5 @@
 -- The new view that the reaction table gives is what the extended lists read as.
-use Rattle.std.specs.Prelude.{◌≡◌, ℕ, Bool, true, false, Some, None, List, []}
+use Rattle.std.specs.Prelude.{◌≡◌, ℕ, Bool, true, false, Some, None, List, [], ◌++◌}
 use Rattle.tree_model.specs.declared.names.Case.{Case}
 use Rattle.tree_model.specs.declared.names.ProcessId.{ProcessId}
 use Rattle.tree_model.specs.declared.names.Ticket.{Ticket}
@@ -22,7 +22,7 @@ use Rattle.tree_model.specs.declared.events.Input.TheVariants.{Act as ActInput, 
 use Rattle.tree_model.specs.declared.trees.TreeEntry.{TreeEntry}
 use Rattle.tree_model.specs.Names.{same_txn, same_case, root_case, child_case}
 use Rattle.tree_model.specs.Records.{boot_of, has, is_end, is_commit, is_abort, is_prepare, is_collecting, promised_by, named_by, owing_by}
-use Rattle.tree_model.specs.Nodes.{First, Place, AtRoot, AtLeaf, DataAnswer, Heard, Node, kept, Effect, after}
+use Rattle.tree_model.specs.Nodes.{Version, Place, AtRoot, AtLeaf, DataAnswer, Heard, Node, kept, Effect, after}
 use Rattle.tree_model.specs.Memory.{Open, Asked, memory_of, next_txn, next_ticket, active_ticket, ticket_of_child}
 use Rattle.tree_model.specs.Standings.{some_case, coordinator_view, manager_view, mark_of, Unmarked}
 use Rattle.tree_model.specs.CoordinatorRows.{Seat, Row, ByAct, active_commit, active_abort, active_join, active_work, collecting_abort, on_joined, on_vote, on_ack, on_inquiry}
@@ -36,9 +36,9 @@ use Rattle.tree_model.specs.Reactions.{row_effect, leaf_effect, leaf_of, leaf_jo
 abbrev pub leaf_place : ProcessId → ProcessId → List TreeEntry → Place
 leaf_place me p tree = record { me = me; role = AtLeaf p; tree = tree }
 
--- the message with this number, with what a manager's data answer to it
-abbrev pub hears_message : ℕ → Message → DataAnswer → Heard
-hears_message k m a = record { input = MessageInput k m; data_answer = a; version = First }
+-- the message with this number, with what a manager's data answer to it, by this version
+abbrev pub hears_message : Version → ℕ → Message → DataAnswer → Heard
+hears_message ver k m a = record { input = MessageInput k m; data_answer = a; version = ver }
 
 -- the view of a case after a message about the case d, and of d itself the row's
 pub record MovesBranch (place : Place) (n : Node) (h : Heard) (d : Case) (row : LeafRow) : Type 0 where
@@ -46,9 +46,9 @@ pub record MovesBranch (place : Place) (n : Node) (h : Heard) (d : Case) (row : 
   pub others : (c : Case) → same_case d c ≡ false
       → manager_view place (after n h (leaf_effect row)) c ≡ manager_view place n c
 
--- an act, with what a manager's data answer to it
-abbrev pub hears_act : Act → DataAnswer → Heard
-hears_act x a = record { input = ActInput x; data_answer = a; version = First }
+-- an act, with what a manager's data answer to it, by this version
+abbrev pub hears_act : Version → Act → DataAnswer → Heard
+hears_act ver x a = record { input = ActInput x; data_answer = a; version = ver }
 
 -- the fresh ticket's case
 abbrev pub fresh_case : Place → Node → Case → Case
@@ -74,29 +74,29 @@ pub record JoinsBranch (place : Place) (p : ProcessId) (n : Node) (h : Heard) (d
       → manager_view place (after n h (leaf_joins place p n d (memory_of place n d) starts None)) c
       ≡ manager_view place n c
 
--- the rows of a manager
-pub record ManagerViews (me p : ProcessId) (tree : List TreeEntry) (n : Node) (d : Case) : Type 0 where
+-- the rows of a manager, by this version
+pub record ManagerViews (ver : Version) (me p : ProcessId) (tree : List TreeEntry) (n : Node) (d : Case) : Type 0 where
   pub work : (k i : ℕ) (op : Op) (a : DataAnswer) → let place = leaf_place me p tree in let v =
       manager_view place n d in
-      MovesBranch place n (hears_message k (Work d i op) a) d (leaf.on_work i a.does v v.standing)
+      MovesBranch place n (hears_message ver k (Work d i op) a) d (leaf.on_work i a.does v v.standing)
   pub prepare : (k i : ℕ) (a : DataAnswer) → let place = leaf_place me p tree in let v =
       manager_view place n d in
-      MovesBranch place n (hears_message k (Prepare d i) a) d
+      MovesBranch place n (hears_message ver k (Prepare d i) a) d
       (leaf.on_prepare (leaf_of place p d) i a.holding v v.standing)
   pub commit : (k : ℕ) (a : DataAnswer) (rs : List Record) → let place = leaf_place me p tree in let v =
       manager_view place n d in
-      MovesBranch place n (hears_message k (Commit d) a) d (leaf.on_commit First (leaf_of place p d) rs v v.standing)
+      MovesBranch place n (hears_message ver k (Commit d) a) d (leaf.on_commit ver (leaf_of place p d) rs v v.standing)
   pub abort : (k : ℕ) (a : DataAnswer) (rs : List Record) → let place = leaf_place me p tree in let v =
       manager_view place n d in
-      MovesBranch place n (hears_message k (Abort d) a) d (leaf.on_abort First (leaf_of place p d) rs v v.standing)
+      MovesBranch place n (hears_message ver k (Abort d) a) d (leaf.on_abort ver (leaf_of place p d) rs v v.standing)
   pub join : (k : ℕ) (a : DataAnswer) → JoinsBranch (leaf_place me p tree) p n
-      (hears_message k (Join d) a) d a.starts
+      (hears_message ver k (Join d) a) d a.starts
   pub ask : (a : DataAnswer) → let place = leaf_place me p tree in let v = manager_view place n d in
-      MovesBranch place n (hears_act (Ask d) a) d (untold_ask (leaf_of place p d) v)
+      MovesBranch place n (hears_act ver (Ask d) a) d (untold_ask (leaf_of place p d) v)
   pub decide : (o : Outcome) (a : DataAnswer) → let place = leaf_place me p tree in
-      MovesBranch place n (hears_act (Decide d o) a) d (prepared_decide (leaf_of place p d) o)
+      MovesBranch place n (hears_act ver (Decide d o) a) d (prepared_decide (leaf_of place p d) o)
   pub forget : (a : DataAnswer) → let place = leaf_place me p tree in
-      MovesBranch place n (hears_act (Forget d) a) d (heuristic_forget (leaf_of place p d))
+      MovesBranch place n (hears_act ver (Forget d) a) d (heuristic_forget (leaf_of place p d))
 
 -- The root.
 
@@ -158,6 +158,7 @@ pub record BeginsTxn (place : Place) (n : Node) (h : Heard) (e : Effect) (x : Tx
         promised = [];
         named = [];
         owed = [];
+        found = [];
       }
   pub others : (y : Txn) → same_txn x y ≡ false
       → coordinator_view place (after n h e) (root_case y) ≡ coordinator_view place n (root_case y)
@@ -175,43 +176,43 @@ begin_effect x = record {
 }
 
 -- a transaction that begins
-abbrev pub RootBegins : ProcessId → List TreeEntry → Node → Presumption → DataAnswer → Type 0
-RootBegins me tree n p a =
+abbrev pub RootBegins : Version → ProcessId → List TreeEntry → Node → Presumption → DataAnswer → Type 0
+RootBegins ver me tree n p a =
     let place = root_place me tree in
     let x = next_begun place n p in
-    BeginsTxn place n (hears_act (Begin p) a) (begin_effect x) x
+    BeginsTxn place n (hears_act ver (Begin p) a) (begin_effect x) x
 
--- the rows of the root
-pub record RootViews (me : ProcessId) (tree : List TreeEntry) (n : Node) (x : Txn) : Type 0 where
+-- the rows of the root, by this version
+pub record RootViews (ver : Version) (me : ProcessId) (tree : List TreeEntry) (n : Node) (x : Txn) : Type 0 where
   pub commit : (a : DataAnswer) → let place = root_place me tree in let c = root_case x in let v =
       coordinator_view place n c in
-      v.standing ≡ Active → MovesTxn place n (hears_act (CommitAct x) a) x (active_commit (root_seat me c) v)
+      v.standing ≡ Active → MovesTxn place n (hears_act ver (CommitAct x) a) x (active_commit (root_seat me c) v)
   pub abort_active : (a : DataAnswer) → let place = root_place me tree in let c = root_case x in let v =
       coordinator_view place n c in
-      v.standing ≡ Active → MovesTxn place n (hears_act (AbortAct x) a) x (active_abort (root_seat me c) v)
+      v.standing ≡ Active → MovesTxn place n (hears_act ver (AbortAct x) a) x (active_abort (root_seat me c) v)
   pub abort_collecting : (a : DataAnswer) → let place = root_place me tree in let c = root_case x in let v =
       coordinator_view place n c in
       IsOpenAlike place n c → v.standing ≡ Collecting
-      → MovesTxn place n (hears_act (AbortAct x) a) x (collecting_abort (root_seat me c) ByAct v)
+      → MovesTxn place n (hears_act ver (AbortAct x) a) x (collecting_abort (root_seat me c) ByAct v)
   pub join : (a : DataAnswer) (q : ProcessId) → let place = root_place me tree in let c = root_case x in
       let v = coordinator_view place n c in
-      MovesTxn place n (hears_act (JoinAct c q) a) x (active_join (root_seat me c) q v)
+      MovesTxn place n (hears_act ver (JoinAct c q) a) x (active_join (root_seat me c) q v)
   pub work : (a : DataAnswer) (q : ProcessId) (t : Ticket) (op : Op) → let place = root_place me tree in
       let c = root_case x in let v = coordinator_view place n c in
       v.standing ≡ Active → ticket_of_child v.accepted q ≡ Some t
-      → MovesTxn place n (hears_act (WorkAct c q op) a) x (active_work (root_seat me c) t op v)
+      → MovesTxn place n (hears_act ver (WorkAct c q op) a) x (active_work (root_seat me c) t op v)
   pub joined : (k : ℕ) (a : DataAnswer) (t : Ticket) → let place = root_place me tree in let c =
       root_case x in let v = coordinator_view place n c in
-      IsOpenAlike place n c → MovesTxn place n (hears_message k (Joined c t) a) x (on_joined t v v.standing)
+      IsOpenAlike place n c → MovesTxn place n (hears_message ver k (Joined c t) a) x (on_joined t v v.standing)
   pub vote : (k : ℕ) (a : DataAnswer) (t : Ticket) (w : Vote) → let place = root_place me tree in let c =
       root_case x in let v = coordinator_view place n c in
-      IsOpenAlike place n c → MovesTxn place n (hears_message k (vote_message w (child_case x t)) a) x
+      IsOpenAlike place n c → MovesTxn place n (hears_message ver k (vote_message w (child_case x t)) a) x
       (on_vote (root_seat me c) t w v v.standing)
-  pub acknowledgement : (k : ℕ) (a : DataAnswer) (t : Ticket) (o : Outcome) (fs gs : List Finding) → let place =
+  pub acknowledgement : (k : ℕ) (a : DataAnswer) (t : Ticket) (o : Outcome) (fs : List Finding) → let place =
       root_place me tree in let c = root_case x in let v = coordinator_view place n c in
-      IsOpenAlike place n c → MovesTxn place n (hears_message k (Ack (child_case x t) o fs) a) x
-      (on_ack First (root_seat me c) t o gs v v.standing)
+      IsOpenAlike place n c → MovesTxn place n (hears_message ver k (Ack (child_case x t) o fs) a) x
+      (on_ack ver (root_seat me c) t o (v.found ++ fs) v v.standing)
   pub inquiry : (k : ℕ) (a : DataAnswer) (t : Ticket) → let place = root_place me tree in let c =
       root_case x in let v = coordinator_view place n c in
-      MovesTxn place n (hears_message k (Inquire (child_case x t)) a) x
+      MovesTxn place n (hears_message ver k (Inquire (child_case x t)) a) x
       (on_inquiry (root_seat me c) t v v.standing)

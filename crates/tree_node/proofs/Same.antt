@@ -18,6 +18,7 @@ same_core s =
         views = λ c.
             same_view (s.view_of c);
         branches = λ c. refl;
+        decided = λ c. refl;
       };
     }
 

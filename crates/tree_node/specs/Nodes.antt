@@ -1,17 +1,20 @@
 -- One process of a tree, of either kind, as the definitions see it.
-use Rattle.std.specs.Prelude.{◌≢◌, ℕ, List}
+use Rattle.std.specs.Prelude.{◌≡◌, ◌≢◌, ℕ, true, List}
 use Rattle.live_table.specs.Tables.{live_count}
 use Rattle.tree_model.specs.declared.names.Kind.{Kind}
 use Rattle.tree_model.specs.declared.names.Kind.TheVariants.{Coordinator as CoordinatorKind, Manager as ManagerKind}
 use Rattle.tree_model.specs.declared.events.Input.{Input}
+use Rattle.tree_model.specs.declared.records.LogRecord.{LogRecord}
 use Rattle.tree_model.specs.declared.events.StepError.{StepError}
 use Rattle.tree_model.specs.declared.events.StepError.TheVariants.{Device}
 use Rattle.tree_model.specs.Nodes.{DataAnswer, Role, AtLeaf}
 use Rattle.rec_log.specs.Sights.{ReadsAs, records_of}
 use Rattle.core_model.specs.States.{CoreState}
 use Rattle.core_model.specs.Makes.{NotMade}
+use Rattle.core_law.specs.Steps.{IsSoundLog}
 use Rattle.coord_core.specs.States as coordinators
 use Rattle.kv_manager.specs.Resources.{sight_of}
+use Rattle.kv_manager.specs.Sights.{are_ordered}
 use Rattle.manager_model.specs.Data.{ManagerData, Rests, no_data}
 use Rattle.manager_model.specs.Sights.{manager_data}
 use Rattle.sub_core.specs.Steps as managers
@@ -41,6 +44,16 @@ log_kind _ = CoordinatorKind
 -- the bytes read as the log of this process
 abbrev pub SpellsLog : CoreState → List ℕ → Type 0
 SpellsLog s text = ReadsAs (log_kind s.place.role) text (records_of s.log.kept) s.log.failed
+
+-- the records of a manager may follow one another; that a coordinator's may is a law of every run
+abbrev pub FollowAt : Role → List LogRecord → Type 0
+FollowAt (AtLeaf p) ls = are_ordered ls ≡ true
+FollowAt _ ls = Unit {0}
+
+-- each record of the process can stand in its log, and a manager's may follow one another
+pub record LogStands (s : CoreState) : Type 0 where
+  pub sound : IsSoundLog s
+  pub follow : FollowAt s.place.role (records_of s.log.kept)
 
 -- an error but the device's leaves data as they were
 abbrev pub KeepsData : ManagerData → ManagerData → StepError → Type 0

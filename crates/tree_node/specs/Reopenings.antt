@@ -1,5 +1,5 @@
 -- A process that goes on over the log that an earlier one left, and why none did.
-use Rattle.std.specs.Prelude.{◌≡◌, ⊤, ◌⊎◌, ℕ, Option, Some, None, List}
+use Rattle.std.specs.Prelude.{◌≡◌, ⊤, ◌⊎◌, ℕ, Option, Some, List}
 use Rattle.tree_model.specs.declared.names.Kind.{Kind}
 use Rattle.tree_model.specs.declared.names.Kind.TheVariants.{Coordinator, Manager}
 use Rattle.tree_model.specs.declared.names.ProcessId.{ProcessId}

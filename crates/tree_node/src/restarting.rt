@@ -10,7 +10,7 @@ ghost use Rattle.kv_manager.specs.Resources.{sight_of};
 ghost use Rattle.manager_model.specs.Data.{no_data};
 ghost use Rattle.manager_model.specs.Sights.{manager_data};
 ghost use Rattle.sub_core.specs.Steps.{state as manager_state};
-ghost use Rattle.tree_node.specs.Nodes.{KeepsData, core_of, data_of};
+ghost use Rattle.tree_node.specs.Nodes.{FollowAt, KeepsData, LogStands, core_of, data_of};
 ghost use Rattle.tree_node.specs.Restarts.{NoRestart, NoTrim, RestartsNode, TrimsNode};
 
 use crate::node::Node;
@@ -83,6 +83,24 @@ impl<L: LogStore> Node<L> {
             Node::Coordinator(coordinator) => coordinator.records_are_sound(),
             Node::Manager(manager) => manager.manager().records_are_sound(),
         }
+    }
+
+    /// The records of a manager's log may follow one another, as those of each log that a key store writes.
+    fn records_follow(&self)
+        ensures { FollowAt (core_of self.now).place.role (records_of (core_of self.now).log.kept) }
+    {
+        match self {
+            Node::Coordinator(_) => {}
+            Node::Manager(manager) => manager.manager().records_are_ordered(),
+        }
+    }
+
+    /// Each record of its log can stand there, and those of a manager may follow one another. It does nothing.
+    pub fn log_stands(&self)
+        ensures { LogStands (core_of self.now) }
+    {
+        self.records_are_sound();
+        self.records_follow();
     }
 
     /// So many bytes behind the forced front are kept; all, where no number is given.

@@ -24,7 +24,7 @@ use Rattle.tree_model.specs.Reactions.{leaf_of, seat_of}
 use Rattle.tree_model.specs.Outcomes.{sent, is_yes_message}
 use Rattle.tree_model.specs.Restarts.{resumes, resumes_by, coordinator_resumes, manager_resumes, inquires_by, untold_inquiry, recorded_view, recorded_branch}
 use Rattle.tree_pairs.specs.turns.LeafTurns.{LeafTurn, does_nothing, gives_again, gives_fresh, votes_yes, votes_read, votes_no, repeats_yes, refuses, obeys, notes, acknowledges_told, acknowledges, drops, asks, decides, forgets}
-use Rattle.tree_pairs.specs.turns.Written.{IsForCase, IsFromCase, Sends, down, upward, invites, AllSent, Writes, writes_nothing, for_act, for_child, for_parent, presumes, gives}
+use Rattle.tree_pairs.specs.turns.Written.{IsForCase, IsFromCase, Sends, down, upward, invites, AllSent, Writes, writes_nothing, for_act, for_report, for_child, for_parent, presumes, gives}
 use Rattle.tree_nodes.specs.Owns.{is_own_case, GoesToOwner, AllGoToOwners}
 use Rattle.tree_nodes.proofs.Tests.{either}
 use Rattle.tree_nodes.proofs.Memories.{same_self}
@@ -80,6 +80,7 @@ pub written_goes : (place : Place) (parent : Option ProcessId) (n : Node) (i : I
     → Writes place parent n i ws ls → AllGoToOwners ls
 written_goes place parent n i ws ls (writes_nothing e f) = subst AllGoToOwners (sym f) tt
 written_goes place parent n i ws ls (for_act a c e f one sent) = all_go (seat_of place parent c) ls sent
+written_goes place parent n i ws ls (for_report c e f g one h) = subst AllGoToOwners (sym h) tt
 written_goes place parent n i ws ls (for_child c x t e one sent) = all_go (seat_of place parent c) ls sent
 written_goes place parent n i ws ls (for_parent c k m e f one sent) = all_go (seat_of place parent c) ls
     sent

@@ -19,7 +19,7 @@ use Rattle.tree_model.specs.Reactions.{leaf_of}
 use Rattle.tree_model.specs.Restarts.{reopens, stays, staying, data_records, trimmed, left_of, restarted, trims, trim_fails}
 use Rattle.tree_model.specs.World.{Move}
 use Rattle.tree_pairs.specs.turns.LeafTurns.{LeafTurn, does_nothing, gives_again, gives_fresh, votes_yes, votes_read, votes_no, repeats_yes, refuses, obeys, notes, acknowledges_told, acknowledges, drops, asks, decides, forgets}
-use Rattle.tree_pairs.specs.turns.Written.{is_coordinators, AtMostOne, wrote_none, wrote_one, Writes, writes_nothing, for_act, for_child, for_parent, presumes, gives}
+use Rattle.tree_pairs.specs.turns.Written.{is_coordinators, AtMostOne, wrote_none, wrote_one, Writes, writes_nothing, for_act, for_report, for_child, for_parent, presumes, gives}
 use Rattle.tree_pairs.specs.turns.Steps.{StepOf, heard_in, handled, failed_in, passed, failed_passing, reopened, failed_reopening, trimmed as trims_log, failed_trimming, TurnAt}
 use Rattle.tree_pairs.proofs.turns.Operators.{all_none}
 use Rattle.tree_pairs.proofs.turns.Steps.{turn_of}
@@ -117,6 +117,7 @@ writes_none : (place : Place) (parent : Option ProcessId) (n : Node) (i : Input)
     (ls : List Envelope) → Writes place parent n i ws ls → has is_opened (entries_written ws) ≡ false
 writes_none place parent n i ws ls (writes_nothing e f) = nothing_none ws e
 writes_none place parent n i ws ls (for_act a c e f one sent) = one_none c ws one
+writes_none place parent n i ws ls (for_report c e f g one h) = one_none c ws one
 writes_none place parent n i ws ls (for_child c x t e one sent) = one_none c ws one
 writes_none place parent n i ws ls (for_parent c k m e f one sent) = one_none c ws one
 writes_none place parent n i ws ls (presumes x t o e f) = nothing_none ws e

@@ -113,7 +113,8 @@ module _ (me p : ProcessId) (tree : List TreeEntry) (net : List Envelope) (n : N
     turn = coordinator_turn_of place n h e r
 
     written_given : (d : Case) → has (is_record_of d) new ≡ true → IsGiven me net d
-    written_given d f = effect_writes place (Some p) n h (λ c. IsGiven me net c) (known_given up) e turn d f
+    written_given d f =
+        effect_writes place (Some p) n h (λ c. IsGiven me net c) (known_given up) (λ c f g. absurd (cc)) e turn d f
 
     asked_by : (d : Case) → IsToCommit (Some p) h d → IsGiven me net d
         → sent (is_prepare_message d) net ≡ true

@@ -14,7 +14,7 @@ use Rattle.tree_model.specs.declared.messages.Message.TheVariants.{Joined, Prepa
 use Rattle.tree_model.specs.declared.standings.Vote.{Vote}
 use Rattle.tree_model.specs.declared.standings.Vote.TheVariants.{Yes as VoteYes, No as VoteNo, Read as VoteRead}
 use Rattle.tree_model.specs.declared.events.Act.{Act}
-use Rattle.tree_model.specs.declared.events.Act.TheVariants.{Join as JoinAct, Work as WorkAct, Commit as CommitAct, Abort as AbortAct, Ask}
+use Rattle.tree_model.specs.declared.events.Act.TheVariants.{Join as JoinAct, Work as WorkAct, Commit as CommitAct, Abort as AbortAct, Ask, Forget}
 use Rattle.tree_model.specs.declared.events.Input.{Input}
 use Rattle.tree_model.specs.declared.events.Input.TheVariants.{Act as ActInput, Message as MessageInput}
 use Rattle.tree_model.specs.Names.{same_case, same_ticket, root_case, child_case}
@@ -26,7 +26,7 @@ use Rattle.tree_model.specs.Standings.{case_of_child}
 use Rattle.tree_model.specs.CoordinatorRows.{Row, tells_outcome}
 use Rattle.tree_model.specs.Reactions.{row_effect}
 use Rattle.tree_model.specs.Views.{vote_message}
-use Rattle.tree_pairs.specs.turns.CoordinatorTurns.{IsToCommit, commit_act, prepare_comes, IsToAbort, abort_act, abort_comes, HearsChild, HearsParent, Rests, invited_already, takes_nobody, counts_nothing, owes_nothing, knows_nothing, prepares_nothing, commits_nothing, aborts_nothing, CaseTurn, rests, invites, accepts, sends_work, finds_nobody, asks_for_votes, gives_up, counts_vote, reads_only, commits, promises, hears_no, aborts, passes_commit, passes_abort, repeats_yes, asks as asks_parent, refuses, acknowledges, waits_for_acks, ends, answers, ChildSays, votes, acknowledged, inquires}
+use Rattle.tree_pairs.specs.turns.CoordinatorTurns.{IsToCommit, commit_act, prepare_comes, IsToAbort, abort_act, abort_comes, HearsChild, HearsParent, Rests, invited_already, takes_nobody, counts_nothing, owes_nothing, knows_nothing, prepares_nothing, commits_nothing, aborts_nothing, CaseTurn, rests, invites, accepts, sends_work, finds_nobody, asks_for_votes, gives_up, counts_vote, reads_only, commits, promises, hears_no, aborts, passes_commit, passes_abort, repeats_yes, asks as asks_parent, refuses, acknowledges, waits_for_acks, ends, clears, answers, ChildSays, votes, acknowledged, inquires}
 use Rattle.tree_nodes.specs.WorldHolds.{is_record_of}
 use Rattle.tree_nodes.proofs.Remembering.{Opens, Asks, by_commit, by_prepare, Ends, by_act, by_abort, CountedVote, SameLists, Moves, keeps, asks, closes, takes, counts, opens}
 use Rattle.tree_nodes.proofs.RootHistories.{took}
@@ -39,6 +39,7 @@ act_case (AbortAct x) = Some (root_case x)
 act_case (JoinAct c q) = Some c
 act_case (WorkAct c q op) = Some c
 act_case (Ask c) = Some c
+act_case (Forget c) = Some c
 act_case _ = None
 
 abbrev pub message_case : Message → Option Case
@@ -113,6 +114,7 @@ module _ (place : Place) (parent : Option ProcessId) (n : Node) (h : Heard) (d :
   turn_concerns _ (acknowledges o fs i e) = of_parent _ i (told_case o)
   turn_concerns _ (waits_for_acks t o fs i e f a) = of_child _ (acknowledged o fs) t i
   turn_concerns _ (ends t o fs i e f a) = of_child _ (acknowledged o fs) t i
+  turn_concerns _ (clears i e f a) = by_name (ap named_case i)
   turn_concerns _ (answers t o i e) = of_child _ inquires t i
 
   -- and it writes of its case alone
@@ -150,6 +152,7 @@ module _ (place : Place) (parent : Option ProcessId) (n : Node) (h : Heard) (d :
   row_record c _ (acknowledges o fs i e) g = absurd (cc)
   row_record c _ (waits_for_acks t o fs i e f a) g = absurd (cc)
   row_record c _ (ends t o fs i e f a) g = or_nothing _ g
+  row_record c _ (clears i e f a) g = or_nothing _ g
   row_record c _ (answers t o i e) g = absurd (cc)
 
 -- Silence.

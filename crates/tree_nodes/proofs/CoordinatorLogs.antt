@@ -22,7 +22,7 @@ use Rattle.tree_model.specs.Restarts.{recorded_view, restart_abort, aborts_colle
 use Rattle.tree_model.specs.World.{World, Move, Made, IsRun, opens, makes}
 use Rattle.tree_model.proofs.StandingLaws.{phase_unprepared}
 use Rattle.tree_model.proofs.RunLaws.{makes_at}
-use Rattle.tree_pairs.specs.turns.CoordinatorTurns.{CaseTurn, rests, invites, accepts, sends_work, finds_nobody, asks_for_votes, gives_up, counts_vote, reads_only, commits, promises, hears_no, aborts, passes_commit, passes_abort, repeats_yes, asks, refuses, acknowledges, waits_for_acks, ends, answers, CoordinatorTurn, does_nothing, of_case, begins, gives_again, gives_fresh, presumes}
+use Rattle.tree_pairs.specs.turns.CoordinatorTurns.{CaseTurn, rests, invites, accepts, sends_work, finds_nobody, asks_for_votes, gives_up, counts_vote, reads_only, commits, promises, hears_no, aborts, passes_commit, passes_abort, repeats_yes, asks, refuses, acknowledges, waits_for_acks, ends, clears, answers, CoordinatorTurn, does_nothing, of_case, begins, gives_again, gives_fresh, presumes}
 use Rattle.tree_pairs.specs.turns.Steps.{StepOf, heard_in, handled, failed_in, passed, failed_passing, reopened, failed_reopening, trimmed as trims_log, failed_trimming}
 use Rattle.tree_pairs.proofs.turns.Steps.{step_of}
 use Rattle.tree_pairs.proofs.turns.CoordinatorReactions.{CoordinatorTurnAt, coordinator_turn_of}
@@ -158,6 +158,7 @@ module _ (place : Place) (parent : Option ProcessId) (n : Node) (h : Heard) (c :
   fits_turn a _ (refuses j i e) = tt
   fits_turn a _ (acknowledges o fs i e) = tt
   fits_turn a _ (waits_for_acks t o fs i e f g) = tt
+  fits_turn a _ (clears i e f g) = (tt, tt)
   fits_turn a _ (answers t o i e) = tt
 
 pub fits_effect : (place : Place) (parent : Option ProcessId) (n : Node) (h : Heard) (e : Effect)

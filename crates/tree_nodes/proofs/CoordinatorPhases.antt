@@ -11,7 +11,7 @@ use Rattle.tree_model.specs.declared.standings.Standing.{Standing}
 use Rattle.tree_model.specs.declared.standings.Standing.TheVariants.{Active, Collecting, Prepared}
 use Rattle.tree_model.specs.declared.standings.Vote.{Vote}
 use Rattle.tree_model.specs.declared.standings.Vote.TheVariants.{Yes as VoteYes, No as VoteNo, Read as VoteRead}
-use Rattle.tree_model.specs.declared.events.Act.TheVariants.{Join as JoinAct, Work as WorkAct, Ask}
+use Rattle.tree_model.specs.declared.events.Act.TheVariants.{Join as JoinAct, Work as WorkAct, Ask, Forget}
 use Rattle.tree_model.specs.declared.events.Input.{Input}
 use Rattle.tree_model.specs.declared.events.Input.TheVariants.{Act as ActInput, Message as MessageInput}
 use Rattle.tree_model.specs.declared.trees.TreeEntry.{TreeEntry}
@@ -118,6 +118,10 @@ module _ (me : ProcessId) (boot : ℕ) (c : Case) (m : Memory) where
   at_ask : (parent : Option ProcessId) (d : Case) → After parent (ActInput (Ask d)) ≡ m
   at_ask None d = refl
   at_ask (Some p) d = refl
+
+  at_forget : (parent : Option ProcessId) (d : Case) → After parent (ActInput (Forget d)) ≡ m
+  at_forget None d = refl
+  at_forget (Some p) d = refl
 
   at_inquiry : (parent : Option ProcessId) (k : ℕ) (d : Case) → After parent (MessageInput k (Inquire d)) ≡ m
   at_inquiry None k d = refl
@@ -322,6 +326,9 @@ module _ (me : ProcessId) (parent : Option ProcessId) (tree : List TreeEntry) (n
 
   pub ask_left : (d : Case) → h.input ≡ ActInput (Ask d) → now ≡ m.phase
   ask_left d i = by_input _ m i (at_ask me (boot_of (kept n)) c m parent d)
+
+  pub forget_left : (d : Case) → h.input ≡ ActInput (Forget d) → now ≡ m.phase
+  forget_left d i = by_input _ m i (at_forget me (boot_of (kept n)) c m parent d)
 
   pub work_left : (d : Case) (q : ProcessId) (op : Op) → h.input ≡ ActInput (WorkAct d q op) → now ≡ m.phase
   work_left d q op i =

@@ -9,7 +9,7 @@ use Rattle.tree_model.specs.declared.names.Outcome.{Outcome}
 use Rattle.tree_model.specs.declared.names.Presumption.{Presumption}
 use Rattle.tree_model.specs.declared.names.Presumption.TheVariants.{PresumeAbort, PresumeCommit}
 use Rattle.tree_model.specs.declared.records.Record.{Record}
-use Rattle.tree_model.specs.declared.records.Record.TheVariants.{Collecting as CollectingRecord, Prepare as PrepareRecord, Commit as CommitRecord, Abort as AbortRecord, End as EndRecord}
+use Rattle.tree_model.specs.declared.records.Record.TheVariants.{Collecting as CollectingRecord, Prepare as PrepareRecord, Commit as CommitRecord, Abort as AbortRecord, End as EndRecord, Cleared as ClearedRecord}
 use Rattle.tree_model.specs.declared.standings.Standing.{Standing}
 use Rattle.tree_model.specs.declared.standings.Standing.TheVariants.{Unknown, Active, Collecting, Prepared, Committing, Aborting}
 use Rattle.tree_model.specs.declared.standings.Vote.{Vote}
@@ -23,11 +23,12 @@ use Rattle.tree_model.specs.Memory.{Memory, Phase, Idle, Open, Asked, Over, memo
 use Rattle.tree_model.specs.Standings.{CoordinatorView, coordinator_view, phase_standing}
 use Rattle.tree_model.specs.CoordinatorRows.{Reason, Row, tells_outcome}
 use Rattle.tree_model.proofs.StandingLaws.{active_facts, phase_active}
-use Rattle.tree_pairs.specs.turns.CoordinatorTurns.{IsToCommit, IsToAbort, HearsParent, Acknowledges, commit_presumed_abort, commit_again, abort_presumed_commit, abort_again, Refuses, unknown_refuses, aborting_refuses, Decided, by_commit, by_abort, voted, Consents, votes_yes, votes_read, CountsVote, Rests, invited_already, takes_nobody, counts_nothing, owes_nothing, knows_nothing, prepares_nothing, commits_nothing, aborts_nothing, CaseTurn, rests, invites, accepts, sends_work, finds_nobody, asks_for_votes, gives_up, counts_vote, reads_only, commits, promises, hears_no, aborts, passes_commit, passes_abort, repeats_yes, asks, refuses, acknowledges, waits_for_acks, ends, answers}
+use Rattle.tree_pairs.specs.turns.CoordinatorTurns.{IsToCommit, IsToAbort, HearsParent, Acknowledges, commit_presumed_abort, commit_again, abort_presumed_commit, abort_again, Refuses, unknown_refuses, aborting_refuses, Decided, by_commit, by_abort, voted, Consents, votes_yes, votes_read, CountsVote, Rests, invited_already, takes_nobody, counts_nothing, owes_nothing, knows_nothing, prepares_nothing, commits_nothing, aborts_nothing, CaseTurn, rests, invites, accepts, sends_work, finds_nobody, asks_for_votes, gives_up, counts_vote, reads_only, commits, promises, hears_no, aborts, passes_commit, passes_abort, repeats_yes, asks, refuses, acknowledges, waits_for_acks, ends, clears, answers}
 use Rattle.tree_nodes.proofs.Cases.{viewed}
-use Rattle.tree_nodes.proofs.Phases.{standing_at, Together, open_ends, open_asks, asked_ends, open_collects, Closed, ends_together, commits_together, aborts_together, prepares_together}
-use Rattle.tree_nodes.proofs.CoordinatorPhases.{then_remembers, stands, active_accepted, collecting_accepted, collecting_votes, commit_phase, abort_phase, prepare_left, abort_left, commit_left, uncounted, vote_phase, ack_left, joined_left, inquiry_left, join_left, ask_left, work_left}
+use Rattle.tree_nodes.proofs.Phases.{standing_at, Together, open_ends, open_asks, asked_ends, open_collects, Closed, ends_together, clears_together, commits_together, aborts_together, prepares_together}
+use Rattle.tree_nodes.proofs.CoordinatorPhases.{then_remembers, stands, active_accepted, collecting_accepted, collecting_votes, commit_phase, abort_phase, prepare_left, abort_left, commit_left, uncounted, vote_phase, ack_left, joined_left, inquiry_left, join_left, ask_left, forget_left, work_left}
 use Rattle.tree_nodes.proofs.Remembering.{coordinator_place}
+use Rattle.tree_nodes.proofs.Reported.{reported_end}
 use Rattle.tree_model.specs.declared.messages.Finding.{Finding}
 
 over_closed : (Over ≡ Open → ⊥) × (Over ≡ Asked → ⊥)
@@ -253,4 +254,8 @@ module _ (me : ProcessId) (parent : Option ProcessId) (tree : List TreeEntry) (n
       own_together _ (ends t o fs i e f g) =
           wrote (EndRecord c _) m.phase (ack_left me parent tree n h c t o fs i.txn i.hears.0 i.hears.1)
           (ends_together (kept n) c _ m.phase (decided_closed o v.standing e refl))
+      own_together _ (clears i e f g) =
+          wrote (ClearedRecord c) m.phase (forget_left me parent tree n h c c i)
+          (clears_together (kept n) c (reported_end (kept n) c g) m.phase
+          (closed_at Unknown e (λ k. cc) (λ k. cc)))
       own_together _ (answers t o i e) = left (inquiry_left me parent tree n h c t i.txn i.hears.0 i.hears.1)

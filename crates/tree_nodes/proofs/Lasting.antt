@@ -14,7 +14,7 @@ use Rattle.tree_model.specs.Nodes.{Role, AtRoot, Below, AtLeaf, Place, Node, Hea
 use Rattle.tree_model.specs.Standings.{Unmarked}
 use Rattle.tree_model.specs.Restarts.{reopens, trim_fails}
 use Rattle.tree_model.specs.World.{Move}
-use Rattle.tree_pairs.specs.turns.Written.{is_coordinators, AtMostOne, wrote_none, wrote_one, Writes, writes_nothing, for_act, for_child, for_parent, presumes, gives}
+use Rattle.tree_pairs.specs.turns.Written.{is_coordinators, AtMostOne, wrote_none, wrote_one, Writes, writes_nothing, for_act, for_report, for_child, for_parent, presumes, gives}
 use Rattle.tree_pairs.specs.turns.Steps.{StepOf, heard_in, handled, failed_in, passed, failed_passing, reopened, failed_reopening, trimmed as trims_log, failed_trimming, TurnAt, TurnOf}
 use Rattle.tree_pairs.proofs.turns.Steps.{turn_of}
 use Rattle.tree_pairs.proofs.turns.Operators.{reopens_none}
@@ -45,6 +45,7 @@ writes_fine : (place : Place) (parent : Option ProcessId) (n : Node) (i : Input)
 writes_fine place parent n i ws ls (writes_nothing e f) = ap (λ x. has is_managers (entries_written x)) e ∙
     has-nil is_managers
 writes_fine place parent n i ws ls (for_act a c e f one sent) = one_fine c ws one
+writes_fine place parent n i ws ls (for_report c e f g one h) = one_fine c ws one
 writes_fine place parent n i ws ls (for_child c x t e one sent) = one_fine c ws one
 writes_fine place parent n i ws ls (for_parent c k m e f one sent) = one_fine c ws one
 writes_fine place parent n i ws ls (presumes x t o e f) = ap (λ y. has is_managers (entries_written y)) e ∙

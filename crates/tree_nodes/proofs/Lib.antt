@@ -42,6 +42,7 @@ pub mod CoordinatorLogs
 pub mod CaseFronts
 pub mod RootJoined
 pub mod RootAwake
+pub mod Reported
 pub mod RowWrites
 pub mod RootTraces
 pub mod RootBegun

@@ -23,7 +23,7 @@ use Rattle.tree_model.specs.CoordinatorRows.{Row}
 use Rattle.tree_model.specs.Outcomes.{has_accepted}
 use Rattle.tree_model.specs.Restarts.{recorded_view, restart_abort, aborts_collecting, reopens}
 use Rattle.tree_model.proofs.StandingLaws.{view_standing}
-use Rattle.tree_pairs.specs.turns.CoordinatorTurns.{CaseTurn, rests, invites, accepts, sends_work, finds_nobody, asks_for_votes, gives_up, counts_vote, reads_only, commits, promises, hears_no, aborts, passes_commit, passes_abort, repeats_yes, asks, refuses, acknowledges, waits_for_acks, ends, answers, CoordinatorTurn, does_nothing, of_case, begins, gives_again, gives_fresh, presumes}
+use Rattle.tree_pairs.specs.turns.CoordinatorTurns.{CaseTurn, rests, invites, accepts, sends_work, finds_nobody, asks_for_votes, gives_up, counts_vote, reads_only, commits, promises, hears_no, aborts, passes_commit, passes_abort, repeats_yes, asks, refuses, acknowledges, waits_for_acks, ends, clears, answers, CoordinatorTurn, does_nothing, of_case, begins, gives_again, gives_fresh, presumes}
 use Rattle.tree_nodes.specs.WorldHolds.{is_naming}
 use Rattle.tree_nodes.proofs.Tests.{either, left, right, both, has-cons, in_either, case_is}
 use Rattle.tree_nodes.proofs.CoordinatorPhases.{active_accepted, collecting_accepted, prepared_promised}
@@ -205,6 +205,7 @@ module _ (me : ProcessId) (parent : Option ProcessId) (tree : List TreeEntry) (n
     row_names d _ (acknowledges o fs i e) k = absurd (cc)
     row_names d _ (waits_for_acks u o fs i e f g) k = absurd (cc)
     row_names d _ (ends u o fs i e f g) k = absurd (cc)
+    row_names d _ (clears i e f a) k = absurd (cc)
     row_names d _ (answers u o i e) k = absurd (cc)
 
     pub effect_names : (e : Effect) → CoordinatorTurn (coordinator_place me parent tree) parent n h e

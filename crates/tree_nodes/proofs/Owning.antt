@@ -17,7 +17,7 @@ use Rattle.tree_model.specs.Nodes.{Below, Place, Node, kept, Written, entries_wr
 use Rattle.tree_model.specs.Standings.{CoordinatorView}
 use Rattle.tree_model.specs.Restarts.{reopens, aborts_collecting, restart_abort, recorded_view}
 use Rattle.tree_model.specs.World.{IsSent, InputStands}
-use Rattle.tree_pairs.specs.turns.Written.{AtMostOne, wrote_none, wrote_one, IsForCase, Writes, writes_nothing, for_act, for_child, for_parent, presumes, gives}
+use Rattle.tree_pairs.specs.turns.Written.{AtMostOne, wrote_none, wrote_one, IsForCase, Writes, writes_nothing, for_act, for_report, for_child, for_parent, presumes, gives}
 use Rattle.tree_nodes.specs.Owns.{is_own_case, is_foreign, is_foreign_case, AllOwn, GoesToOwner, AllGoToOwners}
 use Rattle.tree_nodes.proofs.Tests.{neither, has-cons, has-nil, in_none}
 use Rattle.tree_nodes.proofs.Cases.{own_cases_in, child_of_own, known_is_own}
@@ -75,6 +75,7 @@ module _ (place : Place) (p : ProcessId) (role : place.role ≡ Below p) (n : No
         has-nil (is_foreign place.me)
     own_written i ws ls s (for_act a c e known one sent) = own_one place.me c ws
         (known_is_own place p role n none c known) one
+    own_written i ws ls s (for_report c e f g one h) = absurd (cc)
     own_written i ws ls s (for_child c x t e one sent) = own_one place.me c ws
         (child_of_own place p role n none x t c e) one
     own_written i ws ls s (for_parent c k m e f one sent) =

@@ -5,7 +5,7 @@ use Rattle.tree_model.specs.declared.names.Ticket.{Ticket}
 use Rattle.tree_model.specs.declared.names.Presumption.{Presumption}
 use Rattle.tree_model.specs.declared.names.Presumption.TheVariants.{PresumeAbort, PresumeCommit}
 use Rattle.tree_model.specs.declared.records.Record.{Record}
-use Rattle.tree_model.specs.declared.records.Record.TheVariants.{Collecting as CollectingRecord, Prepare as PrepareRecord, Commit as CommitRecord, Abort as AbortRecord, End as EndRecord}
+use Rattle.tree_model.specs.declared.records.Record.TheVariants.{Collecting as CollectingRecord, Prepare as PrepareRecord, Commit as CommitRecord, Abort as AbortRecord, End as EndRecord, Cleared as ClearedRecord}
 use Rattle.tree_model.specs.declared.standings.Standing.{Standing}
 use Rattle.tree_model.specs.declared.standings.Standing.TheVariants.{Unknown, Active, Collecting}
 use Rattle.tree_model.specs.NameLaws.{same_case-refl}
@@ -172,6 +172,15 @@ module _ (rs : List Record) (c : Case) where
       (λ e. not_both (is_end c) (has (is_end c) (rs ++ EndRecord c rep ∷ []))
       (found (is_end c) rs (EndRecord c rep) (same_case-refl c))
       (collecting_undecided (rs ++ EndRecord c rep ∷ []) c ph e).no_end)
+
+  -- that a report was seen to, of a case that ended
+  pub clears_together : has (is_end c) rs ≡ true → (ph : Phase) → Closed ph
+      → Together (rs ++ ClearedRecord c ∷ []) c ph
+  clears_together ended ph k =
+      over_together ph (standing_at (rs ++ ClearedRecord c ∷ []) c ph) k.0 k.1
+      (λ e. not_both (is_end c) (has (is_end c) (rs ++ ClearedRecord c ∷ []))
+      (not_found (is_end c) rs (ClearedRecord c) refl ∙ ended)
+      (collecting_undecided (rs ++ ClearedRecord c ∷ []) c ph e).no_end)
 
   pub commits_together : (ts : List Ticket) (ph : Phase) → Closed ph
       → Together (rs ++ CommitRecord c ts ∷ []) c ph

@@ -30,7 +30,7 @@ use Rattle.tree_model.specs.Outcomes.{sent, is_yes_message}
 use Rattle.tree_model.specs.Restarts.{is_open, resumes, resumes_by, coordinator_resumes, manager_resumes, inquires_by, untold_inquiry, recorded_view, recorded_branch}
 use Rattle.tree_model.specs.World.{InputStands}
 use Rattle.tree_pairs.specs.turns.LeafTurns.{LeafTurn, Hears, mark_at, IsOpenBranch, waits, by_operator, IsDecided, untold, told, does_nothing, gives_again, gives_fresh, votes_yes, votes_read, votes_no, repeats_yes, refuses, obeys, notes, acknowledges_told, acknowledges, drops, asks, decides, forgets}
-use Rattle.tree_pairs.specs.turns.Written.{Writes, AllSent, writes_nothing, for_act, for_child, for_parent, presumes, gives}
+use Rattle.tree_pairs.specs.turns.Written.{Writes, AllSent, writes_nothing, for_act, for_report, for_child, for_parent, presumes, gives}
 use Rattle.tree_nodes.specs.Marks.{is_branch_record, may_follow, in_order_from}
 use Rattle.tree_nodes.specs.Lasts.{logs_of, Manages}
 use Rattle.tree_nodes.specs.Owns.{is_own_case, is_foreign, AllGoToOwners}
@@ -196,6 +196,7 @@ pub root_yes : {A : Type 0} (place : Place) (n : Node) (i : Input) (ws : List Wr
 root_yes place n i ws ls (writes_nothing e f) c g = none_said c ls f g
 root_yes place n i ws ls (for_act a d e f one all) c g = no_parent (seat_of place None d) c refl
     (any_yes (seat_of place None d) c ls all g)
+root_yes place n i ws ls (for_report d e f k one h) c g = none_said c ls h g
 root_yes place n i ws ls (for_child d x t e one all) c g = no_parent (seat_of place None d) c refl
     (any_yes (seat_of place None d) c ls all g)
 root_yes place n i ws ls (for_parent d k m e f one all) c g =
@@ -219,6 +220,7 @@ module _ (place : Place) (p : ProcessId) (role : place.role ≡ Below p) (n : No
     cascaded_yes i ws ls s (writes_nothing e f) c g = none_said c ls f g
     cascaded_yes i ws ls s (for_act a d e known one all) c g = own_yes d c ls
         (known_is_own place p role n none d known) all g
+    cascaded_yes i ws ls s (for_report d e f k one h) c g = none_said c ls h g
     cascaded_yes i ws ls s (for_child d x t e one all) c g = own_yes d c ls
         (child_of_own place p role n none x t d e) all g
     cascaded_yes i ws ls s (for_parent d k m e f one all) c g =

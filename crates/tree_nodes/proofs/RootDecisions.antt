@@ -13,7 +13,7 @@ use Rattle.tree_model.specs.Standings.{coordinator_view}
 use Rattle.tree_model.specs.CoordinatorRows.{Reason, Row}
 use Rattle.tree_model.specs.Outcomes.{is_told_aborted}
 use Rattle.tree_model.specs.Reactions.{row_effect}
-use Rattle.tree_pairs.specs.turns.CoordinatorTurns.{IsToAbort, CaseTurn, rests, invites, accepts, sends_work, finds_nobody, asks_for_votes, gives_up, counts_vote, reads_only, commits, promises, hears_no, aborts, passes_commit, passes_abort, repeats_yes, asks, refuses, acknowledges, waits_for_acks, ends, answers, CoordinatorTurn, does_nothing, of_case, begins, gives_again, gives_fresh, presumes}
+use Rattle.tree_pairs.specs.turns.CoordinatorTurns.{IsToAbort, CaseTurn, rests, invites, accepts, sends_work, finds_nobody, asks_for_votes, gives_up, counts_vote, reads_only, commits, promises, hears_no, aborts, passes_commit, passes_abort, repeats_yes, asks, refuses, acknowledges, waits_for_acks, ends, clears, answers, CoordinatorTurn, does_nothing, of_case, begins, gives_again, gives_fresh, presumes}
 use Rattle.tree_nodes.proofs.Tests.{case_is}
 
 -- the effect writes a Commit, or an Abort, of the case, or tells `aborted` of the transaction
@@ -99,6 +99,7 @@ module _ (place : Place) (n : Node) (h : Heard) where
   row_decides c _ (acknowledges o fs i e) = absurd (let x = i.is_parent in cc)
   row_decides c _ (waits_for_acks t o fs i e f a) = nothing (λ d. refl) (λ d. refl) (λ x. refl)
   row_decides c _ (ends t o fs i e f a) = nothing (λ d. refl) (λ d. refl) (λ x. refl)
+  row_decides c _ (clears i e f a) = nothing (λ d. refl) (λ d. refl) (λ x. refl)
   row_decides c _ (answers t o i e) = nothing (λ d. refl) (λ d. refl) (λ x. refl)
 
   -- What an input that does so found.

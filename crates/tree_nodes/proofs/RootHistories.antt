@@ -17,7 +17,7 @@ use Rattle.tree_model.specs.declared.events.Told.{Told}
 use Rattle.tree_model.specs.declared.trees.TreeEntry.{TreeEntry}
 use Rattle.tree_model.specs.Names.{root_case, same_case, same_txn, same_ticket}
 use Rattle.tree_model.specs.NameLaws.{same_txn_tells}
-use Rattle.tree_model.specs.Records.{has, boot_of}
+use Rattle.tree_model.specs.Records.{has, boot_of, is_reported}
 use Rattle.tree_model.specs.Nodes.{AtRoot, Place, Node, kept, Heard, Effect, entries_written, is_any_forced, after, fails_in, begun_first, told_first}
 use Rattle.tree_model.specs.Standings.{coordinator_view}
 use Rattle.tree_model.specs.CoordinatorRows.{Row}
@@ -25,7 +25,7 @@ use Rattle.tree_model.specs.Reactions.{row_effect, told_of}
 use Rattle.tree_model.specs.Restarts.{is_undecided, reopens, restarted, restart_fails}
 use Rattle.tree_model.specs.Views.{root_place, next_begun}
 use Rattle.tree_pairs.specs.readings.ReadingOf.{is_told_of_txn}
-use Rattle.tree_pairs.specs.turns.CoordinatorTurns.{CaseTurn, rests, invites, accepts, sends_work, finds_nobody, asks_for_votes, gives_up, counts_vote, reads_only, commits, promises, hears_no, aborts, passes_commit, passes_abort, repeats_yes, asks, refuses, acknowledges, waits_for_acks, ends, answers, CoordinatorTurn, does_nothing, of_case, begins, gives_again, gives_fresh, presumes}
+use Rattle.tree_pairs.specs.turns.CoordinatorTurns.{CaseTurn, rests, invites, accepts, sends_work, finds_nobody, asks_for_votes, gives_up, counts_vote, reads_only, commits, promises, hears_no, aborts, passes_commit, passes_abort, repeats_yes, asks, refuses, acknowledges, waits_for_acks, ends, clears, answers, CoordinatorTurn, does_nothing, of_case, begins, gives_again, gives_fresh, presumes}
 use Rattle.tree_nodes.specs.Lasts.{Logs}
 use Rattle.tree_nodes.proofs.RootCases.{IsRoots, InHistory, recorded, accepted, begun, told, found_undecided}
 use Rattle.tree_nodes.specs.WorldHolds.{is_record_of}
@@ -254,6 +254,7 @@ module _ (place : Place) (n : Node) (h : Heard) (A : Case → Type 0)
     row_accepts c d t _ (acknowledges o fs i e) g = absurd (cc)
     row_accepts c d t _ (waits_for_acks u o fs i e f a) g = absurd (cc)
     row_accepts c d t _ (ends u o fs i e f a) g = absurd (cc)
+    row_accepts c d t _ (clears i e f a) g = absurd (cc)
     row_accepts c d t _ (answers u o i e) g = absurd (cc)
 
     abbrev Tells : Txn → Effect → Type 0
@@ -305,6 +306,7 @@ module _ (place : Place) (n : Node) (h : Heard) (A : Case → Type 0)
     row_tells c x _ (acknowledges o fs i e) g = absurd (cc)
     row_tells c x _ (waits_for_acks u o fs i e f a) g = absurd (cc)
     row_tells c x _ (ends u o fs i e f a) g = absurd (cc)
+    row_tells c x _ (clears i e f a) g = absurd (cc)
     row_tells c x _ (answers u o i e) g = absurd (cc)
 
     pub effect_accepts : (e : Effect) → CoordinatorTurn place None n h e → (d : Case) (t : Ticket)
@@ -372,20 +374,22 @@ module _ (me : ProcessId) (tree : List TreeEntry) (n : Node) (h : Heard) where
   pub effect_new : ((c : Case) → (coordinator_view (root_place me tree) n c).standing ≢ Unknown
       → IsRoots me (boot_of (kept n))
       (begun_next (memory_of (root_place me tree) n (some_case (root_place me tree))).begun h.input) c)
+      → ((c : Case) → is_reported (kept n) c ≡ true → IsRoots me (boot_of (kept n))
+      (begun_next (memory_of (root_place me tree) n (some_case (root_place me tree))).begun h.input) c)
       → (e : Effect) → CoordinatorTurn (root_place me tree) None n h e → (c : Case) → NewIn e c
       → IsRoots me (boot_of (kept n))
       (begun_next (memory_of (root_place me tree) n (some_case (root_place me tree))).begun h.input) c
-  effect_new own e t c (writes_of g) =
+  effect_new own reported e t c (writes_of g) =
       let b = boot_of (kept n) in
       roots_case me b next c (entries_written e.written) g
-      (effect_roots (root_place me tree) n h me b next own e t)
-  effect_new own e t c (accepts_into u g) =
+      (effect_roots (root_place me tree) n h me b next own reported e t)
+  effect_new own reported e t c (accepts_into u g) =
       effect_accepts (root_place me tree) n h (IsRoots me (boot_of (kept n)) next) own
       (λ d k. (own d k).no_ticket) e t
       c u g
-  effect_new own e t c (begins_it x i g) =
+  effect_new own reported e t c (begins_it x i g) =
       subst (λ (d : Case). IsRoots me (boot_of (kept n)) next d) (sym i) (begun_new e t x g)
-  effect_new own e t c (tells_of x i g) =
+  effect_new own reported e t c (tells_of x i g) =
       subst (λ (d : Case). IsRoots me (boot_of (kept n)) next d) (sym i)
       (effect_tells (root_place me tree) n h (IsRoots me (boot_of (kept n)) next) own
       (λ d k. (own d k).no_ticket) e t

@@ -19,7 +19,7 @@ use Rattle.tree_model.specs.Restarts.{trim_fails}
 use Rattle.tree_model.specs.World.{World, Move, Made, IsRun, opens, makes, InputStands, Stands}
 use Rattle.tree_model.specs.Outcomes.{sent, has_accepted, is_joined_message}
 use Rattle.tree_model.proofs.RunLaws.{makes_at}
-use Rattle.tree_pairs.specs.turns.CoordinatorTurns.{CaseTurn, rests, invites, accepts, sends_work, finds_nobody, asks_for_votes, gives_up, counts_vote, reads_only, commits, promises, hears_no, aborts, passes_commit, passes_abort, repeats_yes, asks, refuses, acknowledges, waits_for_acks, ends, answers, CoordinatorTurn, does_nothing, of_case, begins, gives_again, gives_fresh, presumes}
+use Rattle.tree_pairs.specs.turns.CoordinatorTurns.{CaseTurn, rests, invites, accepts, sends_work, finds_nobody, asks_for_votes, gives_up, counts_vote, reads_only, commits, promises, hears_no, aborts, passes_commit, passes_abort, repeats_yes, asks, refuses, acknowledges, waits_for_acks, ends, clears, answers, CoordinatorTurn, does_nothing, of_case, begins, gives_again, gives_fresh, presumes}
 use Rattle.tree_pairs.specs.turns.Steps.{StepOf, heard_in, handled, failed_in, passed, failed_passing, reopened, failed_reopening, trimmed as trims_log, failed_trimming}
 use Rattle.tree_pairs.proofs.turns.Steps.{step_of}
 use Rattle.tree_pairs.proofs.turns.CoordinatorReactions.{CoordinatorTurnAt, coordinator_turn_of}
@@ -70,6 +70,7 @@ module _ (place : Place) (parent : Option ProcessId) (n : Node) (h : Heard) (c :
   row_accepts d _ (acknowledges o fs i e) g = absurd (cc)
   row_accepts d _ (waits_for_acks u o fs i e f a) g = absurd (cc)
   row_accepts d _ (ends u o fs i e f a) g = absurd (cc)
+  row_accepts d _ (clears i e f a) g = absurd (cc)
   row_accepts d _ (answers u o i e) g = absurd (cc)
 
   pub effect_accepts : (e : Effect) → CoordinatorTurn place parent n h e → took c t e.accepts ≡ true

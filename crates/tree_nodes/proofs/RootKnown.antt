@@ -11,14 +11,14 @@ use Rattle.tree_model.specs.declared.records.Record.{Record}
 use Rattle.tree_model.specs.declared.standings.Standing.{Standing}
 use Rattle.tree_model.specs.declared.standings.Standing.TheVariants.{Unknown, Active, Collecting}
 use Rattle.tree_model.specs.declared.trees.TreeEntry.{TreeEntry}
-use Rattle.tree_model.specs.Records.{has, is_end, is_commit, is_abort, is_prepare, is_collecting, boot_of}
+use Rattle.tree_model.specs.Records.{has, is_end, is_commit, is_abort, is_prepare, is_collecting, boot_of, is_reported}
 use Rattle.tree_model.specs.Nodes.{Place, Node, Heard, Effect, kept, entries_written}
 use Rattle.tree_model.specs.Memory.{Memory, Phase, Idle, memory_of, next_txn}
 use Rattle.tree_model.specs.Standings.{coordinator_view, coordinator_standing, phase_standing, some_case}
 use Rattle.tree_model.specs.CoordinatorRows.{Row}
 use Rattle.tree_model.specs.Views.{root_place}
 use Rattle.tree_model.proofs.BeginLaws.{same_begun}
-use Rattle.tree_pairs.specs.turns.CoordinatorTurns.{Decided, by_commit, by_abort, CaseTurn, rests, invites, accepts, sends_work, finds_nobody, asks_for_votes, gives_up, counts_vote, reads_only, commits, promises, hears_no, aborts, passes_commit, passes_abort, repeats_yes, asks, refuses, acknowledges, waits_for_acks, ends, answers, CoordinatorTurn, does_nothing, of_case, begins, gives_again, gives_fresh, presumes}
+use Rattle.tree_pairs.specs.turns.CoordinatorTurns.{Decided, by_commit, by_abort, CaseTurn, rests, invites, accepts, sends_work, finds_nobody, asks_for_votes, gives_up, counts_vote, reads_only, commits, promises, hears_no, aborts, passes_commit, passes_abort, repeats_yes, asks, refuses, acknowledges, waits_for_acks, ends, clears, answers, CoordinatorTurn, does_nothing, of_case, begins, gives_again, gives_fresh, presumes}
 use Rattle.tree_nodes.specs.Lasts.{logs_of, Nested}
 use Rattle.tree_nodes.specs.WorldHolds.{IsGivenOut, is_record_of}
 use Rattle.tree_nodes.proofs.RootCases.{IsRoots, AllRoots, InHistory, recorded, RootCases}
@@ -135,14 +135,15 @@ module _ (me : ProcessId) (tree : List TreeEntry) (n : Node) where
       by_test true f = absurd (fresh_ever up cases x p e (recorded f))
       by_test false f = f
 
--- What a turn writes is of a case that is known.
+-- What a turn writes is of a case that is known, or whose report stands.
 
 decided_known : (o : Outcome) (st : Standing) → Decided o st → st ≡ Unknown → ⊥
 decided_known _ _ by_commit e = cc
 decided_known _ _ by_abort e = cc
 
 module _ (place : Place) (n : Node) (h : Heard) (c : Case) (me : ProcessId) (b k : ℕ)
-    (own : (coordinator_view place n c).standing ≢ Unknown → IsRoots me b k c) where
+    (own : (coordinator_view place n c).standing ≢ Unknown → IsRoots me b k c)
+    (reported : is_reported (kept n) c ≡ true → IsRoots me b k c) where
   abbrev pub Wrote : Row → Type 0
   Wrote row = AllRoots me b k (entries_written row.written)
 
@@ -182,14 +183,16 @@ module _ (place : Place) (n : Node) (h : Heard) (c : Case) (me : ProcessId) (b k
   turn_roots _ (acknowledges o fs i e) = absurd (let g = i.is_parent in cc)
   turn_roots _ (waits_for_acks t o fs i e f g) = tt
   turn_roots _ (ends t o fs i e f g) = (decided o s refl e, tt)
+  turn_roots _ (clears i e f g) = (reported g, tt)
   turn_roots _ (answers t o i e) = tt
 
 pub effect_roots : (place : Place) (n : Node) (h : Heard) (me : ProcessId) (b k : ℕ)
     → ((c : Case) → (coordinator_view place n c).standing ≢ Unknown → IsRoots me b k c)
+    → ((c : Case) → is_reported (kept n) c ≡ true → IsRoots me b k c)
     → (e : Effect) → CoordinatorTurn place None n h e → AllRoots me b k (entries_written e.written)
-effect_roots place n h me b k own _ (does_nothing i) = tt
-effect_roots place n h me b k own _ (of_case c row t) = turn_roots place n h c me b k (own c) row t
-effect_roots place n h me b k own _ (begins p e i) = tt
-effect_roots place n h me b k own _ (gives_again p d t e i a) = tt
-effect_roots place n h me b k own _ (gives_fresh p d e i a) = tt
-effect_roots place n h me b k own _ (presumes x t i e) = tt
+effect_roots place n h me b k own reported _ (does_nothing i) = tt
+effect_roots place n h me b k own reported _ (of_case c row t) = turn_roots place n h c me b k (own c) (reported c) row t
+effect_roots place n h me b k own reported _ (begins p e i) = tt
+effect_roots place n h me b k own reported _ (gives_again p d t e i a) = tt
+effect_roots place n h me b k own reported _ (gives_fresh p d e i a) = tt
+effect_roots place n h me b k own reported _ (presumes x t i e) = tt

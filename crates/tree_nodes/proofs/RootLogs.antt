@@ -12,7 +12,7 @@ use Rattle.tree_model.specs.declared.standings.Standing.TheVariants.{Unknown, Ac
 use Rattle.tree_model.specs.declared.names.Ticket.{Ticket}
 use Rattle.tree_model.specs.Names.{same_case}
 use Rattle.tree_model.specs.NameLaws.{same_case-refl, same_case_tells}
-use Rattle.tree_model.specs.Records.{has, has_case, record_case, with_case, with_record, cases_in, none_of, boot_of, is_end, is_commit, is_abort, is_prepare, is_collecting, owing_by}
+use Rattle.tree_model.specs.Records.{has, has_case, record_case, with_case, with_record, cases_in, none_of, boot_of, is_end, is_commit, is_abort, is_prepare, is_collecting, owing_by, is_reported}
 use Rattle.tree_model.specs.Nodes.{AtRoot}
 use Rattle.tree_model.specs.Memory.{Phase, Idle, Open, Asked, fresh_memory}
 use Rattle.tree_model.specs.Standings.{CoordinatorView, coordinator_standing, phase_standing, standing_by}
@@ -206,8 +206,13 @@ module _ (c : Case) where
 
   -- A trim.
 
+  -- a case that is known stays
+  known_stays_whole : (rs : List Record) → is_known (recorded_view rs c).standing ≡ true
+      → case_stays rs (Some c) ≡ true
+  known_stays_whole rs k = ap (λ b. b || is_reported rs c) k
+
   stays_whole : (q : Record → Bool) → ((r : Record) → q r ≡ true → is_record_of c r ≡ true)
-      → (whole rs : List Record) → is_known (recorded_view whole c).standing ≡ true → has q rs ≡ true
+      → (whole rs : List Record) → case_stays whole (Some c) ≡ true → has q rs ≡ true
       → has q (staying AtRoot whole rs) ≡ true
   stays_whole q f whole [] k e = e
   stays_whole q f whole (r ∷ rs) k e =
@@ -215,7 +220,7 @@ module _ (c : Case) where
     where
       known : (o : Option Case) → is_of c o ≡ true → case_stays whole o ≡ true
       known None g = absurd (cc)
-      known (Some d) g = ap (λ x. is_known (recorded_view whole x).standing) (is_same d g) ∙ k
+      known (Some d) g = ap (λ x. case_stays whole (Some x)) (is_same d g) ∙ k
 
       with_rest : (b : Bool) → has q (staying AtRoot whole rs) ≡ true
           → has q (if b then r ∷ staying AtRoot whole rs else staying AtRoot whole rs) ≡ true
@@ -229,9 +234,9 @@ module _ (c : Case) where
           rw (known (record_case r) (f r now)) (has-cons q r (staying AtRoot whole rs) ∙ first_of _ _ now)
       by_either (inr rest) g = with_rest (stays AtRoot whole rs r) (g rest)
 
-  -- the records of a case that is known stay
+  -- the records of a case that stays
   pub known_stays : (q : Record → Bool) → ((r : Record) → q r ≡ true → is_record_of c r ≡ true)
-      → (rs : List Record) → is_known (recorded_view rs c).standing ≡ true → has q rs ≡ true
+      → (rs : List Record) → case_stays rs (Some c) ≡ true → has q rs ≡ true
       → has q (trimmed AtRoot rs) ≡ true
   unfolding trimmed
   known_stays q f rs k e =
@@ -256,7 +261,7 @@ module _ (c : Case) where
 
   none_before : (q : Record → Bool) → ((r : Record) → q r ≡ true → is_record_of c r ≡ true)
       → (rs : List Record)
-      → is_known (recorded_view rs c).standing ≡ true → has q (trimmed AtRoot rs) ≡ false → has q rs ≡ false
+      → case_stays rs (Some c) ≡ true → has q (trimmed AtRoot rs) ≡ false → has q rs ≡ false
   none_before q f rs k e = by_test (has q rs) refl
     where
       by_test : (b : Bool) → has q rs ≡ b → has q rs ≡ false
@@ -275,7 +280,7 @@ module _ (c : Case) where
       no_prepare = never_there (is_prepare c) (λ k. refl) rs u.no_prepare;
     }
 
-    undecided_before : is_known (recorded_view rs c).standing ≡ true → NoRecords new c → NoRecords rs c
+    undecided_before : case_stays rs (Some c) ≡ true → NoRecords new c → NoRecords rs c
     undecided_before k u = record {
       no_end = none_before (is_end c) (λ r e. grind arith) rs k u.no_end;
       no_commit = none_before (is_commit c) (λ r e. grind arith) rs k u.no_commit;
@@ -312,18 +317,19 @@ module _ (c : Case) where
         let u = collecting_undecided rs c ph e in
         let known : is_known (recorded_view rs c).standing ≡ true =
         ap is_known (recorded_stands rs ∙ stands_collecting rs Idle u k) in
-        stands_collecting new ph (undecided_then u) (known_stays (is_collecting c) is_recorded rs known k)
+        stands_collecting new ph (undecided_then u)
+        (known_stays (is_collecting c) is_recorded rs (known_stays_whole rs known) k)
 
     asked_before : (b : Bool) → has (is_collecting c) new ≡ b → standing_at new c ph ≡ Collecting → ph ≡ Asked
     asked_before false k e =
         phase_collecting c.txn.presumption ph
         (sym (unrecorded_stands new c ph (unrecorded_of new (collecting_undecided new c ph e) k)) ∙ e)
-    asked_before true k e = by_known (is_known (recorded_view rs c).standing) refl
+    asked_before true k e = by_known (case_stays rs (Some c)) refl
       where
         any : Ticket
         any = record { child = c.txn.root; boot = 0; number = 0 }
 
-        by_known : (b : Bool) → is_known (recorded_view rs c).standing ≡ b → ph ≡ Asked
+        by_known : (b : Bool) → case_stays rs (Some c) ≡ b → ph ≡ Asked
         by_known true f =
             old.collecting_is_asked
             (stands_collecting rs ph (undecided_before f (collecting_undecided new c ph e))

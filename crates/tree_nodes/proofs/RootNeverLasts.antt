@@ -1,5 +1,5 @@
 -- A transaction that the root ended by an abort never commits: through each step.
-use Rattle.std.proofs.Common.{◌≡◌, ◌∙◌, ◌||◌, ◌&&◌, ◌⊎◌, ◌+◌, inl, inr, ℕ, zero, suc, Bool, true, false, not, None, List, [], ◌∷◌, ◌++◌, take, refl, sym, ap, subst, arith, if◌then◌else◌}
+use Rattle.std.proofs.Common.{◌≡◌, ◌∙◌, ◌||◌, ◌&&◌, ◌⊎◌, ◌+◌, inl, inr, ℕ, zero, suc, Bool, true, false, not, Some, None, List, [], ◌∷◌, ◌++◌, take, refl, sym, ap, subst, arith, if◌then◌else◌}
 use Rattle.std.specs.Prelude.{reverse, length, filter}
 use Rattle.std.specs.List.{list_any, flat_map}
 use Rattle.std.proofs.lemmas.List.{append-nil}
@@ -19,7 +19,7 @@ use Rattle.tree_model.specs.Records.{has, is_commit, is_abort, is_collecting, ca
 use Rattle.tree_model.specs.Nodes.{AtRoot, Place, Effect, Node, kept}
 use Rattle.tree_model.specs.Memory.{Memory, Idle, memory_of}
 use Rattle.tree_model.specs.Outcomes.{is_told_aborted}
-use Rattle.tree_model.specs.Restarts.{recorded_view, restart_abort, aborts_collecting, is_concluded, is_undecided, reopens, restarted, restart_fails, trims, trim_fails, trimmed, is_known}
+use Rattle.tree_model.specs.Restarts.{recorded_view, restart_abort, aborts_collecting, is_concluded, is_undecided, case_stays, reopens, restarted, restart_fails, trims, trim_fails, trimmed, is_known}
 use Rattle.tree_model.specs.World.{Move}
 use Rattle.tree_pairs.proofs.readings.Trimmed.{gone}
 use Rattle.tree_pairs.specs.turns.Steps.{StepOf, heard_in, handled, failed_in, passed, failed_passing, reopened, failed_reopening, trimmed as trims_log, failed_trimming}
@@ -300,7 +300,7 @@ module _ (me : ProcessId) (tree : List TreeEntry) (n : Node) (nested : Nested (l
         → (has (is_commit c) (trimmed AtRoot (kept n)) ≡ true)
         ⊎ (has (is_collecting c) (trimmed AtRoot (kept n) ++ []) ≡ false)
     stands_short c e = elim (old.stand c e) [
-      | inl f ↦ by_known (is_known (recorded_view (kept n) c).standing) refl
+      | inl f ↦ by_known (case_stays (kept n) (Some c)) refl
           (in_first (is_commit c) n.forced n.unforced f)
       | inr f ↦ inr (ap (has (is_collecting c)) (append-nil short)
           ∙ none_short (is_collecting c) (λ j. refl) f)
@@ -309,7 +309,7 @@ module _ (me : ProcessId) (tree : List TreeEntry) (n : Node) (nested : Nested (l
         any : Ticket
         any = record { child = c.txn.root; boot = 0; number = 0 }
 
-        by_known : (b : Bool) → is_known (recorded_view (kept n) c).standing ≡ b
+        by_known : (b : Bool) → case_stays (kept n) (Some c) ≡ b
             → has (is_commit c) (kept n) ≡ true
             → (has (is_commit c) (trimmed AtRoot (kept n)) ≡ true)
             ⊎ (has (is_collecting c) (trimmed AtRoot (kept n) ++ []) ≡ false)

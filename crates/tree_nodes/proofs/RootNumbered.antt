@@ -31,6 +31,7 @@ use Rattle.tree_nodes.proofs.Appends.{either_logs}
 use Rattle.tree_nodes.proofs.Boots.{Booted, Rises, others_boot, rise_front, boot_append, front_below, lost_rises, still_booted, reopened_boot, trimmed_boot, turn_none}
 use Rattle.tree_nodes.proofs.BootsHold.{all_booted, boots_of}
 use Rattle.tree_nodes.proofs.RootKnown.{known_roots}
+use Rattle.tree_nodes.proofs.Reported.{reported_recorded}
 use Rattle.tree_nodes.proofs.RootHistories.{NewIn, effect_new, after_history, fails_history, reopened_history, reopening_history, same_history}
 use Rattle.tree_nodes.proofs.RootNumbers.{case_later, roots_each, roots_case, roots_reopens}
 use Rattle.tree_nodes.proofs.Worlds.{all_last, put}
@@ -142,7 +143,9 @@ module _ (me : ProcessId) (tree : List TreeEntry) where
         -- what is added is of a case that is known, or begins now
         added_now : (c : Case) → NewIn e c → IsRoots me (boot_of (kept n)) next c
         added_now c x =
-            effect_new me tree n i (λ d known. old_now d (known_roots me tree n t.up nested h d known)) e
+            effect_new me tree n i (λ d known. old_now d (known_roots me tree n t.up nested h d known))
+            (λ d reported. old_now d (h.begun_now t.up d (recorded
+            (nested.kept_was_written (is_record_of d) (λ k. refl) (reported_recorded (kept n) d reported))))) e
             (coordinator_turn_of place n i e r) c x
 
         appended : Booted (logs_of (after n i e)) → Holds (after n i e)

@@ -17,7 +17,7 @@ use Rattle.tree_model.specs.declared.events.Told.{Told}
 use Rattle.tree_model.specs.declared.trees.TreeEntry.{TreeEntry}
 use Rattle.tree_model.specs.Names.{root_case, same_txn}
 use Rattle.tree_model.specs.NameLaws.{same_txn_tells, same_txn-refl}
-use Rattle.tree_model.specs.Records.{has, is_commit, boot_of}
+use Rattle.tree_model.specs.Records.{has, is_commit, boot_of, is_reported}
 use Rattle.tree_model.specs.Nodes.{Place, Node, kept, Heard, Effect, begun_first, told_first}
 use Rattle.tree_model.specs.Memory.{Memory, Phase, Idle, Open, Asked, Over, memory_of, next_txn, root_remembers}
 use Rattle.tree_model.specs.Standings.{coordinator_view, some_case}
@@ -36,6 +36,7 @@ use Rattle.tree_nodes.proofs.RootHistories.{among, NewIn, writes_of, accepts_int
 use Rattle.tree_nodes.proofs.RootKnown.{known_by, known_roots}
 use Rattle.tree_nodes.proofs.RootAwake.{IsNext}
 use Rattle.tree_nodes.proofs.RootMemories.{memory_heard}
+use Rattle.tree_nodes.proofs.Reported.{reported_recorded}
 use Rattle.tree_nodes.proofs.RowWrites.{effect_writes}
 
 -- Tests.
@@ -160,6 +161,10 @@ module _ (me : ProcessId) (tree : List TreeEntry) (n : Node) (nested : Nested (l
             (nested.kept_was_written (is_record_of c) (λ k. refl) stands))
       ]
 
+      reported_among : (c : Case) → is_reported (kept n) c ≡ true → among c.txn n.begun ≡ true
+      reported_among c g = old.in_histories c
+          (recorded (nested.kept_was_written (is_record_of c) (λ k. refl) (reported_recorded (kept n) c g)))
+
       unticketed : (c : Case) → (coordinator_view place n c).standing ≢ Unknown → c.ticket ≡ None
       unticketed c f = (known_roots me tree n up nested cases c f).no_ticket
 
@@ -213,7 +218,8 @@ module _ (me : ProcessId) (tree : List TreeEntry) (n : Node) (nested : Nested (l
       histories_then : (c : Case) → InHistory n c ⊎ NewIn e c → among c.txn now ≡ true
       histories_then c (inl before) = begun_more c.txn e.begun n.begun (old.in_histories c before)
       histories_then c (inr (writes_of g)) =
-          begun_more c.txn e.begun n.begun (effect_writes place None n h IsAmong known_among e turn c g)
+          begun_more c.txn e.begun n.begun
+          (effect_writes place None n h IsAmong known_among (λ c f g. reported_among c g) e turn c g)
       histories_then c (inr (accepts_into t g)) =
           begun_more c.txn e.begun n.begun (effect_accepts place n h IsAmong known_among unticketed e turn c t
           g)

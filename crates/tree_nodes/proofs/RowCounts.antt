@@ -11,7 +11,7 @@ use Rattle.tree_model.specs.Names.{same_case, same_ticket}
 use Rattle.tree_model.specs.Nodes.{Place, Node, Heard, Effect}
 use Rattle.tree_model.specs.CoordinatorRows.{Row}
 use Rattle.tree_model.specs.Reactions.{row_effect}
-use Rattle.tree_pairs.specs.turns.CoordinatorTurns.{CountsVote, CaseTurn, rests, invites, accepts, sends_work, finds_nobody, asks_for_votes, gives_up, counts_vote, reads_only, commits, promises, hears_no, aborts, passes_commit, passes_abort, repeats_yes, asks, refuses, acknowledges, waits_for_acks, ends, answers, CoordinatorTurn, does_nothing, of_case, begins, gives_again, gives_fresh, presumes}
+use Rattle.tree_pairs.specs.turns.CoordinatorTurns.{CountsVote, CaseTurn, rests, invites, accepts, sends_work, finds_nobody, asks_for_votes, gives_up, counts_vote, reads_only, commits, promises, hears_no, aborts, passes_commit, passes_abort, repeats_yes, asks, refuses, acknowledges, waits_for_acks, ends, clears, answers, CoordinatorTurn, does_nothing, of_case, begins, gives_again, gives_fresh, presumes}
 
 -- such a vote of the ticket in the case was heard
 abbrev pub HeardSo : Case → Ticket → (Vote → Bool) → List (Case × (Ticket × Vote)) → Type 0
@@ -49,6 +49,7 @@ module _ (place : Place) (parent : Option ProcessId) (n : Node) (h : Heard) (c :
     row_counts d _ (acknowledges o fs i k) f = absurd (cc)
     row_counts d _ (waits_for_acks u o fs i k a b) f = absurd (cc)
     row_counts d _ (ends u o fs i k a b) f = absurd (cc)
+    row_counts d _ (clears i e a b) f = absurd (cc)
     row_counts d _ (answers u o i k) f = absurd (cc)
 
     pub effect_counts : (e : Effect) → CoordinatorTurn place parent n h e → HeardSo c t q e.counts

@@ -10,7 +10,7 @@ use Rattle.tree_model.specs.NameLaws.{same_case_tells}
 use Rattle.tree_model.specs.Records.{has, is_collecting}
 use Rattle.tree_model.specs.Nodes.{Place, Node, Heard, Effect, entries_written}
 use Rattle.tree_model.specs.CoordinatorRows.{Row}
-use Rattle.tree_pairs.specs.turns.CoordinatorTurns.{CaseTurn, rests, invites, accepts, sends_work, finds_nobody, asks_for_votes, gives_up, counts_vote, reads_only, commits, promises, hears_no, aborts, passes_commit, passes_abort, repeats_yes, asks, refuses, acknowledges, waits_for_acks, ends, answers, CoordinatorTurn, does_nothing, of_case, begins, gives_again, gives_fresh, presumes}
+use Rattle.tree_pairs.specs.turns.CoordinatorTurns.{CaseTurn, rests, invites, accepts, sends_work, finds_nobody, asks_for_votes, gives_up, counts_vote, reads_only, commits, promises, hears_no, aborts, passes_commit, passes_abort, repeats_yes, asks, refuses, acknowledges, waits_for_acks, ends, clears, answers, CoordinatorTurn, does_nothing, of_case, begins, gives_again, gives_fresh, presumes}
 use Rattle.tree_nodes.proofs.Tests.{not_both, has-nil}
 use Rattle.tree_nodes.proofs.Worlds.{has_other}
 
@@ -75,6 +75,7 @@ module _ (place : Place) (parent : Option ProcessId) (n : Node) (h : Heard) (c :
   turn_needs _ (acknowledges o fs i e) = refl
   turn_needs _ (waits_for_acks t o fs i e f g) = refl
   turn_needs _ (ends t o fs i e f g) = refl
+  turn_needs _ (clears i e f a) = refl
   turn_needs _ (answers t o i e) = refl
 
 pub effect_needs : (place : Place) (parent : Option ProcessId) (n : Node) (h : Heard) (e : Effect)

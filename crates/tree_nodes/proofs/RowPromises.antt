@@ -14,7 +14,7 @@ use Rattle.tree_model.specs.CoordinatorRows.{Row}
 use Rattle.tree_model.specs.Reactions.{row_effect}
 use Rattle.tree_pairs.specs.readings.ReadingOf.{is_promise}
 use Rattle.tree_pairs.specs.turns.LeafTurns.{Hears}
-use Rattle.tree_pairs.specs.turns.CoordinatorTurns.{IsToCommit, CaseTurn, rests, invites, accepts, sends_work, finds_nobody, asks_for_votes, gives_up, counts_vote, reads_only, commits, promises, hears_no, aborts, passes_commit, passes_abort, repeats_yes, asks, refuses, acknowledges, waits_for_acks, ends, answers, CoordinatorTurn, does_nothing, of_case, begins, gives_again, gives_fresh, presumes}
+use Rattle.tree_pairs.specs.turns.CoordinatorTurns.{IsToCommit, CaseTurn, rests, invites, accepts, sends_work, finds_nobody, asks_for_votes, gives_up, counts_vote, reads_only, commits, promises, hears_no, aborts, passes_commit, passes_abort, repeats_yes, asks, refuses, acknowledges, waits_for_acks, ends, clears, answers, CoordinatorTurn, does_nothing, of_case, begins, gives_again, gives_fresh, presumes}
 use Rattle.tree_nodes.proofs.RootHistories.{took}
 use Rattle.tree_nodes.proofs.Tests.{case_is}
 
@@ -59,6 +59,7 @@ module _ (place : Place) (parent : Option ProcessId) (n : Node) (h : Heard) wher
   row_collects c d _ (acknowledges o fs i e) g = absurd (cc)
   row_collects c d _ (waits_for_acks t o fs i e f a) g = absurd (cc)
   row_collects c d _ (ends t o fs i e f a) g = absurd (cc)
+  row_collects c d _ (clears i e f a) g = absurd (cc)
   row_collects c d _ (answers t o i e) g = absurd (cc)
 
   pub effect_collects : (e : Effect) → CoordinatorTurn place parent n h e → (d : Case)
@@ -107,6 +108,7 @@ module _ (place : Place) (parent : Option ProcessId) (n : Node) (h : Heard) wher
   row_promises c d _ (acknowledges o fs i e) g = absurd (cc)
   row_promises c d _ (waits_for_acks t o fs i e f a) g = absurd (cc)
   row_promises c d _ (ends t o fs i e f a) g = absurd (cc)
+  row_promises c d _ (clears i e f a) g = absurd (cc)
   row_promises c d _ (answers t o i e) g = absurd (cc)
 
   pub effect_promises : (e : Effect) → CoordinatorTurn place parent n h e → (d : Case)
@@ -154,6 +156,7 @@ module _ (place : Place) (parent : Option ProcessId) (n : Node) (h : Heard) wher
       row_takes d _ (acknowledges o fs i e) g = absurd (cc)
       row_takes d _ (waits_for_acks u o fs i e f a) g = absurd (cc)
       row_takes d _ (ends u o fs i e f a) g = absurd (cc)
+      row_takes d _ (clears i e f a) g = absurd (cc)
       row_takes d _ (answers u o i e) g = absurd (cc)
 
       pub effect_takes : (e : Effect) → CoordinatorTurn place parent n h e → took c t e.accepts ≡ true → A

@@ -1,5 +1,5 @@
--- What a coordinator's row writes is of its case, which is known.
-use Rattle.std.proofs.Common.{◌≡◌, ◌≢◌, ◌∙◌, ◌||◌, Bool, true, false, Option, refl, sym, subst, arith}
+-- What a coordinator's row writes is of its case, which is known, or whose report stands.
+use Rattle.std.proofs.Common.{◌≡◌, ◌≢◌, ◌∙◌, ◌||◌, Bool, true, false, Option, None, refl, sym, subst, arith}
 use Rattle.tree_model.specs.declared.names.Case.{Case}
 use Rattle.tree_model.specs.declared.names.ProcessId.{ProcessId}
 use Rattle.tree_model.specs.declared.names.Outcome.{Outcome}
@@ -7,23 +7,24 @@ use Rattle.tree_model.specs.declared.names.Presumption.TheVariants.{PresumeAbort
 use Rattle.tree_model.specs.declared.standings.Standing.{Standing}
 use Rattle.tree_model.specs.declared.standings.Standing.TheVariants.{Unknown, Active, Collecting, Prepared}
 use Rattle.tree_model.specs.Names.{same_case}
-use Rattle.tree_model.specs.Records.{has}
-use Rattle.tree_model.specs.Nodes.{Place, Node, Heard, Effect, entries_written}
+use Rattle.tree_model.specs.Records.{has, is_reported}
+use Rattle.tree_model.specs.Nodes.{Place, Node, kept, Heard, Effect, entries_written}
 use Rattle.tree_model.specs.Standings.{coordinator_view}
 use Rattle.tree_model.specs.CoordinatorRows.{Row}
-use Rattle.tree_pairs.specs.turns.CoordinatorTurns.{Decided, by_commit, by_abort, CaseTurn, rests, invites, accepts, sends_work, finds_nobody, asks_for_votes, gives_up, counts_vote, reads_only, commits, promises, hears_no, aborts, passes_commit, passes_abort, repeats_yes, asks, refuses, acknowledges, waits_for_acks, ends, answers, CoordinatorTurn, does_nothing, of_case, begins, gives_again, gives_fresh, presumes}
+use Rattle.tree_pairs.specs.turns.CoordinatorTurns.{Decided, by_commit, by_abort, CaseTurn, rests, invites, accepts, sends_work, finds_nobody, asks_for_votes, gives_up, counts_vote, reads_only, commits, promises, hears_no, aborts, passes_commit, passes_abort, repeats_yes, asks, refuses, acknowledges, waits_for_acks, ends, clears, answers, CoordinatorTurn, does_nothing, of_case, begins, gives_again, gives_fresh, presumes}
 use Rattle.tree_nodes.specs.WorldHolds.{is_record_of}
 use Rattle.tree_nodes.proofs.Tests.{case_is}
 
 module _ (place : Place) (parent : Option ProcessId) (n : Node) (h : Heard) (A : Case → Type 0)
     (own : (c : Case) → (coordinator_view place n c).standing ≢ Unknown → A c)
+    (reported : (c : Case) → parent ≡ None → is_reported (kept n) c ≡ true → A c)
   where
+    or_nothing : (x : Bool) → (x || false) ≡ true → x ≡ true
+    or_nothing x y = grind arith
+
     of_it : (c d : Case) → (same_case c d || false) ≡ true → (st : Standing)
         → (coordinator_view place n c).standing ≡ st → (st ≡ Unknown → ⊥) → A d
     of_it c d g st e f = subst A (case_is c d (or_nothing _ g)) (own c (λ x. f (sym e ∙ x)))
-      where
-        or_nothing : (x : Bool) → (x || false) ≡ true → x ≡ true
-        or_nothing x y = grind arith
 
     decided_known : (o : Outcome) (st : Standing) → Decided o st → st ≡ Unknown → ⊥
     decided_known _ _ by_commit e = cc
@@ -61,6 +62,7 @@ module _ (place : Place) (parent : Option ProcessId) (n : Node) (h : Heard) (A :
     row_writes c d _ (refuses j i e) g = absurd (cc)
     row_writes c d _ (acknowledges o fs i e) g = absurd (cc)
     row_writes c d _ (waits_for_acks t o fs i e f a) g = absurd (cc)
+    row_writes c d _ (clears i e f a) g = subst A (case_is c d (or_nothing _ g)) (reported c f a)
     row_writes c d _ (answers t o i e) g = absurd (cc)
 
     pub effect_writes : (e : Effect) → CoordinatorTurn place parent n h e → (d : Case)

@@ -24,7 +24,7 @@ use Rattle.tree_model.specs.declared.events.StepError.TheVariants.{Failed, NoSuc
 use Rattle.tree_model.specs.Reactions.{Reacts, reacts, handles, hears, act_is_listed, Does, Refused, leaf_of, leaf_joins, joins_with}
 use Rattle.tree_model.specs.Outcomes.{sent, is_joined_message}
 use Rattle.tree_pairs.specs.turns.LeafTurns.{LeafTurn, does_nothing, gives_again, gives_fresh, votes_yes, votes_read, votes_no, repeats_yes, refuses, obeys, notes, acknowledges_told, acknowledges, drops, asks, decides, forgets}
-use Rattle.tree_pairs.specs.turns.Written.{IsForCase, IsFromCase, Sends, down, upward, invites, AllSent, IsAnswer, is_active, is_next, Writes, writes_nothing, for_act, for_child, for_parent, presumes, gives}
+use Rattle.tree_pairs.specs.turns.Written.{IsForCase, IsFromCase, Sends, down, upward, invites, AllSent, IsAnswer, is_active, is_next, Writes, writes_nothing, for_act, for_report, for_child, for_parent, presumes, gives}
 use Rattle.tree_pairs.specs.turns.Steps.{TurnAt}
 use Rattle.tree_nodes.specs.Numbers.{IsIssuer}
 use Rattle.tree_nodes.proofs.Tests.{either}
@@ -286,6 +286,7 @@ module _ (place : Place) (n : Node) (h : Heard) (d : Case) (t : Ticket) where
       (ls : List Envelope) → Writes place parent n h.input ws ls → Says ls → Answers role place n h d t
   of_writes role starts parent ws ls (writes_nothing e f) g = none_said ls f g
   of_writes role starts parent ws ls (for_act a c e f one sent') g = none_of_all _ ls sent' g
+  of_writes role starts parent ws ls (for_report c e f i one h) g = none_said ls h g
   of_writes role starts parent ws ls (for_child c x u e one sent') g = none_of_all _ ls sent' g
   of_writes role starts parent ws ls (for_parent c k m e f one sent') g = none_of_all _ ls sent' g
   of_writes role starts parent ws ls (presumes x u o e f) g = none_told ls (child_case x u) u.child o f g

@@ -129,7 +129,8 @@ is_record_of c r = is_of c (record_case r)
 abbrev pub is_naming : Case → Ticket → Record → Bool
 is_naming c t r = is_collecting_naming c t r || is_prepare_naming c t r || is_decision_naming c t r
 
--- the last Opened of a process that is up is in the forced front, and boots only rise
+-- the boot of all that a process keeps, its last Opened's, is no less than that of its forced front, and the same
+-- where the process is up
 pub record Boots (n : Node) : Type 0 where
   pub boot_is_forced : n.failed ≡ false → boot_of (kept n) ≡ boot_of n.forced
   pub boot_only_rises : boot_of n.forced ≤ boot_of (kept n)

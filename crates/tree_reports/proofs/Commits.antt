@@ -10,7 +10,7 @@ use Rattle.tree_model.specs.Nodes.{Effect, Heard, Node, Place, Written, appends,
 use Rattle.tree_model.specs.CoordinatorRows.{Row}
 use Rattle.tree_model.specs.Restarts.{trim_fails}
 use Rattle.tree_model.specs.World.{Move}
-use Rattle.tree_pairs.specs.turns.CoordinatorTurns.{CaseTurn, CoordinatorTurn, aborts, accepts, acknowledges, answers, asks, asks_for_votes, begins, commits, counts_vote, does_nothing, ends, finds_nobody, gives_again, gives_fresh, gives_up, hears_no, invites, of_case, passes_abort, passes_commit, presumes, promises, reads_only, refuses, repeats_yes, rests, sends_work, waits_for_acks}
+use Rattle.tree_pairs.specs.turns.CoordinatorTurns.{CaseTurn, CoordinatorTurn, aborts, accepts, acknowledges, clears, answers, asks, asks_for_votes, begins, commits, counts_vote, does_nothing, ends, finds_nobody, gives_again, gives_fresh, gives_up, hears_no, invites, of_case, passes_abort, passes_commit, presumes, promises, reads_only, refuses, repeats_yes, rests, sends_work, waits_for_acks}
 use Rattle.tree_pairs.specs.turns.Steps.{StepOf, heard_in, handled, failed_in, passed, failed_passing, reopened, failed_reopening, trimmed, failed_trimming}
 use Rattle.tree_pairs.proofs.turns.CoordinatorReactions.{coordinator_turn_of}
 use Rattle.tree_pairs.proofs.turns.Steps.{turn_of}
@@ -82,6 +82,7 @@ module _ (me : ProcessId) (tree : List TreeEntry) (n : Node) (h : Heard) where
   case_uncommitted c _ (acknowledges o fs i e) = none_written
   case_uncommitted c _ (waits_for_acks t o fs i e f a) = none_written
   case_uncommitted c _ (ends t o fs i e f a) = one_written _ _ (λ d. refl)
+  case_uncommitted c _ (clears i e f a) = forced_written _
   case_uncommitted c _ (answers t o i e) = none_written
 
   turn_uncommitted : (e : Effect) → CoordinatorTurn place None n h e → Uncommitted e.written

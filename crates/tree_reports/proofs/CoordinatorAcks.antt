@@ -19,13 +19,13 @@ use Rattle.tree_model.specs.declared.records.Reports.{Reports}
 use Rattle.tree_model.specs.declared.standings.Standing.{Standing}
 use Rattle.tree_model.specs.declared.standings.Standing.TheVariants.{Unknown, Active, Collecting, Prepared, Committing, Aborting, Heuristic}
 use Rattle.tree_model.specs.Names.{child_case, presumed}
-use Rattle.tree_model.specs.Records.{none_of}
+use Rattle.tree_model.specs.Records.{in_order, none_of}
 use Rattle.tree_model.specs.Nodes.{Effect, First, Heard, Node, Place, Second, Version, Written}
 use Rattle.tree_model.specs.CoordinatorRows.{Row, Seat, abort_answered, acknowledges_abort, acknowledges_at_last, acknowledges_at_once, each, forced, other_tickets, posted_up, tells_outcome}
 use Rattle.tree_model.specs.Reactions.{seat_of}
 use Rattle.tree_model.specs.Restarts.{coordinator_resumes, recorded_view, resumes_by}
 use Rattle.tree_model.specs.Standings.{CoordinatorView, coordinator_view, found_below, unknown_findings}
-use Rattle.tree_pairs.specs.turns.CoordinatorTurns.{Acknowledges, CaseTurn, CoordinatorTurn, Decided, HearsChild, abort_act, abort_again, abort_comes, abort_presumed_commit, accepts, acknowledges, aborts, answers, asks, asks_for_votes, begins, commit_again, commit_presumed_abort, commits, counts_vote, does_nothing, ends, finds_nobody, gives_again, gives_fresh, gives_up, hears_no, invites, of_case, passes_abort, passes_commit, presumes, promises, reads_only, refuses, repeats_yes, rests, sends_work, waits_for_acks}
+use Rattle.tree_pairs.specs.turns.CoordinatorTurns.{Acknowledges, CaseTurn, CoordinatorTurn, Decided, HearsChild, abort_act, abort_again, abort_comes, abort_presumed_commit, accepts, acknowledges, aborts, clears, answers, asks, asks_for_votes, begins, commit_again, commit_presumed_abort, commits, counts_vote, does_nothing, ends, finds_nobody, gives_again, gives_fresh, gives_up, hears_no, invites, of_case, passes_abort, passes_commit, presumes, promises, reads_only, refuses, repeats_yes, rests, sends_work, waits_for_acks}
 use Rattle.tree_reports.specs.SinceOpened.{IsAmong}
 use Rattle.tree_reports.proofs.Found.{among_either}
 
@@ -111,7 +111,7 @@ pub data AcksBy (place : Place) (parent : Option ProcessId) (n : Node) (h : Hear
   last_acks : (t : Ticket) (gs : List Finding) → HearsChild place n h c t (λ d. Ack d o gs)
       → Decided o (coordinator_view place n c).standing
       → none_of (other_tickets t (coordinator_view place n c).owed) ≡ true
-      → found_below place n c o gs ≡ fs → (r : Option Reports) (b : Bool)
+      → in_order (found_below place n c o gs) ≡ fs → (r : Option Reports) (b : Bool)
       → ws ≡ record { entry = EndRecord c r; is_forced = b } ∷ [] → AcksBy place parent n h c ws o fs
 
 module _ (place : Place) (parent : Option ProcessId) (n : Node) (h : Heard) (second : h.version ≡ Second)
@@ -146,9 +146,10 @@ module _ (place : Place) (parent : Option ProcessId) (n : Node) (h : Heard) (sec
     once_none Second e s p i = absurd i
 
     last_up : (v : Version) → v ≡ Second → (s : Seat) (p : Outcome) (gs : List Finding)
-        → AmongThem (acknowledges_at_last v s p gs) → Same d o fs s.own p gs
+        → AmongThem (acknowledges_at_last v s p gs) → Same d o fs s.own p (in_order gs)
     last_up First e s p gs i = absurd i
-    last_up Second e s p gs i = same d o fs s.own p gs (one_up d o fs s.me s.parent (Ack s.own p gs) i)
+    last_up Second e s p gs i =
+        same d o fs s.own p (in_order gs) (one_up d o fs s.me s.parent (Ack s.own p (in_order gs)) i)
 
     unknown_is : (v : Version) → v ≡ Second → (c : Case) (p : Outcome) (q : Presumption) (st : Standing)
         (gs : List Finding) → Acknowledges v c p q st gs → unknown_findings Second c ≡ gs
@@ -187,7 +188,7 @@ module _ (place : Place) (parent : Option ProcessId) (n : Node) (h : Heard) (sec
     at_last : (c : Case) (t : Ticket) (p : Outcome) (gs : List Finding) → HearsChild place n h c t (λ x. Ack x p gs)
         → Decided p (coordinator_view place n c).standing
         → none_of (other_tickets t (coordinator_view place n c).owed) ≡ true → (r : Option Reports) (b : Bool)
-        → Same d o fs c p (found_below place n c p gs)
+        → Same d o fs c p (in_order (found_below place n c p gs))
         → By c (record { entry = EndRecord c r; is_forced = b } ∷ [])
     at_last c t p gs hears from last r b k = (
       k.case_so,
@@ -196,7 +197,7 @@ module _ (place : Place) (parent : Option ProcessId) (n : Node) (h : Heard) (sec
     )
       where
         acks_so : (q : Outcome) → Decided q (coordinator_view place n c).standing
-            → HearsChild place n h c t (λ x. Ack x q gs) → found_below place n c q gs ≡ fs
+            → HearsChild place n h c t (λ x. Ack x q gs) → in_order (found_below place n c q gs) ≡ fs
             → AcksBy place parent n h c (record { entry = EndRecord c r; is_forced = b } ∷ []) q fs
         acks_so q from' hears' found = last_acks t gs hears' from' last found r b refl
 
@@ -262,6 +263,7 @@ module _ (place : Place) (parent : Option ProcessId) (n : Node) (h : Heard) (sec
     case_acks c _ (ends t p gs e f g j) i =
         at_last c t p gs e f j _ _
         (last_up h.version second (seat_of place parent c) p (found_below place n c p gs) i)
+    case_acks c _ (clears e a f g) i = absurd i
     case_acks c _ (answers t p e a) (inl i) = absurd (tells_no_ack d o fs p (child_case c.txn t) i)
     case_acks c _ (answers t p e a) (inr i) = absurd i
 

@@ -10,17 +10,17 @@ use Rattle.tree_model.specs.declared.names.Txn.{Txn}
 use Rattle.tree_model.specs.declared.messages.Envelope.{Envelope}
 use Rattle.tree_model.specs.declared.messages.Finding.{Finding}
 use Rattle.tree_model.specs.declared.records.Record.{Record}
-use Rattle.tree_model.specs.declared.records.Record.TheVariants.{Abort as AbortRecord, Collecting as CollectingRecord, End as EndRecord, Prepare as PrepareRecord}
+use Rattle.tree_model.specs.declared.records.Record.TheVariants.{Abort as AbortRecord, Collecting as CollectingRecord, End as EndRecord, Prepare as PrepareRecord, Cleared as ClearedRecord}
 use Rattle.tree_model.specs.declared.standings.Standing.{Standing}
 use Rattle.tree_model.specs.declared.standings.Standing.TheVariants.{Active, Collecting, Prepared}
 use Rattle.tree_model.specs.declared.trees.TreeEntry.{TreeEntry}
 use Rattle.tree_model.specs.Names.{child_case, same_case}
 use Rattle.tree_model.specs.NameLaws.{same_case-refl}
-use Rattle.tree_model.specs.Records.{has, in_list, is_abort, is_collecting, is_commit, is_forgot, is_prepare, unreported_of}
+use Rattle.tree_model.specs.Records.{has, in_list, in_order, is_abort, is_collecting, is_commit, is_forgot, is_prepare, unreported_of}
 use Rattle.tree_model.specs.Nodes.{AtRoot, Effect, Heard, Node, Place, Written, entries_written, is_any_forced, kept}
 use Rattle.tree_model.specs.Memory.{memory_of}
-use Rattle.tree_model.specs.Restarts.{is_known, left_of, recorded_view, reopens, trimmed}
-use Rattle.tree_model.specs.Standings.{coordinator_view}
+use Rattle.tree_model.specs.Restarts.{case_stays, left_of, reopens, trimmed}
+use Rattle.tree_model.specs.Standings.{coordinator_view, found_below}
 use Rattle.tree_pairs.specs.Reading.{is_live}
 use Rattle.tree_pairs.specs.readings.ReadingOf.{is_decision_naming, is_learnt_abort, is_learnt_commit, is_promise, phase_by}
 use Rattle.tree_pairs.specs.turns.CoordinatorTurns.{CoordinatorTurn}
@@ -40,11 +40,12 @@ use Rattle.tree_reports.specs.SinceOpened.{Acked, AllHeardAmong, Covers, InputAm
 use Rattle.tree_reports.proofs.Became.{Became, Grows, at_rest, by_restart, by_trim, by_turn, left_kept, trim_kept}
 use Rattle.tree_reports.proofs.CoordinatorAcks.{AcksBy, alone_acks, last_acks, open_acks, unknown_acks}
 use Rattle.tree_reports.proofs.Facts.{IsOver}
+use Rattle.tree_reports.proofs.Found.{acked_within, within_in_order}
 use Rattle.tree_reports.proofs.Lasting.{CoordinatorLasts, decided_forced, named_owed}
 use Rattle.tree_reports.proofs.ManagerAcks.{unreported_one}
 use Rattle.tree_reports.proofs.Naming.{has_or, never, no_decision_naming}
 use Rattle.tree_reports.proofs.Owed.{all_acked}
-use Rattle.tree_reports.proofs.Rows.{DecidesFrom, Writes, collected, decided, decision, ended, for_nobody, from_promise, from_votes, nothing, promised, turn_writes}
+use Rattle.tree_reports.proofs.Rows.{DecidesFrom, Writes, cleared, collected, decided, decision, ended, for_nobody, from_promise, from_votes, nothing, promised, turn_writes}
 use Rattle.tree_reports.proofs.Stays.{decision_names, naming_recorded, one_has, reopened_stood, stood}
 
 learnt_is : (d : Case) (r : Record) → is_learnt_commit d r ≡ true → (is_commit d r || is_managers r) ≡ true
@@ -125,6 +126,8 @@ module _ (me p : ProcessId) (tree : List TreeEntry) (n : Node) (nested : Nested 
         writes_none c _ nothing u e = never _ e (has-nil (is_decision_naming d u))
         writes_none c _ (ended r b) u e =
             never false (one_has (is_decision_naming d u) (EndRecord c r) e) refl
+        writes_none c _ (cleared b) u e =
+            never false (one_has (is_decision_naming d u) (ClearedRecord c) e) refl
         writes_none c _ (collected b at) u e =
             never false (one_has (is_decision_naming d u) (CollectingRecord c (coordinator_view place n c).accepted) e) refl
         writes_none c _ (promised ys b at) u e =
@@ -137,6 +140,7 @@ module _ (me p : ProcessId) (tree : List TreeEntry) (n : Node) (nested : Nested 
             → has (is_collecting d) (entries_written ws) ≡ true → ⊥
         writes_uncollected c _ nothing e = never _ e (has-nil (is_collecting d))
         writes_uncollected c _ (ended r b) e = never false (one_has (is_collecting d) (EndRecord c r) e) refl
+        writes_uncollected c _ (cleared b) e = never false (one_has (is_collecting d) (ClearedRecord c) e) refl
         writes_uncollected c _ (collected b at) e =
             not_active up (subst (λ (y : Case). (coordinator_view place n y).standing ≡ Active)
             (case_is c d (one_has (is_collecting d) (CollectingRecord c (coordinator_view place n c).accepted) e)) at)
@@ -199,15 +203,15 @@ module _ (me p : ProcessId) (tree : List TreeEntry) (n : Node) (nested : Nested 
 
         trim_decided : has (is_collecting d) (trimmed AtRoot (kept n)) ≡ true
             → has (is_decision d) (trimmed AtRoot (kept n)) ≡ true
-        trim_decided e = by_known (is_known (recorded_view (kept n) d).standing) refl
+        trim_decided e = by_stay (case_stays (kept n) (Some d)) refl
           where
-            by_known : (b : Bool) → is_known (recorded_view (kept n) d).standing ≡ b
+            by_stay : (b : Bool) → case_stays (kept n) (Some d) ≡ b
                 → has (is_decision d) (trimmed AtRoot (kept n)) ≡ true
-            by_known true f =
+            by_stay true f =
                 known_stays d (is_decision d) (decision_of d) (kept n) f
                 (in_first (is_decision d) n.forced n.unforced
                 (old.collecting_is_decided (trim_kept (kept n) (is_collecting d) (λ k. refl) e)))
-            by_known false f = absurd (never _ e (gone (kept n) d t f).collecting)
+            by_stay false f = absurd (never _ e (gone (kept n) d t f).collecting)
 
         decided_then : (k : Node) → Became me (Some p) tree n k → has (is_collecting d) (kept k) ≡ true
             → has (is_decision d) k.forced ≡ true
@@ -301,8 +305,11 @@ module _ (me p : ProcessId) (tree : List TreeEntry) (n : Node) (nested : Nested 
           named = λ u e. elim (named_either u e) [
             | inl a ↦ absurd (never false (one_named u (EndRecord own r) b wrote a) refl)
             | inr old ↦ subst (λ (hs : List Finding). Acked ls x o hs u) found
+                (acked_within ls x o (found_below (coordinator_place me (Some p) tree) n own o gs)
+                (in_order (found_below (coordinator_place me (Some p) tree) n own o gs)) u
+                (within_in_order (found_below (coordinator_place me (Some p) tree) n own o gs))
                 (all_acked ls me (Some p) tree n heard h now own u' o gs hears from last u
-                (named_owed place n own lasts.stays o (coordinator_view place n own).standing from refl u old))
+                (named_owed place n own lasts.stays o (coordinator_view place n own).standing from refl u old)))
           ];
           collecting_is_decided = λ e. grows (is_decision own)
               (decided_forced place n own names lasts.forced up o (coordinator_view place n own).standing from refl);

@@ -16,7 +16,7 @@ use Rattle.tree_model.specs.Nodes.{Effect, Heard, Node, Place, Written, entries_
 use Rattle.tree_model.specs.CoordinatorRows.{Row, end_reports, other_tickets}
 use Rattle.tree_model.specs.Restarts.{forced_all}
 use Rattle.tree_model.specs.Standings.{coordinator_view, found_below}
-use Rattle.tree_pairs.specs.turns.CoordinatorTurns.{CaseTurn, CoordinatorTurn, Decided, HearsChild, aborts, accepts, acknowledges, answers, asks, asks_for_votes, begins, commits, counts_vote, does_nothing, ends, finds_nobody, gives_again, gives_fresh, gives_up, hears_no, invites, of_case, passes_abort, passes_commit, presumes, promises, reads_only, refuses, repeats_yes, rests, sends_work, waits_for_acks}
+use Rattle.tree_pairs.specs.turns.CoordinatorTurns.{CaseTurn, CoordinatorTurn, Decided, HearsChild, aborts, accepts, acknowledges, clears, answers, asks, asks_for_votes, begins, commits, counts_vote, does_nothing, ends, finds_nobody, gives_again, gives_fresh, gives_up, hears_no, invites, of_case, passes_abort, passes_commit, presumes, promises, reads_only, refuses, repeats_yes, rests, sends_work, waits_for_acks}
 use Rattle.tree_nodes.proofs.Tests.{has-cons, left, right}
 
 -- Lists.
@@ -118,6 +118,7 @@ module _ (place : Place) (n : Node) (h : Heard) (c : Case) (r : Option Reports) 
   case_ends d _ (acknowledges o fs i e) x = none_here x
   case_ends d _ (waits_for_acks u o fs i e f a) x = none_here x
   case_ends d _ (ends u o fs i e f a) x = ends_same d u o fs i e a (same_end d _ x)
+  case_ends d _ (clears i e f a) x = other_here _ (λ y. cc) x
   case_ends d _ (answers u o i e) x = none_here x
 
   pub turn_ends : (g : Effect) → CoordinatorTurn place None n h g → Here g.written → By

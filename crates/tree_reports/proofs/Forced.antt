@@ -6,7 +6,7 @@ use Rattle.tree_model.specs.declared.names.Outcome.TheVariants.{Committed as Com
 use Rattle.tree_model.specs.declared.names.ProcessId.{ProcessId}
 use Rattle.tree_model.specs.declared.names.Ticket.{Ticket}
 use Rattle.tree_model.specs.declared.records.Record.{Record}
-use Rattle.tree_model.specs.declared.records.Record.TheVariants.{Collecting as CollectingRecord, Prepare as PrepareRecord, End as EndRecord}
+use Rattle.tree_model.specs.declared.records.Record.TheVariants.{Collecting as CollectingRecord, Prepare as PrepareRecord, End as EndRecord, Cleared as ClearedRecord}
 use Rattle.tree_model.specs.declared.trees.TreeEntry.{TreeEntry}
 use Rattle.tree_model.specs.Names.{same_case}
 use Rattle.tree_model.specs.Records.{has, is_abort, is_commit}
@@ -20,7 +20,7 @@ use Rattle.tree_pairs.proofs.turns.Steps.{turn_of}
 use Rattle.tree_nodes.proofs.CoordinatorAccepts.{turn_here}
 use Rattle.tree_nodes.proofs.Remembering.{coordinator_place}
 use Rattle.tree_nodes.proofs.Tests.{case_is, has-cons, has-nil, in_none, neither}
-use Rattle.tree_reports.proofs.Rows.{OneCase, Writes, collected, decided, decision, ended, nothing, promised, turn_writes}
+use Rattle.tree_reports.proofs.Rows.{OneCase, Writes, cleared, collected, decided, decision, ended, nothing, promised, turn_writes}
 
 -- a decision of the case by this outcome
 abbrev pub is_decision_by : Outcome → Case → Record → Bool
@@ -84,6 +84,9 @@ module _ (place : Place) (n : Node) where
   writes_plain d _ (ended r b) e c =
       one_other (is_owed_decision c) (EndRecord d r)
       (by_outcome (λ o. is_decision_by o c (EndRecord d r)) refl refl (acknowledged c.txn.presumption))
+  writes_plain d _ (cleared b) e c =
+      one_other (is_owed_decision c) (ClearedRecord d)
+      (by_outcome (λ o. is_decision_by o c (ClearedRecord d)) refl refl (acknowledged c.txn.presumption))
   writes_plain d _ (collected b s) e c =
       one_other (is_owed_decision c) (CollectingRecord d (coordinator_view place n d).accepted)
       (by_outcome (λ o. is_decision_by o c (CollectingRecord d (coordinator_view place n d).accepted)) refl refl (acknowledged c.txn.presumption))

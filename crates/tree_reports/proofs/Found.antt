@@ -9,7 +9,8 @@ use Rattle.tree_model.specs.declared.messages.Finding.{Finding}
 use Rattle.tree_model.specs.declared.messages.Finding.TheVariants.{Mixed, Unreported}
 use Rattle.tree_model.specs.declared.messages.Message.{Message}
 use Rattle.tree_model.specs.declared.messages.Envelope.{Envelope}
-use Rattle.tree_model.specs.Records.{in_list, mixed_of, unreported_of}
+use Rattle.tree_model.specs.Records.{in_list, in_order, mixed_of, unreported_of}
+use Rattle.tree_model.proofs.FindingLaws.{mixed_both, mixed_in_order, unreported_both, unreported_in_order}
 use Rattle.tree_model.specs.Outcomes.{sent}
 use Rattle.tree_nodes.proofs.Tests.{left, right}
 use Rattle.tree_reports.specs.SinceOpened.{Acked, IsAmong, Within}
@@ -27,18 +28,6 @@ pub in_list_both : (xs ys : List Ticket) (t : Ticket) → in_list (xs ++ ys) t �
 unfolding in_list
 in_list_both xs ys t = grind (arith, list_any-append)
 
-mixed_both : (fs gs : List Finding) → mixed_of (fs ++ gs) ≡ mixed_of fs ++ mixed_of gs
-unfolding mixed_of
-mixed_both [] gs = refl
-mixed_both (Mixed t ∷ fs) gs = ap (λ ts. t ∷ ts) (mixed_both fs gs)
-mixed_both (Unreported t ∷ fs) gs = mixed_both fs gs
-
-unreported_both : (fs gs : List Finding) → unreported_of (fs ++ gs) ≡ unreported_of fs ++ unreported_of gs
-unfolding unreported_of
-unreported_both [] gs = refl
-unreported_both (Mixed t ∷ fs) gs = unreported_both fs gs
-unreported_both (Unreported t ∷ fs) gs = ap (λ ts. t ∷ ts) (unreported_both fs gs)
-
 pub within_first : (fs gs : List Finding) → Within fs (fs ++ gs)
 within_first fs gs = record {
   mixed = λ t e. ap (λ ts. in_list ts t) (mixed_both fs gs)
@@ -53,6 +42,13 @@ within_second fs gs = record {
       ∙ (in_list_both (mixed_of fs) (mixed_of gs) t ∙ right _ _ e);
   unreported = λ t e. ap (λ ts. in_list ts t) (unreported_both fs gs)
       ∙ (in_list_both (unreported_of fs) (unreported_of gs) t ∙ right _ _ e);
+}
+
+-- put in order, findings say what they said
+pub within_in_order : (fs : List Finding) → Within fs (in_order fs)
+within_in_order fs = record {
+  mixed = λ t e. ap (λ ts. in_list ts t) (mixed_in_order fs) ∙ e;
+  unreported = λ t e. ap (λ ts. in_list ts t) (unreported_in_order fs) ∙ e;
 }
 
 -- Messages.

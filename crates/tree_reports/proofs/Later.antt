@@ -16,7 +16,7 @@ use Rattle.tree_model.specs.declared.records.Record.{Record}
 use Rattle.tree_model.specs.declared.events.Input.{Input}
 use Rattle.tree_model.specs.declared.events.Input.TheVariants.{Act as ActInput, Message as MessageInput}
 use Rattle.tree_model.specs.Names.{child_case}
-use Rattle.tree_model.specs.Records.{has, is_decided}
+use Rattle.tree_model.specs.Records.{has, in_order, is_decided, mixed_of, unreported_of}
 use Rattle.tree_model.specs.Nodes.{Heard, Node}
 use Rattle.tree_model.specs.Standings.{other_outcome}
 use Rattle.tree_reports.specs.Findings.{AllSayTrue, AreTrue, IsTrue, SaysTrue}
@@ -28,6 +28,22 @@ module _ (at : ProcessId → Node) where
       → AreTrue at x o (fs ++ gs)
   are_both x o [] gs f g = g
   are_both x o (a ∷ fs) gs f g = (f.0, are_both x o fs gs f.1 g)
+
+  mixed_so : (x : Txn) (o : Outcome) (fs : List Finding) → AreTrue at x o fs
+      → AreTrue at x o (map (λ t. Mixed t) (mixed_of fs))
+  unfolding mixed_of
+  mixed_so x o [] f = tt
+  mixed_so x o (Mixed t ∷ fs) f = (f.0, mixed_so x o fs f.1)
+  mixed_so x o (Unreported t ∷ fs) f = mixed_so x o fs f.1
+
+  unreported_so : (x : Txn) (o : Outcome) (ts : List Ticket) → AreTrue at x o (map (λ t. Unreported t) ts)
+  unreported_so x o [] = tt
+  unreported_so x o (t ∷ ts) = (tt, unreported_so x o ts)
+
+  pub in_order_so : (x : Txn) (o : Outcome) (fs : List Finding) → AreTrue at x o fs → AreTrue at x o (in_order fs)
+  in_order_so x o fs f =
+      are_both x o (map (λ t. Mixed t) (mixed_of fs)) (map (λ t. Unreported t) (unreported_of fs))
+      (mixed_so x o fs f) (unreported_so x o (unreported_of fs))
 
   pub say_both : (xs ys : List Envelope) → AllSayTrue at xs → AllSayTrue at ys → AllSayTrue at (xs ++ ys)
   say_both [] ys f g = g

@@ -1,29 +1,30 @@
 -- What a manager's acknowledgement says is true.
-use Rattle.std.proofs.Common.{◌≡◌, Bool, true, false, Option, Some, None, List, [], ◌∷◌, refl, sym, subst, if◌then◌else◌}
+use Rattle.std.proofs.Common.{◌≡◌, Bool, true, false, not, Option, Some, None, List, [], ◌∷◌, refl, sym, subst, if◌then◌else◌}
 use Rattle.std.specs.List.{flat_map}
 use Rattle.tree_model.specs.declared.names.Case.{Case}
 use Rattle.tree_model.specs.declared.names.ProcessId.{ProcessId}
 use Rattle.tree_model.specs.declared.names.Ticket.{Ticket}
 use Rattle.tree_model.specs.declared.names.Txn.{Txn}
 use Rattle.tree_model.specs.declared.names.Outcome.{Outcome}
-use Rattle.tree_model.specs.declared.names.Outcome.TheVariants.{Aborted as AbortedOutcome}
+use Rattle.tree_model.specs.declared.names.Outcome.TheVariants.{Committed as CommittedOutcome, Aborted as AbortedOutcome}
 use Rattle.tree_model.specs.declared.messages.Finding.{Finding}
 use Rattle.tree_model.specs.declared.messages.Finding.TheVariants.{Mixed, Unreported}
 use Rattle.tree_model.specs.declared.messages.Message.TheVariants.{Ack}
 use Rattle.tree_model.specs.declared.records.Branch.TheVariants.{Case as CaseBranch}
 use Rattle.tree_model.specs.declared.records.Record.{Record}
 use Rattle.tree_model.specs.declared.trees.TreeEntry.{TreeEntry}
-use Rattle.tree_model.specs.Names.{child_case, process_of}
-use Rattle.tree_model.specs.Records.{has, is_decided}
+use Rattle.tree_model.specs.Names.{child_case, process_of, same_outcome}
+use Rattle.tree_model.specs.Records.{decision_of, has, is_decided}
 use Rattle.tree_model.specs.Nodes.{Effect, First, Heard, Node, Place, Second, Version, kept}
 use Rattle.tree_model.specs.CoordinatorRows.{post}
 use Rattle.tree_model.specs.ManagerRows.{is_acknowledged}
 use Rattle.tree_model.specs.Memory.{fresh_memory}
 use Rattle.tree_model.specs.Restarts.{inquires_by, manager_resumes, recorded_branch}
-use Rattle.tree_model.specs.Standings.{Decided, Finished, Mark, Promised, ToldOf, Unmarked, decided_findings, mark_of, marked_branch, other_outcome, own_finding, unknown_findings}
+use Rattle.tree_model.specs.Standings.{Decided, Finished, Mark, Promised, ToldOf, Unmarked, decided_against, decided_findings, mark_of, marked_branch, other_outcome, own_finding, unknown_findings}
 use Rattle.tree_pairs.specs.turns.LeafTurns.{LeafTurn, does_nothing, gives_again, gives_fresh, votes_yes, votes_read, votes_no, repeats_yes, refuses, obeys, notes, acknowledges_told, acknowledges, drops, asks, decides, forgets}
 use Rattle.tree_nodes.specs.WorldHolds.{AllGo}
 use Rattle.tree_reports.specs.Findings.{AllSayTrue, AreTrue}
+use Rattle.tree_reports.proofs.LastDecisions.{decision_stands}
 use Rattle.tree_reports.proofs.Later.{flat_says}
 
 -- who is unreported is no claim
@@ -41,21 +42,33 @@ module _ (at : ProcessId → Node) (tree : List TreeEntry) (place : Place) (p : 
     → has (is_decided d o) (at place.me).durable ≡ true)
   where
     by_ticket : (x : Txn) (u : Option Ticket) (o : Outcome)
-        → process_of (record { txn = x; ticket = u }) ≡ place.me → (b : Bool)
-        → has (is_decided (record { txn = x; ticket = u }) (other_outcome o)) (kept n) ≡ b
-        → AreTrue at x o (if b then own_finding Mixed u else [])
-    by_ticket x u o own false e = tt
-    by_ticket x None o own true e = tt
-    by_ticket x (Some t) o own true e = (
+        → process_of (record { txn = x; ticket = u }) ≡ place.me
+        → has (is_decided (record { txn = x; ticket = u }) (other_outcome o)) (kept n) ≡ true
+        → AreTrue at x o (own_finding Mixed u)
+    by_ticket x None o own e = tt
+    by_ticket x (Some t) o own e = (
       subst (λ (q : ProcessId). has (is_decided (child_case x t) (other_outcome o)) (at q).durable ≡ true)
           (sym own) (known (child_case x t) (other_outcome o) e),
       tt,
     )
 
+    by_outcomes : (d : Case) (o b : Outcome) → process_of d ≡ place.me → has (is_decided d b) (kept n) ≡ true
+        → AreTrue at d.txn o (if not (same_outcome b o) then own_finding Mixed d.ticket else [])
+    unfolding same_outcome
+    by_outcomes d CommittedOutcome CommittedOutcome own e = tt
+    by_outcomes d AbortedOutcome AbortedOutcome own e = tt
+    by_outcomes d CommittedOutcome AbortedOutcome own e = by_ticket d.txn d.ticket CommittedOutcome own e
+    by_outcomes d AbortedOutcome CommittedOutcome own e = by_ticket d.txn d.ticket AbortedOutcome own e
+
     decided_so : (v : Version) (d : Case) (o : Outcome) → process_of d ≡ place.me
         → AreTrue at d.txn o (decided_findings v (kept n) d o)
     decided_so First d o own = tt
-    decided_so Second d o own = by_ticket d.txn d.ticket o own (has (is_decided d (other_outcome o)) (kept n)) refl
+    decided_so Second d o own = by_decision (decision_of (kept n) d) refl
+      where
+        by_decision : (k : Option Outcome) → decision_of (kept n) d ≡ k
+            → AreTrue at d.txn o (if decided_against k o then own_finding Mixed d.ticket else [])
+        by_decision None e = tt
+        by_decision (Some b) e = by_outcomes d o b own (decision_stands d b (kept n) e)
 
     acknowledged : (d : Case) (o : Outcome) (fs : List Finding) → (process_of d ≡ place.me → AreTrue at d.txn o fs)
         → (b : Bool) → AllGo tree (if b then post place.me p (Ack d o fs) ∷ [] else [])

@@ -1,4 +1,5 @@
 pub mod Later
+pub mod LastDecisions
 pub mod Decisions
 pub mod Memories
 pub mod Leaves
@@ -29,3 +30,4 @@ pub mod EndRows
 pub mod SinceRuns
 pub mod Descent
 pub mod Reporting
+pub mod SecondRuns

@@ -1,5 +1,5 @@
 -- When a manager acknowledges by the second version, and does not report its ticket, no operator decided against it.
-use Rattle.std.proofs.Common.{◌≡◌, ◌∙◌, ◌||◌, ◌⊎◌, inl, inr, Bool, true, false, Option, Some, None, List, [], ◌∷◌, refl, sym, ap, subst, arith, if◌then◌else◌}
+use Rattle.std.proofs.Common.{◌≡◌, ◌∙◌, ◌||◌, ◌⊎◌, inl, inr, Bool, true, false, Option, Some, None, List, [], ◌∷◌, refl, sym, ap, subst, arith, if◌then◌else◌, is_some, not}
 use Rattle.tree_model.specs.declared.names.Case.{Case}
 use Rattle.tree_model.specs.declared.names.ProcessId.{ProcessId}
 use Rattle.tree_model.specs.declared.names.Ticket.{Ticket}
@@ -14,15 +14,15 @@ use Rattle.tree_model.specs.declared.messages.Envelope.{Envelope}
 use Rattle.tree_model.specs.declared.records.Record.{Record}
 use Rattle.tree_model.specs.declared.standings.Standing.{Standing}
 use Rattle.tree_model.specs.declared.standings.Standing.TheVariants.{Active}
-use Rattle.tree_model.specs.Names.{process_of}
+use Rattle.tree_model.specs.Names.{process_of, same_outcome}
 use Rattle.tree_model.specs.NameLaws.{same_case-refl, same_ticket-refl}
-use Rattle.tree_model.specs.Records.{has, in_list, is_decided, is_heuristic, mixed_of, unreported_of}
+use Rattle.tree_model.specs.Records.{decision_of, has, in_list, is_decided, is_heuristic, mixed_of, unreported_of}
 use Rattle.tree_model.specs.Nodes.{AtLeaf, Effect, Heard, Node, Place, Role, Second, Version, First, kept}
 use Rattle.tree_model.specs.CoordinatorRows.{post, tells_outcome}
 use Rattle.tree_model.specs.ManagerRows.{is_acknowledged}
 use Rattle.tree_model.specs.Memory.{Open, Phase, memory_of}
 use Rattle.tree_model.specs.Outcomes.{sent}
-use Rattle.tree_model.specs.Standings.{ManagerView, Mark, Promised, Unmarked, decided_findings, marked_branch, other_outcome, own_finding, standing_in, standing_of, unknown_findings}
+use Rattle.tree_model.specs.Standings.{ManagerView, Mark, Promised, Unmarked, decided_against, decided_findings, marked_branch, other_outcome, own_finding, standing_in, standing_of, unknown_findings}
 use Rattle.tree_pairs.specs.Reading.{is_live}
 use Rattle.tree_pairs.specs.readings.ReadingOf.{gives_case, phase_by}
 use Rattle.tree_pairs.specs.turns.LeafTurns.{Hears, IsActive, IsDecided, IsOpenBranch, LeafTurn, acknowledges, acknowledges_told, asks, decides, does_nothing, drops, forgets, gives_again, gives_fresh, mark_at, notes, obeys, promised, refuses, repeats_yes, told, untold, votes_no, votes_read, votes_yes, waits, Waits}
@@ -38,6 +38,7 @@ use Rattle.tree_headline.proofs.runs.MessagesHold.{none_gives}
 use Rattle.tree_reports.specs.SinceOpened.{IsAmong, IsClean, NoneAgainst, ever}
 use Rattle.tree_reports.proofs.Facts.{CaseFacts}
 use Rattle.tree_reports.proofs.Found.{among_sent}
+use Rattle.tree_reports.proofs.LastDecisions.{decided_some, decision_stands, is_decided_mark}
 use Rattle.tree_reports.proofs.Naming.{never, none_if, none_of_them}
 
 -- no branch was ever decided in both ways
@@ -170,23 +171,52 @@ module _ (net : List Envelope) (place : Place) (p : ProcessId) (leaf : place.rol
             → in_list (unreported_of (own_finding Unreported u)) t ≡ true
         unreported_so t _ e = rw e (unreported_one t)
 
-        against_kept : (v : Version) → v ≡ Second → (d : Case) (o : Outcome) (t : Ticket) → d.ticket ≡ Some t
-            → in_list (mixed_of (decided_findings v (kept n) d o)) t ≡ false
+        -- who decided last by an outcome never decided otherwise
+        not_otherwise : (d : Case) (o : Outcome) → has (is_decided d o) (kept n) ≡ true
             → has (is_decided d (other_outcome o)) (kept n) ≡ false
-        against_kept First e d o t f g = absurd (cc)
-        against_kept Second e d o t f g = by_test (has (is_decided d (other_outcome o)) (kept n)) refl g
+        not_otherwise d o is = by_test (has (is_decided d (other_outcome o)) (kept n)) refl
           where
             by_test : (b : Bool) → has (is_decided d (other_outcome o)) (kept n) ≡ b
-                → in_list (mixed_of (if b then own_finding Mixed d.ticket else [])) t ≡ false
                 → has (is_decided d (other_outcome o)) (kept n) ≡ false
-            by_test true k x = absurd (never _ (mixed_so d o t d.ticket f) x)
-            by_test false k x = k
+            by_test false e = e
+            by_test true e = absurd (one d o (in_first (is_decided d o) (kept n) n.durable is)
+                (in_first (is_decided d (other_outcome o)) (kept n) n.durable e))
+
+        not_against : (d : Case) (o b : Outcome) (t : Ticket) → d.ticket ≡ Some t
+            → has (is_decided d b) (kept n) ≡ true
+            → in_list (mixed_of (if not (same_outcome b o) then own_finding Mixed d.ticket else [])) t ≡ false
+            → has (is_decided d (other_outcome o)) (kept n) ≡ false
+        unfolding same_outcome
+        not_against d CommittedOutcome CommittedOutcome t f is g = not_otherwise d CommittedOutcome is
+        not_against d AbortedOutcome AbortedOutcome t f is g = not_otherwise d AbortedOutcome is
+        not_against d CommittedOutcome AbortedOutcome t f is g = absurd (never _ (mixed_so d CommittedOutcome t d.ticket f) g)
+        not_against d AbortedOutcome CommittedOutcome t f is g = absurd (never _ (mixed_so d AbortedOutcome t d.ticket f) g)
+
+        decided_mark_is : (k : Mark) → IsDecided k → is_decided_mark k ≡ true
+        decided_mark_is _ untold = refl
+        decided_mark_is _ (told o) = refl
+
+        against_kept : (v : Version) → v ≡ Second → (d : Case) (o : Outcome) (t : Ticket) → d.ticket ≡ Some t
+            → IsDecided (mark_at n d)
+            → in_list (mixed_of (decided_findings v (kept n) d o)) t ≡ false
+            → has (is_decided d (other_outcome o)) (kept n) ≡ false
+        against_kept First e d o t f k g = absurd (cc)
+        against_kept Second e d o t f k g = by_decision (decision_of (kept n) d) refl g
+          where
+            by_decision : (b : Option Outcome) → decision_of (kept n) d ≡ b
+                → in_list (mixed_of (if decided_against b o then own_finding Mixed d.ticket else [])) t ≡ false
+                → has (is_decided d (other_outcome o)) (kept n) ≡ false
+            by_decision (Some b) is x = not_against d o b t f (decision_stands d b (kept n) is) x
+            by_decision None is x =
+                let some : is_some (decision_of (kept n) d) ≡ true =
+                decided_some d (kept n) (m.in_order d) (decided_mark_is (mark_at n d) k) in
+                absurd (let clash : false ≡ true = ap is_some (sym is) ∙ some in cc)
 
         decided_fine : (d : Case) (o : Outcome) → Hears h (tells_outcome o d) → IsDecided (mark_at n d)
             → Fine (Ack d o (decided_findings h.version (kept n) d o))
         decided_fine d o i k own clean =
             ticketed d (was_given o d i) (λ t f.
-            let none = against_kept h.version second d o t f (clean t f).1 in
+            let none = against_kept h.version second d o t f k (clean t f).1 in
             in_none (is_decided d (other_outcome o)) (kept n) n.durable none
             (none_if (is_decided d (other_outcome o)) n.durable (λ g.
             elim (either_decided d o (kept n) (heuristic_so n nested m d k)) [

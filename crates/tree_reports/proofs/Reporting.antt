@@ -9,11 +9,13 @@ use Rattle.tree_model.specs.declared.names.Ticket.{Ticket}
 use Rattle.tree_model.specs.declared.names.Txn.{Txn}
 use Rattle.tree_model.specs.declared.messages.Finding.{Finding}
 use Rattle.tree_model.specs.declared.records.Record.{Record}
-use Rattle.tree_model.specs.declared.records.Record.TheVariants.{Collecting as CollectingRecord, End as EndRecord, Prepare as PrepareRecord}
+use Rattle.tree_model.specs.declared.records.Record.TheVariants.{Collecting as CollectingRecord, End as EndRecord, Prepare as PrepareRecord, Cleared as ClearedRecord}
 use Rattle.tree_model.specs.declared.records.Reports.{Reports}
+use Rattle.tree_model.specs.declared.messages.Envelope.{Envelope}
+use Rattle.tree_model.specs.declared.messages.Message.{Message}
+use Rattle.tree_model.specs.declared.events.Input.{Input}
 use Rattle.tree_model.specs.declared.events.Happening.{Happening}
 use Rattle.tree_model.specs.declared.events.Happening.TheVariants.{Input as Handles}
-use Rattle.tree_model.specs.declared.events.Input.{Input}
 use Rattle.tree_model.specs.declared.standings.Standing.{Standing}
 use Rattle.tree_model.specs.declared.standings.Standing.TheVariants.{Collecting}
 use Rattle.tree_model.specs.declared.trees.TreeEntry.{TreeEntry}
@@ -41,7 +43,7 @@ use Rattle.tree_nodes.proofs.RootsHold.{nodes_hold}
 use Rattle.tree_nodes.proofs.Tests.{has-cons, has-nil, has-reverse, in_either, in_first, in_front, neither}
 use Rattle.tree_steps.proofs.parents.Tables.{aborting_facts, committing_facts}
 use Rattle.tree_headline.proofs.runs.Headline as headline
-use Rattle.tree_reports.specs.SinceOpened.{InputAmong, is_decision}
+use Rattle.tree_reports.specs.SinceOpened.{InputAmong, IsAmong, SinceOpened, is_decision}
 use Rattle.tree_reports.specs.Findings.{reports_mixed}
 use Rattle.tree_reports.specs.Mismatches.{AllReportTruly, IsNamedDown, Names, ReportsTruly, by_root, by_ticket, mixed_in}
 use Rattle.tree_reports.proofs.Became.{life_after}
@@ -55,8 +57,9 @@ use Rattle.tree_reports.proofs.Opened.{live_undecided}
 use Rattle.tree_reports.proofs.Owed.{all_acked}
 use Rattle.tree_reports.proofs.Reported.{reported_had_mismatch, reports_hold}
 use Rattle.tree_reports.proofs.Reports.{ended_still, has_ended}
-use Rattle.tree_reports.proofs.Rows.{OneCase, Writes, collected, decided, decision, ended, nothing, promised, turn_writes}
-use Rattle.tree_reports.proofs.SinceRuns.{Since, delivered_among, since_opened, since_then, stands_new}
+use Rattle.tree_reports.proofs.Rows.{OneCase, Writes, cleared, collected, decided, decision, ended, nothing, promised, turn_writes}
+use Rattle.tree_reports.proofs.SinceOpened.{since_step}
+use Rattle.tree_reports.proofs.SinceRuns.{among_net, delivered_among, since_opened, stands_new}
 
 one_lacks : (q : Record → Bool) (r : Record) → q r ≡ false → has q (r ∷ []) ≡ false
 one_lacks q r e = has-cons q r [] ∙ neither (q r) (has q []) e (has-nil q)
@@ -74,6 +77,7 @@ module _ (place : Place) (n : Node) (c : Case) (r : Option Reports) (j : ℕ) (u
       → has (is_decision_naming c u) (entries_written ws) ≡ false
   writes_unnamed d _ nothing e = has-nil (is_decision_naming c u)
   writes_unnamed d _ (ended s b) e = one_lacks (is_decision_naming c u) (EndRecord d s) refl
+  writes_unnamed d _ (cleared b) e = one_lacks (is_decision_naming c u) (ClearedRecord d) refl
   writes_unnamed d _ (collected b at) e = one_lacks (is_decision_naming c u) (CollectingRecord d _) refl
   writes_unnamed d _ (promised ys b at) e = one_lacks (is_decision_naming c u) (PrepareRecord d ys) refl
   writes_unnamed d _ (decided o ts b from f) e =
@@ -106,9 +110,11 @@ ends_so n x AbortedOutcome e = first_of_three _ _ _ e
 put_here : (q : ProcessId) (k : Node) (f : ProcessId → Node) → put_at q k f q ≡ k
 put_here q k f = elim (same_process_tells q q) [ inl t ↦ rw t.0 refl | inr g ↦ absurd (g.1 refl) ]
 
-module _ (tree : List TreeEntry) (is_tree : IsTree tree) (before : ℕ) (es : List Made) (w : World)
-    (run : IsRunBy tree Second before es w) (m : Move) (e : Effect) (w' : World) (second : m.version ≡ Second)
-    (new : IsNew w.net before m.step.process m.step.happening) (made : world_makes tree w m ≡ Some (e, w'))
+module _ (tree : List TreeEntry) (is_tree : IsTree tree) (es : List Made) (w : World) (plain : IsRun tree es w)
+    (since : List Envelope) (among : (x : Message) → IsAmong x since → IsAmong x w.net)
+    (holds : SinceOpened tree since w) (m : Move) (e : Effect) (w' : World) (second : m.version ≡ Second)
+    (arrives : (i : Input) → m.step.happening ≡ Handles i → InputAmong since i)
+    (stands : Stands w.net m.step.process m.step.happening) (made : world_makes tree w m ≡ Some (e, w'))
     (top : role_of tree m.step.process ≡ AtRoot) (c : Case) (r : Option Reports) (j : ℕ)
     (there : slice_get (entries_written e.written) j ≡ Some (EndRecord c r))
   where
@@ -124,17 +130,8 @@ module _ (tree : List TreeEntry) (is_tree : IsTree tree) (before : ℕ) (es : Li
     abbrev here : Place
     here = coordinator_place m.step.process None tree
 
-    plain : IsRun tree es w
-    plain = runs_by_are_runs tree Second before es w run
-
-    stands : Stands w.net m.step.process m.step.happening
-    stands = stands_new w.net before q m.step.happening new
-
     thereafter : IsRun tree (record { move = m; effect = e } ∷ es) w'
     thereafter = makes es w m e w' plain stands made
-
-    abbrev since : Since tree before w
-    since = since_opened tree is_tree before es w run
 
     step : StepOf (coordinator_place m.step.process None tree) (w.at m.step.process) m e
         (makes_at tree w m e w' made).node
@@ -154,17 +151,11 @@ module _ (tree : List TreeEntry) (is_tree : IsTree tree) (before : ℕ) (es : Li
       heard : Heard
       up : (w.at m.step.process).failed ≡ false
       by_second : heard.version ≡ Second
-      now : InputAmong (since_opened tree is_tree before es w run).messages heard.input
+      now : InputAmong since heard.input
       ends_by : EndsBy (coordinator_place m.step.process None tree) (w.at m.step.process) heard c r
       appended : (p : Record → Bool) → p (EndRecord c r) ≡ true → has p k'.life ≡ true
       named : (u : Ticket) → has (is_decision_naming c u) k'.life ≡ true
           → has (is_decision_naming c u) (w.at m.step.process).life ≡ true
-
-    delivered : (i : Input) → m.step.happening ≡ Handles i
-        → InputAmong (since_opened tree is_tree before es w run).messages i
-    delivered i hp =
-        delivered_among w.net before since.messages since.behind q i
-        (subst (λ (x : Happening). IsNew w.net before q x) hp new)
 
     of_turn : (k' : Node) (i : Input) (g : Effect) → m.step.happening ≡ Handles i
         → (w.at m.step.process).failed ≡ false
@@ -177,7 +168,7 @@ module _ (tree : List TreeEntry) (is_tree : IsTree tree) (before : ℕ) (es : Li
       heard = heard_in m i;
       up = up;
       by_second = second;
-      now = delivered i hp;
+      now = arrives i hp;
       ends_by = turn_ends here n (heard_in m i) c r j g turn at;
       appended = λ p f. ap (has p) life ∙ in_first p (reverse xs) n.life (has-reverse p xs ∙ has_it p f);
       named = λ u f. elim (in_either (is_decision_naming c u) (reverse xs) n.life
@@ -302,7 +293,7 @@ module _ (tree : List TreeEntry) (is_tree : IsTree tree) (before : ℕ) (es : Li
         ∙ (ap (λ (d : Case). has_ended k d o) case_so ∙ ended_still here m n e k step c o f)))
 
     reported_truly : (h : Heard) → n.failed ≡ false → h.version ≡ Second
-        → InputAmong (since_opened tree is_tree before es w run).messages h.input
+        → InputAmong since h.input
         → EndsBy here n h c r → ReportsTruly w' c.txn r
     reported_truly h up by now (read_only at) = record {
       mixed_had_mismatch = mixed_then r refl;
@@ -311,11 +302,11 @@ module _ (tree : List TreeEntry) (is_tree : IsTree tree) (before : ℕ) (es : Li
     reported_truly h up by now (acked_last t' o fs hears from last reports) = record {
       mixed_had_mismatch = mixed_then r refl;
       mismatch_is_reported =
-          is_reported tree (record { move = m; effect = e } ∷ es) w' thereafter (since.messages ++ e.messages)
-          (since_then tree is_tree before es w m e w' plain second new made since) c.txn o (found_below here n c o fs) r
+          is_reported tree (record { move = m; effect = e } ∷ es) w' thereafter (since ++ e.messages)
+          (since_step tree is_tree es w plain since among holds m e w' second arrives stands made) c.txn o (found_below here n c o fs) r
           (reported_so h.version by (found_below here n c o fs) r reports)
-          (λ u names. acked_still since.messages e.messages c.txn o (found_below here n c o fs) u
-          (all_acked since.messages q None tree n (since.holds.heard q up) h now c t' o fs hears from last u
+          (λ u names. acked_still since e.messages c.txn o (found_below here n c o fs) u
+          (all_acked since q None tree n (holds.heard q up) h now c t' o fs hears from last u
           (named_owed here n c lasting.stays o (coordinator_view here n c).standing from refl u (named_before u names))))
           (agrees_so o (ended_by up o (coordinator_view here n c).standing from refl));
     }
@@ -329,8 +320,14 @@ all_truly : (tree : List TreeEntry) → IsTree tree → (v : Version) (before : 
     → (run : IsRunBy tree v before es w) → v ≡ Second → AllReportTruly tree v before es w run
 all_truly tree is_tree _ _ _ _ (first_opens v) second = tt
 all_truly tree is_tree _ _ _ _ (next v before es w m e w' run by new made) second = (
-  λ j c r top there. end_reports_truly tree is_tree before es w
-      (subst (λ (u : Version). IsRunBy tree u before es w) second run) m e w' (by ∙ second) new made top c r j there,
+  λ j c r top there.
+      let s = since_opened tree is_tree before es w (subst (λ (u : Version). IsRunBy tree u before es w) second run) in
+      let q = m.step.process in
+      end_reports_truly tree is_tree es w (runs_by_are_runs tree v before es w run) s.messages
+      (among_net w.net before s.messages s.behind) s.holds m e w' (by ∙ second)
+      (λ i hp. delivered_among w.net before s.messages s.behind q i
+      (subst (λ (x : Happening). IsNew w.net before q x) hp new))
+      (stands_new w.net before q m.step.happening new) made top c r j there,
   all_truly tree is_tree v before es w run second,
 )
 all_truly tree is_tree _ _ _ _ (opens_again v before es w run down) second = tt

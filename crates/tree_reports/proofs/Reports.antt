@@ -25,7 +25,7 @@ use Rattle.tree_model.specs.CoordinatorRows.{Row, end_reports}
 use Rattle.tree_model.specs.Restarts.{aborts_collecting, coordinator_reopens, crashed, data_records, recorded_view, reopens, restart_abort, trim_fails}
 use Rattle.tree_model.specs.Standings.{CoordinatorView, coordinator_view, found_below}
 use Rattle.tree_model.specs.World.{Move}
-use Rattle.tree_pairs.specs.turns.CoordinatorTurns.{CaseTurn, CoordinatorTurn, Decided, aborts, accepts, acknowledges, answers, asks, asks_for_votes, begins, by_abort, by_commit, commits, counts_vote, does_nothing, ends, finds_nobody, gives_again, gives_fresh, gives_up, hears_no, invites, of_case, passes_abort, passes_commit, presumes, promises, reads_only, refuses, repeats_yes, rests, sends_work, waits_for_acks}
+use Rattle.tree_pairs.specs.turns.CoordinatorTurns.{CaseTurn, CoordinatorTurn, Decided, aborts, accepts, acknowledges, clears, answers, asks, asks_for_votes, begins, by_abort, by_commit, commits, counts_vote, does_nothing, ends, finds_nobody, gives_again, gives_fresh, gives_up, hears_no, invites, of_case, passes_abort, passes_commit, presumes, promises, reads_only, refuses, repeats_yes, rests, sends_work, waits_for_acks}
 use Rattle.tree_pairs.specs.turns.Steps.{StepOf, heard_in, handled, failed_in, passed, failed_passing, reopened, failed_reopening, trimmed, failed_trimming}
 use Rattle.tree_pairs.proofs.turns.CoordinatorReactions.{coordinator_turn_of}
 use Rattle.tree_pairs.proofs.turns.Steps.{turn_of}
@@ -157,6 +157,7 @@ module _ (at : ProcessId → Node) (me : ProcessId) (tree : List TreeEntry) (n :
           by_version h.version d o (found_below place n d o fs)
           (below_is_true at me None tree n heard d o fs (child_says at me None tree n heard h now d u o fs i))
           (decided_ended d o (coordinator_view place n d).standing e refl) x
+      case_reports d _ (clears i e f a) x = absurd (cc)
       case_reports d _ (answers u o i e) x = absurd (cc)
 
       turn_reports : (e : Effect) → CoordinatorTurn place None n h e

@@ -7,14 +7,14 @@ use Rattle.tree_model.specs.declared.names.ProcessId.{ProcessId}
 use Rattle.tree_model.specs.declared.names.Presumption.TheVariants.{PresumeAbort, PresumeCommit}
 use Rattle.tree_model.specs.declared.names.Ticket.{Ticket}
 use Rattle.tree_model.specs.declared.records.Record.{Record}
-use Rattle.tree_model.specs.declared.records.Record.TheVariants.{Collecting as CollectingRecord, Prepare as PrepareRecord, Commit as CommitRecord, Abort as AbortRecord, End as EndRecord}
+use Rattle.tree_model.specs.declared.records.Record.TheVariants.{Collecting as CollectingRecord, Prepare as PrepareRecord, Commit as CommitRecord, Abort as AbortRecord, End as EndRecord, Cleared as ClearedRecord}
 use Rattle.tree_model.specs.declared.records.Reports.{Reports}
 use Rattle.tree_model.specs.declared.standings.Standing.TheVariants.{Active, Collecting, Prepared}
 use Rattle.tree_model.specs.Nodes.{Effect, Heard, Node, Place, Written}
 use Rattle.tree_model.specs.CoordinatorRows.{Row}
 use Rattle.tree_model.specs.Standings.{coordinator_view}
 use Rattle.tree_pairs.specs.readings.ReadingOf.{acknowledged}
-use Rattle.tree_pairs.specs.turns.CoordinatorTurns.{CaseTurn, CoordinatorTurn, aborts, accepts, acknowledges, answers, asks, asks_for_votes, begins, commits, counts_vote, does_nothing, ends, finds_nobody, gives_again, gives_fresh, gives_up, hears_no, invites, of_case, passes_abort, passes_commit, presumes, promises, reads_only, refuses, repeats_yes, rests, sends_work, waits_for_acks}
+use Rattle.tree_pairs.specs.turns.CoordinatorTurns.{CaseTurn, CoordinatorTurn, aborts, accepts, acknowledges, clears, answers, asks, asks_for_votes, begins, commits, counts_vote, does_nothing, ends, finds_nobody, gives_again, gives_fresh, gives_up, hears_no, invites, of_case, passes_abort, passes_commit, presumes, promises, reads_only, refuses, repeats_yes, rests, sends_work, waits_for_acks}
 
 -- a Commit of the case, or an Abort
 abbrev pub decision : Outcome → Case → List Ticket → Record
@@ -32,6 +32,7 @@ pub data DecidesFrom (place : Place) (n : Node) (c : Case) : List Ticket → Typ
 pub data Writes (place : Place) (n : Node) (c : Case) : List Written → Type 0 where
   nothing : Writes place n c []
   ended : (r : Option Reports) (b : Bool) → Writes place n c (record { entry = EndRecord c r; is_forced = b } ∷ [])
+  cleared : (b : Bool) → Writes place n c (record { entry = ClearedRecord c; is_forced = b } ∷ [])
   collected : (b : Bool) → (coordinator_view place n c).standing ≡ Active
       → Writes place n c
       (record { entry = CollectingRecord c (coordinator_view place n c).accepted; is_forced = b } ∷ [])
@@ -90,6 +91,7 @@ module _ (place : Place) (parent : Option ProcessId) (n : Node) (h : Heard) wher
   case_writes c _ (acknowledges o fs i e) = nothing
   case_writes c _ (waits_for_acks t o fs i e f a) = nothing
   case_writes c _ (ends t o fs i e f a) = ended _ _
+  case_writes c _ (clears i e f a) = cleared true
   case_writes c _ (answers t o i e) = nothing
 
 -- what is written is of one case

@@ -12,7 +12,7 @@ use Rattle.tree_model.specs.declared.events.Input.TheVariants.{Act as ActInput, 
 use Rattle.tree_model.specs.declared.trees.TreeEntry.{TreeEntry}
 use Rattle.tree_model.specs.Nodes.{Effect, Node, Second, Version, is_listed}
 use Rattle.tree_model.specs.Trees.{IsTree}
-use Rattle.tree_model.specs.World.{InputIsNew, IsDown, IsNew, IsRun, IsRunBy, Made, Move, Stands, World, first_opens, next, reopens, world_makes}
+use Rattle.tree_model.specs.World.{InputIsNew, IsDown, IsNew, IsRun, IsRunBy, Made, Move, Stands, World, first_opens, next, opened_world, reopens, world_makes}
 use Rattle.tree_model.proofs.RunLaws.{makes_at, runs_by_are_runs}
 use Rattle.tree_headline.proofs.runs.Headline.{the_world_holds}
 use Rattle.tree_reports.specs.SinceOpened.{AllHeardAmong, InputAmong, IsAmong, SinceOpened}
@@ -100,16 +100,20 @@ module _ (tree : List TreeEntry) (is_tree : IsTree tree) where
     holds = since_then before es w m e w' run second new made s;
   }
 
+  -- as the tree opens nothing was sent
+  pub opened_since : SinceOpened tree [] opened_world
+  opened_since = record {
+    heard = λ q up. tt;
+    managers = λ x t p leaf o fs i clean. absurd i;
+    coordinators = λ x t p role o fs i clear. absurd i;
+  }
+
   since_runs : (v : Version) (before : ℕ) (es : List Made) (w : World) → IsRunBy tree v before es w → v ≡ Second
       → Since tree before w
   since_runs _ _ _ _ (first_opens v) e = record {
     messages = [];
     behind = record { earlier = []; whole = refl; counted = refl };
-    holds = record {
-      heard = λ q up. tt;
-      managers = λ x t p leaf o fs i clean. absurd i;
-      coordinators = λ x t p role o fs i clear. absurd i;
-    };
+    holds = opened_since;
   }
   since_runs _ _ _ _ (next v before es w m e w' run by new made) second =
       since_next before es w m e w' (runs_by_are_runs tree v before es w run) (by ∙ second) new made

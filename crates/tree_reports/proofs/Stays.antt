@@ -8,7 +8,7 @@ use Rattle.tree_model.specs.declared.names.Outcome.TheVariants.{Committed as Com
 use Rattle.tree_model.specs.declared.names.ProcessId.{ProcessId}
 use Rattle.tree_model.specs.declared.names.Ticket.{Ticket}
 use Rattle.tree_model.specs.declared.records.Record.{Record}
-use Rattle.tree_model.specs.declared.records.Record.TheVariants.{Abort as AbortRecord, Collecting as CollectingRecord, End as EndRecord, Opened, Prepare as PrepareRecord}
+use Rattle.tree_model.specs.declared.records.Record.TheVariants.{Abort as AbortRecord, Collecting as CollectingRecord, End as EndRecord, Opened, Prepare as PrepareRecord, Cleared as ClearedRecord}
 use Rattle.tree_model.specs.declared.standings.Standing.{Standing}
 use Rattle.tree_model.specs.declared.standings.Standing.TheVariants.{Unknown, Active, Collecting, Prepared, Committing, Aborting, Heuristic}
 use Rattle.tree_model.specs.declared.trees.TreeEntry.{TreeEntry}
@@ -38,7 +38,7 @@ use Rattle.tree_steps.proofs.parents.Tables.{prepared_facts}
 use Rattle.tree_reports.specs.SinceOpened.{is_decision}
 use Rattle.tree_reports.proofs.Became.{Became, Grows, at_rest, by_restart, by_trim, by_turn, left_kept, trim_kept}
 use Rattle.tree_reports.proofs.Naming.{collecting_names_it, collecting_stays_named, collecting_without, leaves_none, leaves_out, never, no_decision_naming, no_decision_without, no_decisions, no_prepare_without, none_if, one_prepare, prepare_promises, prepare_stays_named, promised_named}
-use Rattle.tree_reports.proofs.Rows.{DecidesFrom, OneCase, Writes, collected, decided, decision, ended, for_nobody, from_promise, from_votes, nothing, promised, turn_writes}
+use Rattle.tree_reports.proofs.Rows.{DecidesFrom, OneCase, Writes, cleared, collected, decided, decision, ended, for_nobody, from_promise, from_votes, nothing, promised, turn_writes}
 
 abbrev pub NamesStay : Node → Type 0
 NamesStay n = (c : Case) (t : Ticket) → has (is_decision_naming c t) n.life ≡ true
@@ -360,6 +360,10 @@ module _ (me : ProcessId) (parent : Option ProcessId) (tree : List TreeEntry) (n
               quietly (record { entry = EndRecord d r; is_forced = b } ∷ [])
               (one_lacks (is_decision_naming c t) (EndRecord d r) refl)
               (one_lacks (leaves_out c t) (EndRecord d r) refl) k
+          case_fine d _ (cleared b) accepted k =
+              quietly (record { entry = ClearedRecord d; is_forced = b } ∷ [])
+              (one_lacks (is_decision_naming c t) (ClearedRecord d) refl)
+              (one_lacks (leaves_out c t) (ClearedRecord d) refl) k
           case_fine d _ (collected b at) accepted k =
               asking d (CollectingRecord d (coordinator_view place n d).accepted) b refl
               (others_collecting d (coordinator_view place n d).accepted) (inl at) k

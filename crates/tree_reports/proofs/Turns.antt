@@ -19,17 +19,17 @@ use Rattle.tree_model.specs.declared.standings.Standing.TheVariants.{Unknown, Ac
 use Rattle.tree_model.specs.declared.standings.Vote.TheVariants.{No as VoteNo}
 use Rattle.tree_model.specs.declared.trees.TreeEntry.{TreeEntry}
 use Rattle.tree_model.specs.Names.{child_case, presumed}
-use Rattle.tree_model.specs.Records.{none_of}
+use Rattle.tree_model.specs.Records.{in_order, none_of}
 use Rattle.tree_model.specs.Nodes.{Effect, First, Heard, Node, Place, Second, Version}
 use Rattle.tree_model.specs.CoordinatorRows.{ByAbort, ByAct, ByVote, Reason, Row, Seat, abort_answered, abort_heard_above, acknowledges_abort, acknowledges_at_last, acknowledges_at_once, active_commit_with, collecting_abort_by, each, posted_up, prepared_abort_by, prepared_commit_by, root_commits, tells_outcome, to_child}
 use Rattle.tree_model.specs.Reactions.{seat_of}
 use Rattle.tree_model.specs.Restarts.{coordinator_resumes, recorded_view, resumes_by}
 use Rattle.tree_model.specs.Standings.{CoordinatorView, coordinator_view, found_below}
-use Rattle.tree_pairs.specs.turns.CoordinatorTurns.{Acknowledges, CaseTurn, CoordinatorTurn, HearsChild, abort_again, abort_presumed_commit, accepts, acknowledges, aborts, answers, asks, asks_for_votes, begins, commit_again, commit_presumed_abort, commits, counts_vote, does_nothing, ends, finds_nobody, gives_again, gives_fresh, gives_up, hears_no, invites, of_case, passes_abort, passes_commit, presumes, promises, reads_only, refuses, repeats_yes, rests, sends_work, voted, waits_for_acks}
+use Rattle.tree_pairs.specs.turns.CoordinatorTurns.{Acknowledges, CaseTurn, CoordinatorTurn, HearsChild, abort_again, abort_presumed_commit, accepts, acknowledges, aborts, clears, answers, asks, asks_for_votes, begins, commit_again, commit_presumed_abort, commits, counts_vote, does_nothing, ends, finds_nobody, gives_again, gives_fresh, gives_up, hears_no, invites, of_case, passes_abort, passes_commit, presumes, promises, reads_only, refuses, repeats_yes, rests, sends_work, voted, waits_for_acks}
 use Rattle.tree_nodes.proofs.OwnCases.{child_txn}
 use Rattle.tree_nodes.proofs.Remembering.{coordinator_place}
 use Rattle.tree_reports.specs.Findings.{AllSayTrue, AreTrue, SaysTrue}
-use Rattle.tree_reports.proofs.Later.{AllHeardTrue, InputTrue, flat_says, map_says, say_both}
+use Rattle.tree_reports.proofs.Later.{AllHeardTrue, InputTrue, flat_says, in_order_so, map_says, say_both}
 use Rattle.tree_reports.proofs.Leaves.{unknown_so}
 use Rattle.tree_reports.proofs.Memories.{below_is_true}
 
@@ -99,7 +99,7 @@ module _ (at : ProcessId → Node) where
   last_says : (ver : Version) (s : Seat) (o : Outcome) (fs : List Finding) → AreTrue at s.own.txn o fs
       → AllSayTrue at (acknowledges_at_last ver s o fs)
   last_says First s o fs f = tt
-  last_says Second s o fs f = up_says s.me s.parent (Ack s.own o fs) f
+  last_says Second s o fs f = up_says s.me s.parent (Ack s.own o (in_order fs)) (in_order_so at s.own.txn o fs f)
 
   unknown_says : (v : Version) (c : Case) (o : Outcome) (p : Presumption) (st : Standing) (fs : List Finding)
       → Acknowledges v c o p st fs → AreTrue at c.txn o fs
@@ -176,6 +176,7 @@ module _ (at : ProcessId → Node) (me : ProcessId) (parent : Option ProcessId) 
     case_says c _ (ends t o fs i d e f) =
         last_says at h.version (seat_of place parent c) o (found_below place n c o fs)
         (below_is_true at me parent tree n heard c o fs (child_says c t o fs i))
+    case_says c _ (clears i e f a) = tt
     case_says c _ (answers t o i a) = (tells_says at o (child_case c.txn t), tt)
 
     pub turn_says : (e : Effect) → CoordinatorTurn place parent n h e → AllSayTrue at e.messages

@@ -1,3 +1,4 @@
 pub mod Findings
 pub mod Mismatches
 pub mod SinceOpened
+pub mod SecondRuns

@@ -6,6 +6,7 @@ ghost use Rattle.tree_model.specs.World.{IsRun, IsRunBy, Made, World};
 ghost use Rattle.tree_model.specs.declared.trees.TreeEntry.{TreeEntry};
 ghost use Rattle.tree_reports.specs.Findings.{AllSayTrue, MixedHadMismatch};
 ghost use Rattle.tree_reports.specs.Mismatches.{AllReportTruly};
+ghost use Rattle.tree_reports.specs.SecondRuns.{SecondRunsReport};
 
 /// In every run, whichever version makes each step, who is reported as mixed by an acknowledgement was decided by its
 /// operator against the outcome that is acknowledged, in the forced front of its log.
@@ -28,4 +29,10 @@ pub fn reported_had_mismatch()
 pub fn mismatches_are_reported()
     ensures { (tree : List TreeEntry) (before : ℕ) (es : List Made) (w : World) → IsTree tree
         → (run : IsRunBy tree Second before es w) → AllReportTruly tree Second before es w run }
+{}
+
+/// The same of a run that the second version makes alone, from the opened tree on, whatever the numbers under which its
+/// messages come: each End that a root appends in it reports truly.
+pub fn second_runs_report()
+    ensures { SecondRunsReport }
 {}

@@ -18,6 +18,7 @@ empty_cut tree = record {
     moves = λ q. [];
     made = λ q. begins;
     shown = nothing_shown;
+    by_this = λ q. tt;
     given = none_given;
   };
 }

@@ -22,7 +22,7 @@ use Rattle.tree_model.specs.CoordinatorRows.{Row, on_joined}
 use Rattle.tree_model.specs.Reactions.{Does, Refused, act_is_listed, handles, is_passed_over, reacts, row_effect}
 use Rattle.tree_model.specs.Restarts.{trim_fails}
 use Rattle.tree_model.specs.World.{IsRun, Made, Move, World, made_by, node_by}
-use Rattle.tree_pairs.specs.turns.CoordinatorTurns.{CaseTurn, rests, invites, accepts, sends_work, finds_nobody, asks_for_votes, gives_up, counts_vote, reads_only, commits, promises, hears_no, aborts, passes_commit, passes_abort, repeats_yes, asks, refuses, acknowledges, waits_for_acks, ends, answers, CoordinatorTurn, does_nothing, of_case, begins, gives_again, gives_fresh, presumes}
+use Rattle.tree_pairs.specs.turns.CoordinatorTurns.{CaseTurn, rests, invites, accepts, sends_work, finds_nobody, asks_for_votes, gives_up, counts_vote, reads_only, commits, promises, hears_no, aborts, passes_commit, passes_abort, repeats_yes, asks, refuses, acknowledges, waits_for_acks, ends, clears, answers, CoordinatorTurn, does_nothing, of_case, begins, gives_again, gives_fresh, presumes}
 use Rattle.tree_pairs.specs.turns.LeafTurns.{Hears}
 use Rattle.tree_pairs.specs.turns.Steps.{StepOf, heard_in, handled, failed_in, passed, failed_passing, reopened, failed_reopening, trimmed, failed_trimming}
 use Rattle.tree_pairs.proofs.turns.Steps.{turn_of}
@@ -79,6 +79,7 @@ module _ (place : Place) (parent : Option ProcessId) (n : Node) (h : Heard) (c :
   row_accepts d _ (acknowledges o fs i k) f = absurd (cc)
   row_accepts d _ (waits_for_acks u o fs i k a b) f = absurd (cc)
   row_accepts d _ (ends u o fs i k a b) f = absurd (cc)
+  row_accepts d _ (clears i e a b) f = absurd (cc)
   row_accepts d _ (answers u o i k) f = absurd (cc)
 
   accepted_so : (e : Effect) → CoordinatorTurn place parent n h e → took c t e.accepts ≡ true → Accepts place n h c t

@@ -12,7 +12,7 @@ ghost use Rattle.tree_model.specs.declared.names.Case.{Case};
 ghost use Rattle.tree_model.specs.declared.names.Presumption.{Presumption};
 ghost use Rattle.tree_model.specs.declared.names.Txn.{Txn};
 ghost use Rattle.tree_model.specs.LogNames.{ReadsBack};
-ghost use Rattle.tree_model.specs.Nodes.{DataAnswer, IsCoordinator, Node, Place, place_of, role_of};
+ghost use Rattle.tree_model.specs.Nodes.{DataAnswer, IsCoordinator, Node, Place, Version, place_of, role_of};
 ghost use Rattle.tree_model.specs.declared.records.Record.{Record};
 ghost use Rattle.tree_model.specs.declared.standings.Vote.{Vote};
 ghost use Rattle.tree_model.specs.Memory.{same_vote};
@@ -62,16 +62,18 @@ pub fn found_undecided_is_what_restarts_found()
         → has_txn x (w.at p).found_undecided ≡ was_found_undecided (place_of tree p) x (made_by p es) }
 {}
 
-/// A manager's new view, as its reaction table gives it, is what its extended lists read as.
+/// A manager's new view, as its reaction table of either version gives it, is what its extended lists read as.
 pub fn manager_views_follow_the_table()
-    ensures { (me p : ProcessId) (tree : List TreeEntry) (n : Node) (d : Case) → ManagerViews me p tree n d }
+    ensures { (ver : Version) (me p : ProcessId) (tree : List TreeEntry) (n : Node) (d : Case)
+        → ManagerViews ver me p tree n d }
 {}
 
-/// The root's new view, as its reaction table gives it, is what its extended lists read as.
+/// The root's new view, as its reaction table of either version gives it, is what its extended lists read as.
 pub fn root_views_follow_the_table()
-    ensures rows { (me : ProcessId) (tree : List TreeEntry) (n : Node) (x : Txn) → RootViews me tree n x }
-    ensures begins { (me : ProcessId) (tree : List TreeEntry) (n : Node) (p : Presumption) (a : DataAnswer)
-        → RootBegins me tree n p a }
+    ensures rows { (ver : Version) (me : ProcessId) (tree : List TreeEntry) (n : Node) (x : Txn)
+        → RootViews ver me tree n x }
+    ensures begins { (ver : Version) (me : ProcessId) (tree : List TreeEntry) (n : Node) (p : Presumption)
+        (a : DataAnswer) → RootBegins ver me tree n p a }
 {}
 
 /// What a committed update of a flat tree costs its root and each of its managers, row by row through the

@@ -1,6 +1,5 @@
 -- What stays of a world's state, and an error that is passed on.
-use Rattle.std.proofs.Common.{◌≡◌, sym, subst, refl, Option, List, Result, Ok, Err, IfErr, IsErrAnd, OnOk}
-use Rattle.tree_model.specs.declared.names.ProcessId.{ProcessId}
+use Rattle.std.proofs.Common.{◌≡◌, sym, subst, refl, List, Result, Ok, Err, IfErr, IsErrAnd, OnOk}
 use Rattle.tree_model.specs.declared.events.StepError.{StepError}
 use Rattle.tree_model.specs.declared.trees.TreeEntry.{TreeEntry}
 use Rattle.tree_world.specs.Nodes.{NodesSight}

@@ -6,7 +6,7 @@ use Rattle.tree_model.specs.declared.trees.TreeEntry.{TreeEntry}
 use Rattle.logs_script.specs.declared.line.ProcessLog.{ProcessLog}
 use Rattle.core_law.specs.worlds.Worlds.{WorldState}
 use Rattle.tree_world.specs.Nodes.{SpellsLogBy}
-use Rattle.tree_world.specs.LogsLeft.{AreByteLogs, AreLogs}
+use Rattle.tree_world.specs.LogsLeft.{AreByteLogs, AreLogs, LogStandsBy, LogsStand}
 
 one_more : (w : WorldState) (es : List TreeEntry) (ls : List ProcessLog) (e : TreeEntry)
     (l : ProcessLog) → AreLogs w es ls
@@ -35,3 +35,12 @@ bytes_more ls more l is bytes all = subst AreByteLogs (sym is) (behind ls all)
     behind : (ls : List ProcessLog) → AreByteLogs ls → AreByteLogs (ls ++ l ∷ [])
     behind [] h = (bytes, tt)
     behind (m ∷ ls) h = (h.0, behind ls h.1)
+
+-- one log more that stands
+pub stands_more : (w : WorldState) (es : List TreeEntry) (i : ℕ) (e : TreeEntry) → i < length es → e ≡ get_or es i e
+    → LogStandsBy (w.node_at e.id) → LogsStand w (take i es) → LogsStand w (take (i + 1) es)
+stands_more w es i e lt is stands h = rw (take_more es i e lt, ← is) (behind (take i es) h)
+  where
+    behind : (fs : List TreeEntry) → LogsStand w fs → LogsStand w (fs ++ e ∷ [])
+    behind [] h = (stands, tt)
+    behind (f ∷ fs) h = (h.0, behind fs h.1)

@@ -12,7 +12,7 @@ use Rattle.core_law.specs.worlds.Modelled.{IsModelledTree, KeepsHeadline}
 use Rattle.core_law.proofs.worlds.Events.{GoesOnIn, applied_on, leads_on, leads_until_on, stopped_on}
 use Rattle.core_law.proofs.worlds.Journals.{entered_hides, entered_shows, opened_behind_faults}
 use Rattle.core_law.proofs.worlds.Processes.{as_the_model}
-use Rattle.core_law.proofs.worlds.Whole.{modelled_behind_faults}
+use Rattle.core_law.proofs.worlds.Whole.{keeps_headline as keeps_headline_so}
 
 -- from every run for which the first state stands, the second stands for one that goes on, of the same tree
 abbrev pub GoesOnFrom : WorldState → WorldState → Type 0
@@ -58,7 +58,4 @@ stays_modelled s t m goes =
 
 -- of the run that it stands for the headline holds
 pub keeps_headline : (s : WorldState) → IsModelledTree s → KeepsHeadline s
-keeps_headline s m = record {
-  run = m.run;
-  headline = modelled_behind_faults s m.run.moves m.run.world m.is_tree m.run.follows;
-}
+keeps_headline s m = keeps_headline_so s m

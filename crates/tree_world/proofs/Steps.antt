@@ -1,5 +1,5 @@
 -- A step of one process, among all.
-use Rattle.std.proofs.Common.{◌≡◌, ◌≢◌, ◌⊎◌, sym, ap, subst, refl, inl, inr, true, false, Option, Some, None, option_map, List, Result, Ok, Err, IfOk, IfErr}
+use Rattle.std.proofs.Common.{◌≡◌, ◌≢◌, ◌⊎◌, sym, ap, subst, inl, inr, true, false, Option, Some, None, option_map, List, Result, Ok, Err, IfOk, IfErr}
 use Rattle.tree_model.specs.declared.names.ProcessId.{ProcessId}
 use Rattle.tree_model.specs.declared.events.Input.{Input}
 use Rattle.tree_model.specs.declared.events.Reaction.{Reaction}
@@ -15,7 +15,7 @@ use Rattle.tree_node.specs.declared.node.Node.{Node}
 use Rattle.tree_node.specs.Nodes.{NotHandled, core_of, data_of}
 use Rattle.tree_node.proofs.Same.{rests, same_core}
 use Rattle.tree_world.specs.Nodes.{MovesAt, NoStepAt, NodesSight, SameNodes, StepsAt, data_in, kept_at, node_in}
-use Rattle.manager_model.specs.Data.{ManagerData, Rests}
+use Rattle.manager_model.specs.Data.{Rests}
 
 -- each process is the same as it is
 pub same_as_it_is : (o : Option CoreState) → SameNode o o

@@ -1,7 +1,7 @@
 //! The logs that the processes keep, as bytes.
 
 ghost use Rattle.std.specs.Prelude.{◌≡◌, ◌<◌, All, IfOk};
-ghost use Rattle.tree_world.specs.LogsLeft.{AreByteLogs, AreLogs};
+ghost use Rattle.tree_world.specs.LogsLeft.{AreByteLogs, AreLogs, LogsStand};
 ghost use Rattle.tree_world.specs.Worlds.{state};
 
 use crate::world::World;
@@ -15,6 +15,15 @@ fn are_bytes(bytes: &[u8])
     ensures { All (λ b. b < 256) bytes.now }
 {}
 
+/// Each record of each log can stand there, and those of a manager may follow one another. It does nothing.
+fn logs_stand<L: LogStore>(world: &World<L>)
+    ensures { LogsStand (state world.now) (state world.now).tree }
+{
+    for entry in world.tree().entries() {
+        world.log_stands(entry.id);
+    }
+}
+
 /// The log of each process, in the order of the tree.
 pub fn logs_left<L: LogStore>(
     alloc: Global,
@@ -22,7 +31,9 @@ pub fn logs_left<L: LogStore>(
 ) -> Result<Vec<ProcessLog>, AllocError>
     ensures logs { IfOk result (λ logs. AreLogs (state world.now) (state world.now).tree logs.items) }
     ensures bytes { IfOk result (λ logs. AreByteLogs logs.items) }
+    ensures stand { LogsStand (state world.now) (state world.now).tree }
 {
+    logs_stand(world);
     let mut logs = Vec::new(alloc);
     for entry in world.tree().entries() {
         let text = world.log_text(entry.id)?;

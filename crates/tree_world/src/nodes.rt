@@ -3,6 +3,7 @@
 ghost use Rattle.std.specs.Prelude.{◌≡◌, false, IfErr, IfOk, option_map};
 ghost use Rattle.core_model.specs.Inputs.{input_of};
 ghost use Rattle.tree_node.specs.Nodes.{live_at};
+ghost use Rattle.tree_world.specs.LogsLeft.{LogStandsBy};
 ghost use Rattle.tree_world.specs.Nodes.{NoStepAt, SpellsLogBy, StepsAt, kept_at, log_by, node_in, nodes_at};
 ghost use Rattle.tree_world.specs.Restarts.{NoRestartAt, NoTrimAt, RestartsAt, TrimsAt};
 
@@ -90,6 +91,15 @@ impl<L: LogStore> Nodes<L> {
         match self.nodes.get(&process) {
             None => Ok(Vec::new(alloc)),
             Some(node) => node.records(),
+        }
+    }
+
+    /// What `Node::log_stands` says of a process, where there is one. It does nothing.
+    pub(crate) fn log_stands(&self, process: ProcessId)
+        ensures { LogStandsBy (nodes_at self.now.nodes.entries process) }
+    {
+        if let Some(node) = self.nodes.get(&process) {
+            node.log_stands();
         }
     }
 

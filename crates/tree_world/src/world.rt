@@ -8,6 +8,7 @@ ghost use Rattle.core_law.specs.worlds.Ties.{FollowsBehindFaults, GoesOnBehindFa
 ghost use Rattle.core_law.specs.worlds.Modelled.{KeepsHeadline};
 ghost use Rattle.short_steps.specs.Shown.{entry_part, shown_part};
 ghost use Rattle.tree_node.specs.Nodes.{live_at};
+ghost use Rattle.tree_world.specs.LogsLeft.{LogStandsBy};
 ghost use Rattle.tree_world.specs.Nodes.{SpellsLogBy, node_in};
 ghost use Rattle.tree_world.specs.Worlds.{logs_at, state};
 
@@ -92,6 +93,13 @@ impl<L: LogStore> World<L> {
         ensures { IfOk result (λ text. SpellsLogBy ((state self.now).node_at process) text.items) }
     {
         self.running.nodes.log_text(self.running.alloc, process)
+    }
+
+    /// Each record of a process's log can stand there, and a manager's may follow one another. It does nothing.
+    pub(crate) fn log_stands(&self, process: ProcessId)
+        ensures { LogStandsBy ((state self.now).node_at process) }
+    {
+        self.running.nodes.log_stands(process);
     }
 
     /// The records of each process's log, in the order of the tree.

@@ -43,7 +43,11 @@ fn push_tickets(out: &mut Vec<u8>, tickets: &[Ticket]) -> Result<(), AllocError>
 
 /// A word, and the tickets behind it; nothing where there are none.
 #[tactic(auto, unfolding(tree_model::specs::Records::none_of))]
-fn push_listed(out: &mut Vec<u8>, word: &str, tickets: &[Ticket]) -> Result<(), AllocError>
+pub(crate) fn push_listed(
+    out: &mut Vec<u8>,
+    word: &str,
+    tickets: &[Ticket],
+) -> Result<(), AllocError>
     ensures { OnOk result (out.new.items ≡ out.old.items ++ listed_words word.now tickets.now) }
 {
     match tickets {

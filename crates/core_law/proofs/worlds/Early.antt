@@ -257,21 +257,21 @@ module _ (me p : ProcessId) (tree : List TreeEntry) where
 
   stays_known : (c : Case) (q : Record → Bool) → ((r : Record) → q r ≡ true → is_record_of c r ≡ true)
       → (whole rs : List Record)
-      → has q (staying AtRoot whole rs) ≡ true → is_known (recorded_view whole c).standing ≡ true
+      → has q (staying AtRoot whole rs) ≡ true → case_stays whole (Some c) ≡ true
   unfolding has
   stays_known c q own whole [] e = absurd (cc)
   stays_known c q own whole (r ∷ rs) e =
       by_test (case_stays whole (record_case r)) refl e (stays_known c q own whole rs)
     where
       known : (o : Option Case) → is_of c o ≡ true → case_stays whole o ≡ true
-          → is_known (recorded_view whole c).standing ≡ true
+          → case_stays whole (Some c) ≡ true
       known None f g = absurd (cc)
-      known (Some d) f g = ap (λ x. is_known (recorded_view whole x).standing) (sym (case_is d c f)) ∙ g
+      known (Some d) f g = ap (λ x. case_stays whole (Some x)) (sym (case_is d c f)) ∙ g
 
       by_test : (b : Bool) → case_stays whole (record_case r) ≡ b
           → has q (if b then r ∷ staying AtRoot whole rs else staying AtRoot whole rs) ≡ true
-          → (has q (staying AtRoot whole rs) ≡ true → is_known (recorded_view whole c).standing ≡ true)
-          → is_known (recorded_view whole c).standing ≡ true
+          → (has q (staying AtRoot whole rs) ≡ true → case_stays whole (Some c) ≡ true)
+          → case_stays whole (Some c) ≡ true
       by_test false s f rest = rest f
       by_test true s f rest = elim (either (q r) (has q (staying AtRoot whole rs)) f) [
         | inl now ↦ known (record_case r) (own r now) s
@@ -280,7 +280,7 @@ module _ (me p : ProcessId) (tree : List TreeEntry) where
 
   trimmed_known : (c : Case) (t : Ticket) (rs : List Record)
       → has (is_prepare_naming c t) (trimmed AtRoot rs) ≡ true
-      → is_known (recorded_view rs c).standing ≡ true
+      → case_stays rs (Some c) ≡ true
   unfolding trimmed
   trimmed_known c t rs e = elim (in_either (is_prepare_naming c t)
       (Opened (boot_of rs) ∷ staying AtRoot rs rs) [] e) [
@@ -294,7 +294,7 @@ module _ (me p : ProcessId) (tree : List TreeEntry) where
       own : (r : Record) → is_prepare c r ≡ true → is_record_of c r ≡ true
       own r e = grind arith
 
-  undecided_trim : (c : Case) (rs : List Record) → is_known (recorded_view rs c).standing ≡ true
+  undecided_trim : (c : Case) (rs : List Record) → case_stays rs (Some c) ≡ true
       → Undecided c (trimmed AtRoot rs) → Undecided c rs
   undecided_trim c rs known undecided =
       record {

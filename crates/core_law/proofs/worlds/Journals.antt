@@ -41,6 +41,7 @@ in_full_at es w s q c h = record { place = h.place; stands = h.stands }
 full : (es : List Made) (w : World) (s : WorldState) → Follows es w s → Follows es w (in_full s es)
 full es w s f = record {
   is_run = f.is_run;
+  by_this = f.by_this;
   shown = refl;
   net = f.net;
   nodes = λ q c there. in_full_at es w s q c (f.nodes q c there);
@@ -54,6 +55,7 @@ pub whole_follows : (es : List Made) (w : World) (s : WorldState)
     → FollowsBy journal_of es w s → Follows es w s
 whole_follows es w s f = record {
   is_run = f.follows.is_run;
+  by_this = f.follows.by_this;
   shown = f.shown;
   net = f.follows.net;
   nodes = λ q c there. at_full es w s q c (f.follows.nodes q c there);

@@ -65,6 +65,7 @@ opened_stands s place failures h =
         tickets = λ d. h.read.tickets d ∙ sym (nothing_active s.place d);
         views = λ c. subst (λ v. SameView (s.view_of c) v) (views s.place.role s.place c) (h.read.views c);
         branches = λ c. h.read.branches c ∙ branches s.place.role s.place c;
+        decided = h.read.decided;
       };
     }
 
@@ -76,6 +77,7 @@ pub opened_follows : (tree : List TreeEntry) (s : WorldState) → IsOpened s tre
 opened_follows tree s h =
     record {
       is_run = opens;
+      by_this = tt;
       shown = nothing_shown ∙ sym h.entries;
       net = h.net;
       nodes = λ q c there. let one = h.nodes q c there in

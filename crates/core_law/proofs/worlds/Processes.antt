@@ -89,6 +89,7 @@ same_core s = record {
     tickets = λ d. refl;
     views = λ c. same_view (s.view_of c);
     branches = λ c. refl;
+    decided = λ c. refl;
   };
 }
 

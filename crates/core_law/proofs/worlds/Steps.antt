@@ -179,6 +179,7 @@ module _ (journal : List Made → List Entry) (es : List Made) (w : World) (s s'
           follows = record {
             is_run = subst (λ t. IsRun t (m ∷ es) w') (sym moves.tree)
                 (makes es w m.move e w' f.follows.is_run happens step);
+            by_this = (refl, f.follows.by_this);
             shown = refl;
             net = net;
             nodes = nodes_after es w old new q n e moves.tree before behind moves.stands moves.others

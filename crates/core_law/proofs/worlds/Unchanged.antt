@@ -32,6 +32,7 @@ pub same_follows : (es : List Made) (w : World) (s t : WorldState)
 same_follows es w s t f same =
     record {
       is_run = subst (λ z. IsRun z es w) (sym same.tree) f.is_run;
+      by_this = f.by_this;
       shown = f.shown ∙ sym same.entries;
       net = same.net ∙ f.net;
       nodes = λ q c there.

@@ -14,6 +14,9 @@ use Rattle.tree_model.specs.Plays.{process_of_act, sent_as}
 use Rattle.tree_model.specs.Trees.{IsTree, root_of}
 use Rattle.tree_model.specs.World.{IsRun, Made, World, journal_of, opened_world}
 use Rattle.tree_headline.proofs.runs.Headline as runs
+use Rattle.tree_reports.specs.SecondRuns.{EndsReported}
+use Rattle.tree_reports.proofs.SecondRuns.{second_runs_report}
+use Rattle.core_law.specs.worlds.Modelled.{ModelledTreesKeepHeadline}
 use Rattle.core_law.specs.worlds.Worlds.{NoneDelivered, NotActed, NotDelivered, NotRestartedAt, NotTrimmedAt, RefusesAt, RefusesMessage, Same, Stops, WorldState, least_open}
 use Rattle.core_law.specs.worlds.Runs.{IsOpened}
 use Rattle.core_law.specs.worlds.Ties.{Follows, FollowsBehindFaults, IsModelled}
@@ -170,6 +173,10 @@ module _ (tree : List TreeEntry) (is_tree : IsTree tree) where
         refuses = subst (λ z. RefusesEvent z w t.delivered (Trim q) e) is why.1;
       }
 
+  reported_of : (s : WorldState) (es : List Made) (w : World) → s.tree ≡ tree → (f : Follows es w s)
+      → EndsReported s.tree es w f.is_run
+  reported_of s es w is f = second_runs_report s.tree (subst IsTree (sym is) is_tree) es w f.is_run f.by_this
+
   headline_of : (s : WorldState) (es : List Made) (w : World) → s.tree ≡ tree
       → Follows es w s → Headline tree es w
   headline_of s es w is f = runs.headline tree is_tree es w (subst (λ z. IsRun z es w) is f.is_run)
@@ -188,6 +195,8 @@ module _ (tree : List TreeEntry) (is_tree : IsTree tree) where
         tree_is = g.tree_stays;
         follows = follows;
         headline = headline_of end (g.goes_on_so.later ++ []) g.goes_on_so.world g.tree_stays follows;
+        mismatches_are_reported =
+            reported_of end (g.goes_on_so.later ++ []) g.goes_on_so.world g.tree_stays follows;
         refuses = tt;
       }
   run_so start end events (Some refused) opened leads itself =
@@ -205,6 +214,7 @@ module _ (tree : List TreeEntry) (is_tree : IsTree tree) where
         tree_is = last.tree_is;
         follows = last.follows;
         headline = headline_of end last.moves last.world last.tree_is last.follows;
+        mismatches_are_reported = reported_of end last.moves last.world last.tree_is last.follows;
         refuses = record { event = leads.event; next = leads.next; refused = last.refuses };
       }
 
@@ -219,10 +229,19 @@ modelled s es w is_tree f = record {
   moves = es;
   world = w;
   follows = f;
-  headline = headline_of
-      s.tree is_tree s es w refl f;
+  headline = headline_of s.tree is_tree s es w refl f;
+  mismatches_are_reported = reported_of s.tree is_tree s es w refl f;
 }
 
 pub modelled_behind_faults : (s : WorldState) (es : List Made) (w : World) → IsTree s.tree
     → FollowsBehindFaults es w s → Headline s.tree es w
 modelled_behind_faults s es w is_tree f = runs.headline s.tree is_tree es w f.follows.is_run
+
+-- a state that stands for a run in which devices may have failed keeps the headline
+pub keeps_headline : ModelledTreesKeepHeadline
+keeps_headline s m = record {
+  run = m.run;
+  headline = modelled_behind_faults s m.run.moves m.run.world m.is_tree m.run.follows;
+  mismatches_are_reported = second_runs_report s.tree m.is_tree m.run.moves m.run.world
+      m.run.follows.follows.is_run m.run.follows.follows.by_this;
+}

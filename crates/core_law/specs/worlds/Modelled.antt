@@ -3,6 +3,7 @@ use Rattle.std.specs.Prelude.{List}
 use Rattle.tree_model.specs.Outcomes.{Headline}
 use Rattle.tree_model.specs.Trees.{IsTree}
 use Rattle.tree_model.specs.World.{Made, World}
+use Rattle.tree_reports.specs.SecondRuns.{EndsReported}
 use Rattle.core_law.specs.worlds.Worlds.{WorldState}
 use Rattle.core_law.specs.worlds.Ties.{FollowsBehindFaults}
 
@@ -12,12 +13,17 @@ pub record StandsForRun (s : WorldState) : Type 0 where
   pub world : World
   pub follows : FollowsBehindFaults moves world s
 
--- it stands for such a run, and of this run the headline holds
+-- it stands for such a run; of this run the headline holds, and each End of the root in it reports mismatches truly
 pub record KeepsHeadline (s : WorldState) : Type 0 where
   pub run : StandsForRun s
   pub headline : Headline s.tree run.moves run.world
+  pub mismatches_are_reported : EndsReported s.tree run.moves run.world run.follows.follows.is_run
 
 -- the processes are a tree, and its state stands for such a run
 pub record IsModelledTree (s : WorldState) : Type 0 where
   pub is_tree : IsTree s.tree
   pub run : StandsForRun s
+
+-- a tree's state that stands for such a run keeps the headline
+abbrev pub ModelledTreesKeepHeadline : Type 0
+ModelledTreesKeepHeadline = (s : WorldState) → IsModelledTree s → KeepsHeadline s

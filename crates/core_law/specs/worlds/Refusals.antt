@@ -15,6 +15,7 @@ use Rattle.tree_model.specs.Plays.{process_of_act, sent_as}
 use Rattle.tree_model.specs.Trees.{root_of}
 use Rattle.tree_model.specs.Outcomes.{Headline}
 use Rattle.tree_model.specs.World.{Made, Makes, Move, Refuses, Stepped, World, node_makes}
+use Rattle.tree_reports.specs.SecondRuns.{EndsReported}
 use Rattle.core_law.specs.Steps.{quiet_move, input_move}
 use Rattle.core_law.specs.worlds.Worlds.{WorldState, least_open}
 use Rattle.core_law.specs.worlds.Runs.{Leads, LeadsUntil}
@@ -81,8 +82,8 @@ abbrev pub RefusesIn : List TreeEntry → World → List Bool → List Event →
 RefusesIn tree w delivered events None = ⊤
 RefusesIn tree w delivered events (Some refused) = RefusesNext tree w delivered events refused.0 refused.1
 
--- what the events come to is a run of the model, of which the headline holds, and a refused event is one that
--- it refuses
+-- what the events come to is a run of the model, of which the headline holds and in which mismatches are reported,
+-- and a refused event is one that it refuses
 pub record IsRunOf (tree : List TreeEntry) (events : List Event) (refusal : Refusal)
     (end : WorldState) : Type 0 where
   pub moves : List Made
@@ -90,4 +91,5 @@ pub record IsRunOf (tree : List TreeEntry) (events : List Event) (refusal : Refu
   pub tree_is : end.tree ≡ tree
   pub follows : Follows moves world end
   pub headline : Headline tree moves world
+  pub mismatches_are_reported : EndsReported end.tree moves world follows.is_run
   pub refuses : RefusesIn tree world end.delivered events refusal

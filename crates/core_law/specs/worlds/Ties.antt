@@ -5,7 +5,9 @@ use Rattle.tree_model.specs.declared.events.Entry.{Entry}
 use Rattle.tree_model.specs.Nodes.{is_listed, place_of}
 use Rattle.tree_model.specs.Outcomes.{Headline}
 use Rattle.tree_model.specs.World.{Continues, IsRun, Made, World, journal_of}
+use Rattle.tree_reports.specs.SecondRuns.{AllBy, EndsReported}
 use Rattle.core_model.specs.States.{CoreState}
+use Rattle.core_model.specs.Turns.{this_version}
 use Rattle.core_law.specs.Ties.{Stands}
 use Rattle.core_law.specs.worlds.Worlds.{WorldState}
 
@@ -14,10 +16,11 @@ pub record StandsAt (w : World) (s : WorldState) (q : ProcessId) (c : CoreState)
   pub place : c.place ≡ place_of s.tree q
   pub stands : Stands (w.at q) c
 
--- the state of a tree stands for a run: its journal is the run's, its messages are the run's, and so is each
--- process
+-- the state of a tree stands for a run whose moves are made by the version that its processes have: its journal is
+-- the run's, its messages are the run's, and so is each process
 pub record Follows (es : List Made) (w : World) (s : WorldState) : Type 0 where
   pub is_run : IsRun s.tree es w
+  pub by_this : AllBy this_version es
   pub shown : journal_of es ≡ s.entries
   pub net : s.net ≡ w.net
   pub nodes : (q : ProcessId) (c : CoreState) → s.node_at q ≡ Some c → StandsAt w s q c
@@ -30,12 +33,13 @@ pub record GoesOn (es : List Made) (w : World) (s : WorldState) : Type 0 where
   pub leads : Continues s.tree w later world
   pub follows : Follows (later ++ es) world s
 
--- the state stands for a run of the model, and the headline holds of it
+-- the state stands for a run of the model, the headline holds of it, and mismatches are reported in it
 pub record IsModelled (s : WorldState) : Type 0 where
   pub moves : List Made
   pub world : World
   pub follows : Follows moves world s
   pub headline : Headline s.tree moves world
+  pub mismatches_are_reported : EndsReported s.tree moves world follows.is_run
 
 -- Runs in which devices failed.
 

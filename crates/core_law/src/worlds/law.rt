@@ -9,6 +9,7 @@ ghost use Rattle.tree_model.specs.declared.events.StepError.{StepError};
 ghost use Rattle.tree_model.specs.declared.events.StepError.TheVariants.{Device};
 ghost use Rattle.tree_model.specs.declared.trees.TreeEntry.{TreeEntry};
 ghost use Rattle.core_law.specs.worlds.Worlds.{Applies, Stops, WorldState};
+ghost use Rattle.core_law.specs.worlds.Modelled.{ModelledTreesKeepHeadline};
 ghost use Rattle.core_law.specs.worlds.Runs.{IsOpened, Leads, LeadsUntil};
 ghost use Rattle.core_law.specs.worlds.Ties.{Follows, FollowsBehindFaults, GoesOn, GoesOnBehindFaults, IsModelled, unfailed};
 ghost use Rattle.core_law.specs.worlds.Refusals.{IsForItself, IsRunOf, LeadsTo, Refusal};
@@ -61,17 +62,23 @@ pub fn runs_go_on_behind_faults()
         → Headline s.tree es w }
 {}
 
-/// Where the state of a tree stands for a run, the headline holds of that run.
+/// Where the state of a tree stands for a run, the headline holds of that run, and mismatches are reported in it.
 pub fn the_headline_holds()
     ensures { (s : WorldState) (es : List Made) (w : World) → IsTree s.tree → Follows es w s → IsModelled s }
 {}
 
 /// What any list of events leads an opened tree to, up to the one that is refused, is a run of the model, of
-/// which the headline holds; and an event that is refused for itself is one that the model refuses there by
+/// which the headline holds and in which mismatches are reported; and an event that is refused for itself is one that the model refuses there by
 /// the same error.
 pub fn every_run_is_a_run_of_the_model()
     ensures { (tree : List TreeEntry) (start end : WorldState) (events : List Event)
         (refusal : Refusal) → IsTree tree
         → IsOpened start tree → LeadsTo start events refusal end → IsForItself refusal
         → IsRunOf tree events refusal end }
+{}
+
+/// Where the processes are a tree, and its state stands for a run in which devices may have failed, the headline holds of
+/// that run, and each End of the root in it reports truly.
+pub fn modelled_trees_keep_the_headline()
+    ensures { ModelledTreesKeepHeadline }
 {}

@@ -1,5 +1,5 @@
 -- What a log says of a coordinator's own case, by its whole name and as the process reads it.
-use Rattle.std.proofs.Common.{◌≡◌, Bool, true, false, not, ◌&&◌, ◌||◌, if◌then◌else◌, List, [], ◌∷◌, ◌++◌, Option, fold, refl, sym, ap, subst, ◌∙◌, Some, None}
+use Rattle.std.proofs.Common.{◌≡◌, Bool, true, false, not, ◌&&◌, ◌||◌, if◌then◌else◌, List, [], ◌∷◌, ◌++◌, Option, fold, is_some, refl, sym, ap, subst, ◌∙◌, Some, None}
 use Rattle.std.proofs.lemmas.List.Folds.{list_any-append}
 use Rattle.std.specs.List.{AllByRecursion}
 use Rattle.xa_xid.specs.declared.xid.Xid.{Xid}
@@ -10,18 +10,19 @@ use Rattle.tree_model.specs.declared.names.Ticket.{Ticket}
 use Rattle.tree_model.specs.declared.records.Branch.TheVariants.{Case as CaseBranch}
 use Rattle.tree_model.specs.declared.records.LogRecord.{LogRecord}
 use Rattle.tree_model.specs.declared.records.Record.{Record}
+use Rattle.tree_model.specs.declared.records.Reports.{Reports}
 use Rattle.tree_model.specs.declared.records.Record.TheVariants.{Opened, Collecting, Prepare, Commit, Abort, End, Prepared, Committed, RolledBack, Direct, HeurCommit, HeurRollback, Told, Forgot, Base, Pair, Cleared}
 use Rattle.tree_model.specs.LogNames.{foreign_to, is_own, name_xid, own_by, own_records}
 use Rattle.tree_model.specs.Names.{same_case}
 use Rattle.tree_model.specs.Nodes.{AtLeaf, AtRoot, Below, Place, Role, IsCoordinator}
-use Rattle.tree_model.specs.Records.{has, is_abort, is_collecting, is_commit, is_end, is_prepare, none_of, owing_in, record_case}
+use Rattle.tree_model.specs.Records.{has, is_abort, is_collecting, is_commit, is_end, is_prepare, none_of, owing_in, record_case, reported_after}
 use Rattle.log_rules.specs.declared.trim.lives.Said.{Said}
-use Rattle.log_rules.specs.declared.trim.lives.Said.TheVariants.{Nothing, Waits, Settled, Owes, Over}
+use Rattle.log_rules.specs.declared.trim.lives.Said.TheVariants.{Nothing, Waits, Settled, Owes, Over, Reported}
 use Rattle.log_rules.specs.trim.Tables.{said_after, same}
 use Rattle.log_rules.specs.trim.Trims.{is_of, said_behind}
 use Rattle.log_rules.specs.sound.Sound.{IsSound, IsSoundName}
 use Rattle.log_rules.proofs.reads.OwnNames.{other_is, own_is}
-use Rattle.log_rules.proofs.reads.Sayings.{IsOfCase, behind, decides, ends, owes, said_one, starts}
+use Rattle.log_rules.proofs.reads.Sayings.{IsOfCase, behind, decides, ends, is_reporting, owes, reporting_one, reports_next, said_one, starts}
 
 -- The tests of a case's records.
 
@@ -52,6 +53,10 @@ no : (t : Bool) → false ≡ (t && false)
 no true = refl
 no false = refl
 
+same_either : (t b : Bool) → b ≡ (if t then b else b)
+same_either true b = refl
+same_either false b = refl
+
 owes_some : (t m : Bool) (ts : List Ticket) → t ≡ m
     → (not (none_of (if m then ts else [])) || false) ≡ (t && not (none_of ts))
 unfolding none_of
@@ -68,6 +73,7 @@ pub record RecordSays (c : Case) (t : Bool) (entry : Record) (read : List Record
   pub owing : has (owed c) read ≡ (t && owes entry)
   pub deciding : has (decided c) read ≡ (t && decides entry)
   pub starting : has (started c) read ≡ (t && starts entry)
+  pub reporting : (b : Bool) → fold (reported_after c) b read ≡ (if t then reports_next b entry else b)
   pub of_case : t ≡ true → IsOfCase entry
 
 -- a record of another name, which is read as none or does not touch the case
@@ -78,6 +84,7 @@ silent c t entry none = record {
   owing = ap (λ b. b && owes entry) (sym none);
   deciding = ap (λ b. b && decides entry) (sym none);
   starting = ap (λ b. b && starts entry) (sym none);
+  reporting = λ b. ap (λ k. if k then reports_next b entry else b) (sym none);
   of_case = λ is. absurd (cc);
 }
 
@@ -88,6 +95,7 @@ says_opened c n = record {
   owing = refl;
   deciding = refl;
   starting = refl;
+  reporting = λ b. refl;
   of_case = λ is. absurd (cc);
 }
 
@@ -100,6 +108,7 @@ says_collecting c d ts t e = record {
   deciding = no t;
   starting = yes_second t
       (same_case d c) e;
+  reporting = λ b. same_either t b;
   of_case = λ is. tt;
 }
 
@@ -112,6 +121,7 @@ says_prepare c d ts t e = record {
   deciding = no t;
   starting = yes_first t
       (same_case d c) e;
+  reporting = λ b. same_either t b;
   of_case = λ is. tt;
 }
 
@@ -124,6 +134,7 @@ says_commit c d ts t e = record {
   deciding =
       yes_first t (same_case d c) e;
   starting = no t;
+  reporting = λ b. same_either t b;
   of_case = λ is. tt;
 }
 
@@ -136,16 +147,33 @@ says_abort c d ts t e = record {
   deciding =
       yes_second t (same_case d c) e;
   starting = no t;
+  reporting = λ b. same_either t b;
   of_case = λ is. tt;
 }
 
-says_end : (c d : Case) (t : Bool) → t ≡ same_case d c → RecordSays c t (End d None) (End d None ∷ [])
+same_if : (t m b k : Bool) → t ≡ m → (if m then k else b) ≡ (if t then k else b)
+same_if t m b k e = ap (λ x. if x then k else b) (sym e)
+
+says_end : (c d : Case) (rep : Option Reports) (t : Bool) → t ≡ same_case d c
+    → RecordSays c t (End d rep) (End d rep ∷ [])
 unfolding has none_of
-says_end c d t e = record {
+says_end c d rep t e = record {
   ended = yes t (same_case d c) e;
   owing = no t;
   deciding = no t;
   starting = no t;
+  reporting = λ b. same_if t (same_case d c) b (is_some rep) e;
+  of_case = λ is. tt;
+}
+
+says_cleared : (c d : Case) (t : Bool) → t ≡ same_case d c → RecordSays c t (Cleared d) (Cleared d ∷ [])
+unfolding has none_of
+says_cleared c d t e = record {
+  ended = no t;
+  owing = no t;
+  deciding = no t;
+  starting = no t;
+  reporting = λ b. same_if t (same_case d c) b false e;
   of_case = λ is. tt;
 }
 
@@ -188,9 +216,10 @@ module _ (place : Place) (p : Option ProcessId) (c : Case) (coordinates : IsCoor
           (is_own place q d) refl
       by_entry (Commit d ts) q h = by_own q d (Commit d ts) h.0 (says_commit c d ts _) (is_own place q d) refl
       by_entry (Abort d ts) q h = by_own q d (Abort d ts) h.0 (says_abort c d ts _) (is_own place q d) refl
-      by_entry (End d None) q h = by_own q d (End d None) h (says_end c d _) (is_own place q d) refl
-      by_entry (End d (Some r)) q h = absurd h.1
-      by_entry (Cleared d) q h = absurd h.1
+      by_entry (End d None) q h = by_own q d (End d None) h (says_end c d None _) (is_own place q d) refl
+      by_entry (End d (Some r)) q h = by_own q d (End d (Some r)) h.0 (says_end c d (Some r) _)
+          (is_own place q d) refl
+      by_entry (Cleared d) q h = by_own q d (Cleared d) h (says_cleared c d _) (is_own place q d) refl
       by_entry (Prepared b ws) q h = absurd h.1
       by_entry (Committed b) q h = absurd h.1
       by_entry (RolledBack b) q h = absurd h.1
@@ -204,40 +233,63 @@ module _ (place : Place) (p : Option ProcessId) (c : Case) (coordinates : IsCoor
 
   -- Whole logs.
 
-  nothing_more : (s : Said) → s ≡ behind s false false false false
+  nothing_more : (s : Said) → s ≡ behind s false (is_reporting s) false false false
   nothing_more Nothing = refl
   nothing_more Waits = refl
   nothing_more Settled = refl
   nothing_more Owes = refl
   nothing_more Over = refl
+  nothing_more Reported = refl
 
   abbrev pub of_case : Said → List Record → Said
-  of_case s rs = behind s (has (is_end c) rs) (has (owed c) rs) (has (decided c) rs) (has (started c) rs)
+  of_case s rs = behind s (has (is_end c) rs) (fold (reported_after c) (is_reporting s) rs) (has (owed c) rs)
+      (has (decided c) rs) (has (started c) rs)
 
   one_more : (s : Said) (entry : Record) (t : Bool) (read rs : List Record) → RecordSays c t entry read
       → of_case (if t then said_after s entry else s) rs ≡ of_case s (read ++ rs)
   unfolding has
   one_more s entry t read rs says =
       by_test t refl ∙ sym (
-      ap (λ b. behind s b (has (owed c) (read ++ rs)) (has (decided c) (read ++ rs)) (has (started c) (read
-      ++ rs))) (more (is_end c) (ends entry) says.ended)
-      ∙ ap (λ b. behind s ((t && ends entry) || has (is_end c) rs) b (has (decided c) (read ++ rs)) (has
+      ap (λ b. behind s b (fold (reported_after c) (is_reporting s) (read ++ rs)) (has (owed c) (read ++ rs))
+      (has (decided c) (read ++ rs)) (has (started c) (read ++ rs))) (more (is_end c) (ends entry) says.ended)
+      ∙ ap (λ b. behind s ((t && ends entry) || has (is_end c) rs) b (has (owed c) (read ++ rs))
+      (has (decided c) (read ++ rs)) (has (started c) (read ++ rs))) reporting
+      ∙ ap (λ b. behind s ((t && ends entry) || has (is_end c) rs) final b (has (decided c) (read ++ rs)) (has
       (started c) (read ++ rs))) (more (owed c) (owes entry) says.owing)
-      ∙ ap (λ b. behind s ((t && ends entry) || has (is_end c) rs) ((t && owes entry) || has (owed c) rs) b
+      ∙ ap (λ b. behind s ((t && ends entry) || has (is_end c) rs) final ((t && owes entry) || has (owed c) rs) b
       (has (started c) (read ++ rs))) (more (decided c) (decides entry) says.deciding)
-      ∙ ap (λ b. behind s ((t && ends entry) || has (is_end c) rs) ((t && owes entry) || has (owed c) rs) ((t
+      ∙ ap (λ b. behind s ((t && ends entry) || has (is_end c) rs) final ((t && owes entry) || has (owed c) rs) ((t
       && decides entry) || has (decided c) rs) b) (more (started c) (starts entry) says.starting))
     where
+      -- the report behind the record and the rest
+      final : Bool
+      final = fold (reported_after c) (if t then reports_next (is_reporting s) entry else is_reporting s) rs
+
+      behind_all : (b : Bool) (xs ys : List Record)
+          → fold (reported_after c) b (xs ++ ys) ≡ fold (reported_after c) (fold (reported_after c) b xs) ys
+      behind_all b [] ys = refl
+      behind_all b (x ∷ xs) ys = behind_all (reported_after c b x) xs ys
+
+      reporting : fold (reported_after c) (is_reporting s) (read ++ rs) ≡ final
+      reporting = behind_all (is_reporting s) read rs
+          ∙ ap (λ b. fold (reported_after c) b rs) (says.reporting (is_reporting s))
+
       more : (q : Record → Bool) (b : Bool) → has q read ≡ (t && b)
           → has q (read ++ rs) ≡ ((t && b) || has q rs)
       more q b e = list_any-append q read rs ∙ ap (λ k. k || has q rs) e
 
       by_test : (b : Bool) → t ≡ b
           → of_case (if b then said_after s entry else s) rs
-          ≡ behind s ((b && ends entry) || has (is_end c) rs) ((b && owes entry) || has (owed c) rs) ((b &&
+          ≡ behind s ((b && ends entry) || has (is_end c) rs)
+          (fold (reported_after c) (if b then reports_next (is_reporting s) entry else is_reporting s) rs)
+          ((b && owes entry) || has (owed c) rs) ((b &&
           decides entry) || has (decided c) rs) ((b && starts entry) || has (started c) rs)
-      by_test true is = said_one s entry (has (is_end c) rs) (has (owed c) rs) (has (decided c) rs) (has
-          (started c) rs) (says.of_case is)
+      by_test true is =
+          ap (λ k. behind (said_after s entry) (has (is_end c) rs) (fold (reported_after c) k rs) (has (owed c) rs)
+          (has (decided c) rs) (has (started c) rs)) (reporting_one s entry true (says.of_case is))
+          ∙ said_one s entry (has (is_end c) rs)
+          (fold (reported_after c) (reports_next (is_reporting s) entry) rs) (has (owed c) rs) (has (decided c) rs)
+          (has (started c) rs) (says.of_case is)
       by_test false is = refl
 
   -- what the records of the name say is what the records of the case say that the process reads

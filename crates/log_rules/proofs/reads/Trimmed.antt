@@ -1,5 +1,5 @@
 -- What a coordinator reads of its log once it was trimmed.
-use Rattle.std.proofs.Common.{◌≡◌, Bool, true, false, not, ◌&&◌, ◌||◌, if◌then◌else◌, ℕ, List, [], ◌∷◌, ◌++◌, Option, Some, fold, refl, sym, ap, ◌∙◌, arith, append-nil, None}
+use Rattle.std.proofs.Common.{◌≡◌, Bool, true, false, not, ◌&&◌, ◌||◌, if◌then◌else◌, ℕ, List, [], ◌∷◌, ◌++◌, Option, Some, fold, is_some, refl, sym, ap, ◌∙◌, arith, append-nil, None}
 use Rattle.std.proofs.lemmas.Grind.{common_steps}
 use Rattle.std.specs.List.{AllByRecursion, list_any}
 use Rattle.xa_xid.specs.declared.xid.Xid.{Xid}
@@ -19,7 +19,7 @@ use Rattle.tree_model.specs.LogNames.{foreign_to, is_own, name_xid, own_by, own_
 use Rattle.tree_model.specs.Memory.{fresh_memory, Idle}
 use Rattle.tree_model.specs.Names.{same_case}
 use Rattle.tree_model.specs.Nodes.{AtLeaf, AtRoot, Below, Place, Role, IsCoordinator}
-use Rattle.tree_model.specs.Records.{boot_after, boot_of, has, is_abort, is_collecting, is_commit, is_end, is_opened, is_prepare, none_of, owing_by, owing_in, record_case}
+use Rattle.tree_model.specs.Records.{boot_after, boot_of, has, is_abort, is_collecting, is_commit, is_end, is_opened, is_prepare, none_of, owing_by, owing_in, is_reported, record_case, reported_after}
 use Rattle.tree_model.specs.Restarts.{case_stays, data_records, is_known, recorded_view, trimmed, stays as model_stays, staying as model_staying}
 use Rattle.tree_model.specs.Standings.{CoordinatorView, coordinator_standing, known_view, phase_standing, standing_by}
 use Rattle.log_rules.specs.declared.trim.lives.Said.TheVariants.{Nothing}
@@ -121,29 +121,71 @@ twice : (b : Bool) → not (not b) ≡ b
 twice true = refl
 twice false = refl
 
+-- what is reported has ended
+reported_ended : (c : Case) (b : Bool) (rs : List Record)
+    → fold (reported_after c) b rs ≡ true → (b || has (is_end c) rs) ≡ true
+unfolding has
+reported_ended c b [] e = ap (λ k. k || false) e
+reported_ended c b (r ∷ rs) e = one r (reported_ended c (reported_after c b r) rs e)
+  where
+    or_true : (k : Bool) → (k || true) ≡ true
+    or_true true = refl
+    or_true false = refl
+
+    ended : (same some : Bool) → ((if same then some else b) || has (is_end c) rs) ≡ true
+        → (b || (same || has (is_end c) rs)) ≡ true
+    ended true some h = or_true b
+    ended false some h = h
+
+    cleared : (same : Bool) → ((if same then false else b) || has (is_end c) rs) ≡ true
+        → (b || has (is_end c) rs) ≡ true
+    cleared true h = ap (λ k. b || k) h ∙ or_true b
+    cleared false h = h
+
+    one : (r : Record) → (reported_after c b r || has (is_end c) rs) ≡ true
+        → (b || (is_end c r || has (is_end c) rs)) ≡ true
+    one (End d rep) h = ended (same_case d c) (is_some rep) h
+    one (Cleared d) h = cleared (same_case d c) h
+    one (Opened n) h = h
+    one (Collecting d ts) h = h
+    one (Prepare d ts) h = h
+    one (Commit d ts) h = h
+    one (Abort d ts) h = h
+    one (Prepared k ws) h = h
+    one (Committed k) h = h
+    one (RolledBack k) h = h
+    one (Direct k ws) h = h
+    one (HeurCommit k) h = h
+    one (HeurRollback k) h = h
+    one (Told k o) h = h
+    one (Forgot k) h = h
+    one (Base n) h = h
+    one (Pair k v) h = h
+
 kept_if_live : (c : Case) (rs : List Record)
-    → is_live (behind Nothing (has (is_end c) rs) (has (owed c) rs) (has (decided c) rs) (has (started c)
-    rs)) ≡ case_stays rs (Some c)
-unfolding recorded_view
+    → is_live (behind Nothing (has (is_end c) rs) (fold (reported_after c) false rs) (has (owed c) rs)
+    (has (decided c) rs) (has (started c) rs)) ≡ case_stays rs (Some c)
+unfolding recorded_view is_reported
 kept_if_live c rs =
     let cm = has (is_commit c) rs in
     let ab = has (is_abort c) rs in
     let pr = has (is_prepare c) rs in
     let co = has (is_collecting c) rs in
     let e = has (is_end c) rs in
+    let q = fold (reported_after c) false rs in
     let o = has (owed c) rs in
     let decisions : has (decided c) rs ≡ (cm || ab) = has_either (is_commit c) (is_abort c) rs in
     let starts : has (started c) rs ≡ (pr || co) = has_either (is_prepare c) (is_collecting c) rs in
     let nobody : not o ≡ none_of (owing_by c rs) = ap not (some_owed c rs)
     ∙ twice (none_of (owing_by c rs)) in
-    ap (λ d. is_live (behind Nothing e o d (has (started c) rs))) decisions
-    ∙ ap (λ b. is_live (behind Nothing e o (cm || ab) b)) starts
-    ∙ live_is_known e o cm ab pr co (λ some. sym decisions
-    ∙ has_more (owed c) (decided c) rs (owed_decides c) some)
-    ∙ ap (λ n. is_known (standing_by e cm ab pr co n Unknown)) nobody
-    ∙ ap (λ s. is_known (standing_by e cm ab pr co (none_of (owing_by c rs)) s)) (sym (idle_unknown
+    ap (λ d. is_live (behind Nothing e q o d (has (started c) rs))) decisions
+    ∙ ap (λ b. is_live (behind Nothing e q o (cm || ab) b)) starts
+    ∙ live_is_known e q o cm ab pr co (λ some. sym decisions
+    ∙ has_more (owed c) (decided c) rs (owed_decides c) some) (reported_ended c false rs)
+    ∙ ap (λ n. is_known (standing_by e cm ab pr co n Unknown) || q) nobody
+    ∙ ap (λ s. is_known (standing_by e cm ab pr co (none_of (owing_by c rs)) s) || q) (sym (idle_unknown
     c.txn.presumption))
-    ∙ sym (known_stays (coordinator_standing rs c fresh_memory) _ refl)
+    ∙ ap (λ k. k || q) (sym (known_stays (coordinator_standing rs c fresh_memory) _ refl))
 
 -- A record stays as the model's does.
 
@@ -285,8 +327,10 @@ module _ (place : Place) (ls : List LogRecord) (coordinates : IsCoordinator plac
       (is_own place q d) refl
   record_stays (End d None) q rest s h behind = case_stays_alike q d (End d None) rest refl refl s h behind
       (is_own place q d) refl
-  record_stays (End d (Some r)) q rest s h behind = absurd s.1
-  record_stays (Cleared d) q rest s h behind = absurd s.1
+  record_stays (End d (Some r)) q rest s h behind = case_stays_alike q d (End d (Some r)) rest refl refl s.0 h
+      behind (is_own place q d) refl
+  record_stays (Cleared d) q rest s h behind = case_stays_alike q d (Cleared d) rest refl refl s h behind
+      (is_own place q d) refl
   record_stays (Prepared b ws) q rest s h behind = absurd s.1
   record_stays (Committed b) q rest s h behind = absurd s.1
   record_stays (RolledBack b) q rest s h behind = absurd s.1

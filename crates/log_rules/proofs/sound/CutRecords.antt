@@ -13,22 +13,16 @@ use Rattle.tree_model.specs.declared.records.Branch.{Branch}
 use Rattle.tree_model.specs.declared.records.Branch.TheVariants.{Case as CaseBranch, Foreign}
 use Rattle.tree_model.specs.declared.records.LogRecord.{LogRecord}
 use Rattle.tree_model.specs.declared.records.Record.{Record}
-use Rattle.tree_model.specs.declared.records.Record.TheVariants.{Opened, Collecting, Prepare, Commit, Abort, End, Prepared, Committed, RolledBack, Direct, HeurCommit, HeurRollback, Told, Forgot, Base, Pair}
+use Rattle.tree_model.specs.declared.records.Record.TheVariants.{Opened, Collecting, Prepare, Commit, Abort, End, Prepared, Committed, RolledBack, Direct, HeurCommit, HeurRollback, Told, Forgot, Base, Pair, Cleared}
+use Rattle.tree_model.specs.declared.records.Reports.{Reports}
 use Rattle.tree_model.specs.declared.records.Write.{Write}
-use Rattle.log_text.specs.Parts.{Front, Name, key_at, name_at, tickets_of, value_at, writes_of}
-use Rattle.log_text.specs.Payloads.{key_text, kind_byte, name_text, payload_text, tickets_text, value_text, writes_text}
-use Rattle.log_text.specs.Reading.{bare, below, branch_record, case_record, coordinator_record, listing, manager_record, named, of_branch, of_case, of_name, pair_by, pair_of, read_record, told, writing}
+use Rattle.log_text.specs.Parts.{Front, Name, key_at, name_at, reports_of, tickets_of, value_at, writes_of}
+use Rattle.log_text.specs.Payloads.{key_text, kind_byte, name_text, payload_text, reports_text, tickets_text, value_text, writes_text}
+use Rattle.log_text.specs.Reading.{alone_record, bare, below, branch_record, case_record, coordinator_record, listing, manager_record, named, of_branch, of_case, of_name, pair_by, pair_of, read_record, told, writing}
 use Rattle.tree_model.specs.LogNames.{unnamed}
 use Rattle.log_rules.specs.sound.Written.{AreBytes, IsWrittenAs, ReadIsWritten}
-use Rattle.log_rules.proofs.sound.Cuts.{IsCut, both, key_cut, none_some, number_again, passed, some_is, tickets_cut, value_cut, writes_cut}
+use Rattle.log_rules.proofs.sound.Cuts.{IsCut, both, empty, is_number, key_cut, none_some, number_again, passed, reports_cut, some_is, tickets_cut, value_cut, writes_cut}
 use Rattle.log_rules.proofs.sound.CutNames.{name_cut}
-
-pub is_number : (n m : ℕ) → (n == m) ≡ true → n ≡ m
-is_number n m h = grind (arith, nat_tests)
-
-empty : (xs : List ℕ) → (length xs == 0) ≡ true → xs ≡ []
-empty [] h = refl
-empty (x ∷ xs) h = absurd (let e = is_number (length (x ∷ xs)) 0 h in omega (arith, e))
 
 -- Numbers alone.
 
@@ -98,25 +92,54 @@ listed_cut kind xs p c rest l (Some ts) bounds h w is e =
           ∙ ap (λ t. name_text p (CaseBranch c) ++ t) (tickets_cut rest ts h is) ∙ sym w;
     })
 
+-- a record that says nothing but its case
+alone_cut : (kind n : ℕ) (xs : List ℕ) (p : Option ProcessId) (c : Case) (r : Record) (rest : List ℕ)
+    (l : LogRecord) (none : Bool)
+    → kind ≡ n → kind_byte r ≡ n → payload_text p r ≡ name_text p (CaseBranch c)
+    → xs ≡ name_text p (CaseBranch c) ++ rest → (length rest == 0) ≡ none
+    → cond none (Some (named p r)) None ≡ Some l → IsWrittenAs l kind xs
+alone_cut kind n xs p c r rest l true is byte text w none e =
+    subst (λ (k : LogRecord). IsWrittenAs k kind xs) (some_is _ l e) (record {
+      same_kind = byte ∙ sym is;
+      same_payload = text ∙ sym (append-nil (name_text p (CaseBranch c)))
+          ∙ ap (λ t. name_text p (CaseBranch c) ++ t) (sym (empty rest none)) ∙ sym w;
+    })
+alone_cut kind n xs p c r rest l false is byte text w none e = absurd (none_some l e)
+
+-- an End that reports
+reported_cut : (kind : ℕ) (xs : List ℕ) (p : Option ProcessId) (c : Case) (rest : List ℕ) (l : LogRecord)
+    (o : Option Reports)
+    → kind ≡ 7 → AreBytes rest → xs ≡ name_text p (CaseBranch c) ++ rest → reports_of rest ≡ o
+    → option_map (λ r. named p (End c (Some r))) o ≡ Some l → IsWrittenAs l kind xs
+reported_cut kind xs p c rest l None seven h w is e = absurd (none_some l e)
+reported_cut kind xs p c rest l (Some r) seven h w is e =
+    subst (λ (k : LogRecord). IsWrittenAs k kind xs) (some_is _ l e) (record {
+      same_kind = sym seven;
+      same_payload = ap (λ t. name_text p (CaseBranch c) ++ t) (reports_cut rest r h is) ∙ sym w;
+    })
+
 case_cut : (kind : ℕ) (xs : List ℕ) (p : Option ProcessId) (c : Case) (rest : List ℕ) (l : LogRecord)
     → AreBytes rest → xs ≡ name_text p (CaseBranch c) ++ rest → case_record kind p c rest ≡ Some l
     → IsWrittenAs l kind xs
-case_cut kind xs p c rest l h w e = by_kind (kind == 6) (length rest == 0)
-    (nat_le 2 kind && nat_le kind 5) refl refl refl e
+case_cut kind xs p c rest l h w e = by_kind (kind == 6) (kind == 7) (kind == 8)
+    (nat_le 2 kind && nat_le kind 5) refl refl refl refl e
   where
-    by_kind : (a b d : Bool) → (kind == 6) ≡ a → (length rest == 0) ≡ b → (nat_le 2 kind && nat_le kind 5) ≡ d
-        → cond a (cond b (Some (named p (End c None))) None)
-        (cond d (option_map (λ ts. named p (listing kind c ts)) (tickets_of rest)) None) ≡ Some l
+    by_kind : (a b d f : Bool) → (kind == 6) ≡ a → (kind == 7) ≡ b → (kind == 8) ≡ d
+        → (nat_le 2 kind && nat_le kind 5) ≡ f
+        → cond a (alone_record p (End c None) rest)
+        (cond b (option_map (λ r. named p (End c (Some r))) (reports_of rest))
+        (cond d (alone_record p (Cleared c) rest)
+        (cond f (option_map (λ ts. named p (listing kind c ts)) (tickets_of rest)) None))) ≡ Some l
         → IsWrittenAs l kind xs
-    by_kind true true d six none r f =
-        subst (λ (k : LogRecord). IsWrittenAs k kind xs) (some_is _ l f) (record {
-          same_kind = sym (is_number kind 6 six);
-          same_payload = sym (append-nil (name_text p (CaseBranch c)))
-              ∙ ap (λ t. name_text p (CaseBranch c) ++ t) (sym (empty rest none)) ∙ sym w;
-        })
-    by_kind true false d six none r f = absurd (none_some l f)
-    by_kind false b true six none r f = listed_cut kind xs p c rest l (tickets_of rest) r h w refl f
-    by_kind false b false six none r f = absurd (none_some l f)
+    by_kind true b d f six seven eight r g = alone_cut kind 6 xs p c (End c None) rest l (length rest == 0)
+        (is_number kind 6 six) refl refl w refl g
+    by_kind false true d f six seven eight r g =
+        reported_cut kind xs p c rest l (reports_of rest) (is_number kind 7 seven) h w refl g
+    by_kind false false true f six seven eight r g = alone_cut kind 8 xs p c (Cleared c) rest l
+        (length rest == 0) (is_number kind 8 eight) refl refl w refl g
+    by_kind false false false true six seven eight r g =
+        listed_cut kind xs p c rest l (tickets_of rest) r h w refl g
+    by_kind false false false false six seven eight r g = absurd (none_some l g)
 
 of_case_cut : (kind : ℕ) (xs : List ℕ) (p : Option ProcessId) (b : Branch) (rest : List ℕ) (l : LogRecord)
     → AreBytes rest → xs ≡ name_text p b ++ rest → of_case kind p b rest ≡ Some l → IsWrittenAs l kind xs

@@ -9,9 +9,10 @@ use Rattle.std.proofs.lemmas.List.{get_or-drop, take-append-drop}
 use Rattle.byteorder.specs.Endian.{big_bytes, big_from, big_number}
 use Rattle.byteorder.specs.Numbers.{big_from-cons, big_from-lt, big_number-reads_back, length-bytes_high_first}
 use Rattle.tree_model.specs.declared.names.Ticket.{Ticket}
+use Rattle.tree_model.specs.declared.records.Reports.{Reports}
 use Rattle.tree_model.specs.declared.records.Write.{Write}
-use Rattle.log_text.specs.Parts.{Front, all_of, and_more, fits_ticket, key_at, left_at, piece_at, put_of, ticket_at, ticket_in, tickets_of, value_at, write_at, write_by, writes_of}
-use Rattle.log_text.specs.Payloads.{key_text, left_text, ticket_text, tickets_text, value_text, write_text, writes_text}
+use Rattle.log_text.specs.Parts.{Front, all_of, alone, and_more, fits_ticket, front_of, key_at, left_at, piece_at, put_of, reports_by, reports_of, ticket_at, ticket_in, tickets_at, tickets_of, value_at, with_first, write_at, write_by, writes_of}
+use Rattle.log_text.specs.Payloads.{key_text, left_text, reports_text, ticket_text, tickets_text, value_text, write_text, writes_text}
 use Rattle.log_rules.specs.sound.Written.{AreBytes}
 
 -- Bytes.
@@ -98,6 +99,13 @@ passed false x y h = absurd (none_some y h)
 pub at_most : (n m : ℕ) → nat_le n m ≡ true → n ≤ m
 at_most n m h = grind (arith, nat_tests)
 
+pub is_number : (n m : ℕ) → (n == m) ≡ true → n ≡ m
+is_number n m h = grind (arith, nat_tests)
+
+pub empty : (xs : List ℕ) → (length xs == 0) ≡ true → xs ≡ []
+empty [] h = refl
+empty (x ∷ xs) h = absurd (let e = is_number (length (x ∷ xs)) 0 h in omega (arith, e))
+
 -- Tickets.
 
 plus_none : (m : ℕ) → m ≡ 0 + m
@@ -155,40 +163,66 @@ ticket_cut xs p h e =
 
 -- Lists.
 
--- the first was cut, and what all_of reads behind it
-rest_cut : {A : Type 0} (text : A → List ℕ) (xs : List ℕ) (p : A × List ℕ) (n : ℕ) (ys : List A)
-    (o : Option (List A))
-    → IsCut text xs p → option_map (λ zs. p.0 ∷ zs) o ≡ Some ys
-    → ((zs : List A) → o ≡ Some zs → (p.1 ≡ flat_map text zs) × (n ≡ length zs))
-    → (xs ≡ flat_map text ys) × (suc n ≡ length ys)
-rest_cut text xs p n ys None cut e more = absurd (none_some ys e)
-rest_cut {A} text xs p n ys (Some zs) cut e more =
-    let behind = more zs refl in
-    subst (λ (us : List A). (xs ≡ flat_map text us) × (suc n ≡ length us)) (some_is (p.0 ∷ zs) ys e)
-    (cut.written ∙ ap (λ t. text p.0 ++ t) behind.0, omega (arith, behind.1))
+-- so many parts were written at the front, and bytes are left
+pub record AreCut {A : Type 0} (text : A → List ℕ) (n : ℕ) (xs : List ℕ) (p : List A × List ℕ) : Type 0 where
+  pub written : xs ≡ flat_map text p.0 ++ p.1
+  pub counted : n ≡ length p.0
+  pub bytes : AreBytes p.1
+
+-- the first was cut, and what is read behind it
+rest_cut : {A : Type 0} (text : A → List ℕ) (xs : List ℕ) (a : A × List ℕ) (n : ℕ) (p : List A × List ℕ)
+    (o : Front (List A))
+    → IsCut text xs a → with_first a.0 o ≡ Some p
+    → ((q : List A × List ℕ) → o ≡ Some q → AreCut text n a.1 q)
+    → AreCut text (suc n) xs p
+rest_cut text xs a n p None cut e more = absurd (none_some p e)
+rest_cut {A} text xs a n p (Some q) cut e more =
+    let behind = more q refl in
+    subst (λ (r : List A × List ℕ). AreCut text (suc n) xs r) (some_is _ p e) (record {
+      written = cut.written ∙ ap (λ t. text a.0 ++ t) behind.written
+          ∙ sym (append_assoc (text a.0) (flat_map text q.0) q.1);
+      counted = ap suc behind.counted;
+      bytes = behind.bytes;
+    })
 
 first_cut : {A : Type 0} (at : List ℕ → Front A) (text : A → List ℕ)
     → ((xs : List ℕ) (p : A × List ℕ) → AreBytes xs → at xs ≡ Some p → IsCut text xs p)
-    → (n : ℕ) (xs : List ℕ) (ys : List A) → AreBytes xs → (o : Front A) → at xs ≡ o
-    → and_more o (all_of at n) ≡ Some ys
-    → ((us : List ℕ) (zs : List A) → AreBytes us → all_of at n us ≡ Some zs
-    → (us ≡ flat_map text zs) × (n ≡ length zs))
-    → (xs ≡ flat_map text ys) × (suc n ≡ length ys)
-first_cut at text cuts n xs ys h None is e more = absurd (none_some ys e)
-first_cut at text cuts n xs ys h (Some p) is e more =
-    let cut = cuts xs p h is in
-    rest_cut text xs p n ys (all_of at n p.1) cut e (λ zs g. more p.1 zs cut.bytes g)
+    → (n : ℕ) (xs : List ℕ) (p : List A × List ℕ) → AreBytes xs → (o : Front A) → at xs ≡ o
+    → and_more o (front_of at n) ≡ Some p
+    → ((us : List ℕ) (q : List A × List ℕ) → AreBytes us → front_of at n us ≡ Some q → AreCut text n us q)
+    → AreCut text (suc n) xs p
+first_cut at text cuts n xs p h None is e more = absurd (none_some p e)
+first_cut at text cuts n xs p h (Some a) is e more =
+    let cut = cuts xs a h is in
+    rest_cut text xs a n p (front_of at n a.1) cut e (λ q g. more a.1 q cut.bytes g)
+
+pub front_cut : {A : Type 0} (at : List ℕ → Front A) (text : A → List ℕ)
+    → ((xs : List ℕ) (p : A × List ℕ) → AreBytes xs → at xs ≡ Some p → IsCut text xs p)
+    → (n : ℕ) (xs : List ℕ) (p : List A × List ℕ) → AreBytes xs → front_of at n xs ≡ Some p
+    → AreCut text n xs p
+unfolding front_of
+front_cut {A} at text cuts zero xs p h e =
+    subst (λ (r : List A × List ℕ). AreCut text zero xs r) (some_is _ p e)
+    (record { written = refl; counted = refl; bytes = h })
+front_cut at text cuts (suc n) xs p h e = first_cut at text cuts n xs p h (at xs) refl e
+    (λ us q k g. front_cut at text cuts n us q k g)
+
+-- what stands alone is all that was left
+pub alone_is : {A : Type 0} (o : Front A) (x : A) → alone o ≡ Some x → o ≡ Some (x, [])
+alone_is None x e = absurd (none_some x e)
+alone_is (Some p) x e =
+    let got = passed (length p.1 == 0) p.0 x e in
+    let none : p.1 ≡ [] = empty p.1 got.0 in
+    let one : p.0 ≡ x = got.1 in
+    (λ i. Some (one i, none i))
 
 pub all_cut : {A : Type 0} (at : List ℕ → Front A) (text : A → List ℕ)
     → ((xs : List ℕ) (p : A × List ℕ) → AreBytes xs → at xs ≡ Some p → IsCut text xs p)
     → (n : ℕ) (xs : List ℕ) (ys : List A) → AreBytes xs → all_of at n xs ≡ Some ys
     → (xs ≡ flat_map text ys) × (n ≡ length ys)
-unfolding all_of
-all_cut {A} at text cuts zero [] ys h e = subst
-    (λ (zs : List A). ([] ≡ flat_map text zs) × (zero ≡ length zs)) (some_is [] ys e) (refl, refl)
-all_cut at text cuts zero (x ∷ xs) ys h e = absurd (none_some ys e)
-all_cut at text cuts (suc n) xs ys h e = first_cut at text cuts n xs ys h (at xs) refl e
-    (λ us zs k g. all_cut at text cuts n us zs k g)
+all_cut at text cuts n xs ys h e =
+    let cut = front_cut at text cuts n xs (ys, []) h (alone_is (front_of at n xs) ys e) in
+    (cut.written ∙ append-nil (flat_map text ys), cut.counted)
 
 pub tickets_cut : (xs : List ℕ) (ts : List Ticket) → AreBytes xs → tickets_of xs ≡ Some ts
     → tickets_text ts ≡ xs
@@ -196,6 +230,35 @@ tickets_cut [] ts h e = absurd (none_some ts e)
 tickets_cut (count ∷ rest) ts h e =
     let all = all_cut ticket_at ticket_text ticket_cut count rest ts (tail_bytes count rest h) e in
     ap (λ n. n ∷ flat_map ticket_text ts) (sym all.1) ∙ ap (λ t. count ∷ t) (sym all.0)
+
+pub front_tickets_cut : (xs : List ℕ) (p : List Ticket × List ℕ) → AreBytes xs → tickets_at xs ≡ Some p
+    → (tickets_text p.0 ++ p.1 ≡ xs) × AreBytes p.1
+front_tickets_cut [] p h e = absurd (none_some p e)
+front_tickets_cut (count ∷ rest) p h e =
+    let cut = front_cut ticket_at ticket_text ticket_cut count rest p (tail_bytes count rest h) e in (
+      ap (λ n. n ∷ (flat_map ticket_text p.0 ++ p.1)) (sym cut.counted) ∙ ap (λ t. count ∷ t) (sym cut.written),
+      cut.bytes,
+    )
+
+-- Reports.
+
+rest_reports : (xs : List ℕ) (p : List Ticket × List ℕ) (r : Reports) (o : Option (List Ticket))
+    → AreBytes p.1 → tickets_text p.0 ++ p.1 ≡ xs → tickets_of p.1 ≡ o
+    → option_map (λ ts. record { mixed = p.0; unreported = ts }) o ≡ Some r → reports_text r ≡ xs
+rest_reports xs p r None h w is e = absurd (none_some r e)
+rest_reports xs p r (Some ts) h w is e =
+    subst (λ (q : Reports). reports_text q ≡ xs) (some_is _ r e)
+    (ap (λ t. tickets_text p.0 ++ t) (tickets_cut p.1 ts h is) ∙ w)
+
+reports_by_cut : (xs : List ℕ) (r : Reports) (o : Front (List Ticket)) → AreBytes xs → tickets_at xs ≡ o
+    → reports_by o ≡ Some r → reports_text r ≡ xs
+reports_by_cut xs r None h is e = absurd (none_some r e)
+reports_by_cut xs r (Some p) h is e =
+    let cut = front_tickets_cut xs p h is in
+    rest_reports xs p r (tickets_of p.1) cut.1 cut.0 refl e
+
+pub reports_cut : (xs : List ℕ) (r : Reports) → AreBytes xs → reports_of xs ≡ Some r → reports_text r ≡ xs
+reports_cut xs r h e = reports_by_cut xs r (tickets_at xs) h refl e
 
 -- Keys, values and writes.
 

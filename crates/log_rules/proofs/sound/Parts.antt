@@ -6,21 +6,31 @@ use Rattle.std.specs.List.{AllByRecursion}
 use Rattle.byteorder.specs.Endian.{big_bytes, big_number}
 use Rattle.byteorder.specs.Numbers.{big_number-reads_back, length-bytes_high_first}
 use Rattle.tree_model.specs.declared.names.Ticket.{Ticket}
+use Rattle.tree_model.specs.declared.records.Reports.{Reports}
 use Rattle.tree_model.specs.declared.records.Write.{Write}
-use Rattle.log_text.specs.Parts.{Front, all_of, and_more, fits_ticket, key_at, left_at, piece_at, put_of, ticket_at, ticket_in, tickets_of, value_at, write_at, write_by, writes_of}
-use Rattle.log_text.specs.Payloads.{key_text, left_text, ticket_text, tickets_text, value_text, write_text, writes_text}
-use Rattle.log_rules.specs.sound.Sound.{AreSoundTickets, AreSoundWrites, IsSoundKey, IsSoundLeft, IsSoundTicket, IsSoundWrite}
+use Rattle.log_text.specs.Parts.{Front, all_of, alone, and_more, fits_ticket, front_of, key_at, left_at, piece_at, put_of, reports_by, reports_of, ticket_at, ticket_in, tickets_at, tickets_of, value_at, with_first, write_at, write_by, writes_of}
+use Rattle.log_text.specs.Payloads.{key_text, left_text, reports_text, ticket_text, tickets_text, value_text, write_text, writes_text}
+use Rattle.log_rules.specs.sound.Sound.{AreSoundReports, AreSoundTickets, AreSoundWrites, IsSoundKey, IsSoundLeft, IsSoundTicket, IsSoundWrite}
 
 -- Lists.
+
+front_back : {A : Type 0} (Sound : A → Type 0) (at : List ℕ → Front A) (text : A → List ℕ)
+    → ((x : A) (rest : List ℕ) → Sound x → at (text x ++ rest) ≡ Some (x, rest))
+    → (xs : List A) (rest : List ℕ) → AllByRecursion Sound xs
+    → front_of at (length xs) (flat_map text xs ++ rest) ≡ Some (xs, rest)
+unfolding front_of
+front_back Sound at text back [] rest h = refl
+front_back Sound at text back (x ∷ xs) rest h =
+    ap (λ t. and_more (at t) (front_of at (length xs))) (append_assoc (text x) (flat_map text xs) rest)
+    ∙ ap (λ f. and_more f (front_of at (length xs))) (back x (flat_map text xs ++ rest) h.0)
+    ∙ ap (with_first x) (front_back Sound at text back xs rest h.1)
 
 all_back : {A : Type 0} (Sound : A → Type 0) (at : List ℕ → Front A) (text : A → List ℕ)
     → ((x : A) (rest : List ℕ) → Sound x → at (text x ++ rest) ≡ Some (x, rest))
     → (xs : List A) → AllByRecursion Sound xs → all_of at (length xs) (flat_map text xs) ≡ Some xs
-unfolding all_of
-all_back Sound at text back [] h = refl
-all_back Sound at text back (x ∷ xs) h =
-    ap (λ f. and_more f (all_of at (length xs))) (back x (flat_map text xs) h.0)
-    ∙ ap (option_map (λ more. x ∷ more)) (all_back Sound at text back xs h.1)
+all_back Sound at text back xs h =
+    ap (λ t. alone (front_of at (length xs) t)) (sym (append-nil (flat_map text xs)))
+    ∙ ap alone (front_back Sound at text back xs [] h)
 
 -- Tickets.
 
@@ -80,6 +90,15 @@ ticket_back t rest h =
 
 pub tickets_back : (ts : List Ticket) → AreSoundTickets ts → tickets_of (tickets_text ts) ≡ Some ts
 tickets_back ts h = all_back IsSoundTicket ticket_at ticket_text ticket_back ts h.each
+
+front_tickets : (ts : List Ticket) (rest : List ℕ) → AreSoundTickets ts
+    → tickets_at (tickets_text ts ++ rest) ≡ Some (ts, rest)
+front_tickets ts rest h = front_back IsSoundTicket ticket_at ticket_text ticket_back ts rest h.each
+
+pub reports_back : (r : Reports) → AreSoundReports r → reports_of (reports_text r) ≡ Some r
+reports_back r h =
+    ap reports_by (front_tickets r.mixed (tickets_text r.unreported) h.mixed)
+    ∙ ap (option_map (λ ts. record { mixed = r.mixed; unreported = ts })) (tickets_back r.unreported h.unreported)
 
 -- Keys, values and writes.
 

@@ -23,16 +23,16 @@ use Rattle.tree_model.specs.declared.records.Branch.{Branch}
 use Rattle.tree_model.specs.declared.records.Branch.TheVariants.{Case as CaseBranch, Foreign}
 use Rattle.tree_model.specs.declared.records.LogRecord.{LogRecord}
 use Rattle.tree_model.specs.declared.records.Record.{Record}
-use Rattle.tree_model.specs.declared.records.Record.TheVariants.{Opened, Collecting, Prepare, Commit, Abort, End, Prepared, Committed, RolledBack, Direct, HeurCommit, HeurRollback, Told, Forgot, Base, Pair}
+use Rattle.tree_model.specs.declared.records.Record.TheVariants.{Opened, Collecting, Prepare, Commit, Abort, End, Prepared, Committed, RolledBack, Direct, HeurCommit, HeurRollback, Told, Forgot, Base, Pair, Cleared}
+use Rattle.tree_model.specs.declared.records.Reports.{Reports}
 use Rattle.tree_model.specs.declared.records.Write.{Write}
-use Rattle.log_text.specs.Parts.{Front, Name, all_of, and_more, fits_ticket, key_at, left_at, name_at, name_in, piece_at, put_of, ticket_at, ticket_in, tickets_of, value_at, write_at, write_by, writes_of, xid_at}
-use Rattle.log_text.specs.Reading.{bare, below, branch_record, case_record, coordinator_record, listing, manager_record, named, of_branch, of_case, of_name, pair_by, pair_of, read_record, told, writing}
+use Rattle.log_text.specs.Parts.{Front, Name, all_of, and_more, fits_ticket, front_of, key_at, left_at, name_at, name_in, piece_at, put_of, reports_by, reports_of, ticket_at, ticket_in, tickets_at, tickets_of, value_at, with_first, write_at, write_by, writes_of, xid_at}
+use Rattle.log_text.specs.Reading.{alone_record, bare, below, branch_record, case_record, coordinator_record, listing, manager_record, named, of_branch, of_case, of_name, pair_by, pair_of, read_record, told, writing}
 use Rattle.tree_model.specs.LogNames.{unnamed}
-use Rattle.log_rules.specs.sound.Sound.{AreSoundTickets, AreSoundWrites, IsSound, IsSoundEntry, IsSoundKey, IsSoundName, IsSoundTicket, IsSoundWrite}
+use Rattle.log_rules.specs.sound.Sound.{AreSoundReports, AreSoundTickets, AreSoundWrites, IsSound, IsSoundEntry, IsSoundKey, IsSoundName, IsSoundTicket, IsSoundWrite}
 use Rattle.log_rules.specs.sound.Written.{AreBytes, ReadIsSound}
-use Rattle.log_rules.proofs.sound.Cuts.{IsCut, at_most, both, bytes_behind, key_cut, none_some, passed, piece_cut, some_is, tail_bytes, ticket_cut, value_cut, write_cut}
+use Rattle.log_rules.proofs.sound.Cuts.{IsCut, alone_is, at_most, both, bytes_behind, front_tickets_cut, key_cut, none_some, passed, piece_cut, some_is, tail_bytes, ticket_cut, value_cut, write_cut}
 use Rattle.log_rules.proofs.sound.CutNames.{enough, four_below, name_cut, no_fault, xid_cut}
-use Rattle.log_rules.proofs.sound.CutRecords.{is_number}
 use Rattle.log_rules.proofs.sound.OwnNames.{names_are_sound}
 
 less : (n m : ℕ) → nat_lt n m ≡ true → n < m
@@ -133,45 +133,80 @@ ticket_sound xs p h e =
 -- Lists.
 
 -- the first is sound, and what is read behind it
-rest_sound : {A : Type 0} (Good : A → Type 0) (p : A × List ℕ) (n : ℕ) (ys : List A)
-    (o : Option (List A)) → Good p.0
-    → ((zs : List A) → o ≡ Some zs → (length zs ≡ n) × AllByRecursion Good zs)
-    → option_map (λ zs. p.0 ∷ zs) o ≡ Some ys → (length ys ≡ suc n) × AllByRecursion Good ys
-rest_sound Good p n ys None is more f = absurd (none_some ys f)
-rest_sound {A} Good p n ys (Some zs) is more f =
-    subst (λ (us : List A). (length us ≡ suc n) × AllByRecursion Good us) (some_is (p.0 ∷ zs) ys f)
-    (ap suc (more zs refl).0, (is, (more zs refl).1))
+rest_sound : {A : Type 0} (Good : A → Type 0) (a : A × List ℕ) (n : ℕ) (p : List A × List ℕ)
+    (o : Front (List A)) → Good a.0
+    → ((q : List A × List ℕ) → o ≡ Some q → (length q.0 ≡ n) × AllByRecursion Good q.0)
+    → with_first a.0 o ≡ Some p
+    → (length p.0 ≡ suc n) × AllByRecursion Good p.0
+rest_sound Good a n p None is more f = absurd (none_some p f)
+rest_sound {A} Good a n p (Some q) is more f =
+    subst (λ (r : List A × List ℕ). (length r.0 ≡ suc n) × AllByRecursion Good r.0)
+    (some_is _ p f)
+    (ap suc (more q refl).0, (is, (more q refl).1))
 
-first_sound : {A : Type 0} (at : List ℕ → Front A) (Good : A → Type 0) (n : ℕ) (ys : List A) (o : Front A)
-    → ((p : A × List ℕ) → o ≡ Some p → Good p.0)
-    → ((p : A × List ℕ) (zs : List A) → o ≡ Some p → all_of at n p.1 ≡ Some zs
-    → (length zs ≡ n) × AllByRecursion Good zs)
-    → and_more o (all_of at n) ≡ Some ys → (length ys ≡ suc n) × AllByRecursion Good ys
-first_sound at Good n ys None good more f = absurd (none_some ys f)
-first_sound at Good n ys (Some p) good more f =
-    rest_sound Good p n ys (all_of at n p.1) (good p refl) (λ zs g. more p zs refl g) f
+first_sound : {A : Type 0} (at : List ℕ → Front A) (Good : A → Type 0) (n : ℕ) (p : List A × List ℕ)
+    (o : Front A)
+    → ((a : A × List ℕ) → o ≡ Some a → Good a.0)
+    → ((a : A × List ℕ) (q : List A × List ℕ) → o ≡ Some a → front_of at n a.1 ≡ Some q
+    → (length q.0 ≡ n) × AllByRecursion Good q.0)
+    → and_more o (front_of at n) ≡ Some p → (length p.0 ≡ suc n) × AllByRecursion Good p.0
+first_sound at Good n p None good more f = absurd (none_some p f)
+first_sound at Good n p (Some a) good more f =
+    rest_sound Good a n p (front_of at n a.1) (good a refl) (λ q g. more a q refl g) f
 
 -- what is read is sound, and so is all that is read one behind the other
+front_sound : {A : Type 0} (at : List ℕ → Front A) (Good : A → Type 0)
+    → ((xs : List ℕ) (p : A × List ℕ) → AreBytes xs → at xs ≡ Some p → Good p.0)
+    → ((xs : List ℕ) (p : A × List ℕ) → AreBytes xs → at xs ≡ Some p → AreBytes p.1)
+    → (n : ℕ) (xs : List ℕ) (p : List A × List ℕ) → AreBytes xs → front_of at n xs ≡ Some p
+    → (length p.0 ≡ n) × AllByRecursion Good p.0
+unfolding front_of
+front_sound {A} at Good good rest zero xs p h e =
+    subst (λ (r : List A × List ℕ). (length r.0 ≡ zero) × AllByRecursion Good r.0) (some_is _ p e)
+    (refl, tt)
+front_sound at Good good rest (suc n) xs p h e = first_sound at Good n p (at xs) (λ a is. good xs a h is)
+    (λ a q is g. front_sound at Good good rest n a.1 q (rest xs a h is) g) e
+
 all_sound : {A : Type 0} (at : List ℕ → Front A) (Good : A → Type 0)
     → ((xs : List ℕ) (p : A × List ℕ) → AreBytes xs → at xs ≡ Some p → Good p.0)
     → ((xs : List ℕ) (p : A × List ℕ) → AreBytes xs → at xs ≡ Some p → AreBytes p.1)
     → (n : ℕ) (xs : List ℕ) (ys : List A) → AreBytes xs → all_of at n xs ≡ Some ys
     → (length ys ≡ n) × AllByRecursion Good ys
-unfolding all_of
-all_sound {A} at Good good rest zero [] ys h e =
-    subst (λ (zs : List A). (length zs ≡ zero) × AllByRecursion Good zs) (some_is [] ys e) (refl, tt)
-all_sound at Good good rest zero (x ∷ xs) ys h e = absurd (none_some ys e)
-all_sound at Good good rest (suc n) xs ys h e = first_sound at Good n ys (at xs) (λ p is. good xs p h is)
-    (λ p zs is g. all_sound at Good good rest n p.1 zs (rest xs p h is) g) e
+all_sound at Good good rest n xs ys h e =
+    front_sound at Good good rest n xs (ys, []) h (alone_is (front_of at n xs) ys e)
 
-tickets_sound : (xs : List ℕ) (ts : List Ticket) → AreBytes xs → tickets_of xs ≡ Some ts → AreSoundTickets ts
-tickets_sound [] ts h e = absurd (none_some ts e)
-tickets_sound (count ∷ rest) ts h e =
-    let all = all_sound ticket_at IsSoundTicket ticket_sound
-    (λ xs p k is. (ticket_cut xs p k is).bytes) count rest ts
+front_tickets_sound : (xs : List ℕ) (p : List Ticket × List ℕ) → AreBytes xs → tickets_at xs ≡ Some p
+    → AreSoundTickets p.0
+front_tickets_sound [] p h e = absurd (none_some p e)
+front_tickets_sound (count ∷ rest) p h e =
+    let all = front_sound ticket_at IsSoundTicket ticket_sound
+    (λ xs q k is. (ticket_cut xs q k is).bytes) count rest p
     (tail_bytes count rest h) e in
     let small : count < 256 = h 0 in
     record { count = omega (arith, all.0, small); each = all.1 }
+
+tickets_sound : (xs : List ℕ) (ts : List Ticket) → AreBytes xs → tickets_of xs ≡ Some ts → AreSoundTickets ts
+tickets_sound xs ts h e = front_tickets_sound xs (ts, []) h (alone_is (tickets_at xs) ts e)
+
+-- Reports.
+
+rest_reports : (p : List Ticket × List ℕ) (r : Reports) (o : Option (List Ticket)) → AreSoundTickets p.0
+    → ((ts : List Ticket) → o ≡ Some ts → AreSoundTickets ts)
+    → option_map (λ ts. record { mixed = p.0; unreported = ts }) o ≡ Some r → AreSoundReports r
+rest_reports p r None first is e = absurd (none_some r e)
+rest_reports p r (Some ts) first is e =
+    subst AreSoundReports (some_is _ r e) (record { mixed = first; unreported = is ts refl })
+
+reports_by_sound : (xs : List ℕ) (r : Reports) (o : Front (List Ticket)) → AreBytes xs → tickets_at xs ≡ o
+    → reports_by o ≡ Some r → AreSoundReports r
+reports_by_sound xs r None h is e = absurd (none_some r e)
+reports_by_sound xs r (Some p) h is e =
+    let cut = front_tickets_cut xs p h is in
+    rest_reports p r (tickets_of p.1) (front_tickets_sound xs p h is)
+    (λ ts got. tickets_sound p.1 ts cut.1 got) e
+
+reports_sound : (xs : List ℕ) (r : Reports) → AreBytes xs → reports_of xs ≡ Some r → AreSoundReports r
+reports_sound xs r h e = reports_by_sound xs r (tickets_at xs) h refl e
 
 -- Keys, values and writes.
 
@@ -278,19 +313,36 @@ listed_sound kind p c l None n is e = absurd (none_some l e)
 listed_sound kind p c l (Some ts) n is e =
     subst (IsSound Coordinator) (some_is _ l e) (listing_sound p kind c ts n (is ts refl))
 
+-- a record that says nothing but its case
+alone_sound : (p : Option ProcessId) (r : Record) (l : LogRecord) (none : Bool) → IsSoundEntry Coordinator p r
+    → cond none (Some (named p r)) None ≡ Some l → IsSound Coordinator l
+alone_sound p r l true n e = subst (IsSound Coordinator) (some_is _ l e) n
+alone_sound p r l false n e = absurd (none_some l e)
+
+-- an End that reports
+reported_sound : (p : Option ProcessId) (c : Case) (l : LogRecord) (o : Option Reports)
+    → IsSoundName p (CaseBranch c) → ((r : Reports) → o ≡ Some r → AreSoundReports r)
+    → option_map (λ r. named p (End c (Some r))) o ≡ Some l → IsSound Coordinator l
+reported_sound p c l None n is e = absurd (none_some l e)
+reported_sound p c l (Some r) n is e = subst (IsSound Coordinator) (some_is _ l e) (n, is r refl)
+
 case_sound : (kind : ℕ) (p : Option ProcessId) (c : Case) (rest : List ℕ) (l : LogRecord) → AreBytes rest
     → IsSoundName p (CaseBranch c) → case_record kind p c rest ≡ Some l → IsSound Coordinator l
-case_sound kind p c rest l h n e = by_kind (kind == 6) (length rest == 0) (nat_le 2 kind && nat_le kind 5) e
+case_sound kind p c rest l h n e =
+    by_kind (kind == 6) (kind == 7) (kind == 8) (nat_le 2 kind && nat_le kind 5) e
   where
-    by_kind : (a b d : Bool)
-        → cond a (cond b (Some (named p (End c None))) None)
-        (cond d (option_map (λ ts. named p (listing kind c ts)) (tickets_of rest)) None) ≡ Some l
+    by_kind : (a b d f : Bool)
+        → cond a (alone_record p (End c None) rest)
+        (cond b (option_map (λ r. named p (End c (Some r))) (reports_of rest))
+        (cond d (alone_record p (Cleared c) rest)
+        (cond f (option_map (λ ts. named p (listing kind c ts)) (tickets_of rest)) None))) ≡ Some l
         → IsSound Coordinator l
-    by_kind true true d f = subst (IsSound Coordinator) (some_is _ l f) n
-    by_kind true false d f = absurd (none_some l f)
-    by_kind false b true f = listed_sound kind p c l (tickets_of rest) n
-        (λ ts is. tickets_sound rest ts h is) f
-    by_kind false b false f = absurd (none_some l f)
+    by_kind true b d f g = alone_sound p (End c None) l (length rest == 0) n g
+    by_kind false true d f g = reported_sound p c l (reports_of rest) n (λ r is. reports_sound rest r h is) g
+    by_kind false false true f g = alone_sound p (Cleared c) l (length rest == 0) n g
+    by_kind false false false true g = listed_sound kind p c l (tickets_of rest) n
+        (λ ts is. tickets_sound rest ts h is) g
+    by_kind false false false false g = absurd (none_some l g)
 
 of_case_sound : (kind : ℕ) (p : Option ProcessId) (b : Branch) (rest : List ℕ) (l : LogRecord) → AreBytes rest
     → IsSoundName p b → of_case kind p b rest ≡ Some l → IsSound Coordinator l

@@ -12,12 +12,12 @@ use Rattle.tree_model.specs.declared.records.LogRecord.{LogRecord}
 use Rattle.tree_model.specs.declared.records.Record.{Record}
 use Rattle.tree_model.specs.declared.records.Record.TheVariants.{Opened, Collecting, Prepare, Commit, Abort, End, Prepared, Committed, RolledBack, Direct, HeurCommit, HeurRollback, Told, Forgot, Base, Pair, Cleared}
 use Rattle.log_text.specs.Parts.{name_at, value_at}
-use Rattle.log_text.specs.Payloads.{kind_byte, name_text, payload_text, tickets_text, value_text, writes_text}
+use Rattle.log_text.specs.Payloads.{kind_byte, name_text, payload_text, reports_text, tickets_text, value_text, writes_text}
 use Rattle.log_text.specs.Reading.{below, coordinator_record, listing, manager_record, named, of_branch, of_name, pair_by, pair_of, read_record, writing}
 use Rattle.tree_model.specs.LogNames.{unnamed}
 use Rattle.log_rules.specs.sound.Sound.{IsSoundEntry, IsSoundName, RecordsReadBack}
 use Rattle.log_rules.proofs.sound.Names.{name_back}
-use Rattle.log_rules.proofs.sound.Parts.{key_back, number_back, tickets_back, value_back, writes_back}
+use Rattle.log_rules.proofs.sound.Parts.{key_back, number_back, reports_back, tickets_back, value_back, writes_back}
 
 -- a record without a name has no parent
 without_parent : (p : Option ProcessId) (r : Record) → p ≡ None
@@ -69,8 +69,10 @@ record_back Coordinator p (Abort c ts) h =
     case_back 5 p (CaseBranch c) (tickets_text ts) _ h.0 refl
     ∙ ap (option_map (λ us. named p (listing 5 c us))) (tickets_back ts h.1)
 record_back Coordinator p (End c None) h = case_back 6 p (CaseBranch c) [] _ h (bare_name p (CaseBranch c))
-record_back Coordinator p (End c (Some r)) h = absurd h.1
-record_back Coordinator p (Cleared c) h = absurd h.1
+record_back Coordinator p (End c (Some r)) h =
+    case_back 7 p (CaseBranch c) (reports_text r) _ h.0 refl
+    ∙ ap (option_map (λ q. named p (End c (Some q)))) (reports_back r h.1)
+record_back Coordinator p (Cleared c) h = case_back 8 p (CaseBranch c) [] _ h (bare_name p (CaseBranch c))
 record_back Manager p (Prepared b ws) h =
     branch_back 17 p b (writes_text ws) _ h.0 refl
     ∙ ap (λ o. option_map (named p) (option_map (writing 17 b) o)) (writes_back ws h.1)

@@ -15,10 +15,11 @@ use Rattle.tree_model.specs.declared.records.Branch.{Branch}
 use Rattle.tree_model.specs.declared.records.Branch.TheVariants.{Case as CaseBranch}
 use Rattle.tree_model.specs.declared.records.Record.{Record}
 use Rattle.tree_model.specs.declared.records.Record.TheVariants.{Opened, Collecting, Prepare, Commit, Abort, End, Prepared, Committed, RolledBack, Direct, HeurCommit, HeurRollback, Told, Forgot, Base, Pair, Cleared}
+use Rattle.tree_model.specs.declared.records.Reports.{Reports}
 use Rattle.tree_model.specs.declared.records.Write.{Write}
 use Rattle.tree_model.specs.LogNames.{name_xid}
-use Rattle.log_text.specs.Payloads.{IsSized, SizedValue, SizedWrite, key_text, left_text, name_text, outcome_byte, payload_text, ticket_text, tickets_text, value_text, write_text, writes_text}
-use Rattle.log_rules.specs.sound.Sound.{AreSoundTickets, AreSoundWrites, IsSoundEntry, IsSoundLeft, IsSoundName, IsSoundWrite, RecordsFitFrames}
+use Rattle.log_text.specs.Payloads.{IsSized, SizedValue, SizedWrite, key_text, left_text, name_text, outcome_byte, payload_text, reports_text, ticket_text, tickets_text, value_text, write_text, writes_text}
+use Rattle.log_rules.specs.sound.Sound.{AreSoundReports, AreSoundTickets, AreSoundWrites, IsSoundEntry, IsSoundLeft, IsSoundName, IsSoundWrite, RecordsFitFrames}
 use Rattle.log_rules.proofs.sound.Names.{name_is_xid}
 
 -- A name takes at most 134 bytes.
@@ -110,7 +111,7 @@ sized Manager p (Direct b ws) h = (omega (arith, h.1.few), sized_writes ws h.1.e
 sized Manager p (Pair k v) h = (omega (arith, h.1.0.short), omega (arith, h.1.1))
 sized k p (Opened n) h = tt
 sized k p (End c None) h = tt
-sized Coordinator p (End c (Some r)) h = absurd h.1
+sized Coordinator p (End c (Some r)) h = (h.1.mixed.count, h.1.unreported.count)
 sized Manager p (End c (Some r)) h = absurd h.1
 sized k p (Cleared c) h = tt
 sized k p (Committed b) h = tt
@@ -132,6 +133,19 @@ with_tickets : (n : List ℕ) (ts : List Ticket) → length n ≤ 134 → AreSou
     → length (n ++ tickets_text ts) < 65536
 with_tickets n ts h s = omega (arith, length-append n (tickets_text ts), h, size_of_tickets ts, s.count)
 
+with_reports : (n : List ℕ) (r : Reports) → length n ≤ 134 → AreSoundReports r
+    → length (n ++ reports_text r) < 65536
+with_reports n r h s = omega (
+  arith,
+  length-append n (reports_text r),
+  length-append (tickets_text r.mixed) (tickets_text r.unreported),
+  h,
+  size_of_tickets r.mixed,
+  size_of_tickets r.unreported,
+  s.mixed.count,
+  s.unreported.count,
+)
+
 with_writes : (n : List ℕ) (ws : List Write) → length n ≤ 134 → AreSoundWrites ws
     → length (n ++ writes_text ws) < 65536
 with_writes n ws h s = omega (arith, length-append n (writes_text ws), h, size_of_writes ws s.each, s.few)
@@ -149,8 +163,9 @@ short Coordinator p (Commit c ts) h = with_tickets (name_text p (CaseBranch c)) 
 short Coordinator p (Abort c ts) h = with_tickets (name_text p (CaseBranch c)) ts
     (short_name p (CaseBranch c) h.0) h.1
 short Coordinator p (End c None) h = omega (arith, short_name p (CaseBranch c) h)
-short Coordinator p (End c (Some r)) h = absurd h.1
-short Coordinator p (Cleared c) h = absurd h.1
+short Coordinator p (End c (Some r)) h = with_reports (name_text p (CaseBranch c)) r
+    (short_name p (CaseBranch c) h.0) h.1
+short Coordinator p (Cleared c) h = omega (arith, short_name p (CaseBranch c) h)
 short Manager p (Prepared b ws) h = with_writes (name_text p b) ws (short_name p b h.0) h.1
 short Manager p (Direct b ws) h = with_writes (name_text p b) ws (short_name p b h.0) h.1
 short Manager p (Committed b) h = omega (arith, short_name p b h)

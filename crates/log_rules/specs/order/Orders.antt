@@ -1,5 +1,5 @@
 -- Which record may follow which in a log.
-use Rattle.std.specs.Prelude.{⊤, ℕ, ◌&&◌, ◌||◌, not, nat_lt, Bool, true, false, if◌then◌else◌, is_some, unwrap_or, map, List, [], ◌∷◌, Option, Some, None, length}
+use Rattle.std.specs.Prelude.{⊤, ℕ, ◌&&◌, ◌||◌, not, nat_le, nat_lt, Bool, true, false, if◌then◌else◌, is_some, unwrap_or, map, List, [], ◌∷◌, Option, Some, None, length}
 use Rattle.std.specs.Map.{lookup, remove_entry}
 use Rattle.indexmap.specs.IndexMap.{insert_entry}
 use Rattle.xa_xid.specs.declared.xid.Xid.{Xid}
@@ -35,16 +35,21 @@ abbrev pub same : Xid → Xid → Bool
 same = names.ghosts.eq
 
 -- Coordinators. The records of a case come in the order Collecting, Prepare, Commit or Abort, End, each at
--- most once: their ranks rise.
+-- most once: their ranks rise. Behind an End that reports what was found, and behind nothing else, comes
+-- Cleared, once.
 
 -- how far a case has come: the rank of its last record, 0 where it has none
 abbrev pub rank_in : List (Xid × ℕ) → Xid → ℕ
 rank_in ranks x = unwrap_or (lookup (same x) ranks) 0
 
--- a case's record of this rank, which must be higher than that of its last one
-abbrev pub ranked : SeenLog → Xid → ℕ → Option SeenLog
-ranked s x rank =
-    if nat_lt (rank_in s.ranks x) rank then Some
+-- the rank of a case's last record is within these bounds
+abbrev pub is_within : SeenLog → Xid → ℕ → ℕ → Bool
+is_within s x least most = nat_le least (rank_in s.ranks x) && nat_le (rank_in s.ranks x) most
+
+-- a case's record of this rank, where the rank of its last one is within these bounds
+abbrev pub ranked : SeenLog → Xid → ℕ → ℕ → ℕ → Option SeenLog
+ranked s x least most rank =
+    if is_within s x least most then Some
     (record { boot = s.boot; before = Other; ranks = insert_entry same s.ranks x rank; live = s.live })
     else None
 
@@ -203,12 +208,13 @@ opened s n =
 -- what has been seen behind a record, by its kind; none where it may not follow
 abbrev pub followed : SeenLog → Option ProcessId → Record → Option SeenLog
 followed s p (Opened n) = opened s n
-followed s p (Collecting c ts) = ranked s (name_xid p (CaseBranch c)) 1
-followed s p (Prepare c ts) = ranked s (name_xid p (CaseBranch c)) 2
-followed s p (Commit c ts) = ranked s (name_xid p (CaseBranch c)) 3
-followed s p (Abort c ts) = ranked s (name_xid p (CaseBranch c)) 3
-followed s p (End c rep) = ranked s (name_xid p (CaseBranch c)) 4
-followed s p (Cleared c) = None
+followed s p (Collecting c ts) = ranked s (name_xid p (CaseBranch c)) 0 0 1
+followed s p (Prepare c ts) = ranked s (name_xid p (CaseBranch c)) 0 1 2
+followed s p (Commit c ts) = ranked s (name_xid p (CaseBranch c)) 0 2 3
+followed s p (Abort c ts) = ranked s (name_xid p (CaseBranch c)) 0 2 3
+followed s p (End c None) = ranked s (name_xid p (CaseBranch c)) 0 3 4
+followed s p (End c (Some r)) = ranked s (name_xid p (CaseBranch c)) 0 3 5
+followed s p (Cleared c) = ranked s (name_xid p (CaseBranch c)) 5 5 6
 followed s p (Prepared b ws) = prepared s (name_xid p b) ws
 followed s p (Committed b) = settled s (name_xid p b)
 followed s p (RolledBack b) = settled s (name_xid p b)

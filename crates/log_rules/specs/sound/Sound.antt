@@ -10,7 +10,8 @@ use Rattle.tree_model.specs.declared.records.Branch.{Branch}
 use Rattle.tree_model.specs.declared.records.Branch.TheVariants.{Case as CaseBranch, Foreign}
 use Rattle.tree_model.specs.declared.records.LogRecord.{LogRecord}
 use Rattle.tree_model.specs.declared.records.Record.{Record}
-use Rattle.tree_model.specs.declared.records.Record.TheVariants.{Opened, Collecting, Prepare, Commit, Abort, End, Prepared, Committed, RolledBack, Direct, HeurCommit, HeurRollback, Told, Forgot, Base, Pair}
+use Rattle.tree_model.specs.declared.records.Record.TheVariants.{Opened, Collecting, Prepare, Commit, Abort, End, Prepared, Committed, RolledBack, Direct, HeurCommit, HeurRollback, Told, Forgot, Base, Pair, Cleared}
+use Rattle.tree_model.specs.declared.records.Reports.{Reports}
 use Rattle.tree_model.specs.declared.records.Write.{Write}
 use Rattle.tree_model.specs.Branches.{FitsBelow, FitsTxn}
 use Rattle.tree_model.specs.LogNames.{IsWholeName, below_of, name_xid}
@@ -38,6 +39,11 @@ pub record IsSoundTicket (t : Ticket) : Type 0 where
 pub record AreSoundTickets (ts : List Ticket) : Type 0 where
   pub count : length ts < 256
   pub each : AllByRecursion IsSoundTicket ts
+
+-- what an End reports: at most 255 tickets of each sort
+pub record AreSoundReports (r : Reports) : Type 0 where
+  pub mixed : AreSoundTickets r.mixed
+  pub unreported : AreSoundTickets r.unreported
 
 -- a key has 1 to 64 bytes
 pub record IsSoundKey (k : List ℕ) : Type 0 where
@@ -75,6 +81,8 @@ IsSoundEntry Coordinator p (Prepare c ts) = IsSoundName p (CaseBranch c) × AreS
 IsSoundEntry Coordinator p (Commit c ts) = IsSoundName p (CaseBranch c) × AreSoundTickets ts
 IsSoundEntry Coordinator p (Abort c ts) = IsSoundName p (CaseBranch c) × AreSoundTickets ts
 IsSoundEntry Coordinator p (End c None) = IsSoundName p (CaseBranch c)
+IsSoundEntry Coordinator p (End c (Some r)) = IsSoundName p (CaseBranch c) × AreSoundReports r
+IsSoundEntry Coordinator p (Cleared c) = IsSoundName p (CaseBranch c)
 IsSoundEntry Manager p (Prepared b ws) = IsSoundName p b × AreSoundWrites ws
 IsSoundEntry Manager p (Committed b) = IsSoundName p b
 IsSoundEntry Manager p (RolledBack b) = IsSoundName p b

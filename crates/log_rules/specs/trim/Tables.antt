@@ -7,12 +7,12 @@ use Rattle.xa_xid.specs.contracts.xid.XidPartialEq.TheImpl as names
 use Rattle.tree_model.specs.declared.names.Ticket.{Ticket}
 use Rattle.tree_model.specs.declared.records.LogRecord.{LogRecord}
 use Rattle.tree_model.specs.declared.records.Record.{Record}
-use Rattle.tree_model.specs.declared.records.Record.TheVariants.{Collecting, Prepare, Commit, Abort, End, Prepared, Committed, RolledBack, Direct, HeurCommit, HeurRollback, Told, Forgot}
+use Rattle.tree_model.specs.declared.records.Record.TheVariants.{Collecting, Prepare, Commit, Abort, End, Prepared, Committed, RolledBack, Direct, HeurCommit, HeurRollback, Told, Forgot, Cleared}
 use Rattle.tree_model.specs.LogNames.{name_xid, record_name}
 use Rattle.tree_model.specs.Records.{none_of}
 use Rattle.log_rules.specs.declared.trim.lives.Life.{Life}
 use Rattle.log_rules.specs.declared.trim.lives.Said.{Said}
-use Rattle.log_rules.specs.declared.trim.lives.Said.TheVariants.{Nothing, Waits, Settled, Owes, Over}
+use Rattle.log_rules.specs.declared.trim.lives.Said.TheVariants.{Nothing, Waits, Settled, Owes, Over, Reported}
 
 -- two names of a log are one: they have one XID
 abbrev pub same : Xid → Xid → Bool
@@ -29,12 +29,18 @@ abbrev pub begins : Said → Said
 begins Nothing = Waits
 begins s = s
 
--- behind a decision the case is over where it ended; else somebody owes an acknowledgement where a decision
--- names somebody
+-- behind a decision the case is over where it ended, and what was found of it stays reported; else somebody owes
+-- an acknowledgement where a decision names somebody
 abbrev pub decides : Said → List Ticket → Said
 decides Over ts = Over
 decides Owes ts = Owes
+decides Reported ts = Reported
 decides s ts = if none_of ts then Settled else Owes
+
+-- behind Cleared nothing is reported any more
+abbrev pub clears : Said → Said
+clears Reported = Over
+clears s = s
 
 -- what is said behind one more record of the name
 abbrev pub said_after : Said → Record → Said
@@ -42,7 +48,9 @@ said_after s (Collecting c ts) = begins s
 said_after s (Prepare c ts) = begins s
 said_after s (Commit c ts) = decides s ts
 said_after s (Abort c ts) = decides s ts
-said_after s (End c rep) = Over
+said_after s (End c None) = Over
+said_after s (End c (Some r)) = Reported
+said_after s (Cleared c) = clears s
 said_after s (Prepared b ws) = Waits
 said_after s (Committed b) = Over
 said_after s (RolledBack b) = Over
@@ -53,10 +61,11 @@ said_after s (Told b o) = Waits
 said_after s (Forgot b) = Over
 said_after s _ = s
 
--- the records of the name stay: it waits, or somebody owes an acknowledgement
+-- the records of the name stay: it waits, or somebody owes an acknowledgement, or what was found is reported
 abbrev pub is_live : Said → Bool
 is_live Waits = true
 is_live Owes = true
+is_live Reported = true
 is_live _ = false
 
 -- a manager's record of a promise

@@ -2,8 +2,6 @@
 
 ghost use Rattle.std.specs.Prelude.{◌≡◌, ℕ, List, [], IfOk, IfErr, OnOk, OnErr, None, Some, false, true, length, option_map};
 ghost use Rattle.key_tables.specs.Tables.{same_key};
-ghost use Rattle.tree_model.specs.Records.{same_bytes};
-ghost use Rattle.tree_model.specs.Store.{key_below};
 ghost use Rattle.log_rules.specs.order.Holders.{holder_of, holds_at};
 ghost use Rattle.log_rules.specs.order.Orders.{
   IsPlain,
@@ -33,6 +31,7 @@ ghost use Rattle.log_rules.specs.order.Orders.{
   with_promise,
 };
 
+use crate::order::names::{key_below, keys_once, names_key};
 use indexmap::IndexMap;
 use log_text::{ReadFault, name_xid};
 use std::alloc::{AllocError, Global};
@@ -101,61 +100,6 @@ impl Model for Seen {
 
 /// The most branches that are open or heuristic at a time.
 const BRANCHES: usize = 1024;
-
-#[tactic(auto, using(crate::proofs::order::Keys::same_bytes_is_equality))]
-fn same_key(one: &[u8], other: &[u8]) -> bool
-    ensures { result ≡ same_bytes one.now other.now }
-{
-    one == other
-}
-
-/// Whether a write is of this key.
-#[tactic(auto, unfolding(crate::specs::order::Orders::names_key))]
-fn names_key(writes: &[Write], key: &[u8]) -> bool
-    ensures { result ≡ names_key writes.now key.now }
-{
-    let mut rest = writes;
-    while let [write, behind @ ..] = rest {
-        if same_key(write.key.as_slice(), key) {
-            return true;
-        }
-        rest = behind;
-    }
-    false
-}
-
-/// Whether no key is named twice.
-#[tactic(auto, unfolding(crate::specs::order::Orders::keys_once))]
-fn keys_once(writes: &[Write]) -> bool
-    ensures { result ≡ keys_once writes.now }
-{
-    let mut rest = writes;
-    while let [write, behind @ ..] = rest {
-        if names_key(behind, write.key.as_slice()) {
-            return false;
-        }
-        rest = behind;
-    }
-    true
-}
-
-/// Whether a key comes before another, by their bytes.
-#[tactic(auto, unfolding(tree_model::specs::Store::key_below))]
-fn key_below(one: &[u8], other: &[u8]) -> bool
-    ensures { result ≡ key_below one.now other.now }
-{
-    let [b, rights @ ..] = other else {
-        return false;
-    };
-    let [a, lefts @ ..] = one else {
-        return true;
-    };
-    if *a == *b {
-        key_below(lefts, rights)
-    } else {
-        *a < *b
-    }
-}
 
 impl Mark {
     fn is_open(self) -> bool
@@ -309,11 +253,14 @@ impl Seen {
         Ok(())
     }
 
-    fn ranked(&mut self, xid: Xid, rank: u8) -> Result<(), ReadFault>
-        ensures ok { OnOk result (ranked self.old xid rank ≡ Some self.new) }
-        ensures err { IfErr result (λ e. e ≡ ReadFault.Malformed → ranked self.old xid rank ≡ None) }
+    /// Sees a case's record of this rank, where the rank of its last one is within these bounds.
+    fn ranked(&mut self, xid: Xid, least: u8, most: u8, rank: u8) -> Result<(), ReadFault>
+        ensures ok { OnOk result (ranked self.old xid least most rank ≡ Some self.new) }
+        ensures err { IfErr result (λ e. e ≡ ReadFault.Malformed
+            → ranked self.old xid least most rank ≡ None) }
     {
-        if self.ranks.get(&xid).copied().unwrap_or(0) >= rank {
+        let last = self.ranks.get(&xid).copied().unwrap_or(0);
+        if last < least || most < last {
             return Err(ReadFault::Malformed);
         }
         self.ranks.insert(xid, rank)?;
@@ -450,13 +397,24 @@ impl Seen {
     {
         match entry {
             Record::Opened(boot) => self.opened(*boot),
-            Record::Collecting(case, _) => self.ranked(name_xid(parent, Branch::Case(*case)), 1),
-            Record::Prepare(case, _) => self.ranked(name_xid(parent, Branch::Case(*case)), 2),
+            Record::Collecting(case, _) => self.ranked(
+                name_xid(parent, Branch::Case(*case)),
+                0,
+                0,
+                1,
+            ),
+            Record::Prepare(case, _) => self.ranked(name_xid(parent, Branch::Case(*case)), 0, 1, 2),
             Record::Commit(case, _) | Record::Abort(case, _) => {
-                self.ranked(name_xid(parent, Branch::Case(*case)), 3)
+                self.ranked(name_xid(parent, Branch::Case(*case)), 0, 2, 3)
             }
-            Record::End(case, _) => self.ranked(name_xid(parent, Branch::Case(*case)), 4),
-            Record::Cleared(_) => Err(ReadFault::Malformed),
+            Record::End(case, None) => self.ranked(name_xid(parent, Branch::Case(*case)), 0, 3, 4),
+            Record::End(case, Some(_)) => self.ranked(
+                name_xid(parent, Branch::Case(*case)),
+                0,
+                3,
+                5,
+            ),
+            Record::Cleared(case) => self.ranked(name_xid(parent, Branch::Case(*case)), 5, 5, 6),
             Record::Committed(branch) | Record::RolledBack(branch) => {
                 self.settled(name_xid(parent, *branch))
             }

@@ -25,6 +25,8 @@ pub enum Said {
     Owes,
     /// It is over.
     Over,
+    /// It is over, and what was found of it is reported.
+    Reported,
 }
 
 /// What a log says of a name, and the place of the record that last prepared it: how many records stand
@@ -82,6 +84,7 @@ impl Said {
         match self {
             Said::Over => Said::Over,
             Said::Owes => Said::Owes,
+            Said::Reported => Said::Reported,
             _ => match tickets.as_slice() {
                 [] => Said::Settled,
                 _ => Said::Owes,
@@ -103,12 +106,17 @@ impl Said {
             | Record::HeurCommit(_)
             | Record::HeurRollback(_)
             | Record::Told(..) => Said::Waits,
-            Record::End(..)
+            Record::End(_, Some(_)) => Said::Reported,
+            Record::Cleared(_) => match self {
+                Said::Reported => Said::Over,
+                said => said,
+            },
+            Record::End(_, None)
             | Record::Committed(_)
             | Record::RolledBack(_)
             | Record::Direct(..)
             | Record::Forgot(_) => Said::Over,
-            Record::Cleared(_) | Record::Opened(_) | Record::Base(_) | Record::Pair(..) => self,
+            Record::Opened(_) | Record::Base(_) | Record::Pair(..) => self,
         }
     }
 
@@ -116,7 +124,22 @@ impl Said {
     fn is_live(self) -> bool
         ensures { result ≡ is_live self }
     {
-        matches!(self, Said::Waits | Said::Owes)
+        matches!(self, Said::Waits | Said::Owes | Said::Reported)
+    }
+}
+
+impl Life {
+    /// What is noted behind one more record of the name, before which so many stand.
+    fn after(self, place: usize, entry: &Record) -> Life
+        ensures { result ≡ life_after place self entry.now }
+    {
+        let said = self.said.after(entry);
+        let since = if matches!(entry, Record::Prepared(..)) {
+            place
+        } else {
+            self.since
+        };
+        Life { said, since }
     }
 }
 
@@ -141,11 +164,8 @@ impl Lives {
         let Some(name) = log_name(entry) else {
             return Ok(());
         };
-        let life = self.life(&name);
-        let is_prepared = matches!(entry.entry, Record::Prepared(..));
-        let said = life.said.after(&entry.entry);
-        let since = if is_prepared { place } else { life.since };
-        self.lives.insert(name, Life { said, since })?;
+        let life = self.life(&name).after(place, &entry.entry);
+        self.lives.insert(name, life)?;
         Ok(())
     }
 

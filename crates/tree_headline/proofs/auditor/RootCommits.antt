@@ -11,7 +11,7 @@ use Rattle.tree_model.specs.Reactions.{Does, reacts, row_effect}
 use Rattle.tree_model.specs.Restarts.{trim_fails}
 use Rattle.tree_model.specs.World.{World, Move, Made, IsRun, opens, makes}
 use Rattle.tree_model.proofs.RunLaws.{makes_at}
-use Rattle.tree_pairs.specs.turns.CoordinatorTurns.{CaseTurn, rests, invites, accepts, sends_work, finds_nobody, asks_for_votes, gives_up, counts_vote, reads_only, commits, promises, hears_no, aborts, passes_commit, passes_abort, repeats_yes, asks, refuses, acknowledges, waits_for_acks, ends, answers, CoordinatorTurn, does_nothing, of_case, begins, gives_again, gives_fresh, presumes}
+use Rattle.tree_pairs.specs.turns.CoordinatorTurns.{CaseTurn, rests, invites, accepts, sends_work, finds_nobody, asks_for_votes, gives_up, counts_vote, reads_only, commits, promises, hears_no, aborts, passes_commit, passes_abort, repeats_yes, asks, refuses, acknowledges, waits_for_acks, ends, clears, answers, CoordinatorTurn, does_nothing, of_case, begins, gives_again, gives_fresh, presumes}
 use Rattle.tree_pairs.specs.turns.Steps.{StepOf, heard_in, handled, failed_in, passed, failed_passing, reopened, failed_reopening, trimmed as trims_log, failed_trimming}
 use Rattle.tree_pairs.proofs.turns.Steps.{step_of}
 use Rattle.tree_nodes.specs.Lasts.{Logs, logs_of}
@@ -54,6 +54,7 @@ module _ (place : Place) (n : Node) (h : Heard) (d : Case) where
   row_forces c _ (acknowledges o fs i e) g = absurd (let x = i.is_parent in cc)
   row_forces c _ (waits_for_acks t o fs i e f a) g = refl
   row_forces c _ (ends t o fs i e f a) g = refl
+  row_forces c _ (clears i e f a) g = refl
   row_forces c _ (answers t o i e) g = refl
 
   turn_forces : (e : Effect) → CoordinatorTurn place None n h e → is_any_forced e.written ≡ false

@@ -28,7 +28,7 @@ use Rattle.tree_pairs.proofs.readings.Inquiries.{quiet_restart}
 use Rattle.tree_pairs.specs.turns.LeafTurns as leaf
 use Rattle.tree_pairs.specs.turns.LeafTurns.{Hears, LeafTurn}
 use Rattle.tree_pairs.specs.turns.Steps.{StepOf, TurnAt, heard_in, handled, failed_in, passed, failed_passing, reopened, failed_reopening, trimmed, failed_trimming}
-use Rattle.tree_pairs.specs.turns.Written.{Writes, for_act, for_child, for_parent, gives, presumes, writes_nothing}
+use Rattle.tree_pairs.specs.turns.Written.{Writes, for_act, for_child, for_parent, for_report, gives, presumes, writes_nothing}
 use Rattle.tree_pairs.proofs.turns.Steps.{step_of, turn_of}
 use Rattle.tree_nodes.specs.WorldHolds.{IsParentRole, is_about}
 use Rattle.tree_nodes.proofs.Deliveries.{was_sent}
@@ -66,6 +66,7 @@ module _ (tree : List TreeEntry) (es : List Made) (w : World) (run : IsRun tree 
         writes_join ws ls (for_act a d e k o s) c g =
             subst (Known w) (all_join c (seat_of place parent d) ls s g)
             (standing_known tree es w run me parent role up d k)
+        writes_join ws ls (for_report d e f k o h) c g = none_at_all (is_join c) ls h g
         writes_join ws ls (for_child d x t e o s) c g =
             subst (Known w) (all_join c (seat_of place parent d) ls s g)
             (child_known tree es w run me parent role x t d e)
@@ -81,6 +82,7 @@ module _ (tree : List TreeEntry) (es : List Made) (w : World) (run : IsRun tree 
             → AnswersKnown w ls
         writes_answer ws ls (writes_nothing e f) c t g = none_at_all (is_joined_message c t) ls f g
         writes_answer ws ls (for_act a d e k o s) c t g = all_answer_none c t (seat_of place parent d) ls s g
+        writes_answer ws ls (for_report d e f k o h) c t g = none_at_all (is_joined_message c t) ls h g
         writes_answer ws ls (for_child d x u e o s) c t g = all_answer_none c t (seat_of place parent d)
             ls s g
         writes_answer ws ls (for_parent d k m e f o s) c t g = all_answer_none c t

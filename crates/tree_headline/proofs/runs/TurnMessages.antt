@@ -20,7 +20,7 @@ use Rattle.tree_model.specs.declared.events.Input.{Input}
 use Rattle.tree_model.specs.declared.trees.TreeEntry.{TreeEntry}
 use Rattle.tree_model.specs.Names.{child_case, presumed, process_of}
 use Rattle.tree_model.specs.NameLaws.{same_case-refl}
-use Rattle.tree_model.specs.Records.{has, in_list, is_abort, is_collecting, is_commit, is_end, is_prepare, none_of, owing_by, promised_by}
+use Rattle.tree_model.specs.Records.{has, in_list, is_abort, is_collecting, is_commit, is_end, is_prepare, none_of, owing_by, promised_by, in_order}
 use Rattle.tree_model.specs.Nodes.{Version, First, Second, Effect, Heard, Node, Place, AtRoot, is_listed, kept, role_of}
 use Rattle.tree_model.specs.Memory.{Idle, Open, Asked, fresh_memory, memory_of, undecided_of, works_of, yes_of}
 use Rattle.tree_model.specs.Outcomes.{has_accepted, sent}
@@ -31,7 +31,7 @@ use Rattle.tree_model.specs.Restarts.{coordinator_reopens, coordinator_resumes, 
 use Rattle.tree_model.specs.World.{InputStands, IsSent}
 use Rattle.tree_pairs.specs.readings.ReadingOf.{gives_case, is_decision_naming}
 use Rattle.tree_pairs.specs.turns.LeafTurns.{Hears}
-use Rattle.tree_pairs.specs.turns.CoordinatorTurns.{CaseTurn, Decided, by_commit, by_abort, rests, invites, accepts, sends_work, finds_nobody, asks_for_votes, gives_up, counts_vote, reads_only, commits, promises, hears_no, aborts, passes_commit, passes_abort, repeats_yes, asks, refuses, acknowledges, waits_for_acks, ends, answers, CoordinatorTurn, does_nothing, of_case, begins, gives_again, gives_fresh, presumes}
+use Rattle.tree_pairs.specs.turns.CoordinatorTurns.{CaseTurn, Decided, by_commit, by_abort, rests, invites, accepts, sends_work, finds_nobody, asks_for_votes, gives_up, counts_vote, reads_only, commits, promises, hears_no, aborts, passes_commit, passes_abort, repeats_yes, asks, refuses, acknowledges, waits_for_acks, ends, clears, answers, CoordinatorTurn, does_nothing, of_case, begins, gives_again, gives_fresh, presumes}
 use Rattle.tree_pairs.proofs.turns.Operators.{reopens_none}
 use Rattle.tree_nodes.specs.Lasts.{Nested, logs_of}
 use Rattle.tree_nodes.specs.WorldHolds.{AboutGiven, AllGo, Coordinates, GoesBy, IsChildRole, IsParent, is_about, is_naming, is_record_of}
@@ -243,7 +243,7 @@ module _ (me : ProcessId) (parent : Option ProcessId) (tree : List TreeEntry) (n
       at_last : (ver : Version) (o : Outcome) (fs : List Finding) → Decided o (coordinator_view place n c).standing
           → Sent (acknowledges_at_last ver (seat_of place parent c) o fs)
       at_last First o fs k = tt
-      at_last Second o fs k = ack_up o fs (λ p e. own_decided p e o (coordinator_view place n c).standing refl k)
+      at_last Second o fs k = ack_up o (in_order fs) (λ p e. own_decided p e o (coordinator_view place n c).standing refl k)
 
       abort_above : (why : Reason) (us : List Ticket)
           → (coordinator_view place n c).standing ≡ Active
@@ -366,6 +366,7 @@ module _ (me : ProcessId) (parent : Option ProcessId) (tree : List TreeEntry) (n
       turn_sends c _ (acknowledges o fs i e) = ack_up up c o fs (λ q g. told_own o c i.hears)
       turn_sends c _ (waits_for_acks t o fs i e f a) = tt
       turn_sends c _ (ends t o fs i e f a) = at_last up c h.version o (found_below place n c o fs) e
+      turn_sends c _ (clears i e f a) = tt
       turn_sends c _ (answers t o i e) =
           (coordinators.down_told tree me net goes c t (belongs_is i.txn t c i.belongs) o, tt)
 

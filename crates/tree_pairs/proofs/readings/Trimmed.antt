@@ -8,7 +8,7 @@ use Rattle.tree_model.specs.Names.{same_case}
 use Rattle.tree_model.specs.NameLaws.{names}
 use Rattle.tree_model.specs.Records.{has, record_case, boot_of, boot_after, is_collecting, is_prepare, is_commit, is_abort, is_end}
 use Rattle.tree_model.specs.Nodes.{AtRoot}
-use Rattle.tree_model.specs.Restarts.{case_stays, staying, trimmed, recorded_view, is_known}
+use Rattle.tree_model.specs.Restarts.{case_stays, staying, trimmed}
 use Rattle.tree_model.specs.Outcomes.{follows}
 use Rattle.tree_pairs.specs.readings.ReadingOf.{is_collecting_naming, is_prepare_naming, is_decision_naming}
 use Rattle.tree_pairs.proofs.readings.Lists.{has-cons, has-nil, has-none}
@@ -52,10 +52,10 @@ finds_decision_naming : (c : Case) (t : Ticket) (r : Record) → is_decision_nam
     → is_of c r ≡ true
 finds_decision_naming c t r e = grind arith
 
--- Nothing of a case that is not known stays.
+-- Nothing of a case that does not stay is left.
 
 unknown_of : (rs : List Record) (c : Case) (o : Option Case)
-    → is_known (recorded_view rs c).standing ≡ false → case_stays rs o ≡ true → of_option c o ≡ false
+    → case_stays rs (Some c) ≡ false → case_stays rs o ≡ true → of_option c o ≡ false
 unknown_of rs c None u e = refl
 unknown_of rs c (Some d) u e = grind (arith, names)
 
@@ -67,7 +67,7 @@ no_more : (q : Record → Bool) (r : Record) (rest : List Record) (b : Bool) →
 no_more q r rest true f e = has-cons q r rest ∙ (ap (λ (x : Bool). x || has q rest) (f refl) ∙ e)
 no_more q r rest false f e = e
 
-gone_staying : (rs l : List Record) (c : Case) → is_known (recorded_view rs c).standing ≡ false
+gone_staying : (rs l : List Record) (c : Case) → case_stays rs (Some c) ≡ false
     → has (is_of c) (staying AtRoot rs l) ≡ false
 gone_staying rs [] c u = has-none (is_of c)
 gone_staying rs (r ∷ behind) c u =
@@ -96,7 +96,7 @@ none_found q c (r ∷ l) f e =
     (none_found q c l f (or-second _ _ e'))
 
 -- the log that a trim of the root leaves has nothing of the case
-gone_trimmed : (rs : List Record) (c : Case) → is_known (recorded_view rs c).standing ≡ false
+gone_trimmed : (rs : List Record) (c : Case) → case_stays rs (Some c) ≡ false
     → has (is_of c) (trimmed AtRoot rs) ≡ false
 unfolding trimmed
 gone_trimmed rs c u = has-nil (is_of c) (Opened (boot_of rs) ∷ staying AtRoot rs rs)
@@ -112,7 +112,7 @@ pub record Gone (c : Case) (t : Ticket) (new : List Record) : Type 0 where
   pub names_it : has (is_prepare_naming c t) new ≡ false
   pub owes : has (is_decision_naming c t) new ≡ false
 
-pub gone : (rs : List Record) (c : Case) (t : Ticket) → is_known (recorded_view rs c).standing ≡ false
+pub gone : (rs : List Record) (c : Case) (t : Ticket) → case_stays rs (Some c) ≡ false
     → Gone c t (trimmed AtRoot rs)
 gone rs c t u = let g = gone_trimmed rs c u in record {
   collecting = none_found (is_collecting c) c _ (finds_collecting c) g;

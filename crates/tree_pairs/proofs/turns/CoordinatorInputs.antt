@@ -1,5 +1,5 @@
 -- What a coordinator writes, input by input.
-use Rattle.std.proofs.Common.{◌≡◌, ℕ, Bool, true, false, Option, Some, None, List, [], ◌∷◌, refl, sym, if◌then◌else◌, ◌≢◌, ◌++◌, ◌∙◌, map, ◌+◌}
+use Rattle.std.proofs.Common.{◌≡◌, ℕ, Bool, true, false, ◌&&◌, Option, Some, None, is_none, List, [], ◌∷◌, refl, sym, if◌then◌else◌, ◌≢◌, ◌++◌, ◌∙◌, map, ◌+◌}
 use Rattle.tree_model.specs.declared.names.Case.{Case}
 use Rattle.tree_model.specs.declared.names.ProcessId.{ProcessId}
 use Rattle.tree_model.specs.declared.names.Ticket.{Ticket}
@@ -18,19 +18,19 @@ use Rattle.tree_model.specs.declared.standings.Standing.TheVariants.{Unknown, Ac
 use Rattle.tree_model.specs.declared.standings.Vote.{Vote}
 use Rattle.tree_model.specs.declared.standings.Vote.TheVariants.{Yes as VoteYes, No as VoteNo, Read as VoteRead}
 use Rattle.tree_model.specs.declared.events.StepError.{StepError}
-use Rattle.tree_model.specs.declared.events.StepError.TheVariants.{NotAChild, NotInDoubt, NothingToForget}
+use Rattle.tree_model.specs.declared.events.StepError.TheVariants.{NotAChild, NotInDoubt}
 use Rattle.tree_model.specs.declared.events.Act.{Act}
 use Rattle.tree_model.specs.declared.events.Act.TheVariants.{Begin, Join as JoinAct, Work as WorkAct, Commit as CommitAct, Abort as AbortAct, Ask, Decide, Forget}
 use Rattle.tree_model.specs.declared.events.Input.{Input}
 use Rattle.tree_model.specs.declared.events.Input.TheVariants.{Act as ActInput, Message as MessageInput}
 use Rattle.tree_model.specs.Names.{root_case, child_case, presumed}
-use Rattle.tree_model.specs.Records.{in_list, none_of}
-use Rattle.tree_model.specs.Nodes.{Version, First, Second, Place, Node, Effect, is_child, is_leaf, role_of}
+use Rattle.tree_model.specs.Records.{in_list, is_reported, none_of, in_order}
+use Rattle.tree_model.specs.Nodes.{Version, First, Second, Place, Node, kept, Effect, is_child, is_leaf, role_of}
 use Rattle.tree_model.specs.Memory.{has_child, is_counted, all_voted, yes_of, works_of, memory_of, active_ticket, ticket_of_child}
 use Rattle.tree_model.specs.Standings.{CoordinatorView, unknown_view, coordinator_view, case_of_child, unknown_findings, found_below}
 use Rattle.tree_model.specs.CoordinatorRows.{Seat, Row, quiet, sends, post, posted_up, plain, up, each, prepares, tells_outcome, active_work, active_commit, active_commit_alone, active_commit_with, acknowledges_abort, active_abort, prepared_ask, abort_heard_above, collecting_abort_by, collecting_abort, Reason, ByVote, ByAct, ByAbort, collecting_read_only, read_only_end, decides, root_commits, collecting_full, collecting_after, prepared_commit_by, prepared_abort_by, unknown_commit_by, decided_ack_by, acknowledges_at_once, acknowledges_at_last, abort_answered, committing_commit, aborting_abort, other_tickets, on_vote, on_ack, on_inquiry, on_joined, on_prepare, on_commit, on_abort, ends_with, unknown_abort_by, end_reports}
-use Rattle.tree_model.specs.Reactions.{Reacts, Refused, Does, row_effect, seat_of, coordinator_acts, begins_at, join_by, work_by, work_for, commit_by, abort_by, ask_by, live_by, vote_for, ack_for, inquiry_for, hears_from_child, cascaded_hears, joins_with, child_says}
-use Rattle.tree_pairs.specs.turns.Written.{AtMostOne, wrote_none, wrote_one, IsForCase, IsFromCase, down, upward, invites, AllSent, is_active, is_next, Writes, writes_nothing, for_act, for_child, for_parent, presumes, gives}
+use Rattle.tree_model.specs.Reactions.{Reacts, Refused, Does, row_effect, seat_of, coordinator_acts, begins_at, join_by, work_by, work_for, commit_by, abort_by, ask_by, live_by, clear_by, vote_for, ack_for, inquiry_for, hears_from_child, cascaded_hears, joins_with, child_says}
+use Rattle.tree_pairs.specs.turns.Written.{AtMostOne, wrote_none, wrote_one, IsForCase, IsFromCase, down, upward, invites, AllSent, is_active, is_next, Writes, writes_nothing, for_act, for_report, for_child, for_parent, presumes, gives}
 use Rattle.tree_model.specs.declared.messages.Finding.{Finding}
 
 -- Messages.
@@ -93,7 +93,7 @@ module _ (s : Seat) where
 
   at_last : (x : Version) (o : Outcome) (fs : List Finding) → Sent (acknowledges_at_last x s o fs)
   at_last First o fs = tt
-  at_last Second o fs = sent_up (Ack s.own o fs) refl
+  at_last Second o fs = sent_up (Ack s.own o (in_order fs)) refl
 
   -- Rows.
 
@@ -202,7 +202,7 @@ module _ (s : Seat) where
             [];
         view = unknown_view;
       }
-      else quiet (record v { owed = left }))
+      else quiet (record v { owed = left; found = fs }))
   ends_by x o left fs v true =
       (wrote_one (EndRecord s.own (end_reports x s.parent fs)) _ refl refl, at_last x o fs)
   ends_by x o left fs v false = (wrote_none, tt)
@@ -415,6 +415,19 @@ module _ (place : Place) (parent : Option ProcessId) (n : Node) where
   lives x i Aborting = tt
   lives x i Heuristic = tt
 
+  clears : (c : Case) (v : CoordinatorView) (st : Standing) (q : Option ProcessId) → parent ≡ q → (b : Bool)
+      → is_reported (kept n) c ≡ b
+      → W (ActInput (Forget c)) (clear_by (seat_of place parent c) (is_none q && b) v st)
+  clears c v Unknown None e true f = for_report c refl e f (wrote_one _ _ refl refl) refl
+  clears c v Unknown None e false f = tt
+  clears c v Unknown (Some q) e b f = tt
+  clears c v Active q e b f = tt
+  clears c v Collecting q e b f = tt
+  clears c v Prepared q e b f = tt
+  clears c v Committing q e b f = tt
+  clears c v Aborting q e b f = tt
+  clears c v Heuristic q e b f = tt
+
   pub act_writes : (a : Act) → W (ActInput a) (coordinator_acts place parent n a)
   act_writes (Begin p) = begins p parent (ActInput (Begin p))
   act_writes (JoinAct c q) = let v = coordinator_view place n c in joins (JoinAct c q) c q v v.standing refl
@@ -426,7 +439,9 @@ module _ (place : Place) (parent : Option ProcessId) (n : Node) where
       (root_case x) v v.standing refl
   act_writes (Ask c) = let v = coordinator_view place n c in asks (Ask c) c v v.standing refl
   act_writes (Decide c o) = lives NotInDoubt (ActInput (Decide c o)) (coordinator_view place n c).standing
-  act_writes (Forget c) = lives NothingToForget (ActInput (Forget c)) (coordinator_view place n c).standing
+  act_writes (Forget c) =
+      let v = coordinator_view place n c in
+      clears c v v.standing parent refl (is_reported (kept n) c) refl
 
   -- Messages.
 

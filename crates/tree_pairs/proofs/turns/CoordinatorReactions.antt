@@ -1,5 +1,5 @@
 -- Every input of a coordinator is one of its turns.
-use Rattle.std.proofs.Common.{◌≡◌, ℕ, Bool, true, false, Option, Some, None, [], ◌∷◌, refl, subst, if◌then◌else◌, List}
+use Rattle.std.proofs.Common.{◌≡◌, ℕ, Bool, true, false, ◌&&◌, Option, Some, None, is_none, [], ◌∷◌, refl, subst, if◌then◌else◌, List}
 use Rattle.tree_model.specs.declared.names.Case.{Case}
 use Rattle.tree_model.specs.declared.names.ProcessId.{ProcessId}
 use Rattle.tree_model.specs.declared.names.Ticket.{Ticket}
@@ -14,20 +14,21 @@ use Rattle.tree_model.specs.declared.standings.Standing.TheVariants.{Unknown, Ac
 use Rattle.tree_model.specs.declared.standings.Vote.{Vote}
 use Rattle.tree_model.specs.declared.standings.Vote.TheVariants.{Yes as VoteYes, No as VoteNo, Read as VoteRead}
 use Rattle.tree_model.specs.declared.events.StepError.{StepError}
-use Rattle.tree_model.specs.declared.events.StepError.TheVariants.{Failed, NoSuch, NotAChild, NotInDoubt, NothingToForget}
+use Rattle.tree_model.specs.declared.events.StepError.TheVariants.{Failed, NoSuch, NotAChild, NotInDoubt}
 use Rattle.tree_model.specs.declared.events.Act.{Act}
 use Rattle.tree_model.specs.declared.events.Act.TheVariants.{Begin, Join as JoinAct, Work as WorkAct, Commit as CommitAct, Abort as AbortAct, Ask, Decide, Forget}
 use Rattle.tree_model.specs.declared.events.Input.{Input}
 use Rattle.tree_model.specs.declared.events.Input.TheVariants.{Act as ActInput, Message as MessageInput}
 use Rattle.tree_model.specs.Names.{root_case, child_case}
-use Rattle.tree_model.specs.Nodes.{Role, AtRoot, Below, AtLeaf, Place, Node, Heard, Effect, is_child, is_leaf, role_of}
+use Rattle.tree_model.specs.Records.{is_reported}
+use Rattle.tree_model.specs.Nodes.{Role, AtRoot, Below, AtLeaf, Place, Node, kept, Heard, Effect, is_child, is_leaf, role_of}
 use Rattle.tree_model.specs.Memory.{has_child, memory_of, active_ticket, ticket_of_child}
 use Rattle.tree_model.specs.Standings.{CoordinatorView, coordinator_view, case_of_child}
 use Rattle.tree_model.specs.CoordinatorRows.{quiet, sends, post, ByAct, active_work}
-use Rattle.tree_model.specs.Reactions.{Reacts, Refused, Does, row_effect, seat_of, coordinator_acts, begins_at, join_by, work_by, work_for, commit_by, abort_by, ask_by, live_by, vote_for, ack_for, inquiry_for, hears_from_child, cascaded_hears, joins_with, child_says, reacts, handles, acts, hears, act_is_listed}
+use Rattle.tree_model.specs.Reactions.{Reacts, Refused, Does, row_effect, seat_of, coordinator_acts, begins_at, join_by, work_by, work_for, commit_by, abort_by, ask_by, live_by, clear_by, vote_for, ack_for, inquiry_for, hears_from_child, cascaded_hears, joins_with, child_says, reacts, handles, acts, hears, act_is_listed}
 use Rattle.tree_model.specs.Views.{vote_message}
 use Rattle.tree_pairs.specs.turns.LeafTurns.{Hears}
-use Rattle.tree_pairs.specs.turns.CoordinatorTurns.{commit_act, IsToAbort, abort_act, HearsParent, rests, invited_already, ChildSays, votes, acknowledged, inquires, IsNotTaken, unticketed, belongs_nowhere, not_taken, invites, sends_work, asks, CoordinatorTurn, does_nothing, of_case, begins, gives_again, gives_fresh, presumes}
+use Rattle.tree_pairs.specs.turns.CoordinatorTurns.{commit_act, IsToAbort, abort_act, HearsParent, rests, invited_already, ChildSays, votes, acknowledged, inquires, IsNotTaken, unticketed, belongs_nowhere, not_taken, invites, sends_work, asks, clears, CoordinatorTurn, does_nothing, of_case, begins, gives_again, gives_fresh, presumes}
 use Rattle.tree_pairs.proofs.turns.CoordinatorRows.{commits_active, aborts_active, aborts_collecting, vote_turn, ack_turn, inquiry_turn, joined_turn, prepare_turn, commit_turn, abort_turn}
 use Rattle.tree_model.specs.declared.messages.Finding.{Finding}
 
@@ -140,6 +141,20 @@ module _ (place : Place) (parent : Option ProcessId) (n : Node) (h : Heard) wher
   live_turn x Aborting = tt
   live_turn x Heuristic = tt
 
+  clear_turn : (c : Case) → h.input ≡ ActInput (Forget c) → (st : Standing)
+      → (coordinator_view place n c).standing ≡ st → (q : Option ProcessId) → parent ≡ q → (b : Bool)
+      → is_reported (kept n) c ≡ b
+      → T (clear_by (seat_of place parent c) (is_none q && b) (coordinator_view place n c) st)
+  clear_turn c i Unknown e None f true g = of_case c _ (clears i e f g)
+  clear_turn c i Unknown e None f false g = tt
+  clear_turn c i Unknown e (Some q) f b g = tt
+  clear_turn c i Active e q f b g = tt
+  clear_turn c i Collecting e q f b g = tt
+  clear_turn c i Prepared e q f b g = tt
+  clear_turn c i Committing e q f b g = tt
+  clear_turn c i Aborting e q f b g = tt
+  clear_turn c i Heuristic e q f b g = tt
+
   coordinator_act_turn : (a : Act) → h.input ≡ ActInput a → T (coordinator_acts place parent n a)
   coordinator_act_turn (Begin p) i = begin_turn p i parent refl
   coordinator_act_turn (JoinAct c q) i = join_turn c q i (coordinator_view place n c).standing refl
@@ -150,7 +165,8 @@ module _ (place : Place) (parent : Option ProcessId) (n : Node) (h : Heard) wher
       (coordinator_view place n (root_case x)).standing refl
   coordinator_act_turn (Ask c) i = ask_turn c i (coordinator_view place n c).standing refl
   coordinator_act_turn (Decide c o) i = live_turn NotInDoubt (coordinator_view place n c).standing
-  coordinator_act_turn (Forget c) i = live_turn NothingToForget (coordinator_view place n c).standing
+  coordinator_act_turn (Forget c) i =
+      clear_turn c i (coordinator_view place n c).standing refl parent refl (is_reported (kept n) c) refl
 
   -- Messages.
 

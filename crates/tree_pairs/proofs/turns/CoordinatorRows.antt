@@ -115,7 +115,7 @@ module _ (place : Place) (parent : Option ProcessId) (n : Node) (h : Heard) (c :
         written = ends_with h.version s (found_below place n c o fs);
         messages = acknowledges_at_last h.version s o (found_below place n c o fs);
       }
-      else quiet (record v { owed = other_tickets t v.owed }))
+      else quiet (record v { owed = other_tickets t v.owed; found = found_below place n c o fs }))
   ends_if t o fs i d e true f = ends t o fs i d e f
   ends_if t o fs i d e false f = waits_for_acks t o fs i d e f
 

@@ -27,7 +27,7 @@ use Rattle.tree_model.specs.Restarts.{forced_all, reopens, aborts_collecting, re
 use Rattle.tree_model.specs.World.{World, Move, Made, IsRun, opens, makes}
 use Rattle.tree_model.proofs.RunLaws.{makes_at}
 use Rattle.tree_pairs.specs.turns.LeafTurns.{LeafTurn, does_nothing, gives_again, gives_fresh, votes_yes, votes_read, votes_no, repeats_yes, refuses, obeys, notes, acknowledges_told, acknowledges, drops, asks, decides, forgets}
-use Rattle.tree_pairs.specs.turns.Written.{is_coordinators, AtMostOne, wrote_none, wrote_one, Writes, writes_nothing, for_act, for_child, for_parent, presumes, gives}
+use Rattle.tree_pairs.specs.turns.Written.{is_coordinators, AtMostOne, wrote_none, wrote_one, Writes, writes_nothing, for_act, for_report, for_child, for_parent, presumes, gives}
 use Rattle.tree_pairs.specs.turns.Steps.{StepOf, heard_in, handled, failed_in, passed, failed_passing, reopened, failed_reopening, trimmed, failed_trimming, TurnAt}
 use Rattle.tree_pairs.proofs.turns.Steps.{step_of, turn_of}
 
@@ -124,6 +124,7 @@ module _ (q : Record → Bool) (i : Input) (own : OperatorsOwn q i) where
       → Writes place parent n j ws ls → any_written q ws ≡ false
   wrote place parent n j ws ls (writes_nothing e f) = rw e refl
   wrote place parent n j ws ls (for_act a c e f one sent) = at_most_one c ws one
+  wrote place parent n j ws ls (for_report c e f g one h) = at_most_one c ws one
   wrote place parent n j ws ls (for_child c x t e one sent) = at_most_one c ws one
   wrote place parent n j ws ls (for_parent c k m e f one sent) = at_most_one c ws one
   wrote place parent n j ws ls (presumes x t o e f) = rw e refl

@@ -17,7 +17,7 @@ use Rattle.tree_model.specs.Nodes.{place_of, kept, DataAnswer, Holds, Effect}
 use Rattle.tree_model.specs.Standings.{CoordinatorView, ManagerView, manager_view, coordinator_view, case_of_child, phase_standing, mark_of}
 use Rattle.tree_model.specs.declared.records.Record.{Record}
 use Rattle.tree_model.specs.declared.records.Branch.TheVariants.{Case as CaseBranch}
-use Rattle.tree_model.specs.Restarts.{left_of, is_known, recorded_view}
+use Rattle.tree_model.specs.Restarts.{left_of, case_stays}
 use Rattle.tree_model.specs.World.{World, world_makes, Move}
 use Rattle.tree_pairs.specs.ChildMoves.{votes_yes, hardens_child}
 use Rattle.tree_model.specs.declared.events.Fault.{Fault}
@@ -120,14 +120,14 @@ ManagerRestarts = (tree : List TreeEntry) (w w' : World) (above : Bool) (c : Cas
     ≡ child_restarts (child_front (child_case c.txn t) (left_of (w.at t.child) k) (w.at t.child).durable)
     (reading_of tree w above c t)
 
--- A trim of the root's log takes a case that its records leave Unknown: the move of trimming it. (With
+-- A trim of the root's log takes a case that its records leave Unknown and do not report: the move of trimming it. (With
 -- its records gone the case stands where it stood: memory says the same of it.)
 abbrev pub RootTrims : Type 0
 RootTrims = (tree : List TreeEntry) (w w' : World) (above : Bool) (x : Txn) (t : Ticket) (a : DataAnswer)
     (e : Effect)
     → IsRootPair tree x t
     → Common (reading_of tree w above (root_case x) t)
-    → is_known (recorded_view (kept (w.at x.root)) (root_case x)).standing ≡ false
+    → case_stays (kept (w.at x.root)) (Some (root_case x)) ≡ false
     → (coordinator_view (place_of tree x.root) (w.at x.root) (root_case x)).standing
     ≡ phase_standing x.presumption (memory_of (place_of tree x.root) (w.at x.root) (root_case x)).phase
     → world_makes tree w (trims_at x.root a) ≡ Some (e, w')

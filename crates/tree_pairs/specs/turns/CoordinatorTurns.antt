@@ -16,14 +16,14 @@ use Rattle.tree_model.specs.declared.standings.Standing.{Standing}
 use Rattle.tree_model.specs.declared.standings.Standing.TheVariants.{Unknown, Active, Collecting, Prepared, Committing, Aborting}
 use Rattle.tree_model.specs.declared.standings.Vote.{Vote}
 use Rattle.tree_model.specs.declared.standings.Vote.TheVariants.{Yes as VoteYes, No as VoteNo, Read as VoteRead}
-use Rattle.tree_model.specs.declared.events.Act.TheVariants.{Begin, Join as JoinAct, Work as WorkAct, Commit as CommitAct, Abort as AbortAct, Ask}
+use Rattle.tree_model.specs.declared.events.Act.TheVariants.{Begin, Join as JoinAct, Work as WorkAct, Commit as CommitAct, Abort as AbortAct, Ask, Forget}
 use Rattle.tree_model.specs.declared.events.Input.TheVariants.{Act as ActInput}
 use Rattle.tree_model.specs.Names.{root_case, child_case, presumed}
-use Rattle.tree_model.specs.Records.{boot_of, in_list, none_of}
+use Rattle.tree_model.specs.Records.{boot_of, in_list, is_reported, none_of}
 use Rattle.tree_model.specs.Nodes.{Version, First, Second, Place, Node, kept, Heard, Effect, no_effect, is_child, is_leaf, role_of}
 use Rattle.tree_model.specs.Memory.{has_child, is_counted, all_voted, yes_of, undecided_of, memory_of, active_ticket, next_ticket, ticket_of_child}
 use Rattle.tree_model.specs.Standings.{CoordinatorView, unknown_view, coordinator_view, case_of_child, unknown_findings, found_below}
-use Rattle.tree_model.specs.CoordinatorRows.{Row, quiet, sends, post, up, each, to_child, tells_outcome, Reason, ByVote, ByAct, ByAbort, active_work, active_commit_alone, active_commit_with, active_abort, acknowledges_abort, collecting_abort_by, collecting_read_only, read_only_end, root_commits, cascaded_prepares, prepared_commit_by, prepared_abort_by, acknowledges_at_last, other_tickets, ends_with}
+use Rattle.tree_model.specs.CoordinatorRows.{Row, quiet, sends, post, up, each, to_child, tells_outcome, Reason, ByVote, ByAct, ByAbort, active_work, active_commit_alone, active_commit_with, active_abort, acknowledges_abort, collecting_abort_by, collecting_read_only, read_only_end, root_commits, cascaded_prepares, prepared_commit_by, prepared_abort_by, acknowledges_at_last, other_tickets, ends_with, unknown_forget}
 use Rattle.tree_model.specs.Reactions.{seat_of, row_effect, sends_only}
 use Rattle.tree_model.specs.Views.{begin_effect, next_begun, vote_message}
 use Rattle.tree_pairs.specs.turns.LeafTurns.{Hears}
@@ -234,6 +234,7 @@ pub data CaseTurn (place : Place) (parent : Option ProcessId) (n : Node) (h : He
       → CaseTurn place parent n h c
       (quiet (record (coordinator_view place n c) {
         owed = other_tickets t (coordinator_view place n c).owed;
+        found = found_below place n c o fs;
       }))
   ends : (t : Ticket) (o : Outcome) (fs : List Finding) → HearsChild place n h c t (λ d. Ack d o fs)
       → Decided o (coordinator_view place n c).standing
@@ -245,6 +246,10 @@ pub data CaseTurn (place : Place) (parent : Option ProcessId) (n : Node) (h : He
         messages =
             acknowledges_at_last h.version (seat_of place parent c) o (found_below place n c o fs);
       })
+  -- an operator has seen to what the root reported
+  clears : h.input ≡ ActInput (Forget c) → (coordinator_view place n c).standing ≡ Unknown → parent ≡ None
+      → is_reported (kept n) c ≡ true
+      → CaseTurn place parent n h c (unknown_forget (seat_of place parent c) (coordinator_view place n c))
   -- a child asks for the outcome
   answers : (t : Ticket) (o : Outcome) → HearsChild place n h c t Inquire
       → Answers c.txn.presumption (coordinator_view place n c).standing o

@@ -12,10 +12,11 @@ use Rattle.tree_model.specs.declared.records.Record.{Record}
 use Rattle.tree_model.specs.declared.records.Record.TheVariants.{Collecting, Prepare as PrepareRecord, Commit as CommitRecord, Abort as AbortRecord, End, Cleared}
 use Rattle.tree_model.specs.declared.standings.Standing.TheVariants.{Unknown}
 use Rattle.tree_model.specs.declared.events.Act.{Act}
+use Rattle.tree_model.specs.declared.events.Act.TheVariants.{Forget}
 use Rattle.tree_model.specs.declared.events.Input.{Input}
 use Rattle.tree_model.specs.declared.events.Input.TheVariants.{Act as ActInput, Message as MessageInput}
 use Rattle.tree_model.specs.Names.{child_case}
-use Rattle.tree_model.specs.Records.{record_case, boot_of}
+use Rattle.tree_model.specs.Records.{record_case, boot_of, is_reported}
 use Rattle.tree_model.specs.Nodes.{Place, Node, kept, Written}
 use Rattle.tree_model.specs.Memory.{memory_of, active_ticket, next_ticket}
 use Rattle.tree_model.specs.Standings.{case_of_child, coordinator_view}
@@ -74,13 +75,16 @@ pub data IsAnswer (place : Place) (n : Node) (d : Case) : Ticket → Type 0 wher
       → IsAnswer place n d (next_ticket place.me (boot_of (kept n)) (memory_of place n d))
 
 -- What an input lets a coordinator write and send: a row of the act's case, which is known, of the child's
--- case, or of the parent's message's; an answer to a stranger's inquiry; or a ticket.
+-- case, or of the parent's message's; at the root that a report was seen to; an answer to a stranger's inquiry;
+-- or a ticket.
 pub data Writes (place : Place) (parent : Option ProcessId) (n : Node) (i : Input) (ws : List Written)
     (ls : List Envelope) : Type 0 where
   writes_nothing : ws ≡ [] → ls ≡ [] → Writes place parent n i ws ls
   for_act : (a : Act) (c : Case) → i ≡ ActInput a → (coordinator_view place n c).standing ≢ Unknown
       → AtMostOne c ws
       → AllSent (seat_of place parent c) ls → Writes place parent n i ws ls
+  for_report : (c : Case) → i ≡ ActInput (Forget c) → parent ≡ None → is_reported (kept n) c ≡ true
+      → AtMostOne c ws → ls ≡ [] → Writes place parent n i ws ls
   for_child : (c : Case) (x : Txn) (t : Ticket) → case_of_child place n x t ≡ Some c → AtMostOne c ws
       → AllSent (seat_of place parent c) ls → Writes place parent n i ws ls
   for_parent : (c : Case) (k : ℕ) (m : Message) → i ≡ MessageInput k m → IsForCase c m → AtMostOne c ws

@@ -1,5 +1,5 @@
 -- In every run of every tree a cascaded coordinator that said READ of a case never promised it.
-use Rattle.std.proofs.Common.{◌≡◌, ◌∙◌, ◌⊎◌, inl, inr, ◌&&◌, ℕ, zero, suc, Bool, true, false, List, [], ◌++◌, refl, sym, ap, subst}
+use Rattle.std.proofs.Common.{◌≡◌, ◌∙◌, ◌⊎◌, inl, inr, ◌&&◌, ℕ, zero, suc, Bool, true, false, Some, List, [], ◌++◌, refl, sym, ap, subst}
 use Rattle.std.proofs.lemmas.List.{append-nil}
 use Rattle.tree_model.specs.declared.names.Case.{Case}
 use Rattle.tree_model.specs.declared.names.ProcessId.{ProcessId}
@@ -10,7 +10,7 @@ use Rattle.tree_model.specs.NameLaws.{same_process_tells}
 use Rattle.tree_model.specs.Records.{has, is_collecting, is_prepare}
 use Rattle.tree_model.specs.Memory.{Memory, memory_of}
 use Rattle.tree_model.specs.Nodes.{Below, Effect, Node, Place, Role, kept, opened_node, place_of, role_of}
-use Rattle.tree_model.specs.Restarts.{is_known, recorded_view, trim_fails, trimmed, trims}
+use Rattle.tree_model.specs.Restarts.{case_stays, trim_fails, trimmed, trims}
 use Rattle.tree_model.specs.World.{IsRun, Made, Move, World, makes, opens}
 use Rattle.tree_model.proofs.RunLaws.{makes_at}
 use Rattle.tree_pairs.specs.readings.ReadingOf.{gives_case}
@@ -44,11 +44,11 @@ module _ (me p : ProcessId) (tree : List TreeEntry) (net : List Envelope) (n : N
   less = trimmed (Below p) (kept n)
 
   promise_left : (c : Case) → has (is_prepare c) (trimmed (Below p) (kept n))
-      ≡ (is_known (recorded_view (kept n) c).standing && has (is_prepare c) (kept n))
+      ≡ (case_stays (kept n) (Some c) && has (is_prepare c) (kept n))
   promise_left c = trimmed_has p c (is_prepare c) (of_prepare c) rs (λ k. refl)
 
   collecting_left : (c : Case) → has (is_collecting c) (trimmed (Below p) (kept n))
-      ≡ (is_known (recorded_view (kept n) c).standing && has (is_collecting c) (kept n))
+      ≡ (case_stays (kept n) (Some c) && has (is_collecting c) (kept n))
   collecting_left c = trimmed_has p c (is_collecting c) (of_collecting c) rs (λ k. refl)
 
   still_open : (c : Case) → live (memory_of place (trims place n) c).phase ≡ live (memory_of place n c).phase
@@ -58,7 +58,7 @@ module _ (me p : ProcessId) (tree : List TreeEntry) (net : List Envelope) (n : N
       → has (is_collecting c) (trimmed (Below p) (kept n)) ≡ true
       → (has (is_prepare c) (trimmed (Below p) (kept n)) ≡ true)
       ⊎ (has (is_prepare c) (trimmed (Below p) (kept n) ++ n.durable) ≡ false)
-  collected c e f = by_known (both (is_known (recorded_view rs c).standing) (has (is_collecting c) rs)
+  collected c e f = by_stay (both (case_stays rs (Some c)) (has (is_collecting c) rs)
       (sym (collecting_left c) ∙ f))
     where
       by_less : (b : Bool) → has (is_prepare c) less ≡ b → has (is_prepare c) n.durable ≡ false
@@ -66,9 +66,9 @@ module _ (me p : ProcessId) (tree : List TreeEntry) (net : List Envelope) (n : N
       by_less true x y = inl x
       by_less false x y = inr (in_none (is_prepare c) less n.durable x y)
 
-      by_known : (is_known (recorded_view rs c).standing ≡ true) × (has (is_collecting c) rs ≡ true)
+      by_stay : (case_stays rs (Some c) ≡ true) × (has (is_collecting c) rs ≡ true)
           → (has (is_prepare c) less ≡ true) ⊎ (has (is_prepare c) (less ++ n.durable) ≡ false)
-      by_known k = elim (old.collected_promise c e k.1) [
+      by_stay k = elim (old.collected_promise c e k.1) [
         | inl x ↦ inl (promise_left c ∙ (ap (λ b. b && has (is_prepare c) rs) k.0 ∙ x))
         | inr x ↦ by_less (has (is_prepare c) less) refl x
       ]

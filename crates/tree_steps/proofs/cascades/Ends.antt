@@ -16,7 +16,7 @@ use Rattle.tree_model.specs.CoordinatorRows.{Row}
 use Rattle.tree_model.specs.Nodes.{Effect, Heard, Node, Place, entries_written, kept}
 use Rattle.tree_model.specs.Restarts.{aborts_collecting, coordinator_reopens, recorded_view, restart_abort}
 use Rattle.tree_model.specs.Standings.{CoordinatorView, coordinator_view}
-use Rattle.tree_pairs.specs.turns.CoordinatorTurns.{CaseTurn, CoordinatorTurn, Decided, accepts, acknowledges, answers, asks, asks_for_votes, aborts, begins, by_abort, by_commit, commits, counts_vote, does_nothing, ends, finds_nobody, gives_again, gives_fresh, gives_up, hears_no, invites, of_case, passes_abort, passes_commit, presumes, promises, reads_only, refuses, repeats_yes, rests, sends_work, waits_for_acks}
+use Rattle.tree_pairs.specs.turns.CoordinatorTurns.{CaseTurn, CoordinatorTurn, Decided, accepts, acknowledges, clears, answers, asks, asks_for_votes, aborts, begins, by_abort, by_commit, commits, counts_vote, does_nothing, ends, finds_nobody, gives_again, gives_fresh, gives_up, hears_no, invites, of_case, passes_abort, passes_commit, presumes, promises, reads_only, refuses, repeats_yes, rests, sends_work, waits_for_acks}
 use Rattle.tree_nodes.proofs.CaseFronts.{end_behind_abort, end_behind_commit}
 use Rattle.tree_nodes.proofs.CaseOrders.{AllFit, Fits}
 use Rattle.tree_nodes.proofs.GivenCases.{same_of}
@@ -144,6 +144,7 @@ module _ (place : Place) (parent : Option ProcessId) (n : Node) (h : Heard) (c :
   row_ends r (refuses j i e) = tt
   row_ends r (acknowledges o fs i e) = tt
   row_ends r (waits_for_acks t o fs i e f g) = tt
+  row_ends r (clears i e f g) = (tt, refl)
   row_ends r (answers t o i e) = tt
 
 pub turn_ends : (place : Place) (parent : Option ProcessId) (n : Node) (h : Heard) (e : Effect)

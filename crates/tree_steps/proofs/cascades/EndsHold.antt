@@ -1,15 +1,15 @@
 -- In every run a case of a cascaded coordinator that promised and ended was decided.
-use Rattle.std.proofs.Common.{◌≡◌, ◌∙◌, ℕ, zero, suc, true, false, Some, List, [], ◌++◌, take, drop, append_assoc, refl, sym, ap, subst}
+use Rattle.std.proofs.Common.{◌≡◌, ◌∙◌, ◌&&◌, inl, inr, ℕ, zero, suc, true, false, Some, List, [], ◌++◌, take, drop, append_assoc, refl, sym, ap, subst}
 use Rattle.std.proofs.lemmas.List.{append-nil, take-append-drop}
 use Rattle.tree_model.specs.declared.names.Case.{Case}
 use Rattle.tree_model.specs.declared.names.ProcessId.{ProcessId}
 use Rattle.tree_model.specs.declared.records.Record.{Record}
 use Rattle.tree_model.specs.declared.standings.Standing.TheVariants.{Unknown}
 use Rattle.tree_model.specs.declared.trees.TreeEntry.{TreeEntry}
-use Rattle.tree_model.specs.Records.{has, is_end, is_prepare}
+use Rattle.tree_model.specs.Records.{has, is_abort, is_commit, is_end, is_prepare}
 use Rattle.tree_model.specs.Memory.{Idle}
 use Rattle.tree_model.specs.Nodes.{Below, Effect, Heard, Node, Place, Role, after, entries_written, is_any_forced, kept, opened_node, place_of, role_of, IsCoordinator}
-use Rattle.tree_model.specs.Restarts.{coordinator_reopens, is_known, left_of, recorded_view, trim_fails, trimmed}
+use Rattle.tree_model.specs.Restarts.{coordinator_reopens, case_stays, left_of, trim_fails, trimmed}
 use Rattle.tree_model.specs.World.{IsRun, Made, Move, World, makes, opens}
 use Rattle.tree_model.proofs.RunLaws.{makes_at}
 use Rattle.tree_pairs.specs.turns.CoordinatorTurns.{CoordinatorTurn}
@@ -25,21 +25,21 @@ use Rattle.tree_nodes.proofs.RootLogs.{recorded_stands}
 use Rattle.tree_nodes.proofs.Tests.{both}
 use Rattle.tree_nodes.proofs.Worlds.{put}
 use Rattle.tree_steps.proofs.cascades.Ends.{EndsDecided, ends_all, ends_front, ends_more, ends_written, none_reopens, none_taken, turn_ends}
-use Rattle.tree_steps.proofs.cascades.Trimmed.{of_end, trimmed_has}
+use Rattle.tree_steps.proofs.cascades.Trimmed.{of_abort, of_commit, of_end, of_prepare, trimmed_has}
 
--- an end is not kept through a trim
-ended_unknown : (c : Case) (rs : List Record) → has (is_end c) rs ≡ true
-    → is_known (recorded_view rs c).standing ≡ false
-ended_unknown c rs e = ap is_known (recorded_stands c rs ∙ stands)
-  where
-    stands : standing_at rs c Idle ≡ Unknown
-    stands = rw e refl
-
-ends_trimmed : (p : ProcessId) (rs : List Record) → EndsDecided (trimmed (Below p) rs)
-ends_trimmed p rs c e f =
-    let b = both (is_known (recorded_view rs c).standing) (has (is_end c) rs)
+-- a trim leaves all records of a case, or none
+ends_trimmed : (p : ProcessId) (rs : List Record) → EndsDecided rs → EndsDecided (trimmed (Below p) rs)
+ends_trimmed p rs old c e f =
+    let b = both (case_stays rs (Some c)) (has (is_end c) rs)
     (sym (trimmed_has p c (is_end c) (of_end c) rs (λ k. refl)) ∙ e) in
-    absurd (let x = sym b.0 ∙ ended_unknown c rs b.1 in cc)
+    let g = both (case_stays rs (Some c)) (has (is_prepare c) rs)
+    (sym (trimmed_has p c (is_prepare c) (of_prepare c) rs (λ k. refl)) ∙ f) in
+    elim (old c b.1 g.1) [
+      | inl x ↦ inl (trimmed_has p c (is_commit c) (of_commit c) rs (λ k. refl)
+          ∙ ap (λ y. y && has (is_commit c) rs) b.0 ∙ x)
+      | inr x ↦ inr (trimmed_has p c (is_abort c) (of_abort c) rs (λ k. refl)
+          ∙ ap (λ y. y && has (is_abort c) rs) b.0 ∙ x)
+    ]
 
 module _ (p : ProcessId) (me : ProcessId) (tree : List TreeEntry) (n : Node) (fit : AllFit [] (kept n))
     (old : EndsDecided (kept n)) where
@@ -70,7 +70,7 @@ module _ (p : ProcessId) (me : ProcessId) (tree : List TreeEntry) (n : Node) (fi
   trim_failed : (a : ℕ) → Ends (trim_fails place n a)
   trim_failed zero = old
   trim_failed (suc a) = subst EndsDecided (sym (append-nil (trimmed (Below p) (kept n))))
-      (ends_trimmed p (kept n))
+      (ends_trimmed p (kept n) old)
 
   pub ends_step : (m : Move) (e : Effect) (k : Node) → StepOf place n m e k → Ends k
   ends_step m _ _ (handled i g hp np r) =
@@ -96,7 +96,7 @@ module _ (p : ProcessId) (me : ProcessId) (tree : List TreeEntry) (n : Node) (fi
       (λ d ts. refl) f.appended rs)
       (λ c. none_taken (is_prepare c) (λ j. refl) (λ d ts. refl) f.appended rs) (ends_left k))
   ends_step m _ _ (trims_log hp up) =
-      subst EndsDecided (sym (append-nil (trimmed (Below p) (kept n)))) (ends_trimmed p (kept n))
+      subst EndsDecided (sym (append-nil (trimmed (Below p) (kept n)))) (ends_trimmed p (kept n) old)
   ends_step m _ _ (failed_trimming f fl hp up) = trim_failed f.appended
 
 -- a log that is empty

@@ -20,7 +20,7 @@ use Rattle.tree_model.specs.Standings.{CoordinatorView, coordinator_view, found_
 use Rattle.tree_pairs.specs.ChildCrash as crash
 use Rattle.tree_pairs.specs.Reading.{Reading}
 use Rattle.tree_pairs.specs.readings.ReadingOf.{ParentHalf, Wire, reading_from}
-use Rattle.tree_pairs.specs.turns.CoordinatorTurns.{CaseTurn, CoordinatorTurn, accepts, acknowledges, answers, asks, asks_for_votes, aborts, begins, commits, counts_vote, does_nothing, ends, finds_nobody, gives_again, gives_fresh, gives_up, hears_no, invites, of_case, passes_abort, passes_commit, presumes, promises, reads_only, refuses, repeats_yes, rests, sends_work, waits_for_acks}
+use Rattle.tree_pairs.specs.turns.CoordinatorTurns.{CaseTurn, CoordinatorTurn, accepts, acknowledges, clears, answers, asks, asks_for_votes, aborts, begins, commits, counts_vote, does_nothing, ends, finds_nobody, gives_again, gives_fresh, gives_up, hears_no, invites, of_case, passes_abort, passes_commit, presumes, promises, reads_only, refuses, repeats_yes, rests, sends_work, waits_for_acks}
 use Rattle.tree_nodes.specs.WorldHolds.{InvariantOf}
 use Rattle.tree_nodes.proofs.Cases.{viewed}
 use Rattle.tree_nodes.proofs.CaseOrders.{AllFit}
@@ -269,6 +269,7 @@ module _ (turn : Turn) where
   own_row r (ends u o fs i e f g) =
       aside_fails (row_effect d r) (EndRecord d None) false (plain_end t.child p d h.version (found_below place n d o fs))
       (record { no_prepare = refl; no_commit = refl; no_abort = refl })
+  own_row r (clears i e f g) = absurd (cc)
   own_row r (answers u o i e) = silent_fails (row_effect d r) refl
 
   module _ (x : Case) (other : same_case x (own_case turn) ≡ false) where
@@ -325,6 +326,7 @@ module _ (turn : Turn) where
         aside_fails (row_effect x r) (EndRecord x None) false
         (plain_end t.child p x h.version (found_below place n x o fs))
         (record { no_prepare = refl; no_commit = refl; no_abort = refl })
+    other_row r (clears i e f g) = absurd (cc)
     other_row r (answers u o i e) = silent_fails (row_effect x r) refl
 
   case_row : (x : Case) (r : Row) → CaseTurn place (Some p) n h x r → Fails (row_effect x r)

@@ -28,7 +28,7 @@ use Rattle.tree_model.specs.Reactions.{row_effect, seat_of}
 use Rattle.tree_model.specs.Standings.{CoordinatorView, coordinator_view, found_below}
 use Rattle.tree_model.specs.Views.{IsOpenAlike}
 use Rattle.tree_pairs.specs.readings.ReadingOf.{gives_case}
-use Rattle.tree_pairs.specs.turns.CoordinatorTurns.{CaseTurn, CoordinatorTurn, CountsLast, IsToCommit, counting, voted, accepts, acknowledges, answers, asks, asks_for_votes, aborts, begins, commit_act, commits, counts_vote, does_nothing, ends, finds_nobody, gives_again, gives_fresh, gives_up, hears_no, invites, of_case, passes_abort, passes_commit, prepare_comes, presumes, promises, reads_only, refuses, repeats_yes, rests, sends_work, waits_for_acks}
+use Rattle.tree_pairs.specs.turns.CoordinatorTurns.{CaseTurn, CoordinatorTurn, CountsLast, IsToCommit, counting, voted, accepts, acknowledges, clears, answers, asks, asks_for_votes, aborts, begins, commit_act, commits, counts_vote, does_nothing, ends, finds_nobody, gives_again, gives_fresh, gives_up, hears_no, invites, of_case, passes_abort, passes_commit, prepare_comes, presumes, promises, reads_only, refuses, repeats_yes, rests, sends_work, waits_for_acks}
 use Rattle.tree_nodes.proofs.GivenCases.{same_of}
 use Rattle.tree_nodes.proofs.Tests.{either}
 use Rattle.tree_steps.proofs.cascades.Closings as closings
@@ -315,6 +315,7 @@ module _ (me p : ProcessId) (tree : List TreeEntry) (n : Node) (h : Heard) (net 
   row_words x r (acknowledges o fs i e) = unread (row_effect x r) refl refl refl
   row_words x r (waits_for_acks u o fs i e f g) = unread (row_effect x r) refl refl refl
   row_words x r (ends u o fs i e f g) = unread (row_effect x r) (at_last c me p x h.version o (found_below place n x o fs)) refl refl
+  row_words x r (clears i e f g) = absurd (cc)
   row_words x r (answers u o i e) = unread (row_effect x r) (message_unread c me u.child o _) refl refl
 
   pub turn_words : (e : Effect) → CoordinatorTurn place (Some p) n h e → Says e

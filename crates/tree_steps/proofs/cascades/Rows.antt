@@ -15,11 +15,11 @@ use Rattle.tree_model.specs.declared.events.Input.TheVariants.{Message as Messag
 use Rattle.tree_model.specs.Names.{presumed, same_case}
 use Rattle.tree_model.specs.NameLaws.{same_case_tells}
 use Rattle.tree_model.specs.CoordinatorRows.{abort_answered, acknowledges_at_once, acknowledges_at_last, Row, Reason, ByAct, ByAbort, ByVote, Seat, abort_heard_above, acknowledges_abort, each, post, tells_outcome}
-use Rattle.tree_model.specs.Records.{none_of}
+use Rattle.tree_model.specs.Records.{none_of, in_order}
 use Rattle.tree_model.specs.Nodes.{Version, First, Second, Effect, Place}
 use Rattle.tree_model.specs.Reactions.{row_effect, seat_of}
 use Rattle.tree_model.specs.Standings.{CoordinatorView, coordinator_view, found_below}
-use Rattle.tree_pairs.specs.turns.CoordinatorTurns.{CaseTurn, CoordinatorTurn, abort_act, abort_comes, accepts, acknowledges, answers, asks, asks_for_votes, aborts, begins, commit_act, commits, counts_vote, does_nothing, ends, finds_nobody, gives_again, gives_fresh, gives_up, hears_no, invites, of_case, passes_abort, passes_commit, prepare_comes, presumes, promises, reads_only, refuses, repeats_yes, rests, sends_work, waits_for_acks}
+use Rattle.tree_pairs.specs.turns.CoordinatorTurns.{CaseTurn, CoordinatorTurn, abort_act, abort_comes, accepts, acknowledges, clears, answers, asks, asks_for_votes, aborts, begins, commit_act, commits, counts_vote, does_nothing, ends, finds_nobody, gives_again, gives_fresh, gives_up, hears_no, invites, of_case, passes_abort, passes_commit, prepare_comes, presumes, promises, reads_only, refuses, repeats_yes, rests, sends_work, waits_for_acks}
 use Rattle.tree_steps.proofs.cascades.Halves.{IsAside, plain_end}
 use Rattle.tree_steps.proofs.cascades.Messages as words
 use Rattle.tree_steps.proofs.cascades.Messages.{IsSilent, nothing, said_by}
@@ -90,6 +90,7 @@ module _ (turn : Turn) where
   own_row _ (acknowledges o fs i e) k = acknowledges_own turn i.hears.0 o fs i.hears.1 e k
   own_row _ (waits_for_acks u o fs i e f g) k = quiet_turn turn _ k refl (words.none_silent c t)
   own_row _ (ends u o fs i e f g) k = ends_own turn h.version o (found_below place n d o fs) e k
+  own_row _ (clears i e f g) k = absurd (cc)
   own_row _ (answers u o i e) k = quiet_turn turn _ k refl (message_down o u.child _)
 
   -- Rows of another case.
@@ -141,7 +142,7 @@ module _ (turn : Turn) where
 
     at_last : (ver : Version) (o : Outcome) (fs : List Finding) → Silent (acknowledges_at_last ver (seat x) o fs)
     at_last First o fs = words.none_silent c t
-    at_last Second o fs = up_ack o fs [] (words.none_silent c t)
+    at_last Second o fs = up_ack o (in_order fs) [] (words.none_silent c t)
 
     aside_promise : (ts : List Ticket) → IsAside (own_case turn) (PrepareRecord x ts)
     aside_promise ts = record { no_prepare = other; no_commit = refl; no_abort = refl }
@@ -205,6 +206,7 @@ module _ (turn : Turn) where
         plain_aside turn _ k (EndRecord x None) (plain_end t.child p x h.version (found_below place n x o fs))
         (λ y. refl) (record { no_prepare = refl; no_commit = refl; no_abort = refl })
         (at_last h.version o (found_below place n x o fs))
+    other_row _ (clears i e f g) k = absurd (cc)
     other_row _ (answers u o i e) k = quiet_turn turn _ k refl (message_down o u.child _)
 
   case_row : (x : Case) (r : Row) → CaseTurn place (Some p) n h x r → Then turn (row_effect x r)

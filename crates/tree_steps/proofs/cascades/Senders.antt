@@ -22,7 +22,7 @@ use Rattle.tree_model.specs.Standings.{CoordinatorView, ManagerView}
 use Rattle.tree_model.specs.World.{Move}
 use Rattle.tree_pairs.specs.turns.Steps.{StepOf, TurnAt, failed_in, failed_passing, failed_reopening, failed_trimming, handled, heard_in, passed, reopened, trimmed}
 use Rattle.tree_pairs.specs.turns.LeafTurns.{LeafTurn, acknowledges, acknowledges_told, asks, decides, does_nothing, drops, forgets, gives_again, gives_fresh, notes, obeys, refuses, repeats_yes, votes_no, votes_read, votes_yes}
-use Rattle.tree_pairs.specs.turns.Written.{AllSent, Sends, Writes, down, for_act, for_child, for_parent, gives, invites, presumes, upward, writes_nothing}
+use Rattle.tree_pairs.specs.turns.Written.{AllSent, Sends, Writes, down, for_act, for_child, for_parent, for_report, gives, invites, presumes, upward, writes_nothing}
 use Rattle.tree_pairs.proofs.turns.Steps.{turn_of}
 use Rattle.tree_steps.specs.cascades.Messages.{AllSentBy}
 use Rattle.tree_model.specs.declared.messages.Finding.{Finding}
@@ -44,6 +44,7 @@ writes_sent : (place : Place) (parent : Option ProcessId) (n : Node) (i : Input)
     (ls : List Envelope) → Writes place parent n i ws ls → AllSentBy place.me ls
 writes_sent place parent n i ws ls (writes_nothing e f) = subst (AllSentBy place.me) (sym f) tt
 writes_sent place parent n i ws ls (for_act a c e k o s) = all_sent_by _ ls s
+writes_sent place parent n i ws ls (for_report c e f g o h) = subst (AllSentBy place.me) (sym h) tt
 writes_sent place parent n i ws ls (for_child c x t e o s) = all_sent_by _ ls s
 writes_sent place parent n i ws ls (for_parent c k m e f o s) = all_sent_by _ ls s
 writes_sent place parent n i ws ls (presumes x t o e f) = one_sent_by place.me _ ls f refl

@@ -6,7 +6,7 @@ use Rattle.tree_model.specs.declared.records.Record.{Record}
 use Rattle.tree_model.specs.declared.records.Record.TheVariants.{Opened, Collecting as CollectingRecord, Prepare as PrepareRecord, Commit as CommitRecord, Abort as AbortRecord, End as EndRecord}
 use Rattle.tree_model.specs.Records.{boot_of, has, is_abort, is_collecting, is_commit, is_end, is_prepare, record_case}
 use Rattle.tree_model.specs.Nodes.{Below}
-use Rattle.tree_model.specs.Restarts.{case_stays, is_known, recorded_view, staying, trimmed}
+use Rattle.tree_model.specs.Restarts.{case_stays, staying, trimmed}
 use Rattle.tree_nodes.proofs.GivenCases.{same_of}
 use Rattle.tree_nodes.proofs.Tests.{has-append, has-cons, has-nil}
 
@@ -41,12 +41,12 @@ of_end c (EndRecord d rep) e = ap Some (same_of d c e)
 of_end c r e = absurd (cc)
 
 module _ (p : ProcessId) (c : Case) (q : Record → Bool) (of : IsOf c q) (whole : List Record) where
-  abbrev known : Bool
-  known = is_known (recorded_view whole c).standing
+  abbrev stays : Bool
+  stays = case_stays whole (Some c)
 
   one_more : (r : Record) (l rest : List Record) (b k : Bool) → q r ≡ b → case_stays whole (record_case r) ≡ k
-      → has q l ≡ (known && has q rest)
-      → has q (if k then r ∷ l else l) ≡ (known && has q (r ∷ rest))
+      → has q l ≡ (stays && has q rest)
+      → has q (if k then r ∷ l else l) ≡ (stays && has q (r ∷ rest))
   one_more r l rest true true e f g =
       has-cons q r l ∙ (ap (λ y. y || has q l) e
       ∙ sym (ap (λ y. y && has q (r ∷ rest)) (sym (ap (case_stays whole) (of r e)) ∙ f)
@@ -55,18 +55,18 @@ module _ (p : ProcessId) (c : Case) (q : Record → Bool) (of : IsOf c q) (whole
       let gone = sym (ap (case_stays whole) (of r e)) ∙ f in
       g ∙ (ap (λ y. y && has q rest) gone ∙ sym (ap (λ y. y && has q (r ∷ rest)) gone))
   one_more r l rest false true e f g = has-cons q r l ∙ (ap (λ y. y || has q l) e
-      ∙ (g ∙ sym (ap (λ y. known && y) (has-cons q r rest ∙ ap (λ y. y || has q rest) e))))
-  one_more r l rest false false e f g = g ∙ sym (ap (λ y. known && y)
+      ∙ (g ∙ sym (ap (λ y. stays && y) (has-cons q r rest ∙ ap (λ y. y || has q rest) e))))
+  one_more r l rest false false e f g = g ∙ sym (ap (λ y. stays && y)
       (has-cons q r rest ∙ ap (λ y. y || has q rest) e))
 
-  staying_has : (rs : List Record) → has q (staying (Below p) whole rs) ≡ (known && has q rs)
-  staying_has [] = has-nil q ∙ sym (ap (λ y. known && y) (has-nil q) ∙ and-false known)
+  staying_has : (rs : List Record) → has q (staying (Below p) whole rs) ≡ (stays && has q rs)
+  staying_has [] = has-nil q ∙ sym (ap (λ y. stays && y) (has-nil q) ∙ and-false stays)
   staying_has (r ∷ rs) =
       one_more r (staying (Below p) whole rs) rs (q r) (case_stays whole (record_case r)) refl refl
       (staying_has rs)
 
   pub trimmed_has : ((k : ℕ) → q (Opened k) ≡ false)
-      → has q (trimmed (Below p) whole) ≡ (is_known (recorded_view whole c).standing && has q whole)
+      → has q (trimmed (Below p) whole) ≡ (case_stays whole (Some c) && has q whole)
   unfolding trimmed
   trimmed_has none =
       has-append q (Opened (boot_of whole) ∷ staying (Below p) whole whole) []

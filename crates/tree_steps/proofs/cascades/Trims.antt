@@ -1,5 +1,5 @@
 -- A trim of a cascaded coordinator's log keeps the invariant of its pairs.
-use Rattle.std.proofs.Common.{◌≡◌, ◌∙◌, ◌⊎◌, inl, inr, ◌||◌, ◌&&◌, ℕ, zero, suc, Bool, true, false, List, [], refl, sym, ap, subst, arith}
+use Rattle.std.proofs.Common.{◌≡◌, ◌∙◌, ◌⊎◌, inl, inr, ◌||◌, ◌&&◌, ℕ, zero, suc, Bool, true, false, Some, List, [], refl, sym, ap, subst, arith}
 use Rattle.tree_model.specs.declared.names.Case.{Case}
 use Rattle.tree_model.specs.declared.names.Presumption.{Presumption}
 use Rattle.tree_model.specs.declared.names.ProcessId.{ProcessId}
@@ -7,10 +7,10 @@ use Rattle.tree_model.specs.declared.records.Record.{Record}
 use Rattle.tree_model.specs.declared.standings.Standing.{Standing}
 use Rattle.tree_model.specs.declared.standings.Standing.TheVariants.{Unknown, Active, Collecting, Prepared, Committing, Aborting, Heuristic}
 use Rattle.tree_model.specs.declared.trees.TreeEntry.{TreeEntry}
-use Rattle.tree_model.specs.Records.{has, is_abort, is_collecting, is_commit, is_end, is_prepare, none_of, owing_by}
+use Rattle.tree_model.specs.Records.{has, is_abort, is_collecting, is_commit, is_end, is_prepare, none_of, owing_by, is_reported}
 use Rattle.tree_model.specs.Memory.{Idle, memory_of}
 use Rattle.tree_model.specs.Nodes.{Below, Node, Place, kept}
-use Rattle.tree_model.specs.Restarts.{is_known, recorded_view, trim_fails, trimmed, trims}
+use Rattle.tree_model.specs.Restarts.{case_stays, is_known, recorded_view, trim_fails, trimmed, trims}
 use Rattle.tree_model.specs.Standings.{coordinator_view, phase_standing}
 use Rattle.tree_model.specs.Views.{IsOpenAlike}
 use Rattle.tree_pairs.specs.ChildMoves as move
@@ -24,7 +24,7 @@ use Rattle.tree_nodes.proofs.Cases.{viewed}
 use Rattle.tree_nodes.proofs.CaseOrders.{AllFit}
 use Rattle.tree_nodes.proofs.Phases.{active_unrecorded, collecting_undecided}
 use Rattle.tree_nodes.proofs.RootLogs.{recorded_stands}
-use Rattle.tree_nodes.proofs.Tests.{has-append}
+use Rattle.tree_nodes.proofs.Tests.{first_false, has-append}
 use Rattle.tree_steps.proofs.children.Moves as moves
 use Rattle.tree_steps.proofs.children.Moves.{Fits}
 use Rattle.tree_steps.proofs.cascades.Ends.{EndsDecided}
@@ -54,14 +54,14 @@ unknown_if Heuristic e = absurd (cc)
 
 -- what a trim leaves of a half: all or nothing, forced
 abbrev trimmed_own : Bool → OwnHalf → OwnHalf
-trimmed_own known q = record q {
-  prepare_kept = known && q.prepare_kept;
-  prepare_forced = known && q.prepare_kept;
-  prepare_ever = (known && q.prepare_kept) || q.prepare_ever;
-  commit_kept = known && q.commit_kept;
-  commit_forced = known && q.commit_kept;
-  abort_kept = known && q.abort_kept;
-  abort_forced = known && q.abort_kept;
+trimmed_own stays q = record q {
+  prepare_kept = stays && q.prepare_kept;
+  prepare_forced = stays && q.prepare_kept;
+  prepare_ever = (stays && q.prepare_kept) || q.prepare_ever;
+  commit_kept = stays && q.commit_kept;
+  commit_forced = stays && q.commit_kept;
+  abort_kept = stays && q.abort_kept;
+  abort_forced = stays && q.abort_kept;
 }
 
 reading-trimmed : (root outcome above : Bool) (p : ParentHalf) (q : OwnHalf) (v : Wire)
@@ -89,7 +89,7 @@ module _ (me p : ProcessId) (tree : List TreeEntry) (n : Node) (d : Case) (v : W
   rs = kept n
 
   abbrev K : Bool
-  K = is_known (recorded_view rs d).standing
+  K = case_stays rs (Some d)
 
   half_trimmed : (o : Bool) → o ≡ opens place n d
       → own_half_at o (trims place n) d ≡ trimmed_own K q
@@ -179,7 +179,8 @@ module _ (me p : ProcessId) (tree : List TreeEntry) (n : Node) (d : Case) (v : W
     over e =
         unknown_by (has (is_end d) rs) (has (is_commit d) rs) (has (is_abort d) rs) (has (is_prepare d) rs)
         (has (is_collecting d) rs) (none_of (owing_by d rs)) (phase_standing d.txn.presumption Idle)
-        (sym (recorded_stands d rs) ∙ unknown_if (recorded_view rs d).standing e)
+        (sym (recorded_stands d rs) ∙ unknown_if (recorded_view rs d).standing
+        (first_false (is_known (recorded_view rs d).standing) (is_reported rs d) e))
 
     forgets_it : K ≡ false → q.is_open ≡ false → IsForgotten r0
     forgets_it e f = record {
@@ -187,15 +188,15 @@ module _ (me p : ProcessId) (tree : List TreeEntry) (n : Node) (d : Case) (v : W
       nothing = nothing_left (has (is_prepare d) (kept n)) refl (over e);
     }
 
-    -- by whether the log says anything of it, and whether it is open
-    by_known : (k o : Bool) → K ≡ k → q.is_open ≡ o → Fits pr r0 (R (trimmed_own K q))
-    by_known true o e f = keeps_all hard (trimmed_own K q) (ap (λ x. trimmed_own x q) e)
-    by_known false true e f =
+    -- by whether its records stay, and whether it is open
+    by_stay : (k o : Bool) → K ≡ k → q.is_open ≡ o → Fits pr r0 (R (trimmed_own K q))
+    by_stay true o e f = keeps_all hard (trimmed_own K q) (ap (λ x. trimmed_own x q) e)
+    by_stay false true e f =
         keeps_all hard (trimmed_own K q)
         (ap (λ x. trimmed_own x q) e
         ∙ none_hardens (open_none (coordinator_view place n d).standing refl
         (sym (ap (λ x. is_live (phase_by x (coordinator_view place n d).standing)) up) ∙ f)))
-    by_known false false e f =
+    by_stay false false e f =
         subst (λ (z : Reading). Fits pr r0 z)
         (sym (ap (λ x. R (trimmed_own x q)) e ∙ reading-trimmed root outcome above half q v ever))
         (moves.trims_child pr r0 inv (record { up = up; forgotten = forgets_it e f }))
@@ -205,7 +206,7 @@ module _ (me p : ProcessId) (tree : List TreeEntry) (n : Node) (d : Case) (v : W
     trim_fits a =
         subst (λ (z : OwnHalf). Fits pr r0 (R z))
         (sym (half_trimmed (opens place (trims place n) d) (still_open a)))
-        (by_known K q.is_open refl refl)
+        (by_stay K q.is_open refl refl)
 
     -- The device fails in it: the old log is left, or the new one.
 
@@ -224,7 +225,7 @@ module _ (me p : ProcessId) (tree : List TreeEntry) (n : Node) (d : Case) (v : W
         → Fits pr r0 (R (own_half_at false (record (trims place n) { failed = true }) d))
     new_log fit =
         let same = half_trimmed (opens place n d) refl in
-        let first = subst (λ (z : OwnHalf). Fits pr r0 (R z)) (sym same) (by_known K q.is_open refl refl) in
+        let first = subst (λ (z : OwnHalf). Fits pr r0 (R z)) (sym same) (by_stay K q.is_open refl refl) in
         let then_inv = first.invariant in
         moves.onward pr r0 (R (own_half_at (opens place n d) (trims place n) d))
         (R (own_half_at false (record (trims place n) { failed = true }) d)) first

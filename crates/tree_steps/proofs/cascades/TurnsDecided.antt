@@ -12,7 +12,7 @@ use Rattle.tree_model.specs.declared.standings.Standing.{Standing}
 use Rattle.tree_model.specs.declared.standings.Standing.TheVariants.{Unknown, Prepared, Committing, Aborting}
 use Rattle.tree_model.specs.declared.events.Input.TheVariants.{Message as MessageInput}
 use Rattle.tree_model.specs.NameLaws.{same_case-refl}
-use Rattle.tree_model.specs.Records.{has, is_abort, is_commit, is_end, is_prepare}
+use Rattle.tree_model.specs.Records.{has, is_abort, is_commit, is_end, is_prepare, in_order}
 use Rattle.tree_model.specs.CoordinatorRows.{Row, acknowledges_at_last, acknowledges_at_once, plain, quiet, Seat, each, post, prepared_abort_by, prepared_commit_by, sends, tells_outcome, up as up_message, ends_with}
 use Rattle.tree_model.specs.Nodes.{Version, First, Second, Effect, Place, kept}
 use Rattle.tree_model.specs.Outcomes.{is_outcome_message}
@@ -538,7 +538,8 @@ module _ (turn : Turn) where
       let closed = over_by o (coordinator_view place n d).standing refl i in
       let s : Said = record nothing { ack = true } in
       plain_fine turn (row_effect d (ends_row Second o fs)) next (EndRecord d None) refl (λ x. refl) s
-      (words.said_first c t (post t.child p (Ack d o fs)) [] (words.none_silent c t) ∙ rw (same_case-refl d) refl)
+      (words.said_first c t (post t.child p (Ack d o (in_order fs))) [] (words.none_silent c t)
+      ∙ rw (same_case-refl d) refl)
       (λ k f. subst (λ (z : Reading). Fits pr (r0 turn) z)
       (sym (ap (λ (x : OwnHalf). R turn (stands_so k x) (hears s v)) (aside d (EndRecord d None) b q aside_end)
       ∙ ap (λ x. R turn (stands_so x q) (hears s v)) (f ∙ (stays_closed closed ∙ sym closed))))

@@ -27,7 +27,7 @@ use Rattle.tree_model.specs.Restarts.{reopens, restart_fails, restarted, trim_fa
 use Rattle.tree_model.specs.World.{IsRun, Made, Move, World, makes, opens}
 use Rattle.tree_model.proofs.RunLaws.{makes_at}
 use Rattle.tree_pairs.proofs.readings.Named.{in_list-yes}
-use Rattle.tree_pairs.specs.turns.CoordinatorTurns.{Consents, votes_yes, votes_read, CountsLast, CaseTurn, rests, invites, accepts, sends_work, finds_nobody, asks_for_votes, gives_up, counts_vote, reads_only, commits, promises, hears_no, aborts, passes_commit, passes_abort, repeats_yes, asks, refuses, acknowledges, waits_for_acks, ends, answers, CoordinatorTurn, does_nothing, of_case, begins, gives_again, gives_fresh, presumes}
+use Rattle.tree_pairs.specs.turns.CoordinatorTurns.{Consents, votes_yes, votes_read, CountsLast, CaseTurn, rests, invites, accepts, sends_work, finds_nobody, asks_for_votes, gives_up, counts_vote, reads_only, commits, promises, hears_no, aborts, passes_commit, passes_abort, repeats_yes, asks, refuses, acknowledges, waits_for_acks, ends, clears, answers, CoordinatorTurn, does_nothing, of_case, begins, gives_again, gives_fresh, presumes}
 use Rattle.tree_pairs.specs.turns.Steps.{StepOf, heard_in, handled, failed_in, passed, failed_passing, reopened, failed_reopening, trimmed, failed_trimming}
 use Rattle.tree_pairs.proofs.turns.CoordinatorReactions.{CoordinatorTurnAt, coordinator_turn_of}
 use Rattle.tree_pairs.proofs.turns.Operators.{reopens_none}
@@ -140,6 +140,7 @@ module _ (place : Place) (net : _) (n : Node) (coordinates : Coordinates place n
     row_voted d c _ (acknowledges o fs i e) g = absurd (cc)
     row_voted d c _ (waits_for_acks t o fs i e f a) g = absurd (cc)
     row_voted d c _ (ends t o fs i e f a) g = absurd (cc)
+    row_voted d c _ (clears i e f a) g = absurd (cc)
     row_voted d c _ (answers t o i e) g = absurd (cc)
 
     effect_voted : (c : Case) (e : Effect) → CoordinatorTurn place parent n h e

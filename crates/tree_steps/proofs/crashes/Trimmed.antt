@@ -1,5 +1,5 @@
 -- What a coordinator's trim leaves of a case: all of its records, or none.
-use Rattle.std.proofs.Common.{◌≡◌, ◌∙◌, inl, inr, ℕ, Bool, true, false, List, [], ◌∷◌, ◌++◌, refl, sym, ap, arith, if◌then◌else◌}
+use Rattle.std.proofs.Common.{◌≡◌, ◌∙◌, inl, inr, ℕ, Bool, true, false, Some, List, [], ◌∷◌, ◌++◌, refl, sym, ap, arith, if◌then◌else◌}
 use Rattle.tree_model.specs.declared.names.Case.{Case}
 use Rattle.tree_model.specs.declared.names.ProcessId.{ProcessId}
 use Rattle.tree_model.specs.declared.names.Presumption.{Presumption}
@@ -69,7 +69,7 @@ module _ (c : Case) (t : Ticket) (rs : List Record) where
       no_more : (r : Record → Bool) → has r [] ≡ false
       no_more r = has-nil r
 
-  module _ (known : is_known (recorded_view rs c).standing ≡ true) where
+  module _ (known : case_stays rs (Some c) ≡ true) where
     stays : (q : Record → Bool) → ((k : ℕ) → q (Opened k) ≡ false)
         → ((r : Record) → q r ≡ true → is_record_of c r ≡ true) → has q new ≡ has q rs
     stays q none own = exactly (has q new) (has q rs) (was_there q none) (known_stays c q own rs known)

@@ -1,15 +1,15 @@
 -- A coordinator's trim, also one in which its device fails, keeps the invariant of each pair below it.
-use Rattle.std.proofs.Common.{◌≡◌, ◌∙◌, ◌||◌, ◌⊎◌, inl, inr, Bool, true, false, [], refl, sym, ap, subst, arith}
+use Rattle.std.proofs.Common.{◌≡◌, ◌∙◌, ◌||◌, ◌⊎◌, inl, inr, Bool, true, false, Some, [], refl, sym, ap, subst, arith}
 use Rattle.tree_model.specs.declared.names.Case.{Case}
 use Rattle.tree_model.specs.declared.names.Presumption.{Presumption}
 use Rattle.tree_model.specs.declared.names.Presumption.TheVariants.{PresumeAbort, PresumeCommit}
 use Rattle.tree_model.specs.declared.names.Ticket.{Ticket}
 use Rattle.tree_model.specs.declared.records.Record.{Record}
 use Rattle.tree_model.specs.declared.standings.Standing.{Standing}
-use Rattle.tree_model.specs.Records.{has, none_of, owing_by, is_collecting, is_prepare, is_commit, is_abort}
+use Rattle.tree_model.specs.Records.{has, none_of, owing_by, is_reported, is_collecting, is_prepare, is_commit, is_abort}
 use Rattle.tree_model.specs.Nodes.{AtRoot, Node, Place, kept}
 use Rattle.tree_model.specs.Memory.{Memory}
-use Rattle.tree_model.specs.Restarts.{data_records, is_known, recorded_view, trimmed, trims}
+use Rattle.tree_model.specs.Restarts.{case_stays, data_records, is_known, recorded_view, trimmed, trims}
 use Rattle.tree_pairs.specs.Reading.{Reading, Closed, is_live}
 use Rattle.tree_pairs.specs.Invariant.{Common}
 use Rattle.tree_pairs.specs.ParentMoves as move
@@ -18,7 +18,7 @@ use Rattle.tree_pairs.specs.readings.ReadingOf.{ParentHalf, ChildHalf, Wire, rea
 use Rattle.tree_pairs.proofs.readings.Lists.{has-nil}
 use Rattle.tree_pairs.proofs.readings.Trimmed.{Gone, gone}
 use Rattle.tree_nodes.specs.WorldHolds.{InvariantOf, NamesBy}
-use Rattle.tree_nodes.proofs.Tests.{has-append, not_both}
+use Rattle.tree_nodes.proofs.Tests.{first_false, has-append, not_both}
 use Rattle.tree_nodes.proofs.Worlds.{has_other}
 use Rattle.tree_nodes.proofs.CaseFronts.{either_has}
 use Rattle.tree_steps.proofs.children.Moves.{Fits, common_of}
@@ -234,18 +234,21 @@ module _ (pr : Presumption) (manager outcome above : Bool) (k : ChildHalf) (v : 
       pub trimmed_so : Stays c t (kept n)
           ⊎ (Gone c t (trimmed AtRoot (kept n))
           × moves.MayTrim pr (reading_from root manager outcome above p k v))
-      trimmed_so = by_known (is_known (recorded_view (kept n) c).standing) refl
+      trimmed_so = by_stay (case_stays (kept n) (Some c)) refl
         where
-          by_live : (b : Bool) → is_live p.phase ≡ b → is_known (recorded_view (kept n) c).standing ≡ false
-              → Stays c t (kept n) ⊎ (Gone c t (trimmed AtRoot (kept n)) × moves.MayTrim pr r0)
-          by_live true e f = inl (none_stays c t (kept n) (none_live e (forgets c t (kept n) f)))
-          by_live false e f =
-              inr (gone (kept n) c t f, may_trim root pr refl e (forgets c t (kept n) f))
+          unknown : case_stays (kept n) (Some c) ≡ false → is_known (recorded_view (kept n) c).standing ≡ false
+          unknown f = first_false (is_known (recorded_view (kept n) c).standing) (is_reported (kept n) c) f
 
-          by_known : (b : Bool) → is_known (recorded_view (kept n) c).standing ≡ b
+          by_live : (b : Bool) → is_live p.phase ≡ b → case_stays (kept n) (Some c) ≡ false
               → Stays c t (kept n) ⊎ (Gone c t (trimmed AtRoot (kept n)) × moves.MayTrim pr r0)
-          by_known true f = inl (all_stay c t (kept n) f)
-          by_known false f = by_live (is_live p.phase) refl f
+          by_live true e f = inl (none_stays c t (kept n) (none_live e (forgets c t (kept n) (unknown f))))
+          by_live false e f =
+              inr (gone (kept n) c t f, may_trim root pr refl e (forgets c t (kept n) (unknown f)))
+
+          by_stay : (b : Bool) → case_stays (kept n) (Some c) ≡ b
+              → Stays c t (kept n) ⊎ (Gone c t (trimmed AtRoot (kept n)) × moves.MayTrim pr r0)
+          by_stay true f = inl (all_stay c t (kept n) f)
+          by_stay false f = by_live (is_live p.phase) refl f
 
     abbrev at_root : Reading
     at_root = reading_from true manager outcome above p k v

@@ -13,7 +13,7 @@ use Rattle.tree_model.specs.declared.messages.Envelope.{Envelope}
 use Rattle.tree_model.specs.declared.messages.Message.{Message}
 use Rattle.tree_model.specs.declared.messages.Message.TheVariants.{Prepare, Yes, No, Read, Commit, Abort, Ack, Inquire}
 use Rattle.tree_model.specs.declared.records.Record.{Record}
-use Rattle.tree_model.specs.declared.records.Record.TheVariants.{Collecting as CollectingRecord, Prepare as PrepareRecord, Commit as CommitRecord, Abort as AbortRecord, End as EndRecord}
+use Rattle.tree_model.specs.declared.records.Record.TheVariants.{Collecting as CollectingRecord, Prepare as PrepareRecord, Commit as CommitRecord, Abort as AbortRecord, End as EndRecord, Cleared as ClearedRecord}
 use Rattle.tree_model.specs.declared.standings.Standing.{Standing}
 use Rattle.tree_model.specs.declared.standings.Standing.TheVariants.{Active, Collecting, Prepared}
 use Rattle.tree_model.specs.declared.standings.Vote.{Vote}
@@ -22,7 +22,7 @@ use Rattle.tree_model.specs.declared.events.Conclusion.{Conclusion}
 use Rattle.tree_model.specs.declared.events.Input.TheVariants.{Message as MessageInput}
 use Rattle.tree_model.specs.Names.{same_case, same_ticket, same_txn, child_case, root_case, process_of}
 use Rattle.tree_model.specs.NameLaws.{same_ticket_tells}
-use Rattle.tree_model.specs.Records.{has, in_list, is_prepare, none_of}
+use Rattle.tree_model.specs.Records.{has, in_list, is_prepare, none_of, in_order}
 use Rattle.tree_model.specs.Nodes.{Version, First, Second, kept, after}
 use Rattle.tree_model.specs.Memory.{Phase, Idle, Open, Asked, Over, memory_of, undecided_of}
 use Rattle.tree_model.specs.CoordinatorRows.{acknowledges_at_once, acknowledges_at_last, Row, active_commit_with, collecting_abort_by, read_only_end, root_commits, prepared_commit_by, prepared_abort_by, posted_up, each, to_child, prepares, told_by, tells_outcome, acknowledges_abort, abort_heard_above, Reason, ByVote, ByAct, ByAbort, end_reports}
@@ -45,7 +45,7 @@ use Rattle.tree_steps.proofs.parents.Halves.{active_is_open}
 use Rattle.tree_steps.proofs.parents.Known.{clash, found_accepted, pairs_case}
 use Rattle.tree_steps.proofs.parents.Memories as by_input
 use Rattle.tree_steps.proofs.parents.Memories.{below_is, top_is}
-use Rattle.tree_steps.proofs.parents.Quiet.{Rests}
+use Rattle.tree_steps.proofs.parents.Quiet.{Rests, cleared_unrelated}
 use Rattle.tree_steps.proofs.parents.Rested as rested
 use Rattle.tree_steps.proofs.parents.Turns.{Turn, Fine}
 use Rattle.tree_steps.proofs.parents.Wires as wires
@@ -212,7 +212,7 @@ module _ (turn : Turn) (d : Case) where
     at_last : (ver : Version) (o : Outcome) (fs : List Finding) → Own
         → Quiet (acknowledges_at_last ver (seat_of place parent d) o fs)
     at_last First o fs own = nothing_sent
-    at_last Second o fs own = up_ack o fs own
+    at_last Second o fs own = up_ack o (in_order fs) own
 
     -- Messages down.
 
@@ -511,6 +511,9 @@ module _ (turn : Turn) (d : Case) where
         row_fine _ later (rest_ack u o fs i)
         (at_last h.version o (found_below place n d o fs) (own_of u (λ e. Ack e o fs) i)) (inl refl)
         (elsewhere.ended_by turn d other (end_reports h.version parent (found_below place n d o fs)))
+    turn_elsewhere _ (turns.clears i e f g) later =
+        row_fine _ later (rested.rest_same turn (by_input.forget_act turn d i)) nothing_sent (inl refl)
+        (one_forced (ClearedRecord d) refl (cleared_unrelated turn d))
     turn_elsewhere _ (turns.answers u o i e) later =
         row_fine _ later (rest_inquiry u i) (answer o i.txn u i.belongs) (inl refl) (none_written refl)
 
@@ -538,4 +541,5 @@ module _ (turn : Turn) (d : Case) where
     rests_elsewhere _ (turns.acknowledges o fs i e) = rest_outcome o i
     rests_elsewhere _ (turns.waits_for_acks u o fs i e f g) = rest_ack u o fs i
     rests_elsewhere _ (turns.ends u o fs i e f g) = rest_ack u o fs i
+    rests_elsewhere _ (turns.clears i e f g) = rested.rest_same turn (by_input.forget_act turn d i)
     rests_elsewhere _ (turns.answers u o i e) = rest_inquiry u i

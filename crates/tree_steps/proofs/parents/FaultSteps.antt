@@ -8,6 +8,7 @@ use Rattle.tree_model.specs.declared.names.Presumption.TheVariants.{PresumeAbort
 use Rattle.tree_model.specs.declared.names.ProcessId.{ProcessId}
 use Rattle.tree_model.specs.declared.messages.Message.TheVariants.{Join, Joined}
 use Rattle.tree_model.specs.declared.records.Record.{Record}
+use Rattle.tree_model.specs.declared.records.Record.TheVariants.{Cleared as ClearedRecord}
 use Rattle.tree_model.specs.declared.events.Act.TheVariants.{Begin}
 use Rattle.tree_model.specs.declared.events.Input.TheVariants.{Act as ActInput}
 use Rattle.tree_model.specs.declared.standings.Standing.TheVariants.{Active, Prepared}
@@ -51,7 +52,7 @@ use Rattle.tree_steps.proofs.parents.OwnPromised.{is_below, not_open}
 use Rattle.tree_steps.proofs.parents.OwnQuiet.{rest_nothing, rest_prepare, rest_outcome}
 use Rattle.tree_steps.proofs.parents.OwnTurns.{refuses_late, acknowledges_late}
 use Rattle.tree_steps.proofs.parents.OwnVotes.{goes_on}
-use Rattle.tree_steps.proofs.parents.Quiet.{Rests, Unrelated, rests_as}
+use Rattle.tree_steps.proofs.parents.Quiet.{Rests, Unrelated, cleared_unrelated, rests_as}
 use Rattle.tree_steps.proofs.parents.Rested as rested
 use Rattle.tree_steps.proofs.parents.Turns.{Turn, Says, p0 as half, v0 as net_part, o0 as told_outcome, r0 as reading, root as at_root}
 use Rattle.tree_steps.proofs.parents.Votes as votes
@@ -162,6 +163,19 @@ module _ (turn : Turn) where
   own_fault _ (turns.waits_for_acks u o fs i e g j) x f order =
       rests_fault _ x f order refl refl refl (rested.rest_ack turn o fs i.txn u i.hears.0 i.hears.1)
   own_fault _ (turns.ends u o fs i e g j) x f order = ends.ends turn u o fs i e j x f order.is
+  own_fault _ (turns.clears i e g j) x f order =
+      cleared_fault _ x f order refl refl refl (rested.rest_same turn (by_input.forget_act turn c i))
+    where
+      cleared_fault : (row : Row) (x f : ℕ) → Orders row x f → entries_written row.written ≡ ClearedRecord c ∷ []
+          → row.accepts ≡ [] → row.counts ≡ [] → Rests turn → Fails (row_effect c row) x f
+      cleared_fault row x f order one no_ticket no_vote r = elim (left_one x (ClearedRecord c)) [
+        | inl none ↦ nothing_appended turn (row_effect c row) x f order.is says (ap (λ l. take x l) one ∙ none)
+        | inr all ↦ appended_elsewhere turn (row_effect c row) x f order.is says (ClearedRecord c)
+            (ap (λ l. take x l) one ∙ all) (cleared_unrelated turn c)
+      ]
+        where
+          says : Hears turn (row_effect c row)
+          says = hears.of_rests turn (row_effect c row) (rw (no_ticket, no_vote) refl) r
   own_fault _ (turns.answers u o i e) x f order =
       rests_fault _ x f order refl refl refl
       (rested.rest_same turn (by_input.inquires turn (child_case i.txn u) i.hears.0 i.hears.1))
@@ -243,6 +257,7 @@ module _ (turn : Turn) where
     wrote_elsewhere _ (turns.refuses j i e) = wrote_none refl
     wrote_elsewhere _ (turns.acknowledges o fs i e) = wrote_none refl
     wrote_elsewhere _ (turns.waits_for_acks u o fs i e g j) = wrote_none refl
+    wrote_elsewhere _ (turns.clears i e f g) = one_forced _ refl (cleared_unrelated turn d)
     wrote_elsewhere _ (turns.answers u o i e) = wrote_none refl
 
     other_fault : (row : Row) → CaseTurn place parent n h d row → (x f : ℕ) → Ordered (row_effect d row) x f

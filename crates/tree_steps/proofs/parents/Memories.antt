@@ -11,7 +11,7 @@ use Rattle.tree_model.specs.declared.messages.Message.TheVariants.{Join, Joined,
 use Rattle.tree_model.specs.declared.messages.Op.{Op}
 use Rattle.tree_model.specs.declared.standings.Vote.{Vote}
 use Rattle.tree_model.specs.declared.standings.Vote.TheVariants.{Yes as VoteYes, No as VoteNo, Read as VoteRead}
-use Rattle.tree_model.specs.declared.events.Act.TheVariants.{Begin, Join as JoinAct, Work as WorkAct, Commit as CommitAct, Abort as AbortAct, Ask}
+use Rattle.tree_model.specs.declared.events.Act.TheVariants.{Begin, Join as JoinAct, Work as WorkAct, Commit as CommitAct, Abort as AbortAct, Ask, Forget}
 use Rattle.tree_model.specs.declared.events.Input.{Input}
 use Rattle.tree_model.specs.declared.events.Input.TheVariants.{Act as ActInput, Message as MessageInput}
 use Rattle.tree_model.specs.Names.{same_case, same_txn, child_case, root_case}
@@ -79,6 +79,9 @@ module _ (turn : Turn) where
 
   pub ask_act : (d : Case) → h.input ≡ ActInput (Ask d) → m' ≡ m
   ask_act d i = at_either _ m i refl (λ p. refl)
+
+  pub forget_act : (d : Case) → h.input ≡ ActInput (Forget d) → m' ≡ m
+  forget_act d i = at_either _ m i refl (λ p. refl)
 
   pub inquires : (d : Case) (j : ℕ) → h.input ≡ MessageInput j (Inquire d) → m' ≡ m
   inquires d j i = at_either _ m i refl (λ p. refl)

@@ -10,7 +10,7 @@ use Rattle.tree_model.specs.declared.records.Record.TheVariants.{End as EndRecor
 use Rattle.tree_model.specs.declared.standings.Standing.{Standing}
 use Rattle.tree_model.specs.declared.standings.Standing.TheVariants.{Unknown, Active, Collecting, Committing, Aborting}
 use Rattle.tree_model.specs.Names.{same_outcome, same_ticket, child_case}
-use Rattle.tree_model.specs.Records.{has, in_list, none_of, owing_by, is_prepare}
+use Rattle.tree_model.specs.Records.{has, in_list, none_of, owing_by, is_prepare, in_order}
 use Rattle.tree_model.specs.Nodes.{Version, First, Second, after, kept, Written, Effect}
 use Rattle.tree_model.specs.Memory.{Memory, Phase, Idle, Open, Asked, Over, takes_ack, has_acked, first_found}
 use Rattle.tree_model.specs.CoordinatorRows.{Row, quiet, plain, other_tickets, acknowledges_at_last, ends_with, end_reports, forced}
@@ -175,7 +175,7 @@ module _ (turn : Turn) where
   at_last : (ver : Version) (o : Outcome) (fs : List Finding)
       → Silent c t net (acknowledges_at_last ver (seat_of place parent c) o fs)
   at_last First o fs = simp (wires.sent-none)
-  at_last Second o fs = wires.silent-ack c t net place.me parent c (not_childs turn) o fs
+  at_last Second o fs = wires.silent-ack c t net place.me parent c (not_childs turn) o (in_order fs)
 
   -- The last ACK that is owed.
 

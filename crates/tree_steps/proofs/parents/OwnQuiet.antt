@@ -4,12 +4,13 @@ use Rattle.tree_model.specs.declared.names.Ticket.{Ticket}
 use Rattle.tree_model.specs.declared.messages.Message.TheVariants.{Prepare, Commit, Abort}
 use Rattle.tree_model.specs.declared.names.Outcome.{Outcome}
 use Rattle.tree_model.specs.declared.names.Outcome.TheVariants.{Committed as CommittedOutcome, Aborted as AbortedOutcome}
+use Rattle.tree_model.specs.declared.records.Record.{Record}
 use Rattle.tree_model.specs.declared.standings.Standing.TheVariants.{Active, Collecting}
 use Rattle.tree_model.specs.Names.{same_case, child_case, process_of}
 use Rattle.tree_model.specs.NameLaws.{same_case_tells}
 use Rattle.tree_model.specs.Nodes.{after}
 use Rattle.tree_model.specs.Memory.{Memory, Open, Asked, has_child, is_counted}
-use Rattle.tree_model.specs.CoordinatorRows.{Row, tells_outcome}
+use Rattle.tree_model.specs.CoordinatorRows.{Row, forced, tells_outcome}
 use Rattle.tree_model.specs.Reactions.{row_effect}
 use Rattle.tree_model.specs.Standings.{CoordinatorView}
 use Rattle.tree_model.specs.Views.{IsOpenAlike}
@@ -17,7 +18,7 @@ use Rattle.tree_pairs.specs.turns.CoordinatorTurns.{Rests as RestsBy, HearsChild
 use Rattle.tree_pairs.specs.turns.CoordinatorTurns as turns
 use Rattle.tree_steps.proofs.parents.Memories as by_input
 use Rattle.tree_steps.proofs.parents.Own.{v as view, active_accepted, collecting_accepted, collecting_votes}
-use Rattle.tree_steps.proofs.parents.Quiet.{DoesNothing, Rests, quiet_fine}
+use Rattle.tree_steps.proofs.parents.Quiet.{DoesNothing, Rests, Unrelated, forced_elsewhere, quiet_fine}
 use Rattle.tree_steps.proofs.parents.Rested as rested
 use Rattle.tree_steps.proofs.parents.Turns.{Turn, Fine, m as remembered}
 use Rattle.tree_steps.proofs.parents.Wires.{Silent}
@@ -42,23 +43,33 @@ module _ (turn : Turn) where
     | inr f ↦ f.0
   ]
 
+  says_nothing : (row : Row) → row.told ≡ None → row.accepts ≡ [] → row.counts ≡ []
+      → DoesNothing turn (row_effect c row)
+  says_nothing row no_told none_accepted none_counted = record {
+    accepts = rw none_accepted refl;
+    yes_votes = rw none_counted refl;
+    no_votes = rw none_counted refl;
+    read_votes = rw none_counted refl;
+    committed = rw no_told refl;
+    aborted = rw no_told refl;
+    told = rw no_told refl;
+  }
+
   pub quiet_row : (row : Row) → After row → row.written ≡ [] → row.told ≡ None → row.accepts ≡ []
       → row.counts ≡ []
       → Rests turn
       → Silent c t net row.messages → Fine turn (row_effect c row)
   quiet_row row later none no_told none_accepted none_counted r silent =
-      quiet_fine turn (row_effect c row) later.alike nothing r silent none
-    where
-      nothing : DoesNothing turn (row_effect c row)
-      nothing = record {
-        accepts = rw none_accepted refl;
-        yes_votes = rw none_counted refl;
-        no_votes = rw none_counted refl;
-        read_votes = rw none_counted refl;
-        committed = rw no_told refl;
-        aborted = rw no_told refl;
-        told = rw no_told refl;
-      }
+      quiet_fine turn (row_effect c row) later.alike (says_nothing row no_told none_accepted none_counted) r silent
+      none
+
+  -- a row that forces a record of which the pair sees nothing
+  pub aside_row : (row : Row) → After row → (s : Record) → row.written ≡ forced s → Unrelated turn s
+      → row.told ≡ None → row.accepts ≡ [] → row.counts ≡ [] → Rests turn → Silent c t net row.messages
+      → Fine turn (row_effect c row)
+  aside_row row later s one u no_told none_accepted none_counted r silent =
+      forced_elsewhere turn (row_effect c row) later.alike (says_nothing row no_told none_accepted none_counted) r
+      silent s one u
 
   open_is_active : m.phase ≡ Open → v.standing ≡ Active
   open_is_active e = (holds.alike up c).open_is_active e

@@ -29,9 +29,10 @@ use Rattle.tree_steps.proofs.parents.OwnDecided as decided
 use Rattle.tree_steps.proofs.parents.OwnDecided.{told_wire}
 use Rattle.tree_steps.proofs.parents.OwnPromised as promised
 use Rattle.tree_steps.proofs.parents.OwnPromised.{not_open, not_asked}
-use Rattle.tree_steps.proofs.parents.OwnQuiet.{After, not_childs, quiet_row, rest_nothing, rest_prepare, rest_outcome}
+use Rattle.tree_steps.proofs.parents.OwnQuiet.{After, not_childs, aside_row, quiet_row, rest_nothing, rest_prepare, rest_outcome}
 use Rattle.tree_steps.proofs.parents.OwnVotes as votes
-use Rattle.tree_steps.proofs.parents.Quiet.{begun_silent, shown}
+use Rattle.tree_model.specs.declared.records.Record.TheVariants.{Cleared as ClearedRecord}
+use Rattle.tree_steps.proofs.parents.Quiet.{begun_silent, cleared_unrelated, shown}
 use Rattle.tree_steps.proofs.parents.Rested as rested
 use Rattle.tree_steps.proofs.parents.Turns.{Turn, Fine, Fits_in, R as seen, m as remembered, p0 as half, v0 as net_part, o0 as told_outcome, r0 as reading, fine_silent}
 use Rattle.tree_steps.proofs.parents.Wires as wires
@@ -164,4 +165,7 @@ module _ (turn : Turn) where
       quiet_row turn _ later refl refl refl refl (rested.rest_ack turn o fs i.txn u i.hears.0 i.hears.1)
       (simp (wires.sent-none))
   own_turn _ (turns.ends u o fs i e f g) later = decided.ends turn u o fs i e g later
+  own_turn _ (turns.clears i e f g) later =
+      aside_row turn _ later (ClearedRecord c) refl (cleared_unrelated turn c) refl refl refl
+      (rested.rest_same turn (by_input.forget_act turn c i)) (simp (wires.sent-none))
   own_turn _ (turns.answers u o i e) later = answers u o i e (same_ticket u t) refl later

@@ -2,7 +2,9 @@
 -- forces.
 use Rattle.std.proofs.Common.{◌≡◌, ◌∙◌, ◌⊎◌, inl, inr, ℕ, Bool, true, false, ◌||◌, ◌&&◌, [], refl, sym, subst, arith}
 use Rattle.std.specs.List.{list_any}
+use Rattle.tree_model.specs.declared.names.Case.{Case}
 use Rattle.tree_model.specs.declared.records.Record.{Record}
+use Rattle.tree_model.specs.declared.records.Record.TheVariants.{Cleared as ClearedRecord}
 use Rattle.tree_model.specs.declared.standings.Vote.TheVariants.{Yes as VoteYes, No as VoteNo, Read as VoteRead}
 use Rattle.tree_model.specs.Records.{has, in_list, is_commit, is_prepare, boot_after}
 use Rattle.tree_model.specs.Nodes.{Effect, after, told_first}
@@ -110,6 +112,10 @@ module _ (turn : Turn) where
     pub same : (b : Bool) (p : ParentHalf) → wrote r c t b p ≡ p
     pub commits : is_commit c r ≡ false
     pub boot : (x : ℕ) → boot_after x r ≡ x
+
+  -- that a report was seen to, of whichever case
+  pub cleared_unrelated : (d : Case) → Unrelated (ClearedRecord d)
+  cleared_unrelated d = record { same = λ b p. refl; commits = refl; boot = λ x. refl }
 
   module _ (e : Effect) (later : IsOpenAlike turn.place (after n h e) c) (d : DoesNothing e) (s : Rests)
       (silent : Silent c t net e.messages) where

@@ -7,7 +7,7 @@ use Rattle.tree_model.specs.Nodes.{is_listed, is_child, role_of}
 use Rattle.tree_model.specs.Outcomes.{sent, is_commit_outcome, first_vote}
 use Rattle.tree_model.specs.Plays.{writes_heard}
 use Rattle.tree_model.specs.Reactions.{reacts}
-use Rattle.tree_model.specs.Records.{has, in_list, none_of, same_bytes, same_xid, same_branch, named_by, promised_by, owing_by, boot_of, has_case, cases_in}
+use Rattle.tree_model.specs.Records.{has, in_list, none_of, same_bytes, same_xid, same_branch, named_by, promised_by, owing_by, boot_of, has_case, cases_in, is_reported, mixed_of, unreported_of, decision_of}
 use Rattle.tree_model.specs.Restarts.{recorded_view, recorded_branch, trimmed}
 use Rattle.tree_model.specs.Standings.{still_owed, coordinator_view, mark_of, manager_view, found_below}
 use Rattle.tree_model.specs.Store.{key_below, with_pair, without_key, applied, writes_of, stored}
@@ -22,7 +22,7 @@ unfolding other_tickets has_child ticket_of_child voted_so has_voted all_voted y
     works_of has_acked found_of found_below findings_text active_ticket without_ticket memory_of same_process same_presumption same_outcome
     same_txn same_ticket same_owner same_case is_listed is_child role_of sent is_commit_outcome
     writes_heard reacts first_vote has in_list none_of same_bytes same_xid same_branch named_by promised_by
-    owing_by boot_of has_case cases_in recorded_view recorded_branch trimmed still_owed coordinator_view
+    owing_by boot_of has_case cases_in is_reported mixed_of unreported_of decision_of recorded_view recorded_branch trimmed still_owed coordinator_view
     mark_of manager_view key_below with_pair without_key applied writes_of stored node_makes world_makes
     made_by
     node_by net_by times_listed lists_twice has_unknown_parent parent_of has_cycle root_of has_wrong_roots

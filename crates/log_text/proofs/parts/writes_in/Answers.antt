@@ -1,7 +1,7 @@
 use Rattle.std.proofs.Common.{◌∙◌, ◌-◌, ◌+◌, sym, ap, subst, arith, Some}
 use Rattle.std.proofs.lemmas.Result.{err_from_is_err_and}
 use Rattle.log_text.specs.Parts.{write_at}
-use Rattle.log_text.proofs.Lists.{Goes, begins_with, goes_on, stops, ends, trails}
+use Rattle.log_text.proofs.Lists.{Goes, begins_with, goes_on, stops_all, ends_all, trails_all}
 use Rattle.log_text.proofs.parts.writes_in.Goals as goal
 
 pub loop-init : goal.loop-init
@@ -20,20 +20,20 @@ loop-preserved c =
 
 pub returns-then-is_empty-clause-ok : goal.returns-then-is_empty-clause-ok
 returns-then-is_empty-clause-ok c =
-    ends write_at c.args.count (c.args.count - c.loop.counter) c.args.bytes.now c.loop.rest.now
+    ends_all write_at c.args.count (c.args.count - c.loop.counter) c.args.bytes.now c.loop.rest.now
     c.loop.writes.items (omega arith)
     (sym c.is_empty.ensures ∙ c.if-is_empty.true) c.loop.invariant ∙ ap Some (sym c.from_vec.ensures)
 
 pub returns-else-is_empty-clause-err : goal.returns-else-is_empty-clause-err
 returns-else-is_empty-clause-err c =
-    λ _. trails write_at c.args.count (c.args.count - c.loop.counter) c.args.bytes.now c.loop.rest.now
+    λ _. trails_all write_at c.args.count (c.args.count - c.loop.counter) c.args.bytes.now c.loop.rest.now
     c.loop.writes.items (omega arith)
     (sym c.is_empty.ensures ∙ c.if-is_empty.false) c.loop.invariant
 
 pub returns-in_err-write-clause-err : goal.returns-in_err-write-clause-err
 returns-in_err-write-clause-err c =
     let p = err_from_is_err_and c.from_residual.result c.from_residual.ensures.1 in
-    rw (p.1, p.2) (λ m. stops write_at c.args.count (c.args.count - c.loop.counter)
+    rw (p.1, p.2) (λ m. stops_all write_at c.args.count (c.args.count - c.loop.counter)
     (c.args.count - (c.loop.counter + 1)) c.args.bytes.now c.loop.rest.now c.loop.writes.items
     (omega arith)
     c.loop.invariant (c.in_err-write.ensures.err m))

@@ -4,6 +4,6 @@ use Rattle.tree_worked.proofs.definitions.root_views_follow_the_table.Goals as g
 
 pub returns : goal.returns
 returns c = record {
-  rows = λ me tree n x. root_views me tree n x;
-  begins = λ me tree n p a. root_begins me tree n p a;
+  rows = λ ver me tree n x. root_views ver me tree n x;
+  begins = λ ver me tree n p a. root_begins ver me tree n p a;
 }

@@ -16,4 +16,4 @@ returns-clause-ok c =
     ++ record { ticket = c.args.ticket; works = 0; vote = None } ∷ [] = search rules in
     rw (← c.self.view_is) (accepts c.self.inside.standing c.self.inside.children.items
     c.push_reserved.new.self.items c.self.inside.promised.items c.self.inside.named.items
-    c.self.inside.owed.items c.args.ticket pushed)
+    c.self.inside.owed.items c.self.inside.found.items c.args.ticket pushed)

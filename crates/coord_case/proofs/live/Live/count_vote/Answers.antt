@@ -16,4 +16,4 @@ returns c =
     (votes_in c.self.inside.children.items) c.args.ticket.now ≡ true =
     ap (λ v. is_counted v.accepted v.votes c.args.ticket.now) c.self.view_is ∙ c.requires in
     rw (c.set_vote.ensures.items, ← c.self.view_is) (counts-vote c.self.inside.standing
-    c.self.inside.children.items _ _ _ c.args.ticket.now c.args.vote counted)
+    c.self.inside.children.items _ _ _ _ c.args.ticket.now c.args.vote counted)

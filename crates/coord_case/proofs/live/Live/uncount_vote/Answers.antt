@@ -12,4 +12,4 @@ invariant_of-self c =
 pub returns : goal.returns
 returns c =
     rw (c.set_vote.ensures.items, ← c.self.view_is) (uncounts-vote c.self.inside.standing
-    c.self.inside.children.items _ _ _ c.args.ticket.now c.self.invariant)
+    c.self.inside.children.items _ _ _ _ c.args.ticket.now c.self.invariant)

@@ -1,4 +1,4 @@
-use Rattle.std.proofs.Common.{rules, ◌≡◌, Some}
+use Rattle.std.proofs.Common.{rules}
 use Rattle.core_model.specs.Turns.{inquiry_turn}
 use Rattle.coord_table.specs.declared.asked.Asked.TheVariants.{Inquire}
 use Rattle.coord_core.specs.declared.turn.Turn.TheVariants.{Presumes}

@@ -1,6 +1,6 @@
 use Rattle.std.proofs.Common.{rules, []}
 use Rattle.core_model.specs.Inputs.{input_of}
-use Rattle.coord_core.specs.declared.turn.Turn.TheVariants.{Begins, Issues, Takes, Answers, Repeats, Presumes, Nothing}
+use Rattle.coord_core.specs.declared.turn.Turn.TheVariants.{Begins, Issues, Takes, Clears, Answers, Repeats, Presumes, Nothing}
 use Rattle.coord_core.specs.States.{state}
 use Rattle.coord_core.specs.Meets.{Meets, RetiresAs, RetiresNone, meant}
 use Rattle.coord_core.specs.Turned.{Turned}
@@ -36,6 +36,14 @@ returns-in-Takes-clause-ok g c =
     (λ i reaction. Turned (state c.args.self.now) (state c.takes.new.self)
     i (meant c.args.self.now (Takes c.in-Takes.key c.in-Takes.case c.in-Takes.asked)) reaction)
     c.takes.result c.takes.ensures.ok (input_of c.args.input) meets.may.retiring)
+
+pub returns-in-Clears-clause-ok : goal.returns-in-Clears-clause-ok
+returns-in-Clears-clause-ok g c =
+    let meets : Meets c.args.self.now (input_of c.args.input) (Clears c.in-Clears.case) = search rules in
+    step_ok c.args.self.now (state c.clears.new.self) (input_of c.args.input) (Clears c.in-Clears.case)
+    c.clears.result meets (for_input RetiresNone (λ i reaction. Turned (state c.args.self.now)
+    (state c.clears.new.self) i (meant c.args.self.now (Clears c.in-Clears.case)) reaction) c.clears.result
+    c.clears.ensures.ok (input_of c.args.input) meets.may.retiring)
 
 pub returns-in-Answers-clause-ok : goal.returns-in-Answers-clause-ok
 returns-in-Answers-clause-ok g c =

@@ -1,6 +1,10 @@
-use Rattle.std.proofs.Common.{sym, subst}
+use Rattle.std.proofs.Common.{◌≡◌, [], sym, subst}
+use Rattle.tree_model.specs.declared.names.Outcome.TheVariants.{Aborted}
 use Rattle.tree_model.specs.declared.messages.Message.TheVariants.{Abort}
-use Rattle.sub_core.specs.Subordinates.{Hears, SubState, seen}
+use Rattle.tree_model.specs.Standings.{unknown_findings}
+use Rattle.core_model.specs.Turns.{this_version}
+use Rattle.sub_deeds.specs.Replies.{shown}
+use Rattle.sub_core.specs.Subordinates.{Hears, SubState, acknowledged, seen}
 use Rattle.sub_core.proofs.Staying.{heard, abort_unknown}
 use Rattle.sub_core.proofs.subordinate.Subordinate.abort.Goals as goal
 
@@ -14,8 +18,13 @@ returns-in_default-clause-ok g c =
       table = c.self.inside.branches;
       manager = g.M.ResourceManager.sight c.self.inside.manager;
     } in
+    let said : c.in_ok-unreported.field-0 ≡ shown []
+    (acknowledged s.me s.parent c.args.case Aborted (unknown_findings this_version c.args.case)) =
+    subst (λ v. c.in_ok-unreported.field-0 ≡ shown []
+    (acknowledged v.me v.parent c.args.case Aborted (unknown_findings this_version c.args.case)))
+    (sym c.self.view_is) c.in_ok-unreported.ensures in
     subst (λ v. Hears (seen g.M.ResourceManager.sight v) (seen g.M.ResourceManager.sight v)
-    (Abort c.args.case) c.in_ok-acknowledges.field-0) c.self.view_is
-    (subst (λ r. Hears s s (Abort c.args.case) r) (sym c.in_ok-acknowledges.ensures)
+    (Abort c.args.case) c.in_ok-unreported.field-0) c.self.view_is
+    (subst (λ r. Hears s s (Abort c.args.case) r) (sym said)
     (heard s c.args.case (Abort c.args.case) _
     (abort_unknown s c.args.case c.in_default.ensures.kept c.in_default.ensures.finds)))

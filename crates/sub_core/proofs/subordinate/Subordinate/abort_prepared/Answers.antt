@@ -1,11 +1,13 @@
-use Rattle.std.proofs.Common.{sym, ap, subst}
+use Rattle.std.proofs.Common.{◌≡◌, [], sym, ap, subst}
 use Rattle.xa_tables.specs.declared.call.Call.TheVariants as call
+use Rattle.tree_model.specs.declared.names.Outcome.TheVariants.{Aborted as AbortedOutcome}
 use Rattle.tree_model.specs.declared.messages.Message.TheVariants.{Abort}
+use Rattle.tree_model.specs.declared.records.RecordKind.TheVariants as kind
 use Rattle.sub_deeds.specs.Deeds.{can_roll_back}
 use Rattle.manager_model.specs.Sights.{ManagerSight}
 use Rattle.sub_branch.specs.declared.branch.Branch.{Branch}
 use Rattle.sub_table.specs.Tables.{IsKept}
-use Rattle.sub_core.specs.Subordinates.{Hears, IsAt, NotHeard, SubState, prepared, seen}
+use Rattle.sub_core.specs.Subordinates.{Hears, IsAt, NotHeard, SubState, outcome_reply, prepared, seen}
 use Rattle.sub_core.proofs.Ties.{behind}
 use Rattle.sub_core.proofs.Outcomes.{ended, ended_tied, not_ended, rolled_row}
 use Rattle.sub_core.proofs.subordinate.Subordinate.abort_prepared.Goals as goal
@@ -65,9 +67,13 @@ returns-in-Ok-clause-ok g c =
     let m : ManagerSight = g.M.ResourceManager.sight c.roll_back.new.manager in
     let ends = rolled_row s c.args.key c.args.case c.args.xid
     (subst (λ v. IsKept v.table) (sym c.self.view_is) c.requires.kept) at in
+    let said : c.in_ok-reaction.reaction
+    ≡ outcome_reply kind.RolledBack c.args.case AbortedOutcome [] c.self.inside.me c.self.inside.parent =
+    subst (λ fs. c.in_ok-reaction.reaction ≡ outcome_reply kind.RolledBack c.args.case AbortedOutcome fs
+    c.self.inside.me c.self.inside.parent) c.new.ensures c.in_ok-reaction.ensures in
     subst (λ v. Hears (seen g.M.ResourceManager.sight v) (behind s c.remove.new.self m) (Abort c.args.case)
     c.in_ok-reaction.reaction) c.self.view_is
-    (subst (λ r. Hears s (behind s c.remove.new.self m) (Abort c.args.case) r) (sym c.in_ok-reaction.ensures)
+    (subst (λ r. Hears s (behind s c.remove.new.self m) (Abort c.args.case) r) (sym said)
     (ended s c.args.key c.args.case b (Abort c.args.case) call.Rollback _ c.self.invariant at ends
     c.remove.new.self m c.remove.ensures c.in-Ok.ensures.ok))
 

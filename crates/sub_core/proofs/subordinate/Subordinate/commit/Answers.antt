@@ -1,7 +1,11 @@
-use Rattle.std.proofs.Common.{sym, subst}
+use Rattle.std.proofs.Common.{◌≡◌, [], sym, subst}
+use Rattle.tree_model.specs.declared.names.Outcome.TheVariants.{Committed}
 use Rattle.tree_model.specs.declared.messages.Message.TheVariants.{Commit}
+use Rattle.tree_model.specs.Standings.{unknown_findings}
+use Rattle.core_model.specs.Turns.{this_version}
+use Rattle.sub_deeds.specs.Replies.{shown}
 use Rattle.sub_branch.specs.declared.branch.Stage.{Stage}
-use Rattle.sub_core.specs.Subordinates.{Hears, IsAt, SubState, seen}
+use Rattle.sub_core.specs.Subordinates.{Hears, IsAt, SubState, acknowledged, seen}
 use Rattle.sub_core.proofs.Staying.{heard, commit_active, commit_unknown}
 use Rattle.sub_core.proofs.subordinate.Subordinate.commit.Goals as goal
 
@@ -15,9 +19,14 @@ returns-in_default-clause-ok g c =
       table = c.self.inside.branches;
       manager = g.M.ResourceManager.sight c.self.inside.manager;
     } in
+    let said : c.in_ok-unreported.field-0 ≡ shown []
+    (acknowledged s.me s.parent c.args.case Committed (unknown_findings this_version c.args.case)) =
+    subst (λ v. c.in_ok-unreported.field-0 ≡ shown []
+    (acknowledged v.me v.parent c.args.case Committed (unknown_findings this_version c.args.case)))
+    (sym c.self.view_is) c.in_ok-unreported.ensures in
     subst (λ v. Hears (seen g.M.ResourceManager.sight v) (seen g.M.ResourceManager.sight v)
-    (Commit c.args.case) c.in_ok-acknowledges.field-0) c.self.view_is
-    (subst (λ r. Hears s s (Commit c.args.case) r) (sym c.in_ok-acknowledges.ensures)
+    (Commit c.args.case) c.in_ok-unreported.field-0) c.self.view_is
+    (subst (λ r. Hears s s (Commit c.args.case) r) (sym said)
     (heard s c.args.case (Commit c.args.case) _
     (commit_unknown s c.args.case c.in_default.ensures.kept c.in_default.ensures.finds)))
 

@@ -1,4 +1,4 @@
-use Rattle.std.proofs.Common.{◌≡◌, ◌∷◌, [], List, None, sym, subst}
+use Rattle.std.proofs.Common.{◌≡◌, List, None, sym, subst}
 use Rattle.xa_codes.specs.declared.code.Code.TheVariants as code
 use Rattle.tree_model.specs.declared.records.Logged.{Logged}
 use Rattle.core_model.specs.Restarting.{Restarts}

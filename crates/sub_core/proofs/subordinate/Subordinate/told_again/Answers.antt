@@ -1,11 +1,15 @@
-use Rattle.std.proofs.Common.{◌≡◌, Some, true, false, rules, sym, subst}
+use Rattle.std.proofs.Common.{◌≡◌, Some, true, false, [], rules, sym, subst}
 use Rattle.tree_model.specs.Names.{same_outcome}
 use Rattle.tree_model.specs.CoordinatorRows.{tells_outcome}
 use Rattle.sub_table.specs.Tables.{IsKept}
-use Rattle.sub_core.specs.Subordinates.{Hears, IsAt, SubState, decided, seen}
+use Rattle.sub_deeds.specs.Replies.{shown}
+use Rattle.sub_core.specs.Subordinates.{Hears, IsAt, SubState, acknowledged, decided, decided_found, seen}
 use Rattle.sub_core.proofs.Staying.{heard}
 use Rattle.sub_core.proofs.Decisions.{told_other, told_same}
 use Rattle.sub_core.proofs.subordinate.Subordinate.told_again.Goals as goal
+
+pub findings-requires : goal.findings-requires
+findings-requires g c = record { at = (c.requires.at.0, Some c.args.told, c.requires.at.1) }
 
 pub returns-in_ok-acknowledges-clause-ok : goal.returns-in_ok-acknowledges-clause-ok
 returns-in_ok-acknowledges-clause-ok g c =
@@ -18,15 +22,22 @@ returns-in_ok-acknowledges-clause-ok g c =
       manager = g.M.ResourceManager.sight c.self.inside.manager;
     } in
     let key = c.requires.at.0 in
-    let x = c.requires.at.1 in
+    let x = c.args.xid.now in
     let at : IsAt s.table key c.args.case (decided x (Some c.args.told)) =
     subst (λ v. IsAt v.table key c.args.case (decided x (Some c.args.told)))
-    (sym c.self.view_is) c.requires.at.2 in
+    (sym c.self.view_is) c.requires.at.1 in
     let kept : IsKept s.table = subst (λ v. IsKept v.table) (sym c.self.view_is) c.requires.kept in
     let same : same_outcome c.args.told c.args.outcome ≡ true = search rules in
+    let found : c.in_ok-found.found ≡ decided_found s c.args.case c.args.outcome =
+    subst (λ v. c.in_ok-found.found ≡ decided_found (seen g.M.ResourceManager.sight v)
+    c.args.case c.args.outcome) (sym c.self.view_is) c.in_ok-found.ensures in
+    let said : c.in_ok-acknowledges.field-0 ≡ shown []
+    (acknowledged s.me s.parent c.args.case c.args.outcome (decided_found s c.args.case c.args.outcome)) =
+    subst (λ fs. c.in_ok-acknowledges.field-0 ≡ shown []
+    (acknowledged s.me s.parent c.args.case c.args.outcome fs)) found c.in_ok-acknowledges.ensures in
     subst (λ v. Hears (seen g.M.ResourceManager.sight v) (seen g.M.ResourceManager.sight v)
     (tells_outcome c.args.outcome c.args.case) c.in_ok-acknowledges.field-0) c.self.view_is
-    (subst (λ r. Hears s s (tells_outcome c.args.outcome c.args.case) r) (sym c.in_ok-acknowledges.ensures)
+    (subst (λ r. Hears s s (tells_outcome c.args.outcome c.args.case) r) (sym said)
     (heard s c.args.case (tells_outcome c.args.outcome c.args.case) _
     (told_same s key c.args.case x c.args.told c.args.outcome kept at same)))
 
@@ -41,10 +52,10 @@ returns-else-is_same-clause-ok g c =
       manager = g.M.ResourceManager.sight c.self.inside.manager;
     } in
     let key = c.requires.at.0 in
-    let x = c.requires.at.1 in
+    let x = c.args.xid.now in
     let at : IsAt s.table key c.args.case (decided x (Some c.args.told)) =
     subst (λ v. IsAt v.table key c.args.case (decided x (Some c.args.told)))
-    (sym c.self.view_is) c.requires.at.2 in
+    (sym c.self.view_is) c.requires.at.1 in
     let kept : IsKept s.table = subst (λ v. IsKept v.table) (sym c.self.view_is) c.requires.kept in
     let other : same_outcome c.args.told c.args.outcome ≡ false = search rules in
     subst (λ v. Hears (seen g.M.ResourceManager.sight v) (seen g.M.ResourceManager.sight v)

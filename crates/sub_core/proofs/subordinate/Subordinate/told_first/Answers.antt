@@ -1,13 +1,17 @@
-use Rattle.std.proofs.Common.{None, refl, sym, ap, subst}
+use Rattle.std.proofs.Common.{◌≡◌, None, refl, sym, ap, subst}
+use Rattle.tree_model.specs.declared.records.RecordKind.TheVariants as kind
 use Rattle.tree_model.specs.CoordinatorRows.{tells_outcome}
 use Rattle.live_table.specs.Tables.{value_of}
 use Rattle.manager_model.specs.Sights.{ManagerSight}
 use Rattle.sub_branch.specs.declared.branch.Branch.{Branch}
 use Rattle.sub_table.specs.Tables.{IsKept}
-use Rattle.sub_core.specs.Subordinates.{Hears, IsAt, NotHeard, SubState, decided, seen}
+use Rattle.sub_core.specs.Subordinates.{Hears, IsAt, NotHeard, SubState, decided, decided_found, outcome_reply, seen}
 use Rattle.sub_core.proofs.Ties.{behind}
 use Rattle.sub_core.proofs.Decisions.{not_told, told_first, told_tied}
 use Rattle.sub_core.proofs.subordinate.Subordinate.told_first.Goals as goal
+
+pub findings-requires : goal.findings-requires
+findings-requires g c = record { at = (c.args.key, None, c.requires.at) }
 
 pub tell-requires-clause-named : goal.tell-requires-clause-named
 tell-requires-clause-named g c =
@@ -63,10 +67,17 @@ returns-in-Ok-clause-ok g c =
     subst (λ v. IsAt v.table c.args.key c.args.case b) (sym c.self.view_is) c.requires.at in
     let kept : IsKept s.table = subst (λ v. IsKept v.table) (sym c.self.view_is) c.requires.kept in
     let m : ManagerSight = g.M.ResourceManager.sight c.tell.new.manager in
+    let found : c.in_ok-found.found ≡ decided_found s c.args.case c.args.outcome =
+    subst (λ v. c.in_ok-found.found ≡ decided_found (seen g.M.ResourceManager.sight v)
+    c.args.case c.args.outcome) (sym c.self.view_is) c.in_ok-found.ensures in
+    let said : c.in_ok-reaction.reaction ≡ outcome_reply kind.Told c.args.case c.args.outcome
+    (decided_found s c.args.case c.args.outcome) s.me s.parent =
+    subst (λ fs. c.in_ok-reaction.reaction ≡ outcome_reply kind.Told c.args.case c.args.outcome fs
+    s.me s.parent) found c.in_ok-reaction.ensures in
     subst (λ v. Hears (seen g.M.ResourceManager.sight v) (behind s c.decide.new.self m)
     (tells_outcome c.args.outcome c.args.case) c.in_ok-reaction.reaction) c.self.view_is
     (subst (λ r. Hears s (behind s c.decide.new.self m) (tells_outcome c.args.outcome c.args.case) r)
-    (sym c.in_ok-reaction.ensures)
+    (sym said)
     (told_first s c.args.key c.args.case c.args.xid c.args.outcome c.self.invariant kept at c.decide.new.self
     m c.decide.ensures c.in-Ok.ensures.ok))
 

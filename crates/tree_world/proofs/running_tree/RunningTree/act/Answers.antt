@@ -1,4 +1,4 @@
-use Rattle.std.proofs.Common.{refl, rules}
+use Rattle.std.proofs.Common.{rules}
 use Rattle.tree_world.proofs.Acting.{act_stopped, acted}
 use Rattle.tree_world.proofs.running_tree.RunningTree.act.Goals as goal
 

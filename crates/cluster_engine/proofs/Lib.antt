@@ -1,0 +1,5 @@
+pub mod Tellings
+pub mod Tracing
+pub mod Making
+pub mod Repeating
+pub mod Reporting

@@ -1,0 +1,15 @@
+use Rattle.std.proofs.Common.{subst, sym}
+use Rattle.link_script.specs.Inputs.{IsScript}
+use Rattle.tree_engine.proofs.TreeReports.{script_tree}
+use Rattle.cluster_engine.proofs.Reporting.{reported}
+use Rattle.cluster_engine.proofs.engine.report.Goals as goal
+
+pub run_script-requires-clause-tree : goal.run_script-requires-clause-tree
+run_script-requires-clause-tree g c =
+    λ κs below. script_tree c.args.input.now c.in-Ok.tree c.in-Ok.events.items c.in-Ok.ensures.ok
+
+pub returns-in-Ok-clause-report : goal.returns-in-Ok-clause-report
+returns-in-Ok-clause-report g c =
+    reported (λ r. r.0.items) c.args.output c.args.input.now c.in-Ok.tree c.deref.result.now c.run_script.result
+    (subst (λ es. IsScript c.args.input.now c.in-Ok.tree es) (sym c.deref.ensures.value) c.in-Ok.ensures.ok)
+    c.run_script.ensures.text

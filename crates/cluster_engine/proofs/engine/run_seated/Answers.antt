@@ -1,0 +1,24 @@
+use Rattle.std.proofs.Common.{◌∙◌, refl, subst, sym}
+use Rattle.tree_model.specs.Trees.{root_of}
+use Rattle.tree_cluster.specs.Opening.{SeatsTree}
+use Rattle.cluster_engine.specs.Made.{FirstMade}
+use Rattle.cluster_engine.proofs.Reporting.{closed_written}
+use Rattle.cluster_engine.proofs.engine.run_seated.Goals as goal
+
+pub new-requires-clause-seats : goal.new-requires-clause-seats
+new-requires-clause-seats g c =
+    subst (λ t. SeatsTree g.N.Seats.table g.N.Seats.tree t c.args.opened.ties.shared.table_id
+    c.args.opened.ties.shared.key.items)
+    (sym (c.in_ok-copy.ensures ∙ c.entries.ensures)) c.requires.seats
+
+pub closed_text-requires : goal.closed_text-requires
+closed_text-requires g c = (c.requires.seats.tree_is, c.requires.seats.is_tree)
+
+pub returns-in-None-clause-text : goal.returns-in-None-clause-text
+returns-in-None-clause-text g c =
+    closed_written (λ r. r.0.items) c.args.output c.args.tree c.args.events.now c.args.workers
+    c.as_mut_slice-passes.result.now c.play.new.passes c.closed_text.result c.requires.workers.0
+    (c.as_mut_slice-passes.ensures.value ∙ c.in-Ok.ensures)
+    (subst (λ t. FirstMade (root_of t) c.args.events.now c.as_mut_slice-passes.result.now c.play.new.passes)
+    (sym c.requires.seats.tree_is) (c.in-None.ensures.made refl))
+    c.closed_text.ensures.text

@@ -1,0 +1,4 @@
+pub mod Told
+pub mod Made
+pub mod Replays
+pub mod Reports

@@ -1,0 +1,110 @@
+-- What the engine of `rstar run` writes.
+use Rattle.std.specs.Prelude.{◌≡◌, ◌+◌, ◌<◌, ◌⊎◌, ℕ, Option, Some, None, List, [], ◌∷◌, ◌++◌, codes, length}
+use Rattle.tree_model.specs.declared.events.Entry.{Entry}
+use Rattle.tree_model.specs.declared.events.Event.{Event}
+use Rattle.tree_model.specs.declared.records.LogRecord.{LogRecord}
+use Rattle.tree_model.specs.declared.trees.TreeEntry.{TreeEntry}
+use Rattle.tree_model.specs.Errors.{step_error_number}
+use Rattle.tree_model.specs.Trees.{root_of}
+use Rattle.trace_lines.specs.Trace.{entries_text}
+use Rattle.link_script.specs.Inputs.{IsScript}
+use Rattle.report_io.specs.declared.status.Status.{Status}
+use Rattle.report_io.specs.declared.status.Status.TheVariants.{Ended, Refused, Stopped}
+use Rattle.tree_ties.specs.Views.{entries_in}
+use Rattle.tree_threads.specs.Passes.{PassState}
+use Rattle.tree_threads.specs.declared.errors.PostError.{PostError}
+use Rattle.tree_threads.specs.declared.errors.PostError.TheVariants.{Stranger, JournalFull, Step, Memory}
+use Rattle.tree_cluster.specs.Closing.{AreMet, IsClosed, IsMet}
+use Rattle.tree_cluster.specs.Passes.{new_pass}
+use Rattle.tree_engine.specs.Trees.{RefusesScript, opened_text, refused_text}
+use Rattle.cluster_engine.specs.declared.engine.Output.{Output}
+use Rattle.cluster_engine.specs.declared.engine.Output.TheVariants.{Told, Trace}
+use Rattle.cluster_engine.specs.Told.{TellsAll}
+use Rattle.cluster_engine.specs.Made.{AreMade}
+use Rattle.cluster_engine.specs.Replays.{Replays}
+
+-- the last line: the journal, made once more on one thread, left the same logs, or others
+abbrev pub same_line : List ℕ
+same_line = codes "replay same" ++ 10 ∷ []
+
+abbrev pub different_line : List ℕ
+different_line = codes "replay different" ++ 10 ∷ []
+
+-- the journal as a trace
+abbrev pub journal_text : List TreeEntry → List (ℕ × Entry) → List ℕ
+journal_text tree journal =
+    (opened_text tree ++ entries_text 0 (entries_in journal)) ++ (codes "end" ++ 10 ∷ [])
+
+-- what was told, by boot and sequence, and behind it this line
+abbrev pub TellsJournal : List (ℕ × Entry) → List ℕ → List ℕ → Type 0
+TellsJournal journal last text = (lines : List ℕ) × TellsAll journal lines × (text ≡ lines ++ last)
+
+-- what is written of a journal and the logs left, where nothing is wrong
+abbrev pub TellsWhole : Output → List TreeEntry → List (ℕ × Entry) → List (List LogRecord) → List ℕ → Type 0
+TellsWhole Told tree journal logs text = TellsJournal journal same_line text × Replays tree journal logs
+TellsWhole Trace tree journal logs text = text ≡ journal_text tree journal
+
+-- what is written of them, by how the run ends
+abbrev pub Tells : Output → Status → List TreeEntry → List (ℕ × Entry) → List (List LogRecord) → List ℕ → Type 0
+Tells output Ended tree journal logs text = TellsWhole output tree journal logs text
+Tells output Stopped tree journal logs text = (output ≡ Told) × TellsJournal journal different_line text
+Tells output Refused tree journal logs text = ⊥
+
+-- A cluster of this tree was closed with these passes: the text tells its journal.
+pub record TellsClosed (output : Output) (status : Status) (tree : List TreeEntry) (passes : List PassState)
+    (text : List ℕ) : Type 0 where
+  pub journal : List (ℕ × Entry)
+  pub logs : List (List LogRecord)
+  pub closed : IsClosed tree journal logs
+  pub met : AreMet journal passes
+  pub tells : Tells output status tree journal logs text
+
+-- The text tells the journal of a closed cluster on this tree. It is a run of the tree, of which the headline holds,
+-- and the logs are those that it leaves. These events were made with one pass, in order, and the journal has each
+-- pair of that pass, under its caller's number.
+pub record RunsTree (output : Output) (status : Status) (tree : List TreeEntry) (events : List Event)
+    (text : List ℕ) : Type 0 where
+  pub journal : List (ℕ × Entry)
+  pub logs : List (List LogRecord)
+  pub closed : IsClosed tree journal logs
+  pub pass : PassState
+  pub made : AreMade (root_of tree) events (new_pass 0) pass
+  pub met : IsMet journal pass
+  pub tells : Tells output status tree journal logs text
+
+-- the number of a refusal as it is printed: a step's own; 9 for what the journal has not; 10 where it is full
+abbrev pub refusal_number : PostError → Option ℕ
+refusal_number Stranger = Some 9
+refusal_number JournalFull = Some 10
+refusal_number (Step e) = Some (step_error_number e)
+refusal_number Memory = None
+
+-- the text is the one line of an event that was refused so, behind so many that were made
+pub record RefusesBehind (made : ℕ) (text : List ℕ) : Type 0 where
+  pub why : PostError
+  pub number : ℕ
+  pub number_is : refusal_number why ≡ Some number
+  pub line : text ≡ refused_text (made + 1) number
+
+-- the text is the one line of one of these events, which was refused
+abbrev pub RefusesOne : List Event → List ℕ → Type 0
+RefusesOne events text = (made : ℕ) × (made < length events) × RefusesBehind made text
+
+-- what is written of a tree and its events, by how the run ends
+abbrev pub Writes : Output → Status → List TreeEntry → List Event → List ℕ → Type 0
+Writes output Ended tree events text = RunsTree output Ended tree events text
+Writes output Stopped tree events text = RefusesOne events text ⊎ RunsTree output Stopped tree events text
+Writes output Refused tree events text = ⊥
+
+-- the input is a script, and this is written of its tree and its events
+pub record RunsScript (output : Output) (status : Status) (input text : List ℕ) : Type 0 where
+  pub tree : List TreeEntry
+  pub events : List Event
+  pub script : IsScript input tree events
+  pub writes : Writes output status tree events text
+
+-- what is written of an input, by how the run ends
+abbrev pub IsClusterReport : Output → Status → List ℕ → List ℕ → Type 0
+IsClusterReport output Ended input text = RunsScript output Ended input text
+IsClusterReport output Stopped input text = RunsScript output Stopped input text
+IsClusterReport output Refused input text = RefusesScript input text

@@ -1,0 +1,15 @@
+//! Floor: engines and program.
+//!
+//! The engine of `rstar run`: a script whose processes run at the same time, and what comes of it.
+#![tactic(auto)]
+
+mod ending;
+mod engine;
+mod player;
+mod records;
+mod replay;
+mod told;
+mod trace;
+
+pub use engine::{Output, run_cluster};
+pub use replay::is_replayed;

@@ -1,0 +1,156 @@
+//! The events of a script, made by one caller; the others deliver.
+
+ghost use Rattle.std.specs.Prelude.{◌≡◌, ◌<◌, IfSome, OnOk, length};
+ghost use Rattle.tree_model.specs.Trees.{root_of as root_in};
+ghost use Rattle.cluster_engine.specs.Made.{AreMade, FirstMade, IsMade, IsPosted};
+
+use std::alloc::Global;
+use std::sync::Wait;
+use std::thread;
+use std::thread::Threads;
+use tree_cluster::{Cluster, Rounds};
+use tree_model::Event;
+use tree_threads::{Gate, Pass, PostError};
+use tree_ties::seats::Seats;
+
+/// How many events were made, and why the next was refused; or none was.
+pub(crate) type Refusal = Option<(usize, PostError)>;
+
+/// Posts an event.
+fn post<N: Seats, R: Wait, G: Gate>(
+    rt: &R,
+    alloc: Global,
+    cluster: &Cluster<N>,
+    event: &Event,
+    gate: &G,
+    pass: &mut Pass<N>,
+) -> Result<(), PostError>
+    ensures { OnOk result (IsPosted (root_in N.tree) event.now pass.old pass.new) }
+{
+    let copy = event.copied(alloc)?;
+    cluster.post(rt, copy, pass, gate)?;
+    Ok(())
+}
+
+/// Makes an event: a settle is a round of all workers.
+fn make<N: Seats, R: Wait, G: Gate>(
+    rt: &R,
+    alloc: Global,
+    cluster: &Cluster<N>,
+    rounds: &Rounds,
+    event: &Event,
+    gate: &G,
+    pass: &mut Pass<N>,
+) -> Result<(), PostError>
+    ensures { OnOk result (IsMade (root_in N.tree) event.now pass.old pass.new) }
+{
+    match event {
+        Event::Settle => cluster.settle(rt, rounds, pass, gate),
+        _ => post(rt, alloc, cluster, event, gate, pass),
+    }
+}
+
+/// Makes these events, in order, up to the first that is refused.
+fn make_all<N: Seats, R: Wait, G: Gate>(
+    rt: &R,
+    alloc: Global,
+    cluster: &Cluster<N>,
+    rounds: &Rounds,
+    events: &[Event],
+    gate: &G,
+    pass: &mut Pass<N>,
+) -> Refusal
+    ensures made { result ≡ None → AreMade (root_in N.tree) events.now pass.old pass.new }
+    ensures within { IfSome result (λ r. r.0 < length events.now) }
+{
+    for (made, event) in events.iter().enumerate() {
+        if let Err(why) = make(rt, alloc, cluster, rounds, event, gate, pass) {
+            return Some((made, why));
+        }
+    }
+    None
+}
+
+/// The call that leads a run: it makes the script's events, and lets the workers go.
+fn lead<N: Seats, R: Wait, G: Gate>(
+    rt: &R,
+    alloc: Global,
+    cluster: &Cluster<N>,
+    rounds: &Rounds,
+    events: &[Event],
+    gate: &G,
+    pass: &mut Pass<N>,
+) -> Refusal
+    ensures made { result ≡ None → AreMade (root_in N.tree) events.now pass.old pass.new }
+    ensures within { IfSome result (λ r. r.0 < length events.now) }
+{
+    cluster.lead(rounds);
+    let refusal = make_all(rt, alloc, cluster, rounds, events, gate, pass);
+    cluster.dismiss(rt, rounds);
+    refusal
+}
+
+/// The workers of a run, one for each of these passes.
+fn serve<N: Seats + Send + Sync, R: Threads + Wait + Sync, G: Gate + Sync>(
+    rt: &R,
+    cluster: &Cluster<N>,
+    rounds: &Rounds,
+    gate: &G,
+    passes: &mut [Pass<N>],
+) {
+    let threads = passes.len();
+    if threads > 0 {
+        thread::for_each_mut(
+            rt,
+            passes,
+            threads,
+            &|_place, pass: &mut Pass<N>| cluster.serve(rt, rounds, pass, gate),
+        );
+    }
+}
+
+/// Makes these events with the first pass, while workers with the others deliver.
+fn lead_and_serve<'a, N: Seats + Send + Sync, R: Threads + Wait + Sync, G: Gate + Sync>(
+    rt: &'a R,
+    alloc: Global,
+    cluster: &'a Cluster<N>,
+    rounds: &'a Rounds,
+    events: &'a [Event],
+    gate: &'a G,
+    first: &'a mut Pass<N>,
+    others: &'a mut [Pass<N>],
+) -> Refusal
+    ensures made { result ≡ None → AreMade (root_in N.tree) events.now first.old first.new }
+    ensures within { IfSome result (λ r. r.0 < length events.now) }
+{
+    let (_, refusal) = thread::join_mut(
+        rt,
+        &mut || serve(rt, cluster, rounds, gate, others),
+        &mut || lead(rt, alloc, cluster, rounds, events, gate, first),
+    );
+    refusal
+}
+
+/// Makes the script's events, by one caller; each other pass is a worker's. Threads are made once.
+pub(crate) fn play<N: Seats + Send + Sync, R: Threads + Wait + Sync, G: Gate + Sync>(
+    rt: &R,
+    alloc: Global,
+    cluster: &Cluster<N>,
+    events: &[Event],
+    gate: &G,
+    passes: &mut [Pass<N>],
+) -> Refusal
+    requires { 0 < length passes.old }
+    ensures made { result ≡ None → FirstMade (root_in N.tree) events.now passes.old passes.new }
+    ensures within { IfSome result (λ r. r.0 < length events.now) }
+{
+    let rounds = Rounds::new();
+    let Some((first, others)) = passes.split_first_mut() else {
+        unreachable!()
+    };
+    if others.is_empty() {
+        lead(rt, alloc, cluster, &rounds, events, gate, first)
+    } else {
+        lead_and_serve(rt, alloc, cluster, &rounds, events, gate, first, others)
+    }
+}

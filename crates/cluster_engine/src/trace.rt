@@ -1,0 +1,86 @@
+//! The journal as a trace.
+
+ghost use Rattle.std.specs.Prelude.{◌≡◌, ◌+◌, ◌++◌, IfErr, IfOk, OnOk, length, string_bytes};
+ghost use Rattle.trace_lines.specs.Trace.{entries_text, entry_text};
+ghost use Rattle.tree_engine.specs.Trees.{opened_text, opening_text};
+ghost use Rattle.tree_ties.specs.Views.{entries_in};
+ghost use Rattle.cluster_engine.specs.Reports.{journal_text};
+
+use report_io::Failure;
+use std::alloc::{AllocError, Global};
+use trace_lines::{push_begun, push_conclusion, push_kept, push_messages, push_written};
+use tree_model::{Entry, TreeEntry};
+
+/// The line of a process's opening.
+fn opening_line(alloc: Global, process: u64) -> Result<String, AllocError>
+    ensures { IfOk result (λ line. string_bytes line ≡ opening_text process) }
+{
+    let mut line = format!(in alloc; "log {process} ")?;
+    line.push_str("Opened 1 forced\n")?;
+    Ok(line)
+}
+
+fn push_opening(alloc: Global, out: &mut Vec<u8>, process: u32) -> Result<(), AllocError>
+    ensures { OnOk result (out.new.items ≡ out.old.items ++ opening_text process) }
+{
+    let line = opening_line(alloc, u64::from(process))?;
+    out.extend_from_slice(line.as_bytes())
+}
+
+/// The lines of the processes' opening.
+fn push_opened(alloc: Global, out: &mut Vec<u8>, tree: &[TreeEntry]) -> Result<(), AllocError>
+    ensures { OnOk result (out.new.items ≡ out.old.items ++ opened_text tree.now) }
+{
+    for entry in tree {
+        push_opening(alloc, out, entry.id.0)?;
+    }
+    Ok(())
+}
+
+/// The lines of an entry, before which so many messages were sent. How many were with its own. 2^64
+/// messages are taken for want of memory.
+#[tactic(auto, unfolding(trace_lines::specs::Trace::entry_text))]
+fn push_entry(out: &mut Vec<u8>, sent: u64, entry: &Entry) -> Result<u64, Failure>
+    ensures sent { IfOk result (λ next. next ≡ sent + length entry.now.reaction.messages) }
+    ensures text { OnOk result (out.new.items ≡ out.old.items ++ entry_text sent entry.now) }
+    ensures memory { IfErr result (λ e. e ≡ Failure.Memory) }
+{
+    let Some(next) = sent.checked_add(entry.reaction.messages.len() as u64) else {
+        return Err(Failure::Memory);
+    };
+    let process = entry.step.process.0;
+    push_begun(out, &entry.reaction.begun)?;
+    push_written(out, process, entry.reaction.written.as_slice())?;
+    push_conclusion(out, &entry.reaction.told)?;
+    push_messages(out, sent, entry.reaction.messages.as_slice())?;
+    push_kept(out, process, &entry.reaction.kept)?;
+    Ok(next)
+}
+
+/// The lines of these entries.
+fn push_entries(out: &mut Vec<u8>, journal: &[(u64, Entry)]) -> Result<(), Failure>
+    ensures text { OnOk result (out.new.items ≡ out.old.items ++ entries_text 0 (entries_in journal.now)) }
+    ensures memory { IfErr result (λ e. e ≡ Failure.Memory) }
+{
+    let mut sent = 0;
+    for place in 0..journal.len() {
+        sent = push_entry(out, sent, &journal[place].1)?;
+    }
+    Ok(())
+}
+
+/// Adds the trace of these entries, as a tree on one thread that makes their events writes it.
+pub(crate) fn push_trace(
+    alloc: Global,
+    out: &mut Vec<u8>,
+    tree: &[TreeEntry],
+    journal: &[(u64, Entry)],
+) -> Result<(), Failure>
+    ensures text { OnOk result (out.new.items ≡ out.old.items ++ journal_text tree.now journal.now) }
+    ensures memory { IfErr result (λ e. e ≡ Failure.Memory) }
+{
+    push_opened(alloc, out, tree)?;
+    push_entries(out, journal)?;
+    out.extend_from_slice(b"end\n")?;
+    Ok(())
+}

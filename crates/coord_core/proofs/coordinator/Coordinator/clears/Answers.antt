@@ -1,0 +1,79 @@
+use Rattle.std.proofs.Common.{rules, ◌≡◌, true, subst, sym}
+use Rattle.tree_model.specs.declared.events.Input.{Input}
+use Rattle.tree_model.specs.Records.{is_reported}
+use Rattle.tree_model.specs.CoordinatorRows.{unknown_forget}
+use Rattle.tree_model.specs.Standings.{CoordinatorView, unknown_view}
+use Rattle.rec_log.specs.Sights.{Breaks}
+use Rattle.core_model.specs.Turns.{kept_records}
+use Rattle.core_model.specs.Makes.{BreaksIn}
+use Rattle.coord_effects.specs.declared.seat.Seat.{Seat}
+use Rattle.coord_effects.specs.Rows.{AreFramed, Does, seat}
+use Rattle.coord_core.specs.declared.turn.Turn.TheVariants.{Clears}
+use Rattle.coord_core.specs.States.{CoordinatorValue, state}
+use Rattle.coord_core.specs.Meets.{RetiresNone, meant}
+use Rattle.coord_core.specs.Turned.{Turned, WritesDown, framed_of}
+use Rattle.coord_core.proofs.Made.{clear_breaks, cleared_turn, seat_for}
+use Rattle.coord_core.proofs.coordinator.Coordinator.clears.Goals as goal
+
+pub write_down-requires-clause-framed : goal.write_down-requires-clause-framed
+write_down-requires-clause-framed g c =
+    subst (λ (s : Seat). AreFramed s.parent c.in_ok-effect.effect.written) c.seat.ensures
+    (c.in_ok-effect.ensures unknown_view).framed
+
+pub returns-in-Err-clause-err : goal.returns-in-Err-clause-err
+returns-in-Err-clause-err g c =
+    let v : CoordinatorValue = record {
+      me = c.self.inside.me;
+      parent = c.self.inside.parent;
+      tree = c.self.inside.tree;
+      log = c.self.inside.log;
+      boot = c.self.inside.boot;
+      begun = c.self.inside.begun;
+      given = c.self.inside.given;
+      slots = c.self.inside.cases;
+    } in
+    let does : (view : CoordinatorView) → Does (seat_for v c.args.case)
+    (unknown_forget (seat (seat_for v c.args.case)) view) c.in_ok-effect.effect view =
+    subst (λ (s : Seat). (view : CoordinatorView) → Does s (unknown_forget (seat s) view)
+    c.in_ok-effect.effect view) c.seat.ensures c.in_ok-effect.ensures in
+    let told : is_reported (kept_records (state c.args.self.now)) c.args.case ≡ true = search rules in
+    let reported : is_reported (kept_records (state v)) c.args.case ≡ true =
+    subst (λ (w : CoordinatorValue). is_reported (kept_records (state w)) c.args.case ≡ true)
+    (sym c.self.view_is) told in
+    let breaks : Breaks c.make_room.new.log c.write_down.new.log
+    (framed_of c.in_ok-effect.effect.written) = search rules in
+    subst (λ (w : CoordinatorValue). BreaksIn (state w) (state (record v { log = c.write_down.new.log }))
+    (meant w (Clears c.args.case))) c.self.view_is
+    (clear_breaks v c.write_down.new.log c.args.case c.in_ok-effect.effect c.make_room.new.log
+    c.make_room.ensures.stays does reported breaks)
+
+pub returns-clause-ok : goal.returns-clause-ok
+returns-clause-ok g c =
+    let v : CoordinatorValue = record {
+      me = c.self.inside.me;
+      parent = c.self.inside.parent;
+      tree = c.self.inside.tree;
+      log = c.self.inside.log;
+      boot = c.self.inside.boot;
+      begun = c.self.inside.begun;
+      given = c.self.inside.given;
+      slots = c.self.inside.cases;
+    } in
+    let does : (view : CoordinatorView) → Does (seat_for v c.args.case)
+    (unknown_forget (seat (seat_for v c.args.case)) view) c.in_ok-effect.effect view =
+    subst (λ (s : Seat). (view : CoordinatorView) → Does s (unknown_forget (seat s) view)
+    c.in_ok-effect.effect view) c.seat.ensures c.in_ok-effect.ensures in
+    let told : is_reported (kept_records (state c.args.self.now)) c.args.case ≡ true = search rules in
+    let reported : is_reported (kept_records (state v)) c.args.case ≡ true =
+    subst (λ (w : CoordinatorValue). is_reported (kept_records (state w)) c.args.case ≡ true)
+    (sym c.self.view_is) told in
+    let writes : WritesDown c.make_room.new.log c.write_down.new.log
+    c.in_ok-effect.effect.written = search rules in
+    subst (λ (w : CoordinatorValue). (i : Input) → RetiresNone i
+    → Turned (state w) (state (record v { log = c.write_down.new.log })) i
+    (meant w (Clears c.args.case)) c.reaction.result) c.self.view_is
+    (subst (λ reaction. (i : Input) → RetiresNone i
+    → Turned (state v) (state (record v { log = c.write_down.new.log })) i
+    (meant v (Clears c.args.case)) reaction) (sym c.reaction.ensures)
+    (cleared_turn v c.write_down.new.log c.args.case c.in_ok-effect.effect c.make_room.new.log
+    c.make_room.ensures.stays does reported writes))

@@ -1,0 +1,4 @@
+pub mod Entries
+pub mod Left
+pub mod Undamaged
+pub mod Unfailed
