@@ -5,6 +5,7 @@ ghost use Rattle.key_tables.specs.declared.holders.Mode.{Mode as WorkMode};
 ghost use Rattle.key_tables.specs.declared.holders.Mode.TheVariants as mode;
 ghost use Rattle.key_tables.specs.Holders.{blocked_by};
 ghost use Rattle.kv_locks.specs.Locks.{holders_of};
+ghost use Rattle.kv_store.specs.Pairs.{ArePairsOf};
 ghost use Rattle.kv_store.specs.writes.Writes.{AreWrites, writes_of};
 ghost use Rattle.xa_assoc.specs.Answers.{Answers, Closes, Opens, Recovers, Wanted, map_ok};
 ghost use Rattle.xa_assoc.specs.Ready.{is_closed, is_work_verb, leaves};
@@ -181,6 +182,20 @@ impl KeyStore {
         ensures { result ≡ has_numbers self.now }
     {
         self.versions.count() < COMMITS
+    }
+
+    /// How many commits were made.
+    pub fn count(&self) -> u64
+        ensures { result ≡ self.now.versions.count }
+    {
+        self.versions.count()
+    }
+
+    /// The data, keys rising.
+    pub fn pairs(&self) -> Result<Vec<(Bytes, Bytes)>, AllocError>
+        ensures { IfOk result (λ pairs. ArePairsOf self.now.versions pairs.items) }
+    {
+        self.versions.pairs()
     }
 
     /// The branches in doubt (in S3 and S5), in order of beginning.

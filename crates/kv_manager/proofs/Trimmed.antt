@@ -10,7 +10,7 @@ use Rattle.tree_model.specs.declared.records.LogRecord.{LogRecord}
 use Rattle.tree_model.specs.declared.records.Record.{Record}
 use Rattle.tree_model.specs.declared.records.Record.TheVariants.{Opened, Collecting, Prepare, Commit, Abort, End, Prepared, Committed, RolledBack, Direct, HeurCommit, HeurRollback, Told, Forgot, Base, Pair, Cleared}
 use Rattle.tree_model.specs.Restarts.{is_open}
-use Rattle.tree_model.specs.Store.{base_records, pair_record, writes_of as promised_of, data_of}
+use Rattle.tree_model.specs.Store.{Data, base_records, pair_record, writes_of as promised_of, data_of}
 use Rattle.log_rules.specs.sound.Sound.{IsSound, IsSoundEntry}
 use Rattle.rec_log.specs.Sights.{Kept, LogState, NotRewritten, records_of}
 use Rattle.rec_log.specs.declared.log.LogError.{LogError}
@@ -18,16 +18,13 @@ use Rattle.rec_log.specs.declared.log.LogError.TheVariants.{Device, Memory}
 use Rattle.kv_manager.proofs.Restoring.{kept_alike}
 use Rattle.rec_log.specs.Trimming.{Trimmed}
 use Rattle.rec_log.specs.Trimming as rec_log
-use Rattle.kv_store.specs.Pairs.{keys_rise}
-use Rattle.kv_locks.specs.Locks.{LockTable}
+use Rattle.kv_store.specs.Pairs.{ArePairsOf, keys_rise}
+use Rattle.kv_store.proofs.Pairs.{same_pairs}
 use Rattle.kv_store.specs.Versions.{VersionTable}
-use Rattle.kv_store.specs.writes.Writes.{WriteTable}
-use Rattle.xa_heur.specs.Cases.{DecisionTable}
 use Rattle.tree_model.specs.Standings.{Decided, Finished, Mark, Promised, ToldOf, Unmarked, mark_at}
 use Rattle.kv_core.specs.Ends.{known_of}
 use Rattle.kv_core.specs.Decisions.{says_decided}
 use Rattle.kv_core.specs.Folds.{AreData}
-use Rattle.kv_core.proofs.Lawful.{lawful_of}
 use Rattle.kv_core.specs.Keeping.{KeepsData, is_managers}
 use Rattle.log_rules.specs.trim.Trims.{front_of_trim, trim_of}
 use Rattle.tree_model.specs.LogNames.{unnamed}
@@ -35,7 +32,7 @@ use Rattle.kv_core.proofs.Trims.{trims_keep_data}
 use Rattle.kv_manager.specs.Sights.{IsKept, IsLogged, KvSight, SaysDecided, are_ordered, has_records, logged}
 use Rattle.log_rules.specs.declared.order.seen.Promise.{Promise}
 use Rattle.log_rules.specs.order.Orders.{SeenLog, found}
-use Rattle.kv_core.specs.Replays.{Leaves, seen_of}
+use Rattle.kv_core.specs.Replays.{seen_of}
 use Rattle.manager_model.specs.Restarting.{marked_state}
 use Rattle.xa_tables.specs.declared.states.BranchState.TheVariants.{S0}
 use Rattle.kv_manager.proofs.Follows.{off_by}
@@ -91,13 +88,11 @@ of_data ls rs v count ps are counted is made =
     made ∙ (λ i. unnamed (Base ((counted ∙ are.count) i)) ∷ map (λ p. unnamed (pair_record p)) (is i))
     ∙ ap (λ ks. unnamed (Base (data_of ls).count) ∷ ks) (pairs_unnamed (data_of ls).pairs)
 
--- the keys of the data rise where records leave a manager
-pub rise_left : (ls : List LogRecord) (boot : Option ℕ) (left : List (Xid × Bool))
-    (versions : VersionTable) (writes : WriteTable)
-    (locks : LockTable) (decisions : DecisionTable) → Leaves ls boot left versions writes locks decisions
-    → keys_rise (data_of ls).pairs ≡ true
-rise_left ls boot left versions writes locks decisions leaves =
-    (lawful_of ls leaves.seen leaves.read).tied.rise
+-- the pairs of the versions are those of the data that the versions are, where the keys of both rise
+pub pairs_are_data : (v : VersionTable) (d : Data) (ps : List (List ℕ × List ℕ)) → AreData v d
+    → keys_rise d.pairs ≡ true → ArePairsOf v ps → ps ≡ d.pairs
+pairs_are_data v d ps are rise of =
+    same_pairs ps d.pairs of.rise rise (λ k. of.values k ∙ are.values k)
 
 records_behind : (s : KvSight) (log : LogState) (rs : List LogRecord) (n : ℕ)
     → AreOfData s rs → Trimmed s.log log rs n

@@ -3,3 +3,5 @@ pub mod Tables
 pub mod Stages
 pub mod Order
 pub mod Pairs
+pub mod Ordered
+pub mod Sorted

@@ -2,6 +2,7 @@
 
 ghost use Rattle.std.specs.Prelude.{◌≡◌, ◌≤◌, ◌<◌, ◌+◌, ◌^◌, ◌⊎◌, ◌++◌, ◌∷◌, ℕ, List, [], true, false, IfOk, OnOk, OnErr, None, option_map};
 ghost use Rattle.key_tables.specs.Tables.{SameLists, list_at, table_of};
+ghost use Rattle.kv_store.specs.Pairs.{ArePairsOf};
 ghost use Rattle.kv_store.specs.Versions.{
   Adds,
   AddsFront,
@@ -18,12 +19,13 @@ ghost use Rattle.kv_store.specs.Versions.{
   value_at,
 };
 
+use crate::data_pairs::pairs_of;
 use crate::version::{Version, keep_up_to, value_by};
 use indexmap::IndexMap;
 use std::alloc::{AllocError, Global};
 use std::marker::Model;
 use thiserror::Error;
-use tree_model::Write;
+use tree_model::{Bytes, Write};
 
 /// What was so many commits ago is not kept, or not yet.
 #[derive(Clone, Copy, Debug, PartialEq, Eq, Error)]
@@ -103,6 +105,13 @@ impl Versions {
             return Err(Gone);
         }
         Ok(self.find(count, key))
+    }
+
+    /// Each key that has a value, and the value, keys rising.
+    pub fn pairs(&self) -> Result<Vec<(Bytes, Bytes)>, AllocError>
+        ensures { IfOk result (λ pairs. ArePairsOf self.now pairs.items) }
+    {
+        pairs_of(self.keys.keys().as_slice(), self, self.alloc)
     }
 
     fn find(&self, count: u64, key: &[u8]) -> Option<&[u8]>

@@ -2,5 +2,7 @@
 
 pub mod law;
 mod lives;
+mod mark;
 
 pub use lives::Lives;
+pub use mark::{Deed, Mark};

@@ -56,7 +56,7 @@ known_left p text forced known n k le m = record {
 
 -- What stands behind it.
 
-split_known : (left : List ℕ) (known : ℕ) → 5 ≤ known
+pub split_known : (left : List ℕ) (known : ℕ) → 5 ≤ known
     → body left ≡ take (known - 5) (body left) ++ drop known left
 split_known left known h =
     let sum : 5 + (known - 5) ≡ known = omega (arith, h) in

@@ -11,8 +11,9 @@ ghost use Rattle.rec_log.specs.Sights.{Appended, AreRecords, Breaks, EndsSound, 
 ghost use Rattle.log_store.specs.Stores.{Replaces};
 ghost use Rattle.rec_log.specs.Openings.{IsRefused, NotOpened, Opens, Settles};
 ghost use Rattle.rec_log.specs.Texts.{records_in};
-ghost use Rattle.rec_log.specs.Trimming.{Spells, Trimmed, trim_of};
+ghost use Rattle.rec_log.specs.Trimming.{IsIndex, Spells, Trimmed, trim_of};
 
+use crate::index::Index;
 use crate::opening::{Found, OpenError, find};
 use crate::trimming::trimmed_text;
 use log_store::{LogStore, MemoryStore, StoreError};
@@ -30,7 +31,7 @@ pub enum LogError {
     Device,
 }
 
-/// The log of a process. What it keeps of its records is their bytes alone.
+/// The log of a process. What it keeps of its records is their bytes, and an index for its trims.
 #[derive(Drop)]
 pub struct RecLog<L: LogStore> {
     kind: Kind,
@@ -38,11 +39,15 @@ pub struct RecLog<L: LogStore> {
     /// How many bytes at the front are known to be the header and whole records, all of them forced: a
     /// restart looks for the end of the last whole record behind them alone.
     known: usize,
+    /// What a trim must know of the records at the front. An append leaves it; a trim takes in what stands
+    /// behind it.
+    index: Index,
     failed: bool,
 }
 
 impl<L: LogStore> Model for RecLog<L> {
     ghost use Rattle.rec_log.specs.Sights.{LogState, IsKnown, IsLogText, log_state};
+    ghost use Rattle.rec_log.specs.Trimming.{IsIndex};
 
     ghost Value = { LogState };
 
@@ -50,7 +55,8 @@ impl<L: LogStore> Model for RecLog<L> {
         (L.room l.store) l.failed };
 
     ghost invariant = { λ l. IsLogText l.kind (L.bytes l.store) (L.forced l.store) l.failed
-        × IsKnown l.kind (L.bytes l.store) (L.forced l.store) l.known };
+        × IsKnown l.kind (L.bytes l.store) (L.forced l.store) l.known
+        × IsIndex l.kind (L.bytes l.store) l.index.size l.index.marks.items };
 }
 
 /// The bytes behind the header.
@@ -76,7 +82,7 @@ fn left_by(bytes: &[u8], forced: usize, keep: usize) -> &[u8]
 }
 
 /// The records at the front of the bytes behind a header.
-pub(crate) fn records_in(
+fn records_in(
     kind: Kind,
     bytes: &[u8],
     alloc: Global,
@@ -97,7 +103,7 @@ pub(crate) fn records_in(
 }
 
 /// The records at the front of what stands behind the known bytes.
-fn records_behind(
+pub(crate) fn records_behind(
     kind: Kind,
     left: &[u8],
     known: usize,
@@ -242,6 +248,7 @@ impl<L: LogStore + Drop> RecLog<L> {
             kind,
             store,
             known: HEADER.len(),
+            index: Index::new(alloc),
             failed: false,
         })
     }
@@ -376,6 +383,7 @@ impl<L: LogStore> RecLog<L> {
         if let Err(_) = self.store.reserve(text.len()) {
             return Err(LogError::Memory);
         }
+        self.index = Index::new(alloc);
         self.store.crash(keep);
         match self.store.replace(&text) {
             Ok(()) => {
@@ -401,14 +409,15 @@ impl<L: LogStore> RecLog<L> {
         ensures err { IfErr result (λ e. NotRewritten self.old self.new (map frame_record new.now) e) }
     {
         match text_of(new, alloc) {
-            Ok(text) => self.put(&text),
+            Ok(text) => self.put(&text, Index::new(alloc)),
             Err(_) => Err(LogError::Memory),
         }
     }
 
-    /// Puts the log of this text in place of all that stand.
-    fn put(&mut self, text: &[u8]) -> Result<(), LogError>
+    /// Puts the log of this text in place of all that stand, with this index of it.
+    fn put(&mut self, text: &[u8], index: Index) -> Result<(), LogError>
         requires works { self.old.sight.failed ≡ false }
+        requires index { IsIndex self.old.kind text.now index.size index.marks.items }
         requires sound { Spells self.old.kind text.now (records_in self.old.kind 0 (body text.now)) }
         ensures kind { self.new.kind ≡ self.old.kind }
         ensures ok { OnOk result (Rewritten self.old self.new (records_in self.old.kind 0 (body text.now))) }
@@ -420,10 +429,12 @@ impl<L: LogStore> RecLog<L> {
         }
         if let Err(_) = self.store.replace(text) {
             self.known = HEADER.len();
+            self.index.clear();
             self.failed = true;
             return Err(LogError::Device);
         }
         self.known = text.len();
+        self.index = index;
         Ok(())
     }
 
@@ -439,11 +450,16 @@ impl<L: LogStore> RecLog<L> {
         ensures err { IfErr result (λ e. NotRewritten self.old self.new
             (trim_of self.old (map frame_record behind.now)) e) }
     {
-        let (text, count) = match trimmed_text(self.kind, body(self.store.bytes()), behind, alloc) {
+        let bytes = self.store.bytes();
+        if let Err(_) = self.index.extend(self.kind, bytes, alloc) {
+            return Err(LogError::Memory);
+        }
+        let (text, index) = match trimmed_text(self.kind, body(bytes), &self.index.marks, behind, alloc) {
             Ok(trimmed) => trimmed,
             Err(_) => return Err(LogError::Memory),
         };
-        match self.put(&text) {
+        let count = index.marks.len() + behind.len();
+        match self.put(&text, index) {
             Ok(()) => Ok(count),
             Err(error) => Err(error),
         }

@@ -1,6 +1,6 @@
-use Rattle.std.proofs.Common.{[], arith, refl}
-use Rattle.rec_log.proofs.Trims.{no_bytes, opened_first}
+use Rattle.std.proofs.Common.{refl}
+use Rattle.rec_log.proofs.Trims.{opened_all, opened_none}
 use Rattle.rec_log.proofs.trimming.opened_frame.Goals as goal
 
 pub loop-left-init : goal.loop-left-init
-loop-left-init c = (c.requires, omega arith, [], no_bytes c.args.kind, refl, opened_first c.args.records.now)
+loop-left-init c = opened_none _ _ _ _ c.requires refl

@@ -1,6 +1,7 @@
 use Rattle.std.proofs.Common.{◌≡◌, ◌∙◌, ◌++◌, take, false, length, refl, sym, ap, subst, arith}
 use Rattle.log_text.specs.Made.{frame_record}
 use Rattle.rec_log.specs.Sights.{IsRecord}
+use Rattle.rec_log.proofs.Indexes.{index_more}
 use Rattle.rec_log.proofs.Known.{known_more}
 use Rattle.rec_log.proofs.Turns.{append_breaks, appended, appended_of, breaks_of, by_device, record_long, text_goes_on}
 use Rattle.rec_log.proofs.log.RecLog.append.Goals as goal
@@ -39,7 +40,8 @@ invariant_of-self-in_default g c =
       text_goes_on _ _ _ _ _ _ _ works (subst (λ k. IsRecord k (frame_record c.args.frame.now))
           (sym (ap (λ s. s.kind) c.self.view_is)) c.requires.sound) c.self.invariant.0 within text
           a.forced_stays,
-      known_more _ _ _ _ _ _ _ c.self.invariant.1 within text (omega (arith, a.forced_stays)),
+      known_more _ _ _ _ _ _ _ c.self.invariant.1.0 within text (omega (arith, a.forced_stays)),
+      index_more _ _ _ _ _ _ c.self.invariant.1.1 text,
     )
 
 pub returns-clause-ok : goal.returns-clause-ok

@@ -8,7 +8,7 @@ overflow_sub-result g c =
     let count =
     counted _ (g.L.LogStore.bytes c.self.inside.store) (g.L.LogStore.forced c.self.inside.store)
     c.self.inside.known c.args.keep _ _ _ _ c.in_ok-left.left.items c.in_ok-front.front.items c.self.view_is
-    c.self.invariant.0 c.self.invariant.1 (g.met.L.LogStore.front c.self.inside.store)
+    c.self.invariant.0 c.self.invariant.1.0 (g.met.L.LogStore.front c.self.inside.store)
     (c.in_ok-left.ensures ∙ ap (λ t. records_in c.self.inside.kind 0 (drop c.self.inside.known t))
     (c.left_by.ensures.left
     ∙ ap (λ n. take (n + c.args.keep) c.bytes-bytes.result.now) c.forced-forced.ensures
@@ -23,7 +23,7 @@ returns g c =
     let count =
     counted _ (g.L.LogStore.bytes c.self.inside.store) (g.L.LogStore.forced c.self.inside.store)
     c.self.inside.known c.args.keep _ _ _ _ c.in_ok-left.left.items c.in_ok-front.front.items c.self.view_is
-    c.self.invariant.0 c.self.invariant.1 (g.met.L.LogStore.front c.self.inside.store)
+    c.self.invariant.0 c.self.invariant.1.0 (g.met.L.LogStore.front c.self.inside.store)
     (c.in_ok-left.ensures ∙ ap (λ t. records_in c.self.inside.kind 0 (drop c.self.inside.known t))
     (c.left_by.ensures.left
     ∙ ap (λ n. take (n + c.args.keep) c.bytes-bytes.result.now) c.forced-forced.ensures

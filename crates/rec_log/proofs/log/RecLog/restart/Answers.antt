@@ -1,6 +1,7 @@
 use Rattle.std.proofs.Common.{◌≡◌, ◌∙◌, ◌+◌, refl, subst, sym, ap, take, map, length, arith}
 use Rattle.log_text.specs.Made.{frame_record}
 use Rattle.rec_log.specs.Sights.{AreRecords, LeavesText}
+use Rattle.rec_log.proofs.Indexes.{index_header, log_is_long}
 use Rattle.rec_log.proofs.Known.{known_all, known_header, known_left}
 use Rattle.rec_log.proofs.Turns.{by_device}
 use Rattle.rec_log.proofs.Restarting.{came_either, front_begins, restart_breaks, restarted, text_broken, text_settled}
@@ -31,6 +32,7 @@ invariant_of-self-in-Ok-replace g c =
       settled,
       known_all _ _ _ _ (settled.whole refl) settled.header_forced all
           (omega (arith, c.len-self-inside.ensures, c.deref.ensures.len, ap length ok.text_stands)),
+      index_header _ _ _ _ (log_is_long _ _ _ _ settled) c.new.ensures.size c.new.ensures.marks,
     )
 
 pub returns-in-Ok-replace-clause-ok : goal.returns-in-Ok-replace-clause-ok
@@ -90,7 +92,11 @@ invariant_of-self-in-Err-replace g c =
     (crash.front ∙ stays.forced_stays) in
     let broken = text_broken _ text c.deref.result.now _ forced _ c.args.keep rs _ are c.self.invariant.0
     leaves came in
-    (broken, known_header _ _ _ broken.header_forced)
+    (
+      broken,
+      known_header _ _ _ broken.header_forced,
+      index_header _ _ _ _ (log_is_long _ _ _ _ broken) c.new.ensures.size c.new.ensures.marks,
+    )
 
 pub returns-clause-err : goal.returns-clause-err
 returns-clause-err g c =

@@ -1,42 +1,22 @@
 //! The data as pairs of a key and its value, keys rising.
 
-ghost use Rattle.std.specs.Prelude.{◌≡◌, ◌++◌, true, IfOk, OnOk, map};
-ghost use Rattle.kv_core.specs.Folds.{AreData};
-ghost use Rattle.tree_model.specs.Store.{data_of};
-ghost use Rattle.kv_store.specs.Pairs.{keys_rise};
-ghost use Rattle.kv_core.specs.Names.{is_next, keys_in, pair_if, pairs_at, written_keys};
+ghost use Rattle.std.specs.Prelude.{◌≡◌, ◌++◌, IfOk, OnOk, map};
+ghost use Rattle.kv_store.specs.Pairs.{AreKeysOf, ArePairsOf, is_next, pair_if, pairs_at};
 ghost use Rattle.kv_store.specs.Versions.{value_at};
 
-use kv_store::Versions;
+use crate::versions::Versions;
 use std::alloc::{AllocError, Global};
-use tree_model::{Bytes, LogRecord, Record, Write};
+use tree_model::Bytes;
 
-/// Adds the keys of these writes.
-fn add_keys<'a>(keys: &mut Vec<&'a [u8]>, writes: &'a [Write]) -> Result<(), AllocError>
-    ensures { OnOk result (map (λ k. k.now) keys.new.items
-        ≡ map (λ k. k.now) keys.old.items ++ written_keys writes.now) }
+/// The bytes of each of these keys.
+fn bytes_of(keys: &[Vec<u8>], alloc: Global) -> Result<Vec<&[u8]>, AllocError>
+    ensures { IfOk result (λ bytes. map (λ k. k.now) bytes.items ≡ map (λ k. k.items) keys.now) }
 {
-    for write in writes {
-        keys.push(write.key.as_slice())?;
+    let mut bytes = Vec::new(alloc);
+    for key in keys {
+        bytes.push(key.as_slice())?;
     }
-    Ok(())
-}
-
-/// The keys that records name, in their order.
-fn keys_in<'a>(records: &'a [LogRecord], alloc: Global) -> Result<Vec<&'a [u8]>, AllocError>
-    ensures { IfOk result (λ keys. map (λ k. k.now) keys.items ≡ keys_in records.now) }
-{
-    let mut keys = Vec::new(alloc);
-    for record in records {
-        match &record.entry {
-            Record::Prepared(_, writes) | Record::Direct(_, writes) => {
-                add_keys(&mut keys, writes.as_slice())?;
-            }
-            Record::Pair(key, _) => keys.push(key.as_slice())?,
-            _ => {}
-        }
-    }
-    Ok(keys)
+    Ok(bytes)
 }
 
 /// The pair of a key that has this value.
@@ -91,17 +71,16 @@ fn pairs_at(
     Ok(pairs)
 }
 
-/// The data that these records make, keys rising, of the versions that they leave.
-pub fn pairs_of(
-    records: &[LogRecord],
+/// The data, keys rising.
+pub(crate) fn pairs_of(
+    keys: &[Vec<u8>],
     versions: &Versions,
     alloc: Global,
 ) -> Result<Vec<(Bytes, Bytes)>, AllocError>
-    requires data { AreData versions.now (data_of records.now) }
-    requires rise { keys_rise (data_of records.now).pairs ≡ true }
-    ensures { IfOk result (λ pairs. pairs.items ≡ (data_of records.now).pairs) }
+    requires { AreKeysOf versions.now (map (λ k. k.items) keys.now) }
+    ensures { IfOk result (λ pairs. ArePairsOf versions.now pairs.items) }
 {
-    let mut keys = keys_in(records, alloc)?;
+    let mut keys = bytes_of(keys, alloc)?;
     keys.sort_unstable();
     pairs_at(&keys, versions, alloc)
 }

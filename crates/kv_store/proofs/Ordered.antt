@@ -4,10 +4,9 @@ use Rattle.std.proofs.lemmas.List.{append_assoc}
 use Rattle.std.specs.List.{list_any}
 use Rattle.tree_model.specs.Records.{same_bytes}
 use Rattle.tree_model.specs.Store.{key_below}
-use Rattle.kv_store.specs.Pairs.{found_in, is_behind, keys_rise}
 use Rattle.kv_store.specs.Versions.{VersionTable, value_at}
 use Rattle.kv_store.proofs.Order.{below_both, below_either, same_is}
-use Rattle.kv_core.specs.Names.{is_next, pair_if, pairs_at}
+use Rattle.kv_store.specs.Pairs.{found_in, is_behind, is_next, keys_rise, pair_if, pairs_at}
 
 abbrev Keys : Type 0
 Keys = List (List ℕ)

@@ -1,5 +1,5 @@
 -- Sorted keys, and the pairs of their values.
-use Rattle.std.proofs.Common.{◌≡◌, ◌∙◌, ◌+◌, ◌-◌, ◌<◌, ◌≤◌, ◌++◌, ℕ, suc, Bool, true, false, not, cond, Bor, None, Ordering, List, [], ◌∷◌, map, length, take, drop, get_or, bytes_eq, refl, sym, ap, subst, arith}
+use Rattle.std.proofs.Common.{◌≡◌, ◌∙◌, ◌+◌, ◌-◌, ◌<◌, ◌≤◌, ◌++◌, ℕ, suc, Bool, true, false, not, cond, Bor, None, Some, Ordering, List, [], ◌∷◌, map, length, take, drop, get_or, bytes_eq, refl, sym, ap, subst, arith}
 use Rattle.std.proofs.lemmas.Bool.Decides.{nat_tests}
 use Rattle.std.proofs.lemmas.Cmp.{same_from_slice_cmp}
 use Rattle.std.proofs.lemmas.List.{append-nil, drop_all, length-drop, take_all}
@@ -9,17 +9,17 @@ use Rattle.std.specs.Cmp.Lexicographic.{slice_cmp}
 use Rattle.std.specs.List.{list_any}
 use Rattle.std.specs.List.Sorted.{IsPermutation, IsSorted}
 use Rattle.std.specs.Ordering.{is_lt, nat_cmp}
-use Rattle.tree_model.specs.declared.records.LogRecord.{LogRecord}
 use Rattle.tree_model.specs.Records.{same_bytes}
-use Rattle.tree_model.specs.Store.{key_below, data_of}
-use Rattle.kv_core.specs.Folds.{AreData}
-use Rattle.kv_store.specs.Pairs.{found_in, keys_rise}
-use Rattle.kv_store.specs.Versions.{VersionTable, value_at}
+use Rattle.tree_model.specs.Store.{key_below}
+use Rattle.key_tables.specs.Tables.{list_at, same_key, table_of}
+use Rattle.std.specs.Global.{Vec}
+use Rattle.std.specs.Map.{lookup}
+use Rattle.std.specs.Prelude.{unwrap_or, ◌||◌, IfOk, Result, Ok, Err}
+use Rattle.kv_store.specs.declared.version.Version.{Version}
+use Rattle.kv_store.specs.Versions.{VersionTable, value_at, value_by}
 use Rattle.kv_store.proofs.Order.{bytes_are_same}
-use Rattle.kv_store.proofs.Pairs.{same_pairs}
-use Rattle.kv_core.specs.Names.{is_next, keys_in, pair_if, pairs_at}
-use Rattle.kv_core.proofs.Named.{unnamed_is_none}
-use Rattle.kv_core.proofs.Ordered.{found_at, goes_on, joined, keys_stay, none_at, pairs_on, pairs_rise}
+use Rattle.kv_store.specs.Pairs.{AreKeysOf, ArePairsOf, found_in, is_next, pair_if, pairs_at}
+use Rattle.kv_store.proofs.Ordered.{found_at, goes_on, joined, keys_stay, none_at, pairs_on, pairs_rise}
 
 -- a key where it stands
 abbrev pub Held : Type 0
@@ -94,25 +94,55 @@ sorted_stay (x ∷ xs) h = joined (goes_on x.now (keys xs)) (keys_stay (keys xs)
     first [] g = refl
     first (y ∷ ys) g = ap not (sym (less_as y.now x.now (order y x) refl) ∙ g 0 x (omega arith) (omega arith))
 
--- the pairs of the sorted keys that records name are those of the data that they make
-pub sorted_pairs : (s : VersionTable) (ls : List LogRecord) (old new : List Held) → AreData s (data_of ls)
-    → keys_rise (data_of ls).pairs ≡ true → keys old ≡ keys_in ls → IsPermutation old new → IsSorted order new
-    → pairs_at s (keys new) ≡ (data_of ls).pairs
-sorted_pairs s ls old new are rise named moved sorted =
-    same_pairs (pairs_at s (keys new)) (data_of ls).pairs
-    (pairs_rise s (keys new) (sorted_stay new sorted)) rise
-    (λ k. by_name k (list_any (same_bytes k) (keys_in ls)) refl)
+-- what follows of a value that is there
+pub map_ok : {A E : Type 0} (P Q : A → Type 0) (r : Result A E) → IfOk r P → ((a : A) → P a → Q a) → IfOk r Q
+map_ok P Q (Ok a) ok each = each a ok
+map_ok P Q (Err e) ok each = tt
+
+-- the pairs of sorted keys, of which each key with a value is one, are those of the data
+pub sorted_pairs : (s : VersionTable) (ks : List (List ℕ)) (old new : List Held) → AreKeysOf s ks
+    → keys old ≡ ks → IsPermutation old new → IsSorted order new
+    → ArePairsOf s (pairs_at s (keys new))
+sorted_pairs s ks old new all named moved sorted = record {
+  rise = pairs_rise s (keys new) (sorted_stay new sorted);
+  values = λ k. by_name k (list_any (same_bytes k) ks) refl;
+}
   where
-    stands : (k : List ℕ) (b : Bool) → list_any (same_bytes k) (keys_in ls) ≡ b
+    stands : (k : List ℕ) (b : Bool) → list_any (same_bytes k) ks ≡ b
         → list_any (same_bytes k) (keys new) ≡ b
     stands k b is =
         sym (list_any-IsPermutation (same_bytes k) (keys old) (keys new)
         (IsPermutation-map (λ (j : Held). j.now) old new moved))
         ∙ ap (list_any (same_bytes k)) named ∙ is
 
-    by_name : (k : List ℕ) (b : Bool) → list_any (same_bytes k) (keys_in ls) ≡ b
-        → found_in (pairs_at s (keys new)) k ≡ found_in (data_of ls).pairs k
-    by_name k true is = found_at s (keys new) k (stands k true is) ∙ are.values k
-    by_name k false is =
-        let none : found_in (data_of ls).pairs k ≡ None = unnamed_is_none k ls is in
-        none_at s (keys new) k (are.values k ∙ none) ∙ sym none
+    by_name : (k : List ℕ) (b : Bool) → list_any (same_bytes k) ks ≡ b
+        → found_in (pairs_at s (keys new)) k ≡ value_at s s.count k
+    by_name k true is = found_at s (keys new) k (stands k true is)
+    by_name k false is = none_at s (keys new) k (all k is) ∙ sym (all k is)
+
+-- a table of versions has a value only of its keys
+pub keys_of_table : (es : List (Vec ℕ × Vec Version)) (ks : List (Vec ℕ)) (n : ℕ) (k : List ℕ)
+    → ks ≡ map (λ (e : Vec ℕ × Vec Version). e.0) es
+    → list_any (same_bytes k) (map (λ (q : Vec ℕ). q.items) ks) ≡ false
+    → value_by n None (list_at (table_of es) k) ≡ None
+unfolding value_by
+keys_of_table es ks n k is none = ap (value_by n None) (empty es
+    (ap (λ (qs : List (Vec ℕ)). list_any (same_bytes k) (map (λ (q : Vec ℕ). q.items) qs)) (sym is) ∙ none))
+  where
+    empty : (es : List (Vec ℕ × Vec Version))
+        → list_any (same_bytes k) (map (λ (q : Vec ℕ). q.items) (map (λ (e : Vec ℕ × Vec Version). e.0) es)) ≡ false
+        → list_at (table_of es) k ≡ []
+    empty [] h = refl
+    empty (e ∷ es) h = by_test (same_bytes k e.0.items) refl h (empty es)
+      where
+        by_test : (b : Bool) → same_bytes k e.0.items ≡ b
+            → (b || list_any (same_bytes k)
+            (map (λ (q : Vec ℕ). q.items) (map (λ (e : Vec ℕ × Vec Version). e.0) es))) ≡ false
+            → (list_any (same_bytes k)
+            (map (λ (q : Vec ℕ). q.items) (map (λ (e : Vec ℕ × Vec Version). e.0) es)) ≡ false
+            → list_at (table_of es) k ≡ [])
+            → list_at (table_of (e ∷ es)) k ≡ []
+        by_test true is h rest = absurd (cc)
+        by_test false is h rest =
+            ap (λ b. unwrap_or (cond b (Some e.1.items) (lookup (same_key k) (table_of es))) [])
+            (bytes_are_same k e.0.items ∙ is) ∙ rest h

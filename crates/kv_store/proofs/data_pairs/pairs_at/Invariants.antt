@@ -1,7 +1,7 @@
 use Rattle.std.proofs.Common.{◌≡◌, ◌++◌, drop}
-use Rattle.kv_core.specs.Names.{pairs_at}
-use Rattle.kv_core.proofs.Sorted.{keys}
-use Rattle.kv_core.proofs.pairs.pairs_at.Given as goal
+use Rattle.kv_store.specs.Pairs.{pairs_at}
+use Rattle.kv_store.proofs.Sorted.{keys}
+use Rattle.kv_store.proofs.data_pairs.pairs_at.Given as goal
 
 abbrev pub invariant-loop-i : goal.invariant-loop-i
 invariant-loop-i l =

@@ -1,5 +1,5 @@
-use Rattle.kv_core.proofs.Sorted.{tests_next}
-use Rattle.kv_core.proofs.pairs.is_next.Goals as goal
+use Rattle.kv_store.proofs.Sorted.{tests_next}
+use Rattle.kv_store.proofs.data_pairs.is_next.Goals as goal
 
 pub returns-in-Some : goal.returns-in-Some
 returns-in-Some c =

@@ -1,8 +1,8 @@
 use Rattle.std.proofs.Common.{◌∙◌, true, false, sym, ap}
 use Rattle.std.proofs.lemmas.List.{append-nil}
-use Rattle.kv_core.proofs.Sorted.{pairs_all, pairs_walk}
-use Rattle.kv_core.proofs.pairs.pairs_at.Goals as goal
-use Rattle.kv_core.proofs.pairs.pairs_at.Goals.{then-not-is_next+in_ok-add_pair, else-not-is_next}
+use Rattle.kv_store.proofs.Sorted.{pairs_all, pairs_walk}
+use Rattle.kv_store.proofs.data_pairs.pairs_at.Goals as goal
+use Rattle.kv_store.proofs.data_pairs.pairs_at.Goals.{then-not-is_next+in_ok-add_pair, else-not-is_next}
 
 pub loop-i-preserved : goal.loop-i-preserved
 loop-i-preserved c =
