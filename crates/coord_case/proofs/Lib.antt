@@ -1,4 +1,5 @@
 pub mod Children
+pub mod Counts
 pub mod Held
 pub mod Owing
 pub mod Works

@@ -1,11 +1,11 @@
 -- What the code keeps of a live case, and the view that it stands for.
-use Rattle.std.specs.Prelude.{◌≡◌, ℕ, Bool, true, false, not, ◌&&◌, Option, Some, None, List, [], ◌∷◌, map, filter_map, replicate, if◌then◌else◌}
-use Rattle.std.specs.List.{flat_map, list_any}
+use Rattle.std.specs.Prelude.{◌≡◌, ℕ, Bool, true, false, not, ◌&&◌, cond, Option, Some, None, List, [], ◌∷◌, map, filter_map, replicate, if◌then◌else◌}
+use Rattle.std.specs.List.{count_by, flat_map, list_any}
 use Rattle.tree_model.specs.declared.messages.Finding.{Finding}
 use Rattle.tree_model.specs.declared.names.Ticket.{Ticket}
 use Rattle.tree_model.specs.declared.standings.Standing.{Standing}
 use Rattle.tree_model.specs.declared.standings.Vote.{Vote}
-use Rattle.tree_model.specs.declared.standings.Vote.TheVariants.{No, Read}
+use Rattle.tree_model.specs.declared.standings.Vote.TheVariants.{Yes, No, Read}
 use Rattle.tree_model.specs.Names.{same_ticket}
 use Rattle.tree_model.specs.Memory.{has_child, same_vote, voted_so}
 use Rattle.tree_model.specs.Standings.{CoordinatorView}
@@ -99,6 +99,29 @@ sending n c = record c { works = n }
 abbrev pub works_found : Option Child → ℕ
 works_found None = 0
 works_found (Some c) = c.works
+
+-- the vote of the child that was found
+abbrev pub vote_found : Option Child → Option Vote
+vote_found None = None
+vote_found (Some c) = c.vote
+
+-- how many of the children have not voted
+abbrev pub missing_in : List Child → ℕ
+missing_in cs = count_by (λ c. is_missing c.vote) cs
+
+-- one, if the vote is YES
+abbrev pub yes_by : Option Vote → ℕ
+yes_by w = cond (is_vote Yes w) 1 0
+
+-- how many of the children voted YES
+abbrev pub yes_in : List Child → ℕ
+yes_in cs = count_by (λ c. is_vote Yes c.vote) cs
+
+-- no two of the children are of one process, so many of them have not voted, and so many voted YES
+pub record AreCounted (cs : List Child) (m n : ℕ) : Type 0 where
+  pub distinct : are_distinct cs ≡ true
+  pub missing : m ≡ missing_in cs
+  pub yes : n ≡ yes_in cs
 
 -- What a view is left as, where the order of its votes and works may be another.
 

@@ -1,11 +1,11 @@
 //! Lists of children and of tickets.
 
-ghost use Rattle.std.specs.Prelude.{◌≡◌, ◌||◌, not, filter, find, option_map, position, IfOk, option_copied};
+ghost use Rattle.std.specs.Prelude.{◌≡◌, ◌||◌, Some, not, filter, find, option_map, position, IfOk, option_copied};
 ghost use Rattle.std.specs.List.{list_all, list_any};
 ghost use Rattle.tree_model.specs.Names.{same_process, same_ticket};
 ghost use Rattle.tree_model.specs.Records.{in_list as is_in, none_of as is_none_of};
 ghost use Rattle.tree_model.specs.CoordinatorRows.{other_tickets as others_in};
-ghost use Rattle.coord_case.specs.Lives.{accepted_in, awaits_vote, changing, is_cast, is_undecided as is_undecided_vote, is_vote, sending, voting, works_found};
+ghost use Rattle.coord_case.specs.Lives.{accepted_in, awaits_vote, changing, is_undecided as is_undecided_vote, is_vote, sending, vote_found, voting, works_found, yes_by};
 
 use crate::child::Child;
 use smallvec::SmallVec;
@@ -118,13 +118,6 @@ pub(crate) fn tickets_of(alloc: Global, children: &[Child]) -> Result<Vec<Ticket
         .collect(alloc)
 }
 
-/// Whether each child has voted.
-pub(crate) fn all_cast(children: &[Child]) -> bool
-    ensures { result ≡ list_all (λ c. is_cast c.vote) children.now }
-{
-    children.iter().all(|child| child.vote.is_some())
-}
-
 /// Whether a child of the ticket has not voted.
 pub(crate) fn is_awaited(children: &[Child], ticket: &Ticket) -> bool
     ensures { result ≡ awaits_vote ticket.now children.now }
@@ -140,6 +133,16 @@ fn is_yes(child: &Child) -> bool
     match child.vote {
         Some(Vote::Yes) => true,
         _ => false,
+    }
+}
+
+/// How many votes of YES this one is.
+pub(crate) fn yes_in_vote(vote: Vote) -> usize
+    ensures { result ≡ yes_by (Some vote) }
+{
+    match vote {
+        Vote::Yes => 1,
+        Vote::No | Vote::Read => 0,
     }
 }
 
@@ -207,6 +210,16 @@ fn find_ticket<'a>(children: &'a [Child], ticket: &Ticket) -> Option<&'a Child>
     ensures { option_copied result ≡ find (λ c. same_ticket c.ticket ticket.now) children.now }
 {
     children.iter().find(|child| child.ticket.is(ticket))
+}
+
+/// The vote of the first child of the ticket.
+pub(crate) fn vote_of(children: &[Child], ticket: &Ticket) -> Option<Vote>
+    ensures { result ≡ vote_found (find (λ c. same_ticket c.ticket ticket.now) children.now) }
+{
+    match find_ticket(children, ticket) {
+        None => None,
+        Some(child) => child.vote,
+    }
 }
 
 /// How many works were sent to the first child of the ticket.

@@ -19,8 +19,9 @@ ghost use Rattle.tree_model.specs.SameViews.{SameView, open_view};
 
 use crate::child::Child;
 use crate::lists::{
-    Children, all_are, all_cast, has_child, in_list, is_alone, is_awaited, is_known, none_of,
-    set_vote, set_works, strike, ticket_of, tickets_of, undecided_of, works_sent, yes_of,
+    Children, all_are, has_child, in_list, is_alone, is_awaited, is_known, none_of, set_vote,
+    set_works, strike, ticket_of, tickets_of, undecided_of, vote_of, works_sent, yes_in_vote,
+    yes_of,
 };
 use smallvec::SmallVec;
 use std::alloc::{AllocError, Global};
@@ -29,12 +30,15 @@ use tree_model::{
     Case, Envelope, Envelopes, Finding, Message, ProcessId, Sequence, Standing, Ticket, Txn, Vote,
 };
 
-/// Where a live case stands: its accepted children, the tickets that its promise and its other records name,
-/// those that owe an acknowledgement, and what those found that were counted.
+/// Where a live case stands: its accepted children, how many of them have not voted and how many voted YES,
+/// the tickets that its promise and its other records name, those that owe an acknowledgement, and what those
+/// found that were counted.
 #[derive(Drop)]
 pub struct Live {
     standing: Standing,
     children: Children,
+    missing: usize,
+    yes: usize,
     promised: Vec<Ticket>,
     named: Vec<Ticket>,
     owed: Vec<Ticket>,
@@ -42,17 +46,16 @@ pub struct Live {
 }
 
 impl Model for Live {
-    ghost use Rattle.std.specs.Prelude.{◌≡◌, true};
     ghost use Rattle.tree_model.specs.Standings.{CoordinatorView};
 
     ghost Value = { CoordinatorView };
 
-    ghost use Rattle.coord_case.specs.Lives.{are_distinct, meant};
+    ghost use Rattle.coord_case.specs.Lives.{AreCounted, meant};
 
     ghost view = { λ l. meant l.standing l.children.items l.promised.items l.named.items l.owed.items
         l.found.items };
 
-    ghost invariant = { λ l. are_distinct l.children.items ≡ true };
+    ghost invariant = { λ l. AreCounted l.children.items l.missing l.yes };
 }
 
 /// PREPARE to the child, with the number of its works.
@@ -96,6 +99,8 @@ impl Live {
         Live {
             standing: Standing::Active,
             children: SmallVec::new(alloc),
+            missing: 0,
+            yes: 0,
             promised: Vec::new(alloc),
             named: Vec::new(alloc),
             owed: Vec::new(alloc),
@@ -117,6 +122,8 @@ impl Live {
         Ok(Live {
             standing,
             children: SmallVec::new(alloc),
+            missing: 0,
+            yes: 0,
             promised: Vec::from_slice(alloc, promised)?,
             named: Vec::from_slice(alloc, named)?,
             owed: Vec::from_slice(alloc, owed)?,
@@ -192,6 +199,9 @@ impl Live {
             works: 0,
             vote: None,
         });
+        // `len` is called for what bounds the counts, here and below, which the proof cites.
+        let _children = self.children.len();
+        self.missing += 1;
         Ok(())
     }
 
@@ -253,20 +263,38 @@ impl Live {
         ensures { SameView self.new (record self.old { votes = self.old.votes ++ (ticket.now, vote) ∷ [] }) }
     {
         set_vote(&mut self.children, ticket, Some(vote));
+        let _children = self.children.len();
+        self.missing -= 1;
+        self.yes += yes_in_vote(vote);
     }
 
     /// The vote of a ticket is taken back.
     pub fn uncount_vote(&mut self, ticket: &Ticket)
         ensures { Uncounts ticket.now self.old self.new }
     {
-        set_vote(&mut self.children, ticket, None);
+        match vote_of(self.children.as_slice(), ticket) {
+            None => {}
+            Some(vote) => {
+                set_vote(&mut self.children, ticket, None);
+                let _children = self.children.len();
+                self.missing += 1;
+                self.yes -= yes_in_vote(vote);
+            }
+        }
     }
 
     /// Whether each child has voted.
     pub fn all_voted(&self) -> bool
         ensures { result ≡ all_have_voted self.now.accepted self.now.votes }
     {
-        all_cast(self.children.as_slice())
+        self.missing == 0
+    }
+
+    /// Whether nobody voted YES.
+    pub fn none_voted_yes(&self) -> bool
+        ensures { result ≡ is_none_of (yes_in self.now.accepted self.now.votes) }
+    {
+        self.yes == 0
     }
 
     /// The tickets that voted YES, in order of acceptance.
@@ -376,6 +404,8 @@ impl Live {
     {
         self.standing = Standing::Unknown;
         self.children.clear();
+        self.missing = 0;
+        self.yes = 0;
         self.promised.clear();
         self.named.clear();
         self.owed.clear();

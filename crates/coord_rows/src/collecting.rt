@@ -1,7 +1,6 @@
 //! Rows of the reaction table for a case that collects votes (R*).
 
 ghost use Rattle.std.specs.Prelude.{◌≡◌, IfOk, OnErr};
-ghost use Rattle.tree_model.specs.Records.{none_of as is_none_of};
 ghost use Rattle.tree_model.specs.CoordinatorRows.{
   cascaded_prepares as promises_row,
   collecting_abort as abort_row,
@@ -15,7 +14,7 @@ ghost use Rattle.tree_model.specs.CoordinatorRows.{
 ghost use Rattle.tree_model.specs.SameViews.{SameView};
 ghost use Rattle.coord_effects.specs.Rows.{Does, reason as reason_meant, seat as seat_meant};
 
-use coord_case::{Live, none_of};
+use coord_case::Live;
 use coord_effects::{
     Reason, RowEffect, Seat, Written, decides_owed, forgets_behind, heard_above, tell_each, up,
 };
@@ -118,10 +117,10 @@ fn collecting_full(alloc: Global, seat: Seat, live: &mut Live) -> Result<RowEffe
     ensures ok { IfOk result (λ effect. Does seat (full_row (seat_meant seat) live.old) effect live.new) }
     ensures err { OnErr result (live.new ≡ live.old) }
 {
-    let yes = live.yes(alloc)?;
-    if none_of(&yes) {
+    if live.none_voted_yes() {
         return collecting_read_only(alloc, seat, live);
     }
+    let yes = live.yes(alloc)?;
     match seat.parent {
         None => root_commits(alloc, seat, yes, live),
         Some(_) => cascaded_prepares(alloc, seat, &yes, live),

@@ -1,15 +1,25 @@
 use Rattle.coord_case.proofs.Children.{distinct-changing}
+use Rattle.coord_case.proofs.Counts.{counted-sending}
 use Rattle.coord_case.proofs.Held.{sends-work}
 use Rattle.std.proofs.Common.{◌≡◌, ◌+◌, true, refl, ap, sym, ◌∙◌}
+use Rattle.tree_model.specs.declared.standings.Vote.TheVariants.{Yes}
 use Rattle.tree_model.specs.Records.{in_list}
 use Rattle.tree_model.specs.Memory.{works_of}
-use Rattle.coord_case.specs.Lives.{accepted_in, are_distinct, sending, works_in}
+use Rattle.coord_case.specs.Lives.{accepted_in, are_distinct, is_missing, is_vote, missing_in, sending, works_in, yes_in}
 use Rattle.coord_case.proofs.live.Live.add_work.Goals as goal
 
 pub invariant_of-self : goal.invariant_of-self
 invariant_of-self c =
-    ap are_distinct c.set_works.ensures.items ∙ distinct-changing c.args.ticket.now
-    (sending (c.args.sent + 1)) (λ d. refl) c.self.inside.children.items ∙ c.self.invariant
+    let now = c.set_works.ensures.items in
+    let t = c.args.ticket.now in
+    let n = c.args.sent + 1 in
+    let cs = c.self.inside.children.items in
+    record {
+      distinct = ap are_distinct now
+          ∙ distinct-changing t (sending n) (λ d. refl) cs ∙ c.self.invariant.distinct;
+      missing = c.self.invariant.missing ∙ sym (ap missing_in now ∙ counted-sending is_missing t n cs);
+      yes = c.self.invariant.yes ∙ sym (ap yes_in now ∙ counted-sending (is_vote Yes) t n cs);
+    }
 
 pub returns : goal.returns
 returns c =
@@ -18,4 +28,4 @@ returns c =
     let is : c.args.sent + 1 ≡ works_of (works_in c.self.inside.children.items) c.args.ticket.now + 1 =
     ap (λ n. n + 1) (c.requires.sent ∙ sym (ap (λ v. works_of v.works c.args.ticket.now) c.self.view_is)) in
     rw (c.set_works.ensures.items, ← c.self.view_is) (sends-work c.self.inside.standing
-    c.self.inside.children.items _ _ _ _ c.args.ticket.now (c.args.sent + 1) c.self.invariant there is)
+    c.self.inside.children.items _ _ _ _ c.args.ticket.now (c.args.sent + 1) c.self.invariant.distinct there is)

@@ -13,7 +13,7 @@ returns c =
     (Prepare (child_case c.args.txn d.ticket) d.works)) c.as_slice.result.now =
     sym (ap (prepares_to seat) c.self.view_is)
     ∙ prepares-each seat c.self.inside.standing c.self.inside.children.items c.self.inside.promised.items
-    c.self.inside.named.items c.self.inside.owed.items c.self.inside.found.items c.self.invariant
+    c.self.inside.named.items c.self.inside.owed.items c.self.inside.found.items c.self.invariant.distinct
     ∙ sym (ap (λ cs. map (λ d. post c.args.me d.ticket.child
     (Prepare (child_case c.args.txn d.ticket) d.works)) cs) c.as_slice.ensures) in
     subst (λ ms. IfOk c.prepare_each.result (λ messages. messages ≡ ms)) (sym e) c.prepare_each.ensures

@@ -8,4 +8,4 @@ pub returns : goal.returns
 returns c =
     rw (← c.self.view_is) (c.works_sent.ensures
     ∙ ap (λ cs. works_found (find (λ d. same_ticket d.ticket c.args.ticket.now) cs)) c.as_slice.ensures
-    ∙ sym (works-found c.self.inside.children.items c.args.ticket.now c.self.invariant))
+    ∙ sym (works-found c.self.inside.children.items c.args.ticket.now c.self.invariant.distinct))

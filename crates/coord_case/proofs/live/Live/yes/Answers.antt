@@ -9,6 +9,6 @@ pub returns : goal.returns
 returns c =
     let e : yes_of (accepted_in c.self.inside.children.items) (votes_in c.self.inside.children.items)
     ≡ accepted_in (filter (λ d. is_vote Yes d.vote) c.as_slice.result.now) =
-    yes_of-cast c.self.inside.children.items c.self.invariant
+    yes_of-cast c.self.inside.children.items c.self.invariant.distinct
     ∙ ap (λ cs. accepted_in (filter (λ d. is_vote Yes d.vote) cs)) (sym c.as_slice.ensures) in
     rw (← c.self.view_is) (subst (λ ts. IfOk c.yes_of.result (λ v. v.items ≡ ts)) (sym e) c.yes_of.ensures)
