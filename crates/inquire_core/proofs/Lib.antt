@@ -2,3 +2,4 @@ pub mod Summaries
 pub mod CaseTables
 pub mod Readings
 pub mod Inquiries
+pub mod Progress

@@ -87,7 +87,7 @@ summary_is rs c = said no_records summary_after summary_of says rs c
 pub view_is : (rs : List Record) (c : Case) → view_in (reading_of rs).table c ≡ recorded_view rs c
 view_is rs c = ap view_of (summary_is rs c) ∙ sym (view_recorded rs c)
 
-standing_known : (st : Standing) (s : Summary) → st ≡ (known_view st (restored_view st s)).standing
+pub standing_known : (st : Standing) (s : Summary) → st ≡ (known_view st (restored_view st s)).standing
 standing_known Unknown s = refl
 standing_known Active s = refl
 standing_known Collecting s = refl

@@ -2,3 +2,4 @@ pub mod Summaries
 pub mod Readings
 pub mod Plans
 pub mod Answers
+pub mod Progress

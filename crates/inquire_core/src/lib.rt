@@ -8,6 +8,7 @@
 //! reading      one pass over the records of a log: the boot, and each case in order of its first record
 //! planning     what a restart appends, and what the log then says
 //! answers      what an inquiry gets, by where its case stands
+//! standings    where one case stands, found without memory
 //! reports      whether the root's End reports what was found of a case
 //! ```
 #![tactic(auto)]
@@ -18,9 +19,11 @@ mod planning;
 mod reading;
 mod recorded;
 mod reports;
+mod standings;
 
 pub use answers::{answer, presumed};
 pub use planning::{RestartPlan, plan};
 pub use reading::{Reading, is_own};
 pub use recorded::{Recorded, Stage};
 pub use reports::is_reported;
+pub use standings::standing;

@@ -3,7 +3,7 @@
 ghost use Rattle.std.specs.Prelude.{◌≡◌, ◌++◌, IfOk, OnOk};
 ghost use Rattle.tree_model.specs.Records.{none_of as is_none_of};
 ghost use Rattle.tree_model.specs.Standings.{unless_none};
-ghost use Rattle.inquire_core.specs.Summaries.{decides, furthest, names, no_records, rank, standing_of, summary_after};
+ghost use Rattle.inquire_core.specs.Summaries.{decides, furthest, names, no_records, rank, standing_at, standing_of, summary_after};
 
 use std::alloc::{AllocError, Global};
 use std::marker::Model;
@@ -64,7 +64,7 @@ impl Stage {
     }
 
     /// The further of the two.
-    fn furthest(self, other: Stage) -> Stage
+    pub(crate) fn furthest(self, other: Stage) -> Stage
         ensures { result ≡ furthest self other }
     {
         if self.rank() < other.rank() {
@@ -72,6 +72,37 @@ impl Stage {
         } else {
             self
         }
+    }
+
+    /// Where a case of this stage stands, by whether its decision names nobody.
+    pub(crate) fn standing(self, nobody: bool) -> Standing
+        ensures { result ≡ standing_at self nobody }
+    {
+        match self {
+            Stage::Nothing | Stage::Ended => Standing::Unknown,
+            Stage::Collecting => Standing::Collecting,
+            Stage::Prepared => Standing::Prepared,
+            Stage::Aborted => unless_none(nobody, Standing::Aborting),
+            Stage::Committed => unless_none(nobody, Standing::Committing),
+        }
+    }
+}
+
+/// The standing of a decided case, but Unknown where its decision names nobody.
+fn unless_none(nobody: bool, standing: Standing) -> Standing
+    ensures { result ≡ unless_none nobody standing }
+{
+    if nobody { Standing::Unknown } else { standing }
+}
+
+/// Whether there is no ticket.
+#[tactic(auto, unfolding(tree_model::specs::Records::none_of))]
+pub(crate) fn names_nobody(tickets: &[Ticket]) -> bool
+    ensures { result ≡ is_none_of tickets.now }
+{
+    match tickets {
+        [] => true,
+        [_, ..] => false,
     }
 }
 
@@ -131,39 +162,11 @@ impl Recorded {
         self.names(stage, tickets)
     }
 
-    /// Whether nobody owes an acknowledgement.
-    #[tactic(auto, unfolding(tree_model::specs::Records::none_of))]
-    fn owes_none(&self) -> bool
-        ensures { result ≡ is_none_of self.now.owing }
-    {
-        match self.owing.as_slice() {
-            [] => true,
-            [_, ..] => false,
-        }
-    }
-
     /// Where the case stands.
     pub fn standing(&self) -> Standing
         ensures { result ≡ standing_of self.now }
     {
-        match self.stage {
-            Stage::Nothing | Stage::Ended => Standing::Unknown,
-            Stage::Collecting => Standing::Collecting,
-            Stage::Prepared => Standing::Prepared,
-            Stage::Aborted => self.unless_none(Standing::Aborting),
-            Stage::Committed => self.unless_none(Standing::Committing),
-        }
-    }
-
-    /// The standing of a decided case, but Unknown where the decision names nobody.
-    fn unless_none(&self, standing: Standing) -> Standing
-        ensures { result ≡ unless_none (is_none_of self.now.owing) standing }
-    {
-        if self.owes_none() {
-            Standing::Unknown
-        } else {
-            standing
-        }
+        self.stage.standing(names_nobody(&self.owing))
     }
 
     /// The tickets that its promise names.
