@@ -126,7 +126,9 @@ fn handles_second_message(world: &World<FaultStore>) -> Result<bool, AllocError>
 
 /// Whether a world in which the child has joined shows that.
 fn shows_joining(world: &World<FaultStore>) -> Result<bool, AllocError> {
-    let counts = world.tree().entries().len() == 2 && world.made() == 4;
+    let counts = world.tree().entries().len() == 2
+        && world.made() == 4
+        && world.trace()?.len() == 4;
     let sent = world.sent()?.len() == 2;
     let logs = world.logs()?.len() == 2;
     Ok(counts && sent && logs && handles_second_message(world)? && world.live(ROOT) == Some(1))

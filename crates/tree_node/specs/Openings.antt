@@ -46,6 +46,12 @@ ProcessNotOpened bytes failures p store Memory = ⊤
 ProcessNotOpened bytes failures p store (Device q) = (q ≡ p) × IsSomeAnd store (DeviceFailed bytes failures)
 ProcessNotOpened bytes failures p store (Store q) = (q ≡ p) × IsNoEmptyStore bytes store
 
+-- the number of an error
+abbrev pub open_error_number : OpenError → ℕ
+open_error_number Memory = 1
+open_error_number (Device p) = 2
+open_error_number (Store p) = 3
+
 -- why this process did not open, where its log did not
 abbrev pub error_of_log : ProcessId → LogError → OpenError
 error_of_log p logs.Memory = Memory

@@ -13,6 +13,7 @@ ghost use Rattle.tree_node.specs.Openings.{
   error_of_log,
   error_of_manager,
   error_of_step,
+  open_error_number,
 };
 
 use crate::node::Node;
@@ -33,6 +34,19 @@ pub enum OpenError {
     Device(ProcessId),
     /// There is no store for this process, or one in which bytes stand.
     Store(ProcessId),
+}
+
+impl OpenError {
+    /// The number of the error, 1 to 3.
+    pub fn number(self) -> u8
+        ensures { result ≡ open_error_number self }
+    {
+        match self {
+            OpenError::Memory => 1,
+            OpenError::Device(_) => 2,
+            OpenError::Store(_) => 3,
+        }
+    }
 }
 
 impl From<AllocError> for OpenError {
