@@ -1,11 +1,12 @@
 //! Records written as bytes.
 
-ghost use Rattle.std.specs.Prelude.{◌≡◌, ◌<◌, ◌++◌, ◌∷◌, [], OnOk, IfOk, length};
+ghost use Rattle.std.specs.Prelude.{◌≡◌, ◌<◌, ◌≤◌, ◌+◌, ◌-◌, ◌++◌, ◌∷◌, [], OnOk, IfOk, drop, length, replicate, take};
 ghost use Rattle.std.specs.List.{All};
 ghost use Rattle.byteorder.specs.Endian.{big_bytes};
 ghost use Rattle.xa_xid.specs.Bytes.{xid_bytes};
 ghost use Rattle.tree_model.specs.LogNames.{name_xid};
 ghost use Rattle.tree_model.specs.declared.records.Branch.TheVariants.{Case as CaseBranch};
+ghost use Rattle.log_text.specs.Forms.{size_bytes, size_limit};
 ghost use Rattle.log_text.specs.Payloads.{
   FitsFrame,
   IsSized,
@@ -15,6 +16,7 @@ ghost use Rattle.log_text.specs.Payloads.{
   kind_byte,
   left_text,
   name_text,
+  opened_text,
   payload_text,
   record_text,
   reports_text,
@@ -25,6 +27,7 @@ ghost use Rattle.log_text.specs.Payloads.{
   writes_text,
 };
 
+use crate::form::{LogForm, LogFormat};
 use crate::xids::{branch_xid, format_of, ticket_name, txn_name};
 use std::alloc::{AllocError, Global};
 use std::snapshot::Snapshot;
@@ -176,18 +179,30 @@ fn push_writes(text: &mut Vec<u8>, writes: &Writes) -> Result<(), AllocError>
     Ok(())
 }
 
+/// What Opened carries.
+#[tactic(auto, using(crate::proofs::Texts::joined2))]
+fn push_opened(text: &mut Vec<u8>, form: LogForm, boot: u64) -> Result<(), AllocError>
+    ensures { OnOk result (text.new.items ≡ text.old.items ++ opened_text form boot) }
+{
+    text.extend_from_slice(&boot.to_be_bytes())?;
+    match form.format {
+        LogFormat::First => Ok(()),
+        LogFormat::Second => text.extend_from_slice(&form.owner()),
+    }
+}
+
 fn push_payload(
     text: &mut Vec<u8>,
+    form: LogForm,
     parent: Option<ProcessId>,
     entry: &Record,
 ) -> Result<(), AllocError>
     requires { IsSized entry.now }
-    ensures { OnOk result (text.new.items ≡ text.old.items ++ payload_text parent entry.now) }
+    ensures { OnOk result (text.new.items ≡ text.old.items ++ payload_text form parent entry.now) }
 {
     match entry {
-        Record::Opened(number) | Record::Base(number) => text.extend_from_slice(
-            &number.to_be_bytes(),
-        ),
+        Record::Opened(boot) => push_opened(text, form, *boot),
+        Record::Base(count) => text.extend_from_slice(&count.to_be_bytes()),
         Record::Collecting(case, tickets)
         | Record::Prepare(case, tickets)
         | Record::Commit(case, tickets)
@@ -247,64 +262,107 @@ fn kind_byte(entry: &Record) -> u8
     }
 }
 
-/// The record as it stands in a log.
+/// A frame's kind, with room for the length of its payload.
+fn push_head(text: &mut Vec<u8>, format: LogFormat, kind: u8) -> Result<(), AllocError>
+    ensures { OnOk result (text.new.items ≡ text.old.items ++ kind ∷ replicate (size_bytes format) 0) }
+{
+    match format {
+        LogFormat::First => text.extend_from_slice(&[kind, 0, 0]),
+        LogFormat::Second => text.extend_from_slice(&[kind, 0, 0, 0, 0]),
+    }
+}
+
+/// Writes the length of a frame's payload where there is room for it.
+fn write_length(text: &mut Vec<u8>, format: LogFormat)
+    requires room { 1 + size_bytes format ≤ length text.old.items }
+    requires short { length text.old.items < 1 + size_bytes format + size_limit format }
+    ensures { text.new.items ≡ take 1 text.old.items
+        ++ (big_bytes (size_bytes format) (length text.old.items - (1 + size_bytes format))
+        ++ drop (1 + size_bytes format) text.old.items) }
+{
+    let length = text.len() - format.frame_head();
+    match format {
+        LogFormat::First => {
+            let length = (length as u16).to_be_bytes();
+            text[1] = length[0];
+            text[2] = length[1];
+        }
+        LogFormat::Second => {
+            let length = (length as u32).to_be_bytes();
+            text[1] = length[0];
+            text[2] = length[1];
+            text[3] = length[2];
+            text[4] = length[3];
+        }
+    }
+}
+
+/// The record as it stands in a log of this form.
 #[tactic(auto, unfolding(crate::specs::Payloads::record_text, crate::specs::Frames::frame_text))]
 fn record_bytes(
+    form: LogForm,
     entry: &Record,
     parent: Option<ProcessId>,
     alloc: Global,
 ) -> Result<Vec<u8>, AllocError>
-    requires { FitsFrame (record { entry = entry.now; parent = parent }) }
+    requires { FitsFrame form (record { entry = entry.now; parent = parent }) }
     ensures { IfOk result (λ text. text.items
-        ≡ record_text (record { entry = entry.now; parent = parent })) }
+        ≡ record_text form (record { entry = entry.now; parent = parent })) }
 {
     let mut text = Vec::with_capacity(alloc, FRAME)?;
-    text.extend_from_slice(&[kind_byte(entry), 0, 0])?;
-    push_payload(&mut text, parent, entry)?;
-    let length = ((text.len() - 3) as u16).to_be_bytes();
-    text[1] = length[0];
-    text[2] = length[1];
+    push_head(&mut text, form.format, kind_byte(entry))?;
+    push_payload(&mut text, form, parent, entry)?;
+    write_length(&mut text, form.format);
     Ok(text)
 }
 
-/// The frame that a record is in a log. It is made before anything is written, as it takes memory. The record
-/// itself is not kept: only clauses read it.
+/// The frame that a record is in a log of some form. It is made before anything is written, as it takes memory.
+/// The record itself is not kept, nor is the form: only clauses read them.
 #[derive(Drop)]
 pub struct Frame {
+    form: Snapshot<LogForm>,
     entry: Snapshot<Record>,
     parent: Snapshot<Option<ProcessId>>,
     bytes: Vec<u8>,
-    ghost spells: { bytes.items ≡ record_text (record { entry = entry.value; parent = parent.value }) },
+    ghost spells: { bytes.items ≡ record_text form.value (record { entry = entry.value; parent = parent.value }) },
 }
 
 impl Frame {
-    ghost use Rattle.log_text.specs.Made.{frame_record};
+    ghost use Rattle.log_text.specs.Made.{frame_form, frame_record};
 
-    /// The frame of a record under the parent of its name.
-    pub fn of(entry: &Record, parent: Option<ProcessId>, alloc: Global) -> Result<Frame, AllocError>
-        requires { FitsFrame (record { entry = entry.now; parent = parent }) }
-        ensures { IfOk result (λ frame. frame_record frame
+    /// The frame of a record under the parent of its name, in a log of this form.
+    pub fn of(
+        form: LogForm,
+        entry: &Record,
+        parent: Option<ProcessId>,
+        alloc: Global,
+    ) -> Result<Frame, AllocError>
+        requires { FitsFrame form (record { entry = entry.now; parent = parent }) }
+        ensures form { IfOk result (λ frame. frame_form frame ≡ form) }
+        ensures spells { IfOk result (λ frame. frame_record frame
             ≡ record { entry = entry.now; parent = parent }) }
     {
-        let bytes = record_bytes(entry, parent, alloc)?;
+        let bytes = record_bytes(form, entry, parent, alloc)?;
         Ok(Frame {
+            form: Snapshot::of(&form),
             entry: Snapshot::of(entry),
             parent: Snapshot::of(&parent),
             bytes,
         })
     }
 
-    /// The frame of a record.
-    pub fn new(entry: LogRecord, alloc: Global) -> Result<Frame, AllocError>
-        requires { FitsFrame entry }
-        ensures { IfOk result (λ frame. frame_record frame ≡ entry) }
+    /// The frame of a record, in a log of this form.
+    pub fn new(form: LogForm, entry: LogRecord, alloc: Global) -> Result<Frame, AllocError>
+        requires { FitsFrame form entry }
+        ensures form { IfOk result (λ frame. frame_form frame ≡ form) }
+        ensures spells { IfOk result (λ frame. frame_record frame ≡ entry) }
     {
-        Frame::of(&entry.entry, entry.parent, alloc)
+        Frame::of(form, &entry.entry, entry.parent, alloc)
     }
 
     /// The bytes that stand in the log.
     pub fn bytes(&self) -> &[u8]
-        ensures { result.now ≡ record_text (frame_record self.now) }
+        ensures { result.now ≡ record_text (frame_form self.now) (frame_record self.now) }
     {
         &self.bytes
     }
