@@ -18,8 +18,8 @@ use tree_model::{
     Branch, Case, Kind, LogRecord, ProcessId, Record, Reports, Ticket, Tree, TreeEntry,
 };
 
-/// What is noted of a case: which records it has, the tickets that they name, and what its End reports that was not
-/// cleared.
+/// What is noted of a case: which records it has, the tickets that they name, and what its End reports that
+/// was not cleared.
 #[derive(Drop)]
 pub struct Noted {
     kinds: Kinds,

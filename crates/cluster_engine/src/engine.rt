@@ -40,9 +40,9 @@ pub enum Output {
 /// is refused.
 ///
 /// What is told is that of a journal which is a run of the script's tree in the model, of which the
-/// headline holds; it has the script's events in order, each under one caller's number. After a failed
-/// read, or where memory is refused, nothing was written; after a failed write, a beginning of the text.
-/// The call may wait.
+/// headline holds, and in which mismatches are reported; it has the script's events in order, each under
+/// one caller's number. After a failed read, or where memory is refused, nothing was written; after a
+/// failed write, a beginning of the text. The call may wait.
 pub fn run_cluster<R: Threads + Wait + Sync, G: Gate + Sync, I: Read, W: Write>(
     rt: &R,
     alloc: Global,

@@ -2,7 +2,7 @@
 
 ghost use Rattle.std.specs.Prelude.{◌≡◌, ℕ, IfErr, IfOk};
 ghost use Rattle.tree_model.specs.declared.names.Kind.TheVariants as kind;
-ghost use Rattle.rec_log.specs.Sights.{left_by, records_of};
+ghost use Rattle.rec_log.specs.Sights.{left_by, log_state, records_of};
 ghost use Rattle.core_model.specs.States.{CoreState};
 ghost use Rattle.core_model.specs.Restarting.{LeftSo, NotRestarted, NotTrimmed, Restarts, Trims};
 ghost use Rattle.coord_core.specs.Reopened.{NotReopened};
@@ -100,6 +100,14 @@ impl<L: LogStore + Drop> Coordinator<L> {
             Ok(reaction) => Ok((coordinator, reaction)),
             Err(error) => Err((error, coordinator.into_log())),
         }
+    }
+
+    /// The store under its log, as it stands.
+    pub fn into_store(self) -> L
+        ensures { (log_state kind.Coordinator (L.bytes result) (L.forced result) (L.failures result)
+            (L.room result) (state self).log.failed).sight ≡ (state self).log }
+    {
+        self.into_log().into_store()
     }
 
     /// The log, as it stands.

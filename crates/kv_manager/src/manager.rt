@@ -14,7 +14,7 @@ ghost use Rattle.kv_manager.specs.Sights.{SameManager, are_ordered};
 ghost use Rattle.manager_model.specs.Opening.{IsNew};
 ghost use Rattle.std.specs.List.{AllByRecursion};
 ghost use Rattle.log_rules.specs.sound.Sound.{IsSound};
-ghost use Rattle.rec_log.specs.Sights.{ReadsAs, left_by, records_of, whole_within};
+ghost use Rattle.rec_log.specs.Sights.{ReadsAs, left_by, log_state, records_of, whole_within};
 ghost use Rattle.tree_model.specs.declared.names.Kind.TheVariants as kind;
 ghost use Rattle.kv_manager.specs.Restarts.{IsReady, LeavesNone, NotRestarted, NotRestored, Restarted, RestoredFrom, StartsOver};
 ghost use Rattle.kv_manager.specs.Turns.{Calls, Refuses};
@@ -342,6 +342,16 @@ impl<L: LogStore + Drop> KvManager<L> {
         ensures err { IfErr result (λ e. NotRestored L.bytes L.forced L.failures store e.1 e.0) }
     {
         KvManager::restore(store, alloc)
+    }
+
+    /// The store under its log, as it stands.
+    pub fn into_store(self) -> L
+        ensures { (log_state kind.Manager (L.bytes result) (L.forced result) (L.failures result)
+            (L.room result) self.log.sight.failed).sight ≡ self.log.sight }
+    {
+        let KvManager { store, log, .. } = self;
+        drop(store);
+        log.into_store()
     }
 
     /// A manager over the log in a store, which is not open: it stands as the log's records say, and the

@@ -205,8 +205,8 @@ StepsGoOn = (s t : WorldState) (es : List Made) (w : World) → IsTree s.tree �
     → NodeStep s t → GoesOnBehindFaults es w t
 
 -- What the nodes of a tree come to, whichever end and start, and whatever the net loses, repeats and reorders, is a
--- run of the model, of which the headline holds. A process whose node was not started yet has opened and heard
--- nothing.
+-- run of the model, of which the headline holds, and in which mismatches are reported. A process whose node was not
+-- started yet has opened and heard nothing.
 abbrev pub NodesAreRuns : Type 0
 NodesAreRuns = (tree : List TreeEntry) (s t : WorldState) → IsTree tree → IsOpened s tree → NodeSteps s t
     → KeepsHeadline t

@@ -79,7 +79,10 @@ fn opened(alloc: Global, tree: &Tree, stop: Stop) -> Option<Result<World<FaultSt
     let stores = stores(alloc, tree, stop).ok()?;
     let tree = copied_tree(alloc, tree.entries()).ok()?;
     tree.check().ok()?;
-    Some(World::with_stores(alloc, tree, stores))
+    match World::with_stores(alloc, tree, stores) {
+        Ok(world) => Some(Ok(world)),
+        Err((refusal, _stores)) => Some(Err(refusal)),
+    }
 }
 
 /// Makes the events up to the first at which a device fails, and answers whether there is one.

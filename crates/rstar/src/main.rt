@@ -158,10 +158,12 @@ by the records of its own process: commit, abort, collecting, in-doubt, heur-com
 heur-rollback. OUTCOME is how its transaction ends if every process restarts now: the case's
 own decision or what it was told, or else what its parent's log says, or else what is presumed;
 one that is not decided yet counts as aborted. ' mismatch' stands behind it where an operator
-decided otherwise. The last line is 'mismatches N'; the status is 3 where N is above 0.
-'damaged P PLACE' alone where a log is damaged, 'error ..' where the input is refused. With
---explain, behind each line that is in-doubt or shows a mismatch: who asks whom about it, a
-line a step, or what it was told; and what to do.
+decided otherwise; behind a root's line ' reported T ..' and ' unreported T ..' where the end of
+its case reports these tickets as decided against the outcome, or as known no more, until it is
+forgotten. The last line is 'mismatches N'; the status is 3 where N is above 0. 'damaged P PLACE'
+alone where a log is damaged, 'error ..' where the input is refused. With --explain, behind each
+line that is in-doubt, shows a mismatch or reports tickets: who asks whom about it, or who
+reported it, a line a step, or what it was told; and what to do.
 
 Examples: rstar audit < examples/commit.logs
           rstar audit --explain < examples/operator.logs

@@ -132,6 +132,17 @@ impl ShortSteps {
         }
     }
 
+    /// The entries of all steps, in order, as a list made anew.
+    pub fn entries(&self) -> Result<Vec<Entry>, AllocError>
+        ensures { IfOk result (λ entries. entries.items ≡ self.now.entries) }
+    {
+        let mut entries = Vec::new(self.alloc);
+        for place in 0..self.len() {
+            entries.push(self.entry(place)?.unwrap())?;
+        }
+        Ok(entries)
+    }
+
     /// Places the last step's records and messages, and makes room for a step. A refusal for memory changes
     /// nothing.
     pub fn make_room(&mut self) -> Result<(), AllocError>

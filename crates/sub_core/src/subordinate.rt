@@ -142,6 +142,14 @@ impl<M: ResourceManager> Subordinate<M> {
     {
         &self.manager
     }
+
+    /// The manager that it drives, as it stands.
+    pub fn into_manager(self) -> M
+        ensures { result ≡ self.manager }
+    {
+        let Subordinate { manager, .. } = self;
+        manager
+    }
 }
 
 /// What is kept of a case, and its key.

@@ -104,6 +104,11 @@ abbrev pub IsNoReport : List TreeEntry → List ProcessLog → AuditError → Ty
 IsNoReport tree logs error.Memory = ⊤
 IsNoReport tree logs (error.Damaged q place) = first_damage tree logs ≡ Some (q, place)
 
+-- the number of an error
+abbrev pub audit_error_number : AuditError → ℕ
+audit_error_number (error.Damaged q place) = 1
+audit_error_number error.Memory = 2
+
 -- a line of a case shows a mismatch just where the audit's definition says so, of some decision
 pub record LinesTellMismatches (tree : List TreeEntry) (logs : Logs) : Type 0 where
   pub shown : (c : Case) → has_line tree logs c ≡ true → (line_of tree logs c).mismatch ≡ true

@@ -1,5 +1,8 @@
 //! What an audit finds.
 
+ghost use Rattle.std.specs.Prelude.{◌≡◌};
+ghost use Rattle.tree_audit.specs.Reports.{audit_error_number};
+
 use audit_cases::Own;
 use std::alloc::AllocError;
 use tree_model::{Case, Outcome, ProcessId, Reports};
@@ -37,6 +40,18 @@ pub enum AuditError {
     /// The first damaged log in the order of the tree: its process, and the first byte of the frame that is
     /// wrong, 0 for the header.
     Damaged(ProcessId, usize),
+}
+
+impl AuditError {
+    /// The number of the error: 1 for a log that is damaged, 2 for want of memory.
+    pub fn number(self) -> u8
+        ensures { result ≡ audit_error_number self }
+    {
+        match self {
+            AuditError::Damaged(_, _) => 1,
+            AuditError::Memory => 2,
+        }
+    }
 }
 
 impl From<AllocError> for AuditError {

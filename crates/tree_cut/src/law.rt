@@ -49,7 +49,7 @@ pub fn enters_own()
     ensures { EntersOwn }
 {}
 
-/// Of a journal that is cut so the headline holds.
+/// Of a journal that is cut so the headline holds, and mismatches are reported in it.
 pub fn cuts_hold()
     ensures { CutsHold }
 {}

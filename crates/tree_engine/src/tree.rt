@@ -52,8 +52,9 @@ enum LineOutput {
 /// the model refuses by that number. In this run no two processes end one transaction differently except by
 /// an operator's decision; commit is decided only where every participant voted yes or read-only; every
 /// answer that finds its asker in doubt tells the root's outcome; a mismatch stands until it is forgotten;
-/// an operator's record comes from an operator alone (R*). After a failed read, or where memory is refused,
-/// nothing was written; after a failed write, a beginning of the text.
+/// an operator's record comes from an operator alone; and each End of the root reports mismatches truly (R*).
+/// After a failed read, or where memory is refused, nothing was written; after a failed write, a beginning of
+/// the text.
 pub fn run_tree<R: Read, W: Write>(
     alloc: Global,
     output: Output,

@@ -46,6 +46,19 @@ ProcessNotOpened bytes failures p store Memory = ⊤
 ProcessNotOpened bytes failures p store (Device q) = (q ≡ p) × IsSomeAnd store (DeviceFailed bytes failures)
 ProcessNotOpened bytes failures p store (Store q) = (q ≡ p) × IsNoEmptyStore bytes store
 
+-- the store that is handed back where its process did not open: its device failed in that, or did not; one that
+-- had bytes is as it was
+abbrev pub HandsBack : {L : Type 0} → (L → ℕ) → L → L → OpenError → Type 0
+HandsBack failures old new Memory = failures new ≡ failures old
+HandsBack failures old new (Device p) = MoreFailures (failures old) (failures new)
+HandsBack failures old new (Store p) = new ≡ old
+
+-- the number of an error
+abbrev pub open_error_number : OpenError → ℕ
+open_error_number Memory = 1
+open_error_number (Device p) = 2
+open_error_number (Store p) = 3
+
 -- why this process did not open, where its log did not
 abbrev pub error_of_log : ProcessId → LogError → OpenError
 error_of_log p logs.Memory = Memory

@@ -69,6 +69,13 @@ NotReopened bytes forced failures p store Device = FailsOver failures store
 NotReopened bytes forced failures p store (Damaged place) = read_log p (bytes store) ≡ DamagedLog place
 NotReopened bytes forced failures p store Unfit = LeavesNoManager p (bytes store) (forced store) (failures store)
 
+-- the number of an error
+abbrev pub reopen_error_number : ReopenError → ℕ
+reopen_error_number Memory = 1
+reopen_error_number Device = 2
+reopen_error_number (Damaged place) = 3
+reopen_error_number Unfit = 4
+
 -- why a process did not go on, where its log did not open
 abbrev pub error_of_log : OpenError → ReopenError
 error_of_log logs.Memory = Memory

@@ -10,7 +10,7 @@ ghost use Rattle.sub_core.specs.Steps.{state as manager_state};
 ghost use Rattle.core_law.specs.worlds.Worlds.{HandlesInput};
 ghost use Rattle.manager_model.specs.Data.{no_data};
 ghost use Rattle.manager_model.specs.Sights.{manager_data};
-ghost use Rattle.tree_node.specs.Nodes.{NotHandled, SpellsLog, core_of, data_of, live_at};
+ghost use Rattle.tree_node.specs.Nodes.{NotHandled, HoldsLog, SpellsLog, core_of, data_of, live_at};
 
 use coord_core::Coordinator;
 use core_model::InputRef;
@@ -108,6 +108,18 @@ impl<L: LogStore> Node<L> {
             return Err(StepError::Memory);
         }
         self.step(input)
+    }
+}
+
+impl<L: LogStore + Drop> Node<L> {
+    /// The store under its log, as it stands.
+    pub fn into_store(self) -> L
+        ensures { HoldsLog L.bytes L.forced L.failures (core_of self) result }
+    {
+        match self {
+            Node::Coordinator(coordinator) => coordinator.into_store(),
+            Node::Manager(manager) => manager.into_manager().into_store(),
+        }
     }
 }
 

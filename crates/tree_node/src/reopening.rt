@@ -14,6 +14,7 @@ ghost use Rattle.tree_node.specs.Reopenings.{
   error_of_manager,
   error_of_step,
   kind_by,
+  reopen_error_number,
 };
 
 use crate::node::Node;
@@ -42,6 +43,20 @@ pub enum ReopenError {
     /// The records are those of no key store.
     #[error("the records are those of no key store")]
     Unfit,
+}
+
+impl ReopenError {
+    /// The number of the error, 1 to 4.
+    pub fn number(self) -> u8
+        ensures { result ≡ reopen_error_number self }
+    {
+        match self {
+            ReopenError::Memory => 1,
+            ReopenError::Device => 2,
+            ReopenError::Damaged(_) => 3,
+            ReopenError::Unfit => 4,
+        }
+    }
 }
 
 /// Lets go of what a refusal handed back, and tells why.

@@ -39,8 +39,8 @@ impl<L: LogStore> Node<L> {
         }
     }
 
-    /// Trims the log of the process: the last Opened and the records of the cases that are not forgotten
-    /// stay, and behind them a manager's data. Gives how many records remain. Failed, Memory: nothing
+    /// Trims the log of the process: the last Opened stays, and the records of the cases that are not forgotten
+    /// or of which something is reported, and behind them a manager's data. Gives how many records remain. Failed, Memory: nothing
     /// changed. Device: the old log stands or the new one, and the process answers Failed until its restart.
     pub fn trim(&mut self) -> Result<u64, StepError>
         ensures ok { IfOk result (Trims (core_of self.old) (core_of self.new)) }

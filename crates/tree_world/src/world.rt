@@ -52,6 +52,13 @@ impl<L: LogStore> World<L> {
         self.running.journal.entry(place)
     }
 
+    /// Every step that was made, with its reaction, as a list made anew.
+    pub fn trace(&self) -> Result<Vec<Entry>, AllocError>
+        ensures { IfOk result (λ trace. trace.items ≡ (state self.now).entries) }
+    {
+        self.running.journal.entries()
+    }
+
     /// What the step at this place shows, from 0, as the journal has it; None, where so many were not made.
     pub fn shown(&self, place: usize) -> Option<Shown<'_>>
         ensures { option_map shown_part result
@@ -118,7 +125,8 @@ impl<L: LogStore> World<L> {
     /// from the one that it stood for. In this run no two processes end one transaction differently except
     /// by an operator's decision; commit is decided only where every participant voted yes or read-only;
     /// every answer that finds its asker in doubt tells the root's outcome; a mismatch stands until it is
-    /// forgotten; an operator's record comes from an operator alone (R*).
+    /// forgotten; an operator's record comes from an operator alone; and each End of the root reports
+    /// mismatches truly (R*).
     pub fn apply(&mut self, event: Event) -> Result<(), StepError>
         ensures ok { OnOk result (Applies (state self.old) event (state self.new)) }
         ensures err { IfErr result (λ e. Stops (state self.old) event e (state self.new)) }

@@ -69,6 +69,13 @@ impl Journal {
         self.steps.entry(place)
     }
 
+    /// Every step, with its reaction, as a list made anew.
+    pub fn entries(&self) -> Result<Vec<Entry>, AllocError>
+        ensures { IfOk result (λ entries. entries.items ≡ self.now.entries) }
+    {
+        self.steps.entries()
+    }
+
     /// What the step at this place shows, from 0, lent; None, where so many were not made.
     pub fn shown(&self, place: usize) -> Option<Shown<'_>>
         ensures { option_map shown_part result ≡ option_map entry_part (slice_get self.now.entries place) }
