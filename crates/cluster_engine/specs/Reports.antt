@@ -60,8 +60,8 @@ pub record TellsClosed (output : Output) (status : Status) (tree : List TreeEntr
   pub tells : Tells output status tree journal logs text
 
 -- The text tells the journal of a closed cluster on this tree. It is a run of the tree, of which the headline holds,
--- and in which mismatches are reported, and the logs are those that it leaves. These events were made with one pass, in order, and the journal has each
--- pair of that pass, under its caller's number.
+-- and in which mismatches are reported, and the logs are those that it leaves. These events were made with one pass,
+-- in order, and the journal has each pair of that pass, under its caller's number.
 pub record RunsTree (output : Output) (status : Status) (tree : List TreeEntry) (events : List Event)
     (text : List ℕ) : Type 0 where
   pub journal : List (ℕ × Entry)

@@ -39,9 +39,10 @@ impl<L: LogStore> Node<L> {
         }
     }
 
-    /// Trims the log of the process: the last Opened stays, and the records of the cases that are not forgotten
-    /// or of which something is reported, and behind them a manager's data. Gives how many records remain. Failed, Memory: nothing
-    /// changed. Device: the old log stands or the new one, and the process answers Failed until its restart.
+    /// Trims the log of the process: the last Opened stays, and the records of the cases that are not
+    /// forgotten or of which something is reported, and behind them a manager's data. Gives how many records
+    /// remain. Failed, Memory: nothing changed. Device: the old log stands or the new one, and the process
+    /// answers Failed until its restart.
     pub fn trim(&mut self) -> Result<u64, StepError>
         ensures ok { IfOk result (Trims (core_of self.old) (core_of self.new)) }
         ensures holdings { OnOk result (TrimsData (core_of self.old).place.role

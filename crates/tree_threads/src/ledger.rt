@@ -152,8 +152,8 @@ impl<N: Seats> Ledger<N> {
         }
     }
 
-    /// Whoever has the journal knows: it is a run of the tree, of which the headline holds, and in which mismatches
-    /// are reported.
+    /// Whoever has the journal knows: it is a run of the tree, of which the headline holds, and in which
+    /// mismatches are reported.
     pub fn is_a_run(&self)
         ensures { CutHolds N.tree (entries_in self.now.entries) }
     {
