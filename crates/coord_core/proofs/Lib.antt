@@ -3,3 +3,7 @@ pub mod Heard
 pub mod Made
 pub mod Opened
 pub mod Restarted
+pub mod Numbers
+pub mod Reached
+pub mod Kept
+pub mod Begun

@@ -1,11 +1,12 @@
 -- A coordinator that restarted, or was trimmed, or was not.
-use Rattle.std.proofs.Common.{◌≡◌, ◌≤◌, ◌<◌, ◌++◌, [], ℕ, true, false, Option, None, Some, List, map, length, refl, subst, sym, ap, ◌∙◌, arith, ◌⊎◌}
+use Rattle.std.proofs.Common.{◌≡◌, ◌≤◌, ◌<◌, ◌++◌, [], ℕ, true, false, Option, None, Some, List, map, length, refl, subst, sym, take, ap, ◌∙◌, arith, ◌⊎◌}
 use Rattle.tree_model.specs.declared.names.Case.{Case}
 use Rattle.tree_model.specs.declared.names.Kind.TheVariants.{Coordinator}
 use Rattle.tree_model.specs.declared.names.ProcessId.{ProcessId}
 use Rattle.tree_model.specs.declared.records.LogRecord.{LogRecord}
 use Rattle.tree_model.specs.declared.records.Record.{Record}
 use Rattle.tree_model.specs.Names.{child_case, root_case}
+use Rattle.tree_model.specs.Records.{boot_of}
 use Rattle.tree_model.specs.Restarts.{data_records}
 use Rattle.tree_model.specs.Standings.{CoordinatorView, unknown_branch}
 use Rattle.tree_model.specs.SameViews.{SameView}
@@ -18,13 +19,18 @@ use Rattle.rec_log.specs.declared.log.LogError.{LogError}
 use Rattle.rec_log.specs.declared.log.LogError.TheVariants as log_error
 use Rattle.core_model.specs.States.{SameButLog, SameCore, logged}
 use Rattle.core_model.specs.Restarting.{NotRestarted, NotTrimmed, Restarts, Trims, read_of, recorded_branch_at, recorded_view_at, restarted_log, trimmed_log}
+use Rattle.core_model.specs.Turns.{kept_records}
 use Rattle.core_model.proofs.Alike.{same_view}
 use Rattle.coord_table.specs.declared.held.Held.{Held}
 use Rattle.coord_table.specs.Cases.{is_for}
+use Rattle.inquire_core.specs.Numbered.{are_numbered, numbered_in}
 use Rattle.inquire_core.specs.Readings.{role_below}
 use Rattle.coord_table.specs.Restores.{IsNumbered, IsRestored, Rebuilds}
 use Rattle.coord_table.specs.declared.rebuilding.Rebuilt.{Rebuilt}
 use Rattle.coord_core.proofs.Made.{never_decided}
+use Rattle.tree_model.specs.declared.events.StepError.{StepError}
+use Rattle.tree_model.specs.declared.events.StepError.TheVariants as steps
+use Rattle.coord_core.specs.Reopened.{NotReopened, error_of_restart}
 use Rattle.coord_core.specs.States.{CoordinatorValue, IsCoordinator, error_of, own_ticket, own_txn, place_of, state}
 
 -- but for its log nothing is otherwise
@@ -100,10 +106,10 @@ module _ (v : CoordinatorValue) (keep : ℕ) (ls : List LogRecord) (r : Rebuilt)
   not_restarted log_error.Device breaks = (
     record {
       kind = refl;
-      either = subst (λ ks. ((records_of log.sight.kept ≡ left_by v.log.sight keep)
-          × (log.sight.kept.forced ≡ v.log.sight.kept.forced))
-          ⊎ (log.sight.kept ≡ record { forced = left_by v.log.sight keep ++ ks; unforced = [] }))
-          of_left.frames breaks.either;
+      appended = breaks.appended;
+      stand = subst (λ ks. records_of log.sight.kept ≡ left_by v.log.sight keep ++ take breaks.appended ks)
+          of_left.frames breaks.stand;
+      no_less = breaks.no_less;
       failed = breaks.failed;
       cause = breaks.cause;
     },
@@ -124,8 +130,10 @@ numbered_before boot (Some p) c restored at =
 -- the cases that were rebuilt have numbers of earlier boots, and no ticket is active
 pub is_coordinator : (v : CoordinatorValue) (ls : List LogRecord) (r : Rebuilt) (log : LogState)
     → Rebuilds (place_of v) ls r → log.kind ≡ Coordinator
+    → are_numbered 0 (kept_records (state (rebuilt_as v log r))) ≡ true
+    → r.boot ≤ boot_of (kept_records (state (rebuilt_as v log r)))
     → IsCoordinator (rebuilt_as v log r)
-is_coordinator v ls r log rebuilds kind =
+is_coordinator v ls r log rebuilds kind logged opened =
     record {
       kind = kind;
       active = λ k d p at is.
@@ -135,7 +143,32 @@ is_coordinator v ls r log rebuilds kind =
           (root_case (own_txn (rebuilt_as v log r) p n)) (rebuilds.entries k) at);
       given = λ k x n at. never r.boot n (numbered_before r.boot (entry_at r.cases k)
           (child_case x (own_ticket (rebuilt_as v log r) n)) (rebuilds.entries k) at);
+      numbered = λ k c at.
+          let before : numbered_in c < r.boot =
+          numbered_before r.boot (entry_at r.cases k) c (rebuilds.entries k) at in
+          omega (arith, before);
+      logged = logged;
+      opened = λ works. opened;
     }
+
+-- over a log that an earlier one left
+pub not_reopened : (v w : CoordinatorValue) (keep : ℕ) (e : StepError) (left : LogState)
+    → left_by v.log.sight keep ≡ records_of v.log.sight.kept → left ≡ w.log
+    → NotRestarted (state v) keep (state w) e
+    → NotReopened (place_of v) v.log.sight left.sight (error_of_restart e)
+not_reopened v w keep steps.Memory left all is same = ap (λ (l : LogState). l.sight) is ∙ same.log
+not_reopened v w keep steps.Device left all is broke =
+    record {
+      before = state v;
+      place_is = refl;
+      log_is = refl;
+      keep = keep;
+      left = all;
+      behind = state w;
+      log_left = ap (λ (l : LogState). l.sight) (sym is);
+      broke = broke;
+    }
+not_reopened v w keep e left all is refused = absurd refused
 
 -- A trim.
 

@@ -1,6 +1,7 @@
 -- What the code of a coordinator keeps, and the process that it stands for.
 pub use Rattle.inquire_core.specs.Readings.{role_below}
-use Rattle.std.specs.Prelude.{◌≡◌, ◌≤◌, ℕ, true, Option, Some, None, List, [], ◌∷◌}
+use Rattle.std.specs.Prelude.{◌≡◌, ◌≤◌, ℕ, false, true, Option, Some, None, List, [], ◌∷◌}
+use Rattle.tree_model.specs.declared.names.Case.{Case}
 use Rattle.tree_model.specs.declared.names.Kind.TheVariants.{Coordinator}
 use Rattle.tree_model.specs.declared.names.Presumption.{Presumption}
 use Rattle.tree_model.specs.declared.names.ProcessId.{ProcessId}
@@ -12,6 +13,7 @@ use Rattle.tree_model.specs.declared.events.StepError.TheVariants.{Memory, Devic
 use Rattle.tree_model.specs.declared.trees.TreeEntry.{TreeEntry}
 use Rattle.tree_model.specs.Names.{child_case, root_case}
 use Rattle.tree_model.specs.Nodes.{Place}
+use Rattle.tree_model.specs.Records.{boot_of}
 use Rattle.tree_model.specs.Standings.{unknown_branch}
 use Rattle.live_table.specs.Tables.{case_of, entry_at}
 use Rattle.rec_log.specs.declared.log.LogError.{LogError}
@@ -19,8 +21,10 @@ use Rattle.rec_log.specs.declared.log.LogError.TheVariants as log_error
 use Rattle.rec_log.specs.Sights.{Breaks, LogState}
 use Rattle.core_model.specs.States.{CoreState, wrote}
 use Rattle.core_model.specs.Opening.{first_opened}
+use Rattle.core_model.specs.Turns.{kept_records}
 use Rattle.coord_table.specs.Cases.{Slots, ticket_in, view_in}
 use Rattle.coord_table.specs.Takes.{GivenAreActive}
+use Rattle.inquire_core.specs.Numbered.{are_numbered, numbered_in}
 use Rattle.inquire_core.specs.Readings.{place_below}
 
 -- who it is and its parent, if it has one; its tree; its log; its boot; how many transactions it began and
@@ -63,7 +67,9 @@ abbrev pub own_ticket : CoordinatorValue → ℕ → Ticket
 own_ticket v n = record { child = v.me; boot = v.boot; number = n }
 
 -- what a coordinator keeps: its log is a coordinator's; a case whose ticket is active takes children and
--- work; and no case is live of a transaction or a ticket that it did not number yet
+-- work; no case is live of a transaction or a ticket that it did not number yet, or of a later boot; each case
+-- of its log was numbered in a boot that the log had reached by then, and while its device has not failed the log
+-- has reached its boot
 pub record IsCoordinator (v : CoordinatorValue) : Type 0 where
   pub kind : v.log.kind ≡ Coordinator
   pub active : GivenAreActive v.slots
@@ -71,6 +77,9 @@ pub record IsCoordinator (v : CoordinatorValue) : Type 0 where
       → case_of (entry_at v.slots k) ≡ Some (root_case (own_txn v p n)) → n ≤ v.begun
   pub given : (k : ℕ) (x : Txn) (n : ℕ) → case_of (entry_at v.slots k) ≡ Some (child_case x (own_ticket v n))
       → n ≤ v.given
+  pub numbered : (k : ℕ) (c : Case) → case_of (entry_at v.slots k) ≡ Some c → numbered_in c ≤ v.boot
+  pub logged : are_numbered 0 (kept_records (state v)) ≡ true
+  pub opened : v.log.sight.failed ≡ false → v.boot ≤ boot_of (kept_records (state v))
 
 -- the error of a step for that of a log
 abbrev pub error_of : LogError → StepError

@@ -2,6 +2,8 @@
 
 ghost use Rattle.std.specs.Prelude.{IfErr, IfOk};
 ghost use Rattle.tree_model.specs.declared.events.Input.TheVariants as input;
+ghost use Rattle.tree_model.specs.Nodes.{reaction_of};
+ghost use Rattle.tree_model.specs.Views.{begin_effect};
 ghost use Rattle.core_model.specs.States.{HasNumbers};
 ghost use Rattle.core_model.specs.Makes.{Makes, NotMade};
 ghost use Rattle.core_model.specs.Turns.{no_answer};
@@ -13,16 +15,20 @@ use log_store::LogStore;
 use tree_model::{Act, Case, Op, Presumption, ProcessId, Reaction, StepError, Txn};
 
 impl<L: LogStore> Coordinator<L> {
-    /// Begins a transaction; the reaction names it. Failed: the device failed before. NoSuch: this is not the
+    /// Begins a transaction, and gives its name. Failed: the device failed before. NoSuch: this is not the
     /// root. Memory. Nothing changed.
-    pub fn begin(&mut self, presumption: Presumption) -> Result<Reaction, StepError>
+    pub fn begin(&mut self, presumption: Presumption) -> Result<Txn, StepError>
         requires { HasNumbers (state self.old) }
-        ensures ok { IfOk result (Makes (state self.old) (state self.new) no_answer
-            (input.Act (Act.Begin presumption))) }
+        ensures ok { IfOk result (λ txn. Makes (state self.old) (state self.new) no_answer
+            (input.Act (Act.Begin presumption)) (reaction_of (begin_effect txn))) }
         ensures err { IfErr result (NotMade (state self.old) (state self.new) no_answer
             (input.Act (Act.Begin presumption))) }
     {
-        self.step(InputRef::Act(&Act::Begin(presumption)))
+        let reaction = self.step(InputRef::Act(&Act::Begin(presumption)))?;
+        match reaction.begun {
+            Some(txn) => Ok(txn),
+            None => unreachable!(),
+        }
     }
 
     /// Invites a child to take part. NoSuch: no process has this number. Failed. UnknownTxn: the case is not

@@ -1,6 +1,6 @@
 //! What a coordinator keeps.
 
-ghost use Rattle.std.specs.Prelude.{◌≡◌, ◌+◌, IfOk, IsTrue, length};
+ghost use Rattle.std.specs.Prelude.{◌≡◌, ◌+◌, true, IfOk, IsTrue, length};
 ghost use Rattle.live_table.specs.Tables.{AreApart, live_count};
 ghost use Rattle.tree_model.specs.Memory.{ticket_of_child};
 ghost use Rattle.coord_table.specs.Cases.{FitsGiven, ticket_in, view_in};
@@ -10,6 +10,8 @@ ghost use Rattle.std.specs.List.{AllByRecursion};
 ghost use Rattle.log_rules.specs.sound.Sound.{IsSound};
 ghost use Rattle.rec_log.specs.Sights.{ReadsAs, left_by, records_of, whole_within};
 ghost use Rattle.core_model.specs.States.{HasNumbers};
+ghost use Rattle.core_model.specs.Turns.{kept_records};
+ghost use Rattle.inquire_core.specs.Numbered.{are_numbered};
 ghost use Rattle.coord_core.specs.States.{state};
 ghost use Rattle.coord_core.specs.Meets.{FindsAt, FindsLive};
 
@@ -144,6 +146,14 @@ impl<L: LogStore> Coordinator<L> {
         ensures { AllByRecursion (IsSound kind.Coordinator) (records_of (state self.now).log.kept) }
     {
         self.log.records_are_sound();
+    }
+
+    /// Each case of its log was numbered in a boot that the log had reached by then, at each moment: also while
+    /// its device has failed, and of whatever a crash leaves of it.
+    pub fn cases_are_numbered(&self)
+        ensures { are_numbered 0 (kept_records (state self.now)) ≡ true }
+    {
+        let _ = &self.alloc;
     }
 
     /// The records of its log, as a list made anew.

@@ -34,3 +34,4 @@ mod turn;
 mod writing;
 
 pub use coordinator::Coordinator;
+pub use restarting::ReopenError;

@@ -1,18 +1,21 @@
 //! A coordinator's restart, and its trim.
 
-ghost use Rattle.std.specs.Prelude.{◌≡◌, ℕ, IfErr, IfOk};
+ghost use Rattle.std.specs.Prelude.{◌≡◌, ℕ, IfErr, IfOk, map};
 ghost use Rattle.tree_model.specs.declared.names.Kind.TheVariants as kind;
-ghost use Rattle.rec_log.specs.Sights.{left_by, records_of};
+ghost use Rattle.rec_log.specs.Sights.{left_by, log_state, records_of};
 ghost use Rattle.core_model.specs.States.{CoreState};
 ghost use Rattle.core_model.specs.Restarting.{LeftSo, NotRestarted, NotTrimmed, Restarts, Trims};
-ghost use Rattle.coord_core.specs.Reopened.{NotReopened};
+ghost use Rattle.inquire_core.specs.Numbered.{are_numbered};
+ghost use Rattle.coord_core.specs.Reopened.{NotReopened, error_of_restart};
 ghost use Rattle.coord_core.specs.States.{error_of, role_below, state};
 
 use crate::coordinator::Coordinator;
 use coord_table::{Cases, rebuild};
+use inquire_core::are_numbered;
 use log_store::LogStore;
 use rec_log::{LogError, RecLog};
-use std::alloc::Global;
+use std::alloc::{AllocError, Global};
+use thiserror::Error;
 use tree_model::{ProcessId, Reaction, StepError, Tree};
 
 /// The error of a step for that of a log.
@@ -25,13 +28,47 @@ fn step_error(error: LogError) -> StepError
     }
 }
 
+/// Why no coordinator goes on over the log that an earlier one left.
+#[derive(Clone, Copy, Debug, PartialEq, Eq, Error)]
+pub enum ReopenError {
+    /// A growth was refused, or the boots are used up.
+    #[error("no memory")]
+    Memory,
+    /// The device failed.
+    #[error("the device failed")]
+    Device,
+    /// A record is of a case of a boot that the log had not reached.
+    #[error("a record is of a case of a boot that the log had not reached")]
+    Unfit,
+}
+
+/// The error of a process that goes on over a log, for that of its restart.
+fn reopen_error(error: StepError) -> ReopenError
+    ensures { result ≡ error_of_restart error }
+{
+    match error {
+        StepError::Memory => ReopenError::Memory,
+        _ => ReopenError::Device,
+    }
+}
+
+/// Whether each case of the log was numbered in a boot that the log had reached by then.
+fn is_fit<L: LogStore>(alloc: Global, log: &RecLog<L>) -> Result<bool, AllocError>
+    ensures { IfOk result (λ fit. fit
+        ≡ are_numbered 0 (map (λ l. l.entry) (records_of log.now.sight.kept))) }
+{
+    let records = log.records(alloc)?;
+    Ok(are_numbered(&records))
+}
+
 impl<L: LogStore> Coordinator<L> {
     /// Restarts behind a crash that keeps so many of the log's unforced bytes: what is left of the log is
     /// read, Opened with the next boot is appended, and an Abort record of each case that collected votes
     /// behind a record, all of it forced by one write. Decisions go out again, and cases in doubt ask. All
     /// memory is taken before the crash, and the records are gone through once. Memory: nothing changed; it
-    /// also stands for a boot of 2^63 and for a live case of a later boot, which no run makes. Device: the
-    /// crash took place and the device failed under it; the coordinator has failed until it is restarted.
+    /// also stands for boots that are used up, 2^63 - 1 of them, and for more than 255 tickets in an Abort.
+    /// Device: the crash took place and the device failed under it; the coordinator has failed until it is
+    /// restarted.
     pub fn restart(&mut self, keep: usize) -> Result<Reaction, StepError>
         ensures ok { IfOk result (Restarts (state self.old) keep (state self.new)) }
         ensures err { IfErr result (NotRestarted (state self.old) keep (state self.new)) }
@@ -67,15 +104,16 @@ impl<L: LogStore> Coordinator<L> {
 
 impl<L: LogStore + Drop> Coordinator<L> {
     /// The coordinator `me` of this tree below this parent, as it restarts over the log that an earlier one
-    /// left: the records that stand in it are what a crash left. Memory, Device: as of `restart`; the log is
-    /// handed back.
+    /// left: the records that stand in it are what a crash left. A refusal hands the log back. Memory, Device:
+    /// as of `restart`. Unfit: a record of the log is of a case of a boot that the log had not reached, which
+    /// no coordinator writes; the log is as it was.
     pub fn reopen(
         alloc: Global,
         me: ProcessId,
         parent: Option<ProcessId>,
         tree: Tree,
         log: RecLog<L>,
-    ) -> Result<(Coordinator<L>, Reaction), (StepError, RecLog<L>)>
+    ) -> Result<(Coordinator<L>, Reaction), (ReopenError, RecLog<L>)>
         requires { log.kind ≡ kind.Coordinator }
         ensures ok { IfOk result (λ made. (old : CoreState) → LeftSo old
             (record { me = me; role = role_below parent; tree = tree }) log.sight.failures
@@ -84,6 +122,11 @@ impl<L: LogStore + Drop> Coordinator<L> {
         ensures err { IfErr result (λ e. NotReopened
             (record { me = me; role = role_below parent; tree = tree }) log.sight e.1.sight e.0) }
     {
+        match is_fit(alloc, &log) {
+            Ok(true) => {}
+            Ok(false) => return Err((ReopenError::Unfit, log)),
+            Err(_) => return Err((ReopenError::Memory, log)),
+        }
         let mut coordinator = Coordinator {
             alloc,
             me,
@@ -98,8 +141,16 @@ impl<L: LogStore + Drop> Coordinator<L> {
         let keep = coordinator.log.size();
         match coordinator.restart(keep) {
             Ok(reaction) => Ok((coordinator, reaction)),
-            Err(error) => Err((error, coordinator.into_log())),
+            Err(error) => Err((reopen_error(error), coordinator.into_log())),
         }
+    }
+
+    /// The store under its log, as it stands.
+    pub fn into_store(self) -> L
+        ensures { (log_state kind.Coordinator (L.bytes result) (L.forced result) (L.failures result)
+            (L.room result) (state self).log.failed).sight ≡ (state self).log }
+    {
+        self.into_log().into_store()
     }
 
     /// The log, as it stands.

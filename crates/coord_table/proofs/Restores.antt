@@ -186,6 +186,19 @@ module _ (me : ProcessId) (parent : Option ProcessId) (boot : ℕ) (es : Table) 
       restoring.absent c (not_before c s restoring.done rest
       (subst (λ t. IsDistinct same (keys_of t)) (sym restoring.split) restoring.apart))
 
+  -- each case that is not live yet was numbered before
+  pub restoring_is_numbered : (c : Case) (s : Summary) (rest : Table) (slots : Slots) (sent : List Envelope)
+      → AllByRecursion (λ (e : Case × Summary). IsNumbered boot e.0) es
+      → IsRestoring me parent boot es ((c, s) ∷ rest) slots sent → IsNumbered boot c
+  restoring_is_numbered c s rest slots sent all restoring =
+      there restoring.done (subst (AllByRecursion (λ (e : Case × Summary). IsNumbered boot e.0))
+      (sym restoring.split) all)
+    where
+      there : (done : Table) → AllByRecursion (λ (e : Case × Summary). IsNumbered boot e.0)
+          (done ++ (c, s) ∷ rest) → IsNumbered boot c
+      there [] every = every.0
+      there (e ∷ done) every = there done every.1
+
   pub restoring_goes_on : (c : Case) (s : Summary) (rest : Table) (slots new : Slots)
       (sent now_sent : List Envelope)
       → IsRestoring me parent boot es ((c, s) ∷ rest) slots sent

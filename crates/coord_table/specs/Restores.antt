@@ -5,8 +5,6 @@ use Rattle.std.specs.Map.{lookup}
 use Rattle.tree_model.specs.declared.names.Case.{Case}
 use Rattle.tree_model.specs.declared.names.Kind.TheVariants.{Coordinator}
 use Rattle.tree_model.specs.declared.names.ProcessId.{ProcessId}
-use Rattle.tree_model.specs.declared.names.Ticket.{Ticket}
-use Rattle.tree_model.specs.declared.names.Txn.{Txn}
 use Rattle.tree_model.specs.declared.messages.Envelope.{Envelope}
 use Rattle.tree_model.specs.declared.records.LogRecord.{LogRecord}
 use Rattle.tree_model.specs.declared.records.Record.{Record}
@@ -26,19 +24,15 @@ use Rattle.coord_effects.specs.Rows.{seat}
 use Rattle.coord_table.specs.declared.held.Held.{Held}
 use Rattle.coord_table.specs.Cases.{Slots, ticket_in, view_in}
 use Rattle.inquire_core.specs.Summaries.{Summary, view_of}
+use Rattle.inquire_core.specs.Numbered.{numbered_in}
 use Rattle.inquire_core.specs.Readings.{ReadLog, same}
 use Rattle.coord_table.specs.declared.rebuilding.Rebuilt.{Rebuilt}
 
 -- Numbers.
 
--- the boot that gave the ticket, or at the root that began the transaction, is before this one
-abbrev pub is_before : ℕ → Txn → Option Ticket → Type 0
-is_before boot x None = x.boot < boot
-is_before boot x (Some t) = t.boot < boot
-
 -- the case was numbered in a boot before this one
 abbrev pub IsNumbered : ℕ → Case → Type 0
-IsNumbered boot c = is_before boot c.txn c.ticket
+IsNumbered boot c = numbered_in c < boot
 
 -- Cases.
 

@@ -1,7 +1,8 @@
 //! What a restart makes of the records that a crash leaves.
 
-ghost use Rattle.std.specs.Prelude.{◌≡◌, IfOk};
+ghost use Rattle.std.specs.Prelude.{◌≡◌, true, IfOk, map};
 ghost use Rattle.coord_table.specs.Restores.{Rebuilds};
+ghost use Rattle.inquire_core.specs.Numbered.{are_numbered};
 ghost use Rattle.inquire_core.specs.Readings.{place_below};
 
 use crate::cases::Cases;
@@ -23,8 +24,8 @@ pub struct Rebuilt {
 }
 
 /// What the coordinator `me` below this parent is, as it restarts with these records of its log. It goes
-/// through them once. Refused as for want of memory is what no run leaves: a record that no log can hold, a
-/// boot of 2^63, and a live case of a boot behind the last one.
+/// through them once. Refused as for want of memory is what no run leaves: a record that no log can hold, and
+/// a boot of 2^63.
 pub fn rebuild(
     alloc: Global,
     me: ProcessId,
@@ -32,6 +33,7 @@ pub fn rebuild(
     tree: &Tree,
     records: &[LogRecord],
 ) -> Result<Rebuilt, AllocError>
+    requires { are_numbered 0 (map (λ l. l.entry) records.now) ≡ true }
     ensures { IfOk result (Rebuilds (place_below me parent tree.now) records.now) }
 {
     let RestartPlan { appended, reading } = plan(alloc, me, parent, tree, records)?;

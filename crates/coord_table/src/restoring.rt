@@ -1,8 +1,9 @@
 //! The live cases, and what each of them sends again.
 
-ghost use Rattle.std.specs.Prelude.{◌≡◌, None, IfOk, IsTrue, OnOk};
+ghost use Rattle.std.specs.Prelude.{◌≡◌, None, IfOk, OnOk};
+ghost use Rattle.std.specs.List.{AllByRecursion};
 ghost use Rattle.live_table.specs.Tables.{live_value};
-ghost use Rattle.inquire_core.specs.Summaries.{restored_view};
+ghost use Rattle.inquire_core.specs.Summaries.{Summary, restored_view};
 ghost use Rattle.coord_table.specs.Restores.{IsNumbered, RestoresAll, RestoresNext};
 
 use crate::cases::Cases;
@@ -11,17 +12,6 @@ use coord_rows::{Seat, resume};
 use inquire_core::{Reading, Recorded};
 use std::alloc::{AllocError, Global};
 use tree_model::{Case, Envelopes, ProcessId, Sequence, Standing};
-
-/// Whether the boot in which the case's ticket was given, or at the root its transaction began, is before
-/// this one.
-fn is_numbered(boot: u64, case: &Case) -> bool
-    ensures { IsTrue result → IsNumbered boot case.now }
-{
-    match case.ticket {
-        None => case.txn.boot < boot,
-        Some(ticket) => ticket.boot < boot,
-    }
-}
 
 /// The live case: who owes has acknowledged nothing yet.
 fn live_again(alloc: Global, recorded: &Recorded, standing: Standing) -> Result<Live, AllocError>
@@ -36,7 +26,7 @@ fn live_again(alloc: Global, recorded: &Recorded, standing: Standing) -> Result<
     )
 }
 
-/// One case more, and what it sends. One of this boot or a later one is refused as for want of memory.
+/// One case more, and what it sends.
 fn restore(
     alloc: Global,
     boot: u64,
@@ -45,7 +35,8 @@ fn restore(
     cases: &mut Cases,
     messages: &mut Envelopes,
 ) -> Result<(), AllocError>
-    requires { live_value cases.old seat.case ≡ None }
+    requires new { live_value cases.old seat.case ≡ None }
+    requires numbered { IsNumbered boot seat.case }
     ensures { OnOk result (RestoresNext boot seat recorded.now cases.old cases.new
         messages.old messages.new) }
 {
@@ -53,23 +44,20 @@ fn restore(
     if standing == Standing::Unknown {
         return Ok(());
     }
-    if !is_numbered(boot, &seat.case) {
-        return Err(AllocError);
-    }
     let live = live_again(alloc, recorded, standing)?;
     resume(messages, seat, &live)?;
     cases.restore(seat.case, live)?;
     Ok(())
 }
 
-/// The live cases, and what each sends again, in order of their first records. A case of this boot or a
-/// later one is refused as for want of memory: no run makes its record.
+/// The live cases, and what each sends again, in order of their first records.
 pub(crate) fn restores(
     alloc: Global,
     me: ProcessId,
     parent: Option<ProcessId>,
     reading: &Reading,
 ) -> Result<(Cases, Envelopes), AllocError>
+    requires { AllByRecursion (λ (e : Case × Summary). IsNumbered reading.now.boot e.0) reading.now.table }
     ensures { IfOk result (λ r. RestoresAll me parent reading.now r.0 r.1) }
 {
     let mut cases = Cases::new(alloc);

@@ -1,14 +1,14 @@
 -- That a report was seen to says nothing of where a case stands.
-use Rattle.std.proofs.Common.{◌≡◌, ◌∙◌, Bool, true, false, List, [], ◌∷◌, ◌++◌, append-nil, refl, ap}
+use Rattle.std.proofs.Common.{◌≡◌, ◌∙◌, List, [], ◌∷◌, ◌++◌, append-nil, refl, ap}
 use Rattle.std.specs.List.{flat_map}
 use Rattle.tree_model.specs.declared.names.Case.{Case}
 use Rattle.tree_model.specs.declared.names.Ticket.{Ticket}
 use Rattle.tree_model.specs.declared.records.Record.{Record}
 use Rattle.tree_model.specs.declared.records.Record.TheVariants.{Cleared}
-use Rattle.tree_model.specs.Records.{has, is_abort, is_collecting, is_commit, is_end, is_prepare, named_by, named_in, owing_by, owing_in, promised_by, promised_in}
+use Rattle.tree_model.specs.Records.{is_abort, is_collecting, is_commit, is_end, is_prepare, named_by, named_in, owing_by, owing_in, promised_by, promised_in}
 use Rattle.tree_model.specs.Memory.{Memory}
 use Rattle.tree_model.specs.Standings.{CoordinatorView, coordinator_standing, view_at}
-use Rattle.tree_model.specs.CoordinatorRows.{Row, Seat, unknown_forget}
+use Rattle.tree_model.specs.CoordinatorRows.{Seat, unknown_forget}
 use Rattle.tree_model.specs.SameViews.{SameRow, SameView}
 use Rattle.tree_model.proofs.RootViewLaws.{IsOf}
 use Rattle.tree_nodes.proofs.Phases.{not_found}

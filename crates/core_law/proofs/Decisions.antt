@@ -16,7 +16,7 @@ use Rattle.tree_model.specs.Records.{decision_after, decision_of, prepares_branc
 use Rattle.tree_model.specs.Restarts.{is_open, trimmed}
 use Rattle.tree_model.specs.Nodes.{AtLeaf, Effect, Heard, Holding, Holds, Node, ReadsOnly, Version, after, entries_written, kept}
 use Rattle.tree_model.specs.Standings.{ManagerView, decided_findings, mark_of}
-use Rattle.tree_model.specs.ManagerRows.{Leaf, LeafRow, active_prepare_holding, heuristic_forget, heuristic_outcome, on_abort, on_commit, on_prepare, on_work, prepared_outcome, replies, unmoved, untold_ask}
+use Rattle.tree_model.specs.ManagerRows.{Leaf, LeafRow, active_prepare_holding, heuristic_forget, heuristic_outcome, on_abort, on_commit, on_prepare, on_work, prepared_outcome, unmoved, untold_ask}
 use Rattle.tree_model.proofs.ListLaws.{kept-after}
 use Rattle.tree_nodes.specs.Marks.{is_branch_record}
 use Rattle.tree_nodes.proofs.Orders.{same_is}

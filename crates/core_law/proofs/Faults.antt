@@ -89,18 +89,18 @@ module _ {X Y : Type 0} (f : X → Y) where
   map_take (suc k) [] = refl
   map_take (suc k) (x ∷ xs) = ap (λ ys. f x ∷ ys) (map_take k xs)
 
-  map_drop : (k : ℕ) (xs : List X) → map f (drop k xs) ≡ drop k (map f xs)
+  pub map_drop : (k : ℕ) (xs : List X) → map f (drop k xs) ≡ drop k (map f xs)
   map_drop zero xs = refl
   map_drop (suc k) [] = refl
   map_drop (suc k) (x ∷ xs) = map_drop k xs
 
 -- a front of the lists stands, and some of it is forced
-record Split {X : Type 0} (old_forced behind forced unforced : List X) : Type 0 where
-  more : ℕ
-  forced_is : forced ≡ old_forced ++ take more behind
-  unforced_is : unforced ≡ drop more behind
+pub record Split {X : Type 0} (old_forced behind forced unforced : List X) : Type 0 where
+  pub more : ℕ
+  pub forced_is : forced ≡ old_forced ++ take more behind
+  pub unforced_is : unforced ≡ drop more behind
 
-split : {X : Type 0} (old_forced behind forced unforced : List X) → forced ++ unforced ≡ old_forced ++ behind
+pub split : {X : Type 0} (old_forced behind forced unforced : List X) → forced ++ unforced ≡ old_forced ++ behind
     → length old_forced ≤ length forced
     → Split old_forced behind forced unforced
 split old_forced behind forced unforced same less =

@@ -1,6 +1,6 @@
 -- A process's restart is a move of the model's process.
-use Rattle.std.proofs.Common.{◌≡◌, ◌∙◌, ◌+◌, ◌-◌, inl, inr, ℕ, true, false, Bool, Option, None, List, [], ◌∷◌, ◌++◌, append_assoc, append-nil, take, drop, refl, sym, ap, subst, if◌then◌else◌}
-use Rattle.std.specs.Prelude.{length, fold, nat_le}
+use Rattle.std.proofs.Common.{◌≡◌, ◌∙◌, ◌+◌, ◌-◌, ℕ, true, false, Bool, Option, None, List, [], ◌∷◌, ◌++◌, append_assoc, append-nil, take, drop, refl, sym, ap, subst, if◌then◌else◌}
+use Rattle.std.specs.Prelude.{length, fold, map, nat_le}
 use Rattle.tree_model.specs.declared.names.Case.{Case}
 use Rattle.tree_model.specs.declared.names.ProcessId.{ProcessId}
 use Rattle.tree_model.specs.declared.records.LogRecord.{LogRecord}
@@ -17,13 +17,13 @@ use Rattle.tree_model.specs.Standings.{coordinator_standing, coordinator_view, m
 use Rattle.tree_model.specs.declared.records.Branch.TheVariants.{Case as CaseBranch}
 use Rattle.tree_model.specs.World.{fault_effect, node_makes}
 use Rattle.tree_model.specs.SameViews.{SameView}
-use Rattle.rec_log.specs.Sights.{Kept, LogSight, left_by, records_of, record_size, whole_within}
+use Rattle.rec_log.specs.Sights.{LogSight, left_by, records_of, record_size, whole_within}
 use Rattle.core_model.specs.Restarting.{NotRestarted, ReadOff, Restarts, read_of, recorded_branch_at, recorded_view_at, reopened, reopening, restarted_log}
 use Rattle.core_model.specs.States.{CoreState, logged, parent}
 use Rattle.core_law.specs.Fits.{KeepsOwn}
 use Rattle.core_law.specs.Steps.{BreaksAs, StepsAs, quiet_move, records_kept, restart_of}
 use Rattle.core_law.specs.Ties.{Stands, StandsUp, branch_at, view_at}
-use Rattle.core_law.proofs.Faults.{drop_front, map_take}
+use Rattle.core_law.proofs.Faults.{Split, map_drop, map_take, split}
 use Rattle.core_law.proofs.OwnRecords.{all_append, all_behind, all_front, all_taken, reopens_own}
 use Rattle.core_law.proofs.Records.{map_append}
 
@@ -158,85 +158,47 @@ module _ (n : Node) (old new : CoreState) (keep : ℕ) (stands : Stands n old)
             (stands_restarted reaction made);
       }
 
-  -- The device fails: what was left stands as it was, or all that the restart writes, forced.
+  -- The device fails: what was left stands, and behind it a front of what the restart writes.
 
-  old_left : records_of new.log.kept ≡ left_by old.log keep → new.log.kept.forced ≡ old.log.kept.forced
-      → new.log.kept.unforced ≡ logged old (take k n.unforced)
-  old_left stand forced =
-      sym (drop_front new.log.kept.forced new.log.kept.unforced)
-      ∙ ap (drop (length new.log.kept.forced)) stand
-      ∙ ap (λ ls. drop (length ls) (left_by old.log keep)) forced
-      ∙ drop_front old.log.kept.forced front ∙ front_is
+  module _ (breaks : NotRestarted old keep new Device) where
+    abbrev appended : ℕ
+    appended = breaks.0.appended
 
-  fails_before : new.log.failed ≡ true → new.place ≡ place → records_of new.log.kept ≡ left_by old.log keep
-      → new.log.kept.forced ≡ old.log.kept.forced → BreaksAs n old new (restart_of old keep)
-  unfolding node_makes
-  fails_before failed same stand forced =
-      record {
-        fault = record { appended = 0; forced = 0 };
-        effect = fault_effect (restart_effect place n k) 0;
-        left = restart_fails place n k 0 0;
-        makes = refl;
-        stands = subst (λ p. Stands (restart_fails place n k 0 0) (record new { place = p })) (sym same)
-            (record {
-              forced = forced ∙ stands.forced ∙ ap (logged old) (sym (append-nil n.forced));
-              unforced = old_left stand forced ∙ ap (logged old) (sym (append-nil (take k n.unforced)));
-              failed = failed;
-              up = λ runs. absurd (cc);
-            });
-      }
+    abbrev behind : List Record
+    behind = take k n.unforced ++ take appended added
 
-  abbrev all : ℕ
-  all = length (take k n.unforced ++ added)
+    records : records_of new.log.kept ≡ old.log.kept.forced ++ map (in_log q) behind
+    records =
+        breaks.0.stand
+        ∙ ap (λ rs. left_by old.log keep ++ take appended (logged old rs)) added_is
+        ∙ ap (λ ls. (old.log.kept.forced ++ ls) ++ take appended (logged old added)) front_is
+        ∙ append_assoc old.log.kept.forced (logged old (take k n.unforced)) (take appended (logged old added))
+        ∙ ap (λ ls. old.log.kept.forced ++ ls)
+        (ap (λ ls. logged old (take k n.unforced) ++ ls) (sym (map_take (in_log q) appended added))
+        ∙ sym (map_append (in_log q) (take k n.unforced) (take appended added)))
 
-  abbrev behind : List Record
-  behind = take k n.unforced ++ take (length added) added
+    parts : Split old.log.kept.forced (map (in_log q) behind) new.log.kept.forced new.log.kept.unforced
+    parts = split _ _ _ _ records breaks.0.no_less
 
-  behind_is : behind ≡ take k n.unforced ++ added
-  behind_is = ap (λ rs. take k n.unforced ++ rs) (take_all added)
-    where
-      take_all : (rs : List Record) → take (length rs) rs ≡ rs
-      take_all [] = refl
-      take_all (r ∷ rs) = ap (λ t. r ∷ t) (take_all rs)
+    left_so : Stands (restart_fails place n k appended parts.more) (record new { place = place })
+    left_so =
+        record {
+          forced = parts.forced_is
+              ∙ (λ j. stands.forced j ++ sym (map_take (in_log q) parts.more behind) j)
+              ∙ sym (map_append (in_log q) n.forced (take parts.more behind));
+          unforced = parts.unforced_is ∙ sym (map_drop (in_log q) parts.more behind);
+          failed = breaks.0.failed;
+          up = λ runs. absurd (cc);
+        }
 
-  all_taken_up : take all behind ≡ take k n.unforced ++ added
-  all_taken_up = ap (take all) behind_is ∙ take_all (take k n.unforced ++ added)
-    where
-      take_all : (rs : List Record) → take (length rs) rs ≡ rs
-      take_all [] = refl
-      take_all (r ∷ rs) = ap (λ t. r ∷ t) (take_all rs)
-
-  none_behind : drop all behind ≡ []
-  none_behind = ap (drop all) behind_is ∙ drop_all (take k n.unforced ++ added)
-    where
-      drop_all : (rs : List Record) → drop (length rs) rs ≡ []
-      drop_all [] = refl
-      drop_all (r ∷ rs) = drop_all rs
-
-  fails_behind : new.log.failed ≡ true → new.place ≡ place
-      → new.log.kept ≡ record { forced = restarted_log old keep; unforced = [] }
-      → BreaksAs n old new (restart_of old keep)
-  unfolding node_makes
-  fails_behind failed same stand =
-      record {
-        fault = record { appended = length added; forced = all };
-        effect = fault_effect (restart_effect place n k) (length added);
-        left = restart_fails place n k (length added) all;
-        makes = refl;
-        stands = subst (λ p. Stands (restart_fails place n k (length added) all)
-            (record new { place = p })) (sym same)
-            (record {
-              forced = ap (λ (l : Kept). l.forced) stand ∙ whole_is
-                  ∙ ap (logged old) (append_assoc n.forced (take k n.unforced) added
-                  ∙ ap (λ rs. n.forced ++ rs) (sym all_taken_up));
-              unforced = ap (λ (l : Kept). l.unforced) stand ∙ ap (logged old) (sym none_behind);
-              failed = failed;
-              up = λ runs. absurd (cc);
-            });
-      }
-
-  pub restart_faults_so : NotRestarted old keep new Device → BreaksAs n old new (restart_of old keep)
-  restart_faults_so breaks = elim breaks.0.either [
-    | inl before ↦ fails_before breaks.0.failed breaks.1 before.0 before.1
-    | inr after ↦ fails_behind breaks.0.failed breaks.1 after
-  ]
+    pub restart_faults_so : BreaksAs n old new (restart_of old keep)
+    unfolding node_makes
+    restart_faults_so =
+        record {
+          fault = record { appended = appended; forced = parts.more };
+          effect = fault_effect (restart_effect place n k) appended;
+          left = restart_fails place n k appended parts.more;
+          makes = refl;
+          stands = subst (λ p. Stands (restart_fails place n k appended parts.more) (record new { place = p }))
+              (sym breaks.1) left_so;
+        }

@@ -1,5 +1,5 @@
 -- A trim leaves each case and each branch as it stood.
-use Rattle.std.proofs.Common.{◌≡◌, ◌∙◌, ◌⊎◌, inl, inr, ◌&&◌, ◌||◌, not, Bool, true, false, if◌then◌else◌, Option, Some, None, List, [], ◌∷◌, ◌++◌, append-nil, filter, refl, sym, ap, subst, arith}
+use Rattle.std.proofs.Common.{◌≡◌, ◌∙◌, ◌⊎◌, inl, inr, ◌||◌, Bool, true, false, if◌then◌else◌, Option, Some, None, List, [], ◌∷◌, ◌++◌, append-nil, filter, refl, sym, ap, arith}
 use Rattle.std.specs.List.{flat_map}
 use Rattle.tree_model.specs.declared.names.Case.{Case}
 use Rattle.tree_model.specs.declared.names.Presumption.{Presumption}
@@ -17,15 +17,13 @@ use Rattle.tree_model.specs.Records.{boot_of, has, is_abort, is_collecting, is_c
 use Rattle.tree_model.specs.Restarts.{case_stays, data_records, is_known, is_open, recorded_view, stays, staying, trimmed, trims}
 use Rattle.tree_model.specs.Standings.{CoordinatorView, Decided, Finished, ManagerView, Mark, Promised, ToldOf, Unmarked, coordinator_standing, coordinator_view, known_view, manager_view, mark_after, mark_of, marked_branch, phase_standing, standing_by, unknown_view, view_at as standing_view}
 use Rattle.tree_model.specs.Views.{IsOpenAlike}
-use Rattle.tree_nodes.specs.Marks.{is_branch_record}
 use Rattle.tree_nodes.specs.WorldHolds.{is_of, is_record_of}
 use Rattle.tree_nodes.proofs.Boots.{trims_memory}
 use Rattle.tree_nodes.proofs.Cases.{viewed}
-use Rattle.tree_nodes.proofs.Orders.{mark_behind, mark_is, other_leaves, same_is}
+use Rattle.tree_nodes.proofs.Orders.{mark_is, other_leaves}
 use Rattle.tree_nodes.proofs.Tests.{case_is, first_false, second_false}
 use Rattle.tree_nodes.proofs.TrimmedBranches.{trim_forgets}
 use Rattle.core_law.proofs.TrimmedFolds.{others_leave, trims_alike}
-use Rattle.tree_nodes.proofs.Trims.{data_is_other, own_stays}
 
 -- What is said of a case by its own records.
 

@@ -16,9 +16,8 @@ use Rattle.tree_model.specs.declared.events.Input.{Input}
 use Rattle.tree_model.specs.declared.events.Input.TheVariants.{Act as ActInput, Message as MessageInput}
 use Rattle.tree_model.specs.declared.events.StepError.TheVariants.{Failed, NoSuch}
 use Rattle.tree_model.specs.Names.{child_case, presumed}
-use Rattle.tree_model.specs.declared.records.Branch.TheVariants.{Case as CaseBranch}
 use Rattle.tree_model.specs.NameLaws.{same_case-refl}
-use Rattle.tree_model.specs.Records.{boot_of, decision_of, is_branch, owing_by}
+use Rattle.tree_model.specs.Records.{boot_of, decision_of, owing_by}
 use Rattle.tree_model.specs.LogNames.{parent_of}
 use Rattle.tree_model.specs.Nodes.{AtLeaf, AtRoot, Below, DataAnswer, Effect, Node, Role, kept, no_effect}
 use Rattle.tree_model.specs.Memory.{Memory, active_ticket, found_of, memory_of, next_ticket, of_ticket}

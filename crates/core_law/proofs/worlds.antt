@@ -19,3 +19,7 @@ pub mod Whole
 pub mod Restarts
 pub mod Journals
 pub mod Faults
+pub mod AlikeData
+pub mod AlikeSteps
+pub mod AlikeTrees
+pub mod OneText

@@ -4,3 +4,4 @@ pub mod Runs
 pub mod Ties
 pub mod Modelled
 pub mod Refusals
+pub mod Determined

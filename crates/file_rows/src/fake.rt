@@ -6,13 +6,14 @@ use file_store::LogFile;
 use std::io;
 use std::io::ErrorKind;
 
-/// A file in memory: what it holds, how much of that is safe, and how many calls it makes before one fails.
-/// One that fails does part of its work.
+/// A file in memory: what it holds, how much of that is safe, how many calls it makes before one fails, and how many
+/// fail then. One that fails does part of its work.
 #[derive(Drop)]
 pub struct FakeFile {
     pub held: Vec<u8>,
     pub safe: usize,
     pub calls: u64,
+    pub failing: u64,
     /// How many bytes of a write that fails are written.
     pub part: usize,
 }
@@ -22,10 +23,14 @@ impl FakeFile {
     fn fails(&mut self) -> bool
         ensures held { self.new.held ≡ self.old.held }
     {
-        if self.calls == 0 {
+        if self.calls > 0 {
+            self.calls -= 1;
+            return false;
+        }
+        if self.failing > 0 {
+            self.failing -= 1;
             return true;
         }
-        self.calls -= 1;
         false
     }
 

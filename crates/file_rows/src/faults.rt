@@ -107,15 +107,21 @@ fn ends(alloc: Global, file: &FakeFile, safe: &Safe) -> Result<Option<u64>, Allo
     Ok(Some(count))
 }
 
-/// A store over a file whose calls fail behind so many, and what is then left. None: it does not read so.
-fn fault(alloc: Global, calls: u64, part: usize) -> Result<Option<u64>, AllocError> {
+/// A store over a file of which so many calls fail behind so many. None: the first one failed.
+fn opened(alloc: Global, calls: u64, failing: u64, part: usize) -> Option<FileStore<FakeFile>> {
     let file = FakeFile {
         held: Vec::new(alloc),
         safe: 0,
         calls,
+        failing,
         part,
     };
-    let Some(mut store) = FileStore::settle(file, 0, Vec::new(alloc)) else {
+    FileStore::settle(file, 0, Vec::new(alloc))
+}
+
+/// A store over a file whose calls fail behind so many, and what is then left. None: it does not read so.
+fn fault(alloc: Global, calls: u64, part: usize) -> Result<Option<u64>, AllocError> {
+    let Some(mut store) = opened(alloc, calls, u64::MAX, part) else {
         return Ok(if calls == 0 { Some(1) } else { None });
     };
     let mut safe = Safe {
@@ -123,13 +129,34 @@ fn fault(alloc: Global, calls: u64, part: usize) -> Result<Option<u64>, AllocErr
         next: Vec::new(alloc),
     };
     let all = make(alloc, &mut store, &mut safe)?;
-    let counted = store.failures() == if all { 0 } else { 1 };
-    let refused = all || (store.force().is_err() && store.append(b"more").is_err());
-    if !counted || !refused {
+    if store.failures() != if all { 0 } else { 1 } {
         return Ok(None);
     }
     let file = store.into_file();
     ends(alloc, &file, &safe)
+}
+
+/// Whether a store of which one call of the device fails goes on: what stands and what is appended is in the file behind
+/// the next force, all of it safe.
+fn goes_on(alloc: Global, calls: u64, part: usize) -> Result<bool, AllocError> {
+    let Some(mut store) = opened(alloc, calls, 1, part) else {
+        return Ok(calls == 0);
+    };
+    let mut safe = Safe {
+        last: Vec::new(alloc),
+        next: Vec::new(alloc),
+    };
+    if make(alloc, &mut store, &mut safe)? {
+        return Ok(true);
+    }
+    let taken = store.append(b"more").is_ok() && store.force().is_ok();
+    let held = Vec::from_slice(alloc, store.bytes())?;
+    let file = store.into_file();
+    let reads = match read_file(alloc, &file.held) {
+        Ok(found) => found.bytes.as_slice() == held.as_slice(),
+        Err(_) => false,
+    };
+    Ok(taken && reads && file.safe == file.held.len())
 }
 
 /// How many ends of files read as they must; None, where one does not.
@@ -140,6 +167,9 @@ pub fn run(alloc: Global) -> Option<u64> {
             match fault(alloc, calls, part) {
                 Ok(Some(found)) => count = count.saturating_add(found),
                 _ => return None,
+            }
+            if !matches!(goes_on(alloc, calls, part), Ok(true)) {
+                return None;
             }
         }
     }

@@ -40,8 +40,8 @@ module _ {F : Type 0} where
     pub synced : syncs mid new.file
     pub behind_it : end ≡ behind old.end (drop old.forced old.bytes.items)
 
-  -- all that stands was written so, or nothing had to be; and it is forced
-  pub record ForcesFile (writes : F → F → ℕ → List ℕ → Type 0) (syncs : F → F → Type 0)
+  -- all that stands was written so, or nothing had to be
+  pub record AddsBlock (writes : F → F → ℕ → List ℕ → Type 0) (syncs : F → F → Type 0)
       (old new : FileStore F) : Type 0 where
     pub by : ((length old.bytes.items ≡ old.forced) × (new.file ≡ old.file) × (new.end ≡ old.end))
         ⊎ WritesBlock writes syncs old new new.end
@@ -54,6 +54,14 @@ module _ {F : Type 0} where
     pub put : replaces old new.file (file_text new.number (text ∷ []))
     pub end : new.end ≡ behind 48 text
     pub fresh : new.stale ≡ false
+
+  -- what a force did: what was not forced stands in one block more; or, where the file may have held other bytes than
+  -- the store, a new file of all that stands took its place
+  abbrev pub ForcesFile : (F → F → ℕ → List ℕ → Type 0) → (F → F → Type 0) → (F → F → List ℕ → Type 0)
+      → FileStore F → FileStore F → Type 0
+  ForcesFile writes syncs replaces old new =
+      AddsBlock writes syncs old new
+      ⊎ ((old.stale ≡ true) × PutsFile replaces old.file new old.bytes.items)
 
   -- a failure of the device was counted, and nothing else changed; the file may hold other bytes than the
   -- store

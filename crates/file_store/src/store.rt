@@ -12,8 +12,8 @@ use log_store::{LogStore, StoreError};
 use std::alloc::AllocError;
 
 /// A store in a file. What one force covers is written as one block, then: until it is forced nothing of it
-/// is in the file. Behind a failure, and behind a crash that was made on purpose, the file may hold other
-/// bytes than the store: until a `replace` was made, what is to be written is refused as by the device.
+/// is in the file. Behind a failure the file may hold other bytes than the store: the next force, or `replace`,
+/// writes all that is to stand to a new file, which takes its place.
 #[derive(Drop)]
 pub struct FileStore<F> {
     file: F,
@@ -91,7 +91,7 @@ impl<F: LogFile> FileStore<F> {
 }
 
 impl<F: LogFile> FileStore<F> {
-    ghost use Rattle.file_store.specs.Stores.{SameButFile, WritesBlock as Writes};
+    ghost use Rattle.file_store.specs.Stores.{PutsFile, SameButFile, WritesBlock as Writes, file_bytes, file_failures, file_forced};
 
     /// Writes what is not forced as a block, and syncs the file. Gives where the next block begins; None,
     /// where the device failed.
@@ -107,20 +107,36 @@ impl<F: LogFile> FileStore<F> {
         Some(end)
     }
 
-    /// A file of these bytes takes the file's place. Gives its number, and where its next block begins; None,
-    /// where the device failed.
-    fn put(&mut self, new: &[u8]) -> Option<(u64, u64)>
-        ensures put { IfSome result (λ at. F.replaces self.old.file self.new.file
-            (file_text at.0 (new.now ∷ []))) }
-        ensures end { IfSome result (λ at. at.1 ≡ behind 48 new.now) }
-        ensures rest { SameButFile self.old self.new }
+    /// All that stands is written to a new file, in one block, and that file takes the place of the old one.
+    fn force_anew(&mut self) -> Result<(), StoreError>
+        ensures ok { OnOk result (Forces file_bytes file_forced file_failures self.old self.new) }
+        ensures room { vec_capacity self.old.bytes ≤ vec_capacity self.new.bytes }
+        ensures err { IfErr result (λ e. (e ≡ StoreError.Device)
+            × ForceBreaks file_bytes file_forced file_failures self.old self.new) }
+        ensures file { OnOk result (PutsFile F.replaces self.old.file self.new self.old.bytes.items) }
     {
-        let number = self.number.checked_add(1)?;
-        let end = end_of(FILE_HEAD as u64, new.len())?;
-        let start = file_start(number, new);
-        self.file.replace(&start, new).ok()?;
-        Some((number, end))
+        let Some((number, end)) = put(&mut self.file, self.number, &self.bytes) else {
+            return Err(self.fail());
+        };
+        self.number = number;
+        self.end = end;
+        self.forced = self.bytes.len();
+        self.stale = false;
+        Ok(())
     }
+}
+
+/// A file of these bytes takes the place of the file of this number. Gives its number, and where its next block
+/// begins; None, where the device failed.
+fn put<F: LogFile>(file: &mut F, number: u64, new: &[u8]) -> Option<(u64, u64)>
+    ensures put { IfSome result (λ at. F.replaces file.old file.new (file_text at.0 (new.now ∷ []))) }
+    ensures end { IfSome result (λ at. at.1 ≡ behind 48 new.now) }
+{
+    let number = number.checked_add(1)?;
+    let end = end_of(FILE_HEAD as u64, new.len())?;
+    let start = file_start(number, new);
+    file.replace(&start, new).ok()?;
+    Some((number, end))
 }
 
 impl<F: LogFile> LogStore for FileStore<F> {
@@ -159,25 +175,23 @@ impl<F: LogFile> LogStore for FileStore<F> {
     }
 
     fn append(&mut self, more: &[u8]) -> Result<(), StoreError> {
-        if self.stale {
-            return Err(self.fail());
-        }
         match self.bytes.extend_from_slice(more) {
             Ok(()) => Ok(()),
             Err(_) => Err(StoreError::Memory),
         }
     }
 
-    /// What is not forced is written as one block, and the file is synced.
+    /// What is not forced is written as one block, and the file is synced. Behind a failure all that stands is
+    /// written to a new file instead, which takes the place of the old one.
     fn force(&mut self) -> Result<(), StoreError>
         ensures ok { OnOk result (Forces text_of forced_of failures_of self.old self.new) }
         ensures room { vec_capacity self.old.bytes ≤ vec_capacity self.new.bytes }
         ensures err { IfErr result (λ e. (e ≡ StoreError.Device)
             × ForceBreaks text_of forced_of failures_of self.old self.new) }
-        ensures file { OnOk result (ForcesFile F.writes F.syncs self.old self.new) }
+        ensures file { OnOk result (ForcesFile F.writes F.syncs F.replaces self.old self.new) }
     {
         if self.stale {
-            return Err(self.fail());
+            return self.force_anew();
         }
         if self.forced < self.bytes.len() {
             match self.write_block() {
@@ -203,7 +217,7 @@ impl<F: LogFile> LogStore for FileStore<F> {
         if let Err(_) = self.bytes.reserve(more) {
             return Err(StoreError::Memory);
         }
-        let Some((number, end)) = self.put(new) else {
+        let Some((number, end)) = put(&mut self.file, self.number, new) else {
             return Err(self.fail());
         };
         self.number = number;
@@ -222,6 +236,5 @@ impl<F: LogFile> LogStore for FileStore<F> {
 
     fn crash(&mut self, keep: usize) {
         self.bytes.truncate(self.forced.saturating_add(keep));
-        self.stale = true;
     }
 }

@@ -3,3 +3,4 @@ pub mod Readings
 pub mod Plans
 pub mod Answers
 pub mod Progress
+pub mod Numbered

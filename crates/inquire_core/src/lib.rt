@@ -9,12 +9,14 @@
 //! planning     what a restart appends, and what the log then says
 //! answers      what an inquiry gets, by where its case stands
 //! standings    where one case stands, found without memory
+//! numbers      whether each case of a log was numbered in a boot that the log had reached
 //! reports      whether the root's End reports what was found of a case
 //! ```
 #![tactic(auto)]
 
 mod answers;
 pub mod law;
+mod numbers;
 mod planning;
 mod reading;
 mod recorded;
@@ -22,6 +24,7 @@ mod reports;
 mod standings;
 
 pub use answers::{answer, presumed};
+pub use numbers::are_numbered;
 pub use planning::{RestartPlan, plan};
 pub use reading::{Reading, is_own};
 pub use recorded::{Recorded, Stage};

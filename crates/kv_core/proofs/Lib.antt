@@ -13,8 +13,5 @@ pub mod Rebasing
 pub mod Promised
 pub mod Deciding
 pub mod Trims
-pub mod Ordered
-pub mod Named
 pub mod Spelt
-pub mod Sorted
-pub mod KeysIn
+pub mod Counting

@@ -13,7 +13,8 @@ use Rattle.kv_core.specs.declared.fault.ReplayError.{ReplayError}
 use Rattle.kv_core.specs.declared.fault.ReplayError.TheVariants.{Memory, Malformed, Exhausted}
 use Rattle.kv_core.specs.Folds.{AreData, GoBack, base_after, data_behind, last_within, latest}
 use Rattle.tree_model.specs.LogNames.{by_xid}
-use Rattle.kv_core.specs.Replays.{CountTooFar, Fails, KeepsBefore, Reads, TakeFails, Takes, error_of, seen_after, seen_of}
+use Rattle.kv_core.specs.Replays.{AreCounted, CountTooFar, Fails, KeepsBefore, Reads, TakeFails, Takes, error_of, seen_after, seen_of}
+use Rattle.kv_core.proofs.Counting.{counted_next}
 use Rattle.kv_core.proofs.Lawful.{lawful_of}
 
 -- a front of the records has been read
@@ -23,6 +24,8 @@ pub record IsReading (ls rest : List LogRecord) (s : SeenLog) (versions : Versio
   pub read : seen_of done ≡ Some s
   pub stored : AreData versions (data_of done)
   pub history : GoBack versions done
+  pub counted : AreCounted done
+  pub fits : versions.count < 2 ^ 63
 
 seen_nothing : (ls : List LogRecord) → seen_after None ls ≡ None
 unfolding seen_after
@@ -114,6 +117,8 @@ reading_begins ls = record {
   read = refl;
   stored = record { count = refl; unstaged = refl; values = λ k. refl };
   history = record { base = refl; values = λ n k low high. refl };
+  counted = omega arith;
+  fits = omega arith;
 }
 
 module _ (ls : List LogRecord) (l : LogRecord) (rest : List LogRecord) (s : SeenLog) (v : VersionTable)
@@ -122,14 +127,16 @@ module _ (ls : List LogRecord) (l : LogRecord) (rest : List LogRecord) (s : Seen
   next_parts = reading.parts ∙ sym (append_assoc reading.done (l ∷ []) rest)
 
   pub reading_goes_on : (t : SeenLog) (w : VersionTable) → after s l ≡ Some t → Takes s l v w
-      → KeepsBefore v w l.entry → IsReading ls rest t w
+      → KeepsBefore v w l.entry → w.count < 2 ^ 63 → IsReading ls rest t w
   unfolding seen_after
-  reading_goes_on t w may takes keeps = record {
+  reading_goes_on t w may takes keeps fits = record {
     done = reading.done ++ l ∷ [];
     parts = next_parts;
     read = seen_next reading.done s l [] reading.read ∙ may;
     stored = are;
     history = history_goes_on reading.done l v w reading.history are keeps;
+    counted = counted_next reading.done l reading.counted (subst (λ n. n < 2 ^ 63) are.count fits);
+    fits = fits;
   }
     where
       are : AreData w (data_of (reading.done ++ l ∷ []))
@@ -160,6 +167,7 @@ reading_ends ls s v reading = record {
   stored = subst (λ ks. AreData v (data_of ks)) (sym
       (reading.parts ∙ append-nil reading.done)) reading.stored;
   history = subst (GoBack v) (sym (reading.parts ∙ append-nil reading.done)) reading.history;
+  counted = subst AreCounted (sym (reading.parts ∙ append-nil reading.done)) reading.counted;
 }
 
 -- a record that may not follow is not taken

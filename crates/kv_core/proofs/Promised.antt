@@ -196,12 +196,15 @@ module _ (x : Xid) where
       ap (λ s. fold (said_behind x) s ls) ((one l.entry l.parent h.0).says m)
       ∙ says_from ls (mark_after (Foreign x) m (by_xid l)) h.1
 
-  -- a branch that is open is live
+  -- a branch is live where it is open
+  pub lives : (ls : List LogRecord) → AllByRecursion (λ l. is_managers l.entry ≡ true) ls
+      → is_live (said_of x ls) ≡ is_open (mark_at ls x)
+  unfolding said_of mark_of
+  lives ls h = ap is_live (says_from ls Unmarked h) ∙ live_is_open (mark_of (Foreign x) (map by_xid ls))
+
   pub live : (ls : List LogRecord) → AllByRecursion (λ l. is_managers l.entry ≡ true) ls
       → is_open (mark_at ls x) ≡ true → is_live (said_of x ls) ≡ true
-  unfolding said_of mark_of
-  live ls h stands = ap is_live (says_from ls Unmarked h)
-      ∙ live_is_open (mark_of (Foreign x) (map by_xid ls)) ∙ stands
+  live ls h stands = lives ls h ∙ stands
 
   -- the data behind more records
   abbrev pub data_from : Data → List LogRecord → Data

@@ -1,6 +1,7 @@
 -- The frames of a base and its pairs.
-use Rattle.std.proofs.Common.{◌≡◌, ◌++◌, ◌+◌, ◌<◌, ℕ, List, [], ◌∷◌, None, length, map, take, get_or, sym, subst, ap, ◌∙◌}
+use Rattle.std.proofs.Common.{◌≡◌, ◌++◌, ◌+◌, ◌<◌, arith, ℕ, zero, suc, List, [], ◌∷◌, None, length, map, take, get_or, sym, subst, ap, ◌∙◌}
 use Rattle.std.proofs.lemmas.List.{map-append, take_more}
+use Rattle.std.specs.List.{AllByRecursion}
 use Rattle.tree_model.specs.declared.names.Kind.TheVariants.{Manager}
 use Rattle.tree_model.specs.declared.records.LogRecord.{LogRecord}
 use Rattle.tree_model.specs.declared.records.Record.TheVariants.{Pair}
@@ -17,6 +18,13 @@ pair_fits k v j u sound is value =
     records_fit_frames Manager (unnamed (Pair j u))
     (subst (λ a. IsSound Manager (unnamed (Pair a u))) (sym is)
     (subst (λ b. IsSound Manager (unnamed (Pair k b))) (sym value) sound))
+
+-- what holds of each holds of the one at an index
+pub each_at : {A : Type 0} (P : A → Type 0) (xs : List A) (i : ℕ) (x : A) → AllByRecursion P xs → i < length xs
+    → x ≡ get_or xs i x → P x
+each_at P [] i x all within at = absurd (omega (arith, within))
+each_at P (y ∷ xs) zero x all within at = subst P (sym at) all.0
+each_at P (y ∷ xs) (suc i) x all within at = each_at P xs i x all.1 (omega (arith, within)) at
 
 -- a sound record can stand in a log
 pub is_record : (l : LogRecord) → IsSound Manager l → IsRecord Manager l

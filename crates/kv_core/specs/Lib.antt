@@ -4,5 +4,4 @@ pub mod Ends
 pub mod Folds
 pub mod Decisions
 pub mod Replays
-pub mod Names
 pub mod Keeping

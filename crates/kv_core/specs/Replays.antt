@@ -1,5 +1,5 @@
 -- What the records of a log leave of a key store.
-use Rattle.std.specs.Prelude.{◌≡◌, ◌≤◌, ◌<◌, ◌+◌, ◌^◌, ◌⊎◌, ⊤, ℕ, Bool, true, false, List, [], ◌∷◌, ◌++◌, Option, Some, None}
+use Rattle.std.specs.Prelude.{◌≡◌, ◌≤◌, ◌<◌, ◌+◌, ◌^◌, ◌⊎◌, ⊤, ℕ, Bool, true, false, List, [], ◌∷◌, ◌++◌, Option, Some, None, map}
 use Rattle.std.specs.List.{IsDistinct}
 use Rattle.std.specs.Map.{keys_of}
 use Rattle.xa_xid.specs.declared.xid.Xid.{Xid}
@@ -7,7 +7,7 @@ use Rattle.tree_model.specs.declared.records.Branch.TheVariants.{Foreign}
 use Rattle.tree_model.specs.declared.records.LogRecord.{LogRecord}
 use Rattle.tree_model.specs.declared.records.Record.{Record}
 use Rattle.tree_model.specs.declared.records.Write.{Write}
-use Rattle.tree_model.specs.Store.{Data, stored_after, writes_of as writes_promised, data_of}
+use Rattle.tree_model.specs.Store.{Data, no_data, stored_after, writes_of as writes_promised, data_of}
 use Rattle.log_text.specs.declared.records.ReadFault.{ReadFault}
 use Rattle.log_text.specs.declared.records.ReadFault.TheVariants as fault
 use Rattle.log_rules.specs.order.Orders.{SeenLog, after, found, is_open, keys_once, left_by, names_key, nothing_seen, promised, same}
@@ -40,6 +40,15 @@ pub record HoldPromises (s : SeenLog) (locks : LockTable) : Type 0 where
       → holders_of locks k ≡ record { xid = x; mode = Exclusive } ∷ []
   pub free : (k : List ℕ) → ((x : Xid) → names_key (promised s x) k ≡ false) → holders_of locks k ≡ []
 
+-- these data count fewer than 2^63 commits, and so do those behind each of these records
+abbrev pub CountsFrom : Data → List Record → Type 0
+CountsFrom d [] = d.count < 2 ^ 63
+CountsFrom d (r ∷ rs) = (d.count < 2 ^ 63) × CountsFrom (stored_after d r) rs
+
+-- the data of each front of the records count fewer than 2^63 commits
+abbrev pub AreCounted : List LogRecord → Type 0
+AreCounted ls = CountsFrom no_data (map by_xid ls)
+
 -- what the records leave: the data that they make, of the branches in doubt their writes and locks, and what
 -- operators decided
 pub record Leaves (ls : List LogRecord) (boot : Option ℕ) (left : List (Xid × Bool)) (versions : VersionTable)
@@ -50,6 +59,7 @@ pub record Leaves (ls : List LogRecord) (boot : Option ℕ) (left : List (Xid ×
   pub in_doubt : left ≡ left_by seen
   pub stored : AreData versions (data_of ls)
   pub history : GoBack versions ls
+  pub counted : AreCounted ls
   pub promises : (x : Xid) → writes_of writes x ≡ promised seen x
   pub locks_held : HoldPromises seen locks
   pub decided : KnowDecided ls decisions
@@ -76,6 +86,12 @@ Fails ls Memory = ⊤
 Fails ls Malformed = AreMalformed ls
 Fails ls Exhausted = CountTooFar ls
 
+-- the number of why records leave nothing
+abbrev pub replay_number : ReplayError → ℕ
+replay_number Memory = 1
+replay_number Malformed = 3
+replay_number Exhausted = 4
+
 -- What the code keeps.
 
 -- a record that may not follow is malformed
@@ -88,6 +104,7 @@ pub record Reads (ls : List LogRecord) (s : SeenLog) (versions : VersionTable) :
   pub read : seen_of ls ≡ Some s
   pub stored : AreData versions (data_of ls)
   pub history : GoBack versions ls
+  pub counted : AreCounted ls
 
 -- the open branches' writes are those that the fold has, and its keys rise
 pub record IsTied (s : SeenLog) (d : Data) : Type 0 where

@@ -1,6 +1,6 @@
 //! What each record makes of the data.
 
-ghost use Rattle.std.specs.Prelude.{◌≡◌, false, IfErr, OnOk};
+ghost use Rattle.std.specs.Prelude.{◌≡◌, ◌<◌, ◌^◌, false, IfErr, OnOk};
 ghost use Rattle.kv_store.specs.Versions.{Applies, Sets, pair_write};
 ghost use Rattle.kv_core.specs.Replays.{CommitFails, KeepsBefore, TakeFails, Takes};
 
@@ -18,6 +18,7 @@ const COMMITS: u64 = 1 << 63;
 fn commit(versions: &mut Versions, writes: &[Write]) -> Result<(), ReplayError>
     requires { versions.old.is_staged ≡ false }
     ensures ok { OnOk result (Applies versions.old versions.new writes.now) }
+    ensures counted { OnOk result (versions.new.count < 2 ^ 63) }
     ensures err { IfErr result (CommitFails versions.old) }
 {
     if versions.count() >= COMMITS - 1 {
@@ -46,9 +47,11 @@ pub(crate) fn take(
     next: &LogRecord,
     alloc: Global,
 ) -> Result<(), ReplayError>
-    requires { versions.old.is_staged ≡ false }
+    requires unstaged { versions.old.is_staged ≡ false }
+    requires counted { versions.old.count < 2 ^ 63 }
     ensures ok { OnOk result (Takes seen.now next.now versions.old versions.new) }
     ensures before { OnOk result (KeepsBefore versions.old versions.new next.now.entry) }
+    ensures counted { OnOk result (versions.new.count < 2 ^ 63) }
     ensures err { IfErr result (TakeFails seen.now next.now versions.old) }
 {
     match &next.entry {
@@ -61,6 +64,9 @@ pub(crate) fn take(
         }
         Record::Direct(_, writes) => commit(versions, writes.as_slice()),
         Record::Base(count) => {
+            if *count >= COMMITS {
+                return Err(ReplayError::Exhausted);
+            }
             *versions = Versions::new(alloc, *count);
             Ok(())
         }

@@ -1,5 +1,8 @@
 //! Why records leave nothing.
 
+ghost use Rattle.std.specs.Prelude.{◌≡◌};
+ghost use Rattle.kv_core.specs.Replays.{replay_number};
+
 use log_text::ReadFault;
 use std::alloc::AllocError;
 use thiserror::Error;
@@ -16,6 +19,19 @@ pub enum ReplayError {
     /// The records count 2^63 commits or more.
     #[error("too many commits")]
     Exhausted,
+}
+
+impl ReplayError {
+    /// Its number: Memory 1, Malformed 3, Exhausted 4.
+    pub fn number(self) -> u8
+        ensures { result ≡ replay_number self }
+    {
+        match self {
+            ReplayError::Memory => 1,
+            ReplayError::Malformed => 3,
+            ReplayError::Exhausted => 4,
+        }
+    }
 }
 
 impl From<AllocError> for ReplayError {

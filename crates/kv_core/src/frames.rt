@@ -4,7 +4,7 @@ ghost use Rattle.std.specs.Prelude.{◌≡◌, ◌∷◌, IfOk, map};
 ghost use Rattle.tree_model.specs.declared.names.Kind.TheVariants as kind;
 ghost use Rattle.log_text.specs.Made.{frame_record};
 ghost use Rattle.log_rules.specs.sound.Sound.{IsSound};
-ghost use Rattle.std.specs.Bool.{Decides};
+ghost use Rattle.std.specs.List.{AllByRecursion};
 ghost use Rattle.rec_log.specs.Sights.{AreRecords};
 ghost use Rattle.tree_model.specs.Store.{pair_record};
 ghost use Rattle.tree_model.specs.LogNames.{unnamed};
@@ -38,37 +38,22 @@ fn pair(key: &Bytes, value: &Bytes, alloc: Global) -> Result<Frame, AllocError>
     Frame::new(entry, alloc)
 }
 
-/// Whether a pair can stand in a log: its key has 1 to 64 bytes, its value at most 256.
-fn fits(key: &Bytes, value: &Bytes) -> bool
-    ensures { Decides result (IsSound kind.Manager (unnamed (entry.Pair key.now value.now))) }
-{
-    1 <= key.len() && key.len() <= 64 && value.len() <= 256
-}
-
-/// The frames of a base of so many commits and of these pairs. It gives none for want of memory, and where
-/// one of them cannot stand in a log.
+/// The frames of a base of so many commits and of these pairs.
 pub fn base_frames(
     count: u64,
     pairs: &[(Bytes, Bytes)],
     alloc: Global,
 ) -> Result<Vec<Frame>, AllocError>
+    requires base { IsSound kind.Manager (unnamed (entry.Base count)) }
+    requires pairs { AllByRecursion (λ p. IsSound kind.Manager (unnamed (pair_record p))) pairs.now }
     ensures frames { IfOk result (λ frames. map frame_record frames.items
         ≡ unnamed (entry.Base count) ∷ map (λ p. unnamed (pair_record p)) pairs.now) }
     ensures sound { IfOk result (λ frames. AreRecords kind.Manager (map frame_record frames.items)) }
 {
-    if COMMITS <= count {
-        return Err(AllocError);
-    }
     let mut frames = Vec::new(alloc);
     frames.push(base(count, alloc)?)?;
     for (key, value) in pairs {
-        if !fits(key, value) {
-            return Err(AllocError);
-        }
         frames.push(pair(key, value, alloc)?)?;
     }
     Ok(frames)
 }
-
-/// Fewer commits than this are counted.
-const COMMITS: u64 = 1 << 63;

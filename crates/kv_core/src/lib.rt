@@ -26,13 +26,11 @@ mod fault;
 mod frames;
 mod heuristic;
 pub mod law;
-mod pairs;
 mod promises;
 mod replayed;
 mod store;
 
 pub use fault::ReplayError;
 pub use frames::base_frames;
-pub use pairs::pairs_of;
 pub use replayed::{Replayed, replay};
 pub use store::KeyStore;

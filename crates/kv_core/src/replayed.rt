@@ -1,6 +1,6 @@
 //! The pass over the records of a log.
 
-ghost use Rattle.std.specs.Prelude.{◌≡◌, false, Some, IfOk, IfErr, OnOk};
+ghost use Rattle.std.specs.Prelude.{◌≡◌, ◌<◌, ◌^◌, false, Some, IfOk, IfErr, OnOk};
 ghost use Rattle.log_rules.specs.order.Orders.{after};
 ghost use Rattle.kv_core.specs.Replays.{Fails, KeepsBefore, Leaves, Reads, TakeFails, Takes};
 
@@ -44,10 +44,12 @@ struct Reading {
 impl Reading {
     /// Takes the next record.
     fn take(&mut self, next: LogRecord, alloc: Global) -> Result<(), ReplayError>
-        requires { self.old.data.is_staged ≡ false }
+        requires unstaged { self.old.data.is_staged ≡ false }
+        requires counted { self.old.data.count < 2 ^ 63 }
         ensures may { OnOk result (after self.old.seen next ≡ Some self.new.seen) }
         ensures takes { OnOk result (Takes self.old.seen next self.old.data self.new.data) }
         ensures before { OnOk result (KeepsBefore self.old.data self.new.data next.entry) }
+        ensures counted { OnOk result (self.new.data.count < 2 ^ 63) }
         ensures err { IfErr result (TakeFails self.old.seen next self.old.data) }
     {
         data::take(&mut self.data, &self.seen, &next, alloc)?;

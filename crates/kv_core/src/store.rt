@@ -5,12 +5,13 @@ ghost use Rattle.key_tables.specs.declared.holders.Mode.{Mode as WorkMode};
 ghost use Rattle.key_tables.specs.declared.holders.Mode.TheVariants as mode;
 ghost use Rattle.key_tables.specs.Holders.{blocked_by};
 ghost use Rattle.kv_locks.specs.Locks.{holders_of};
+ghost use Rattle.kv_store.specs.Pairs.{ArePairsOf};
 ghost use Rattle.kv_store.specs.writes.Writes.{AreWrites, writes_of};
 ghost use Rattle.xa_assoc.specs.Answers.{Answers, Closes, Opens, Recovers, Wanted, map_ok};
 ghost use Rattle.xa_assoc.specs.Ready.{is_closed, is_work_verb, leaves};
 ghost use Rattle.xa_tables.specs.Calls.{legal};
 ghost use Rattle.xa_tables.specs.Tables.{is_spoiled};
-ghost use Rattle.xa_branch.specs.Branches.{Finds, StandsAt, in_doubt};
+ghost use Rattle.xa_branch.specs.Branches.{AreListedOnce, Finds, StandsAt, in_doubt};
 ghost use Rattle.xa_tables.specs.declared.call.Call.{Call as AnyCall};
 ghost use Rattle.xa_assoc.specs.declared.states.States.{States as AnyStates};
 ghost use Rattle.xa_assoc.specs.Restored.{Restored, restore_refusal};
@@ -176,11 +177,32 @@ impl KeyStore {
         self.states.branches_are_few();
     }
 
+    /// Each known branch is listed once, and none that is in S0.
+    pub fn branches_are_listed_once(&self)
+        ensures { AreListedOnce self.now.tables.branches.branches }
+    {
+        self.states.branches_are_listed_once();
+    }
+
     /// Whether one commit more can be counted: fewer than 2^63 - 1 were made.
     pub fn has_numbers(&self) -> bool
         ensures { result ≡ has_numbers self.now }
     {
         self.versions.count() < COMMITS
+    }
+
+    /// How many commits were made.
+    pub fn count(&self) -> u64
+        ensures { result ≡ self.now.versions.count }
+    {
+        self.versions.count()
+    }
+
+    /// The data, keys rising.
+    pub fn pairs(&self) -> Result<Vec<(Bytes, Bytes)>, AllocError>
+        ensures { IfOk result (λ pairs. ArePairsOf self.now.versions pairs.items) }
+    {
+        self.versions.pairs()
     }
 
     /// The branches in doubt (in S3 and S5), in order of beginning.

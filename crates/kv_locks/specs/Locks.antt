@@ -41,6 +41,11 @@ abbrev pub Refuses : LockTable → LockTable → Xid → List ℕ → Mode → L
 Refuses old new x k m (Held y) = (blocked_by (holders_of old k) x m ≡ Some y) × (new ≡ old)
 Refuses old new x k m Memory = new ≡ old
 
+-- the number of why a lock was not given
+abbrev pub lock_number : LockError → ℕ
+lock_number Memory = 1
+lock_number (Held y) = 2
+
 -- What the code keeps.
 
 -- where a key stands in the map

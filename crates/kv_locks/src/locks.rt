@@ -4,7 +4,7 @@ ghost use Rattle.std.specs.Prelude.{◌≡◌, ℕ, List, [], true, IfErr, OnOk,
 ghost use Rattle.key_tables.specs.declared.holders.Mode.TheVariants as mode;
 ghost use Rattle.key_tables.specs.Tables.{Becomes, table_of};
 ghost use Rattle.key_tables.specs.Holders.{blocked_by, holds, keeps_rule};
-ghost use Rattle.kv_locks.specs.Locks.{Gives, HoldsAtMost, KeepsKeys, LetsGo, Refuses, Releases, Takes, holders_of, keys_of, names_key, place_of};
+ghost use Rattle.kv_locks.specs.Locks.{Gives, HoldsAtMost, KeepsKeys, LetsGo, Refuses, Releases, Takes, holders_of, keys_of, lock_number, names_key, place_of};
 
 use indexmap::IndexMap;
 use key_tables::{Holder, Mode, blocked_by, given, holds, raise, remove};
@@ -23,6 +23,18 @@ pub enum LockError {
     /// first.
     #[error("held by another branch")]
     Held(Xid),
+}
+
+impl LockError {
+    /// Its number: Memory 1, Held 2.
+    pub fn number(&self) -> u8
+        ensures { result ≡ lock_number self.now }
+    {
+        match self {
+            LockError::Memory => 1,
+            LockError::Held(_) => 2,
+        }
+    }
 }
 
 impl From<AllocError> for LockError {

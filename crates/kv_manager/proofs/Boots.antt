@@ -1,16 +1,23 @@
 -- The record of the next boot may follow, and what a crash leaves may follow one another.
-use Rattle.std.proofs.Common.{◌≡◌, ◌≤◌, ◌<◌, ◌+◌, ◌^◌, ◌-◌, ℕ, Bool, true, false, ◌||◌, cond, List, [], ◌∷◌, ◌++◌, append_assoc, Option, Some, None, refl, sym, ap, subst, ◌∙◌, is_some, nat_lt, nat_le, length, arith}
+use Rattle.std.proofs.Common.{◌≡◌, ◌<◌, ◌+◌, ◌^◌, ◌-◌, ℕ, Bool, true, false, ◌||◌, cond, List, [], ◌∷◌, ◌++◌, append_assoc, Option, Some, None, refl, sym, ap, subst, ◌∙◌, is_some, nat_lt, nat_le, arith, inl, inr}
 use Rattle.std.proofs.lemmas.Bool.Decides.{nat_tests}
 use Rattle.tree_model.specs.declared.records.LogRecord.{LogRecord}
 use Rattle.log_rules.specs.order.Orders.{SeenLog, after, boot_rises, opened as opens_log}
 use Rattle.log_text.specs.Made.{frame_record}
 use Rattle.rec_log.specs.Sights.{LogSight, left_by, record_size, records_of, whole_within}
-use Rattle.kv_core.specs.Stores.{KeySight}
-use Rattle.kv_core.specs.Replays.{seen_of}
+use Rattle.tree_model.specs.Store.{Data}
+use Rattle.tree_model.specs.declared.names.Kind.TheVariants.{Manager}
+use Rattle.log_rules.specs.sound.Sound.{IsSound}
+use Rattle.std.specs.List.{AllByRecursion}
+use Rattle.kv_core.specs.Replays.{AreCounted, seen_of}
+use Rattle.kv_core.proofs.Counting.{counted_front, counted_next, counted_whole, never_far}
 use Rattle.kv_manager.specs.declared.restart.Ready.{Ready}
-use Rattle.kv_manager.specs.Restarts.{IsReady, LeavesStore, next_boot, opened}
-use Rattle.kv_manager.specs.Sights.{are_ordered}
-use Rattle.kv_manager.proofs.Fronts.{ordered_front, seen_one}
+use Rattle.kv_manager.specs.declared.restart.RecordsError.TheVariants.{Exhausted, Unfit}
+use Rattle.kv_manager.specs.Restarts.{AreLastBoots, IsReady, NotRebuilt, next_boot, opened}
+use Rattle.kv_manager.specs.Sights.{IsKept, KvSight, are_ordered}
+use Rattle.kv_manager.proofs.Bounds.{never_unfit}
+use Rattle.kv_manager.proofs.Fronts.{each_front, ordered_front, seen_one}
+use Rattle.kv_manager.proofs.Turns.{data_behind}
 
 rises_next : (o : Option ℕ) (b : ℕ) → next_boot o ≡ Some b → boot_rises o b ≡ true
 rises_next None b h = refl
@@ -35,6 +42,16 @@ boot_after s b next =
     ap (λ t. is_some (cond t (opens_log s b) None)) (or_true (is_some s.boot))
     ∙ some_if _ _ (rises_next s.boot b next)
 
+-- the record of a boot counts nothing
+pub opened_counted : (ls : List LogRecord) (b : ℕ) → AreCounted ls → AreCounted (ls ++ opened b ∷ [])
+opened_counted ls b h =
+    counted_next ls (opened b) h
+    (subst (λ (d : Data). d.count < 2 ^ 63) (sym (data_behind ls (opened b))) (counted_whole ls h))
+
+pub ready_counted : (ls : List LogRecord) (r : Ready) → IsReady ls r → AreCounted (ls ++ frame_record r.opened ∷ [])
+ready_counted ls r ready =
+    subst (λ l. AreCounted (ls ++ l ∷ [])) (sym ready.spells) (opened_counted ls r.boot ready.left.counted)
+
 -- the next boot
 pub opened_ordered : (ls : List LogRecord) (s : SeenLog) (b : ℕ) → seen_of ls ≡ Some s
     → next_boot s.boot ≡ Some b → are_ordered (ls ++ opened b ∷ []) ≡ true
@@ -58,10 +75,35 @@ whole_rest n (l ∷ ls) = by_test (nat_le (record_size l) n) (whole_rest (n - re
     by_test true h = (h.0, ap (λ ks. l ∷ ks) h.1)
     by_test false h = (l ∷ ls, refl)
 
+pub left_rest : (s : LogSight) (keep : ℕ) → (rest : List LogRecord) × (left_by s keep ++ rest ≡ records_of s.kept)
+left_rest s keep =
+    let rest = whole_rest (s.behind + keep) s.kept.unforced in (
+      rest.0,
+      append_assoc s.kept.forced (whole_within (s.behind + keep) s.kept.unforced) rest.0
+          ∙ ap (λ us. s.kept.forced ++ us) rest.1,
+    )
+
 pub left_ordered : (s : LogSight) (keep : ℕ) → are_ordered (records_of s.kept) ≡ true
     → are_ordered (left_by s keep) ≡ true
 left_ordered s keep h =
-    let rest = whole_rest (s.behind + keep) s.kept.unforced in
-    ordered_front (left_by s keep) rest.0
-    (ap are_ordered (append_assoc s.kept.forced (whole_within (s.behind + keep) s.kept.unforced) rest.0)
-    ∙ ap (λ us. are_ordered (s.kept.forced ++ us)) rest.1 ∙ h)
+    let rest = left_rest s keep in
+    ordered_front (left_by s keep) rest.0 (ap are_ordered rest.1 ∙ h)
+
+pub left_counted : (s : LogSight) (keep : ℕ) → AreCounted (records_of s.kept) → AreCounted (left_by s keep)
+left_counted s keep h =
+    let rest = left_rest s keep in
+    counted_front (left_by s keep) rest.0 (subst AreCounted (sym rest.1) h)
+
+-- what a crash leaves of its own records is a manager's, and no boot alone can be what is missing
+pub left_fits : (s : KvSight) (keep : ℕ) → IsKept s → AllByRecursion (IsSound Manager) (records_of s.log.sight.kept)
+    → NotRebuilt (left_by s.log.sight keep) Unfit → ⊥
+left_fits s keep kept sound why =
+    let rest = left_rest s.log.sight keep in
+    never_unfit (left_by s.log.sight keep) (left_ordered s.log.sight keep kept.ordered)
+    (each_front (IsSound Manager) (left_by s.log.sight keep) rest.0 (subst (AllByRecursion (IsSound Manager)) (sym rest.1) sound)) why
+
+pub left_spent : (s : KvSight) (keep : ℕ) → IsKept s → NotRebuilt (left_by s.log.sight keep) Exhausted
+    → AreLastBoots (left_by s.log.sight keep)
+left_spent s keep kept (inl far) =
+    absurd (never_far (left_by s.log.sight keep) (left_counted s.log.sight keep kept.counted) far)
+left_spent s keep kept (inr last) = last

@@ -24,7 +24,7 @@ use Rattle.kv_core.specs.Replays.{AreMalformed, BreaksLimits, seen_of}
 use Rattle.kv_core.proofs.Lawful.{lawful_of}
 use Rattle.kv_core.proofs.Lookups.{Live, apart_turns}
 use Rattle.kv_manager.specs.Restarts.{AreTooMany, NotRebuilt}
-use Rattle.kv_manager.specs.declared.restart.RestartError.TheVariants.{Unfit}
+use Rattle.kv_manager.specs.declared.restart.RecordsError.TheVariants.{Unfit}
 use Rattle.kv_manager.specs.Sights.{are_ordered}
 use Rattle.kv_manager.proofs.Steps.{Steps, Stays, Puts, Marks, Leaves, each_step, steps_after}
 
@@ -58,7 +58,7 @@ length_out x (e ∷ es) = by_test (same x e.0) (length_out x es)
 abbrev pub AreFew : SeenLog → Type 0
 AreFew s = length s.live ≤ 1024
 
-few_after : (s t : SeenLog) (l : LogRecord) → AreFew s → after s l ≡ Some t → AreFew t
+pub few_after : (s t : SeenLog) (l : LogRecord) → AreFew s → after s l ≡ Some t → AreFew t
 few_after s t l few h = by_step (steps_after s t l h)
   where
     by_step : Steps s t l.parent l.entry → AreFew t

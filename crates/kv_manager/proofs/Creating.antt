@@ -5,7 +5,8 @@ use Rattle.tree_model.specs.declared.names.Kind.TheVariants.{Manager}
 use Rattle.tree_model.specs.declared.records.LogRecord.{LogRecord}
 use Rattle.tree_model.specs.Records.{same_bytes}
 use Rattle.log_rules.specs.order.Logs.{Whole, read_log}
-use Rattle.log_rules.specs.order.Orders.{SeenLog, names_key, nothing_seen, promised}
+use Rattle.xa_assoc.specs.Restored.{states_left}
+use Rattle.log_rules.specs.order.Orders.{SeenLog, left_by as in_doubt_by, names_key, nothing_seen, promised}
 use Rattle.rec_log.specs.Sights.{records_of}
 use Rattle.kv_core.specs.Replays.{seen_after, seen_of}
 use Rattle.core_model.specs.Opening.{first_opened}
@@ -47,6 +48,8 @@ created forced failures s r =
     record {
       closed = left.tables.init;
       boot = boot;
+      branches = left.tables.branches
+          ∙ ap (λ t. states_left (in_doubt_by t)) (sym (nothing_said left.seen left.read));
       writes = λ x. left.promises x ∙ ap (λ t. promised t x) (sym (nothing_said left.seen left.read));
       holders = λ k. left.locks_held.free k (λ x. none_promised left.seen x k
           (nothing_said left.seen left.read));

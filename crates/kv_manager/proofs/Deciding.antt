@@ -1,5 +1,5 @@
 -- An operator's decision: a turn, for which room was made first.
-use Rattle.std.proofs.Common.{◌≡◌, ◌≤◌, ◌∙◌, true, false, Option, Some, None, List, [], ◌∷◌, Result, Ok, Err, refl, sym, ap, subst, arith}
+use Rattle.std.proofs.Common.{◌≡◌, ◌≤◌, ◌-◌, ◌^◌, ◌∙◌, true, false, not, nat_lt, Option, Some, None, List, [], ◌∷◌, Result, Ok, Err, refl, sym, ap, subst, arith}
 use Rattle.std.specs.Prelude.{Contains, IfErr, MatchBool, OnOk, is_some, unwrap_or}
 use Rattle.std.specs.Map.{lookup}
 use Rattle.xa_codes.specs.declared.code.Code.{Code}
@@ -22,10 +22,10 @@ use Rattle.manager_model.specs.Sights.{SameManager}
 use Rattle.manager_model.specs.Ends.{logged_under, state_of as state_of_log}
 use Rattle.manager_model.specs.Deciding.{DecideFails, Decides, NotDecided, decision_writes}
 use Rattle.manager_model.specs.declared.errors.DecideError.{DecideError}
-use Rattle.manager_model.specs.declared.errors.DecideError.TheVariants.{Device, Failed, Memory, NotInDoubt}
+use Rattle.manager_model.specs.declared.errors.DecideError.TheVariants.{Device, Exhausted, Failed, Memory, NotInDoubt}
 use Rattle.key_tables.specs.Holders.{without}
 use Rattle.kv_locks.specs.Locks.{Releases, holders_of}
-use Rattle.kv_store.specs.Versions.{Applies, SameData}
+use Rattle.kv_store.specs.Versions.{Applies, SameData, VersionTable}
 use Rattle.kv_store.specs.writes.Writes.{Leaves, writes_of}
 use Rattle.kv_turns.specs.declared.entries.Entry.{Entry}
 use Rattle.kv_turns.specs.Turns.{decide_turn, entry_record, heur_entry}
@@ -171,15 +171,21 @@ module _ (old mid new : KvSight) (x : Xid) (o : Outcome) (works : old.log.sight.
       → (e : DecideError) → IsRefusal answer e
       → NotDecided (sight_of old) (sight_of new) x o e
   was_not answer (kv.Made is made) Device h = never (ap is_own (sym h ∙ is) ∙ no_refusal o)
-  was_not answer (kv.Made is made) Memory h = never (ap is_own (sym h ∙ is) ∙ no_refusal o)
+  was_not answer (kv.Made is made) Exhausted h = never (ap is_own (sym h ∙ is) ∙ no_refusal o)
+  was_not answer (kv.Made is made) Memory h = absurd h
   was_not answer (kv.Made is made) Failed h = absurd h
   was_not answer (kv.Made is made) NotInDoubt h = absurd h
   was_not answer (kv.Broke is failed) Device h = fails failed
-  was_not answer (kv.Broke is failed) Memory h = absurd (other_codes (sym is ∙ h))
+  was_not answer (kv.Broke is failed) Exhausted h = absurd (other_codes (sym is ∙ h))
+  was_not answer (kv.Broke is failed) Memory h = absurd h
   was_not answer (kv.Broke is failed) Failed h = absurd h
   was_not answer (kv.Broke is failed) NotInDoubt h = absurd h
   was_not answer (kv.Spent is commits few alike) Device h = absurd (other_codes (sym h ∙ is))
-  was_not answer (kv.Spent is commits few alike) Memory h = nothing_changed alike
+  was_not answer (kv.Spent is commits few alike) Exhausted h = (
+    ap (λ (v : VersionTable). not (nat_lt v.count (2 ^ 63 - 1))) (sym room.versions) ∙ ap not few,
+    nothing_changed alike,
+  )
+  was_not answer (kv.Spent is commits few alike) Memory h = absurd h
   was_not answer (kv.Spent is commits few alike) Failed h = absurd h
   was_not answer (kv.Spent is commits few alike) NotInDoubt h = absurd h
 
@@ -267,15 +273,18 @@ module _ (old mid new : KvSight) (x : Xid) (o : Outcome) (room : Reserves old.st
   pub was_not_taken : (answer : Code) → KvTakes mid new x (decide_turn o) answer
       → (e : DecideError) → IsRefusal answer e → kv.NotTaken old new x o e
   was_not_taken answer (kv.Made is made) Device h = clash (ap is_own (sym h ∙ is) ∙ no_code o)
-  was_not_taken answer (kv.Made is made) Memory h = clash (ap is_own (sym h ∙ is) ∙ no_code o)
+  was_not_taken answer (kv.Made is made) Exhausted h = clash (ap is_own (sym h ∙ is) ∙ no_code o)
+  was_not_taken answer (kv.Made is made) Memory h = absurd h
   was_not_taken answer (kv.Made is made) Failed h = absurd h
   was_not_taken answer (kv.Made is made) NotInDoubt h = absurd h
   was_not_taken answer (kv.Broke is failed) Device h = breaks failed
-  was_not_taken answer (kv.Broke is failed) Memory h = absurd (apart_codes (sym is ∙ h))
+  was_not_taken answer (kv.Broke is failed) Exhausted h = absurd (apart_codes (sym is ∙ h))
+  was_not_taken answer (kv.Broke is failed) Memory h = absurd h
   was_not_taken answer (kv.Broke is failed) Failed h = absurd h
   was_not_taken answer (kv.Broke is failed) NotInDoubt h = absurd h
   was_not_taken answer (kv.Spent is commits few alike) Device h = absurd (apart_codes (sym h ∙ is))
-  was_not_taken answer (kv.Spent is commits few alike) Memory h = stays alike
+  was_not_taken answer (kv.Spent is commits few alike) Exhausted h = stays alike
+  was_not_taken answer (kv.Spent is commits few alike) Memory h = absurd h
   was_not_taken answer (kv.Spent is commits few alike) Failed h = absurd h
   was_not_taken answer (kv.Spent is commits few alike) NotInDoubt h = absurd h
 

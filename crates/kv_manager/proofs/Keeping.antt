@@ -83,6 +83,7 @@ pub kept_by : (s : KvSight) (store : KeySight) → IsKept s → KeepsPromises s.
 kept_by s store kept keeps = record {
   kind = kept.kind;
   ordered = kept.ordered;
+  counted = kept.counted;
   stands = λ works. record {
     are_data = data_stay s.store.versions store.versions (logged s) keeps.versions
         (kept.stands works).are_data;

@@ -18,3 +18,5 @@ pub mod Staying
 pub mod Ordered
 pub mod Boots
 pub mod TrimOrder
+pub mod TrimCounts
+pub mod SoundData

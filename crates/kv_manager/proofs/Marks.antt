@@ -1,5 +1,6 @@
 -- What the records have said of each branch, and the mark that its last record leaves, go together.
-use Rattle.std.proofs.Common.{◌≡◌, ◌+◌, ◌-◌, ◌^◌, ℕ, Bool, true, false, not, ◌&&◌, ◌||◌, cond, List, [], ◌∷◌, Option, Some, None, map, fold, refl, sym, ap, subst, ◌∙◌, is_some, nat_lt, length}
+use Rattle.std.proofs.Common.{◌≡◌, ◌≤◌, ◌+◌, ◌-◌, ◌^◌, arith, ℕ, Bool, true, false, not, ◌&&◌, ◌||◌, cond, List, [], ◌∷◌, Option, Some, None, map, fold, refl, sym, ap, subst, ◌∙◌, is_some, nat_lt, length}
+use Rattle.std.proofs.lemmas.Bool.Decides.{nat_tests}
 use Rattle.std.specs.List.{IsDistinct}
 use Rattle.std.specs.Map.{keys_of}
 use Rattle.xa_tables.specs.declared.states.BranchState.{BranchState}
@@ -283,6 +284,19 @@ boot_next ls t b h is = sym (by_boot t.boot is) ∙ ap (λ n. n + 1) (agrees_of 
     by_boot : (o : Option ℕ) → next_boot o ≡ Some b → boot_is o + 1 ≡ b
     by_boot None e = cc
     by_boot (Some n) e = (taken (nat_lt n (2 ^ 63 - 1)) (n + 1) b e).1
+
+-- no boot comes behind the last one
+pub boot_last : (ls : List LogRecord) (t : SeenLog) → seen_of ls ≡ Some t → next_boot t.boot ≡ None
+    → 2 ^ 63 ≤ boot_behind ls
+boot_last ls t h spent = subst (λ n. 2 ^ 63 ≤ n + 1) (agrees_of ls t h).last (by_boot t.boot spent)
+  where
+    by_boot : (o : Option ℕ) → next_boot o ≡ None → 2 ^ 63 ≤ boot_is o + 1
+    by_boot None e = absurd (cc)
+    by_boot (Some n) e = by_test (nat_lt n (2 ^ 63 - 1)) refl e
+      where
+        by_test : (b : Bool) → nat_lt n (2 ^ 63 - 1) ≡ b → cond b (Some (n + 1)) None ≡ None → 2 ^ 63 ≤ n + 1
+        by_test true is f = absurd (cc)
+        by_test false is f = grind (arith, nat_tests, is)
 
 -- what each branch has written
 pub writes_as : (ls : List LogRecord) (t : SeenLog) (x : Xid) → seen_of ls ≡ Some t

@@ -1,5 +1,5 @@
 -- The record that a branch writes may follow those of the log.
-use Rattle.std.proofs.Common.{◌≡◌, ◌≤◌, ◌+◌, ◌^◌, ◌-◌, ℕ, Bool, true, false, not, ◌||◌, cond, List, [], ◌∷◌, ◌++◌, Option, Some, None, refl, sym, ap, subst, ◌∙◌, is_some, nat_lt, nat_le, length, arith}
+use Rattle.std.proofs.Common.{◌≡◌, ◌≤◌, ◌<◌, ◌+◌, ◌^◌, ◌-◌, ℕ, Bool, true, false, not, ◌||◌, cond, List, [], ◌∷◌, ◌++◌, Option, Some, None, refl, sym, ap, subst, ◌∙◌, is_some, nat_lt, nat_le, length, arith}
 use Rattle.std.proofs.lemmas.Bool.Decides.{nat_tests}
 use Rattle.xa_tables.specs.declared.call.Call.{Call}
 use Rattle.xa_tables.specs.declared.states.BranchState.{BranchState}
@@ -16,7 +16,7 @@ use Rattle.rec_log.specs.Sights.{LogSight, left_by, record_size, records_of, who
 use Rattle.kv_store.specs.writes.Writes.{AreWrites, writes_of}
 use Rattle.kv_turns.specs.declared.entries.Entry.{Entry}
 use Rattle.kv_turns.specs.declared.turns.Turn.{Turn}
-use Rattle.kv_turns.specs.Turns.{entry_record}
+use Rattle.kv_turns.specs.Turns.{applies, entry_record}
 use Rattle.kv_core.specs.Stores.{IsTidy, KeySight, state_of}
 use Rattle.kv_core.specs.Replays.{seen_of}
 use Rattle.kv_core.proofs.Lawful.{lawful_of}
@@ -24,7 +24,7 @@ use Rattle.kv_manager.specs.Restarts.{LeavesStore, next_boot, opened}
 use Rattle.kv_manager.specs.Sights.{IsKept, IsLogged, KvSight, are_ordered, doubt_of}
 use Rattle.kv_manager.specs.Turns.{IsDueTurn}
 use Rattle.kv_manager.proofs.Marks.{agrees_of, state_by}
-use Rattle.kv_manager.proofs.Turns.{IsFollowed, due_untold}
+use Rattle.kv_manager.proofs.Turns.{IsFollowed, due_untold, record_counts}
 use Rattle.kv_manager.proofs.Fronts.{ordered_front, seen_one, seen_where}
 use Rattle.kv_manager.proofs.Steps.{boots_of}
 use Rattle.kv_manager.proofs.Told.{is_told, told_mark, told_of}
@@ -81,11 +81,14 @@ stands_with s t stands h = record {
 pub record_follows : (s : KvSight) (x : Xid) (c : Call) (turn : Turn) (e : Entry) → IsKept s
     → IsTidy s.store → AreWrites (writes_of s.store.writes x)
     → length s.store.tables.branches.branches ≤ 1024 → IsDueTurn s x c turn → turn.entry ≡ Some e
-    → IsFollowed s e x
-record_follows s x c turn e kept tidy limits few due is =
+    → (applies e ≡ true → s.store.versions.count + 1 < 2 ^ 63) → IsFollowed s e x
+record_follows s x c turn e kept tidy limits few due is fits =
     let ls = records_of s.log.sight.kept in
     let seen = seen_where ls kept.ordered in
-    ap is_some (seen_one ls seen.0 (entry_record e x (writes_of s.store.writes x)) seen.1)
-    ∙ follows seen.0 s.store x (stands_with s seen.0 (kept.stands due.works) seen.1)
-    (lawful_of ls seen.0 seen.1).orderly.distinct tidy e (due_from s x c turn e due is)
-    (due_untold s x c turn e due is) limits few
+    record {
+      ordered = ap is_some (seen_one ls seen.0 (entry_record e x (writes_of s.store.writes x)) seen.1)
+          ∙ follows seen.0 s.store x (stands_with s seen.0 (kept.stands due.works) seen.1)
+          (lawful_of ls seen.0 seen.1).orderly.distinct tidy e (due_from s x c turn e due is)
+          (due_untold s x c turn e due is) limits few;
+      counted = record_counts s e x (writes_of s.store.writes x) kept due.works fits;
+    }

@@ -10,14 +10,14 @@ use Rattle.rec_log.specs.Sights.{LogState, RestartBreaks, Restarts as LogRestart
 use Rattle.core_model.specs.States.{forced_sight}
 use Rattle.manager_model.specs.Ends.{state_of}
 use Rattle.manager_model.specs.Restarting.{NotRestarted, RestartFails, Restarts, boot_record, next_boot}
-use Rattle.kv_manager.specs.declared.restart.RestartError.{RestartError}
-use Rattle.kv_manager.specs.declared.restart.RestartError.TheVariants.{Device, Exhausted, Memory, Unfit}
-use Rattle.kv_manager.specs.Resources.{seen_fault, sight_of}
+use Rattle.manager_model.specs.declared.errors.RestartError.{RestartError}
+use Rattle.manager_model.specs.declared.errors.RestartError.TheVariants.{Device, Exhausted, Memory}
+use Rattle.kv_manager.specs.Resources.{sight_of}
 use Rattle.kv_manager.specs.Restarts.{NotRestarted as KvNotRestarted, RestartFails as KvFails, Restarted, opened}
 use Rattle.kv_core.specs.Stores.{KeySight}
 use Rattle.kv_core.specs.Ends.{known_of}
 use Rattle.kv_manager.specs.Sights.{KvSight}
-use Rattle.kv_manager.proofs.Marks.{agrees_of, boot_next, writes_as}
+use Rattle.kv_manager.proofs.Marks.{agrees_of, boot_last, boot_next, writes_as}
 use Rattle.kv_manager.proofs.Resources.{same_sight}
 use Rattle.kv_manager.proofs.Restoring.{restored_state}
 
@@ -63,7 +63,14 @@ same_tables a b is = subst (Same a) (sym is)
 
 broken : (old new : LogState) (keep : ℕ) (rs : List LogRecord) → RestartBreaks old new keep rs
     → RestartBreaks (state_of old.sight) (state_of new.sight) keep rs
-broken old new keep rs b = record { kind = refl; either = b.either; failed = b.failed; cause = b.cause }
+broken old new keep rs b = record {
+  kind = refl;
+  appended = b.appended;
+  stand = b.stand;
+  no_less = b.no_less;
+  failed = b.failed;
+  cause = b.cause;
+}
 
 fails : (old new : KvSight) (keep : ℕ) → KvFails old new keep
     → RestartFails (sight_of old) (sight_of new) keep
@@ -81,8 +88,9 @@ fails old new keep made =
     }
 
 pub not_restarted : (old new : KvSight) (keep : ℕ) (e : RestartError) → KvNotRestarted old new keep e
-    → NotRestarted (sight_of old) (sight_of new) keep (seen_fault e)
+    → NotRestarted (sight_of old) (sight_of new) keep e
 not_restarted old new keep Device made = fails old new keep made
-not_restarted old new keep Memory made = same_sight old new made.1
-not_restarted old new keep Unfit made = same_sight old new made.1
-not_restarted old new keep Exhausted made = same_sight old new made.1
+not_restarted old new keep Memory made = same_sight old new made
+not_restarted old new keep Exhausted made =
+    let last = made.0 in
+    (same_sight old new made.1, boot_last (left_by old.log.sight keep) last.seen last.read last.spent)

@@ -1,5 +1,5 @@
 -- What the records of a log leave is tidy, and stands with them.
-use Rattle.std.proofs.Common.{◌≡◌, ◌<◌, ◌+◌, ◌-◌, ◌^◌, arith, ℕ, Bool, true, false, not, ◌||◌, cond, List, [], ◌∷◌, ◌++◌, Option, Some, None, map, refl, sym, ap, subst, ◌∙◌, ◌⊎◌, inl, inr}
+use Rattle.std.proofs.Common.{◌≡◌, ◌<◌, ◌+◌, ◌-◌, ◌^◌, arith, ℕ, Bool, true, false, not, ◌||◌, cond, List, [], ◌∷◌, ◌++◌, Option, Some, None, map, refl, sym, ap, subst, ◌∙◌, ◌⊎◌, inl, inr, append_assoc, drop, take, take-append-drop}
 use Rattle.std.proofs.lemmas.List.{append-nil}
 use Rattle.std.specs.Map.{lookup}
 use Rattle.std.proofs.lemmas.Bool.{ltb-true}
@@ -22,7 +22,8 @@ use Rattle.kv_store.specs.Pairs.{keys_rise}
 use Rattle.kv_store.specs.Versions.{VersionTable}
 use Rattle.kv_store.specs.writes.Writes.{WriteTable, writes_of}
 use Rattle.kv_core.specs.Folds.{AreData}
-use Rattle.kv_core.specs.Replays.{HoldPromises, Leaves, seen_of}
+use Rattle.kv_core.specs.Replays.{AreCounted, HoldPromises, Leaves, seen_of}
+use Rattle.kv_core.proofs.Counting.{counted_front}
 use Rattle.kv_core.specs.declared.fault.ReplayError.{ReplayError}
 use Rattle.kv_core.specs.declared.fault.ReplayError.TheVariants.{Memory, Malformed, Exhausted}
 use Rattle.kv_core.specs.Replays.{Fails}
@@ -32,10 +33,12 @@ use Rattle.tree_model.specs.declared.names.Kind.TheVariants.{Manager}
 use Rattle.log_text.specs.Made.{frame_record}
 use Rattle.core_log.specs.Writes.{Writes}
 use Rattle.core_model.specs.States.{wrote}
-use Rattle.rec_log.specs.Sights.{Breaks, Kept, LogSight, LogState, Restarts, left_by as left_by_crash, records_of}
+use Rattle.rec_log.specs.Sights.{Breaks, LogSight, LogState, Restarts, left_by as left_by_crash, records_of}
 use Rattle.kv_manager.specs.declared.restart.Ready.{Ready}
-use Rattle.kv_manager.specs.declared.restart.RestartError.{RestartError}
-use Rattle.kv_manager.specs.declared.restart.RestartError.TheVariants.{Device, Exhausted as ExhaustedRestart, Memory as MemoryRestart, Unfit}
+use Rattle.manager_model.specs.declared.errors.RestartError.{RestartError}
+use Rattle.manager_model.specs.declared.errors.RestartError.TheVariants as restarts
+use Rattle.kv_manager.specs.declared.restart.RecordsError.{RecordsError}
+use Rattle.kv_manager.specs.declared.restart.RecordsError.TheVariants.{Device, Exhausted as ExhaustedRecords, Memory as MemoryRecords, Unfit}
 use Rattle.xa_heur.specs.Cases.{DecisionTable}
 use Rattle.kv_core.specs.Decisions.{KnowDecided, says_decided}
 use Rattle.xa_heur.specs.Decisions.{decided_in}
@@ -43,7 +46,7 @@ use Rattle.kv_core.specs.Stores.{IsTidy, KeySight, Rebuilt, is_decided, is_let_g
 use Rattle.kv_core.specs.Ends.{known_of}
 use Rattle.kv_manager.specs.Restarts.{FailsToRestart, IsReady, LeavesNone, LeavesStore, NotBegun, NotRebuilt, NotStored, StartsOver, error_of, next_boot, opened}
 use Rattle.kv_manager.specs.Sights.{IsKept, IsLogged, KvSight, SaysDecided, are_ordered, doubt_of, has_records, logged}
-use Rattle.kv_manager.proofs.Boots.{opened_ordered}
+use Rattle.kv_manager.proofs.Boots.{opened_counted, opened_ordered}
 use Rattle.kv_manager.proofs.Fronts.{has_more, ordered_front}
 use Rattle.kv_manager.proofs.Marks.{agrees_of, prepared_mark, state_by}
 use Rattle.kv_manager.proofs.Turns.{data_behind, decided_behind, mark_behind}
@@ -246,6 +249,8 @@ kept_left : (s : KvSight) (ls : List LogRecord) → s.log.kind ≡ Manager → L
 kept_left s ls kind left forced unforced =
     record {
       kind = kind;
+      counted = subst AreCounted (sym (records_booted s ls s.boot forced unforced))
+          (opened_counted ls s.boot left.counted);
       ordered = ap are_ordered (records_booted s ls s.boot forced unforced)
           ∙ opened_ordered ls left.seen s.boot left.read left.next;
       stands = λ _. logged_left s ls left (logged_behind_boot s ls s.boot forced unforced)
@@ -285,14 +290,14 @@ starts_over log new store boot works left made = record {
 }
 
 -- or it was not
-pub starts_none : (log new : LogState) (store : KeySight) (boot : ℕ) (e : RestartError)
+pub starts_none : (log new : LogState) (store : KeySight) (boot : ℕ) (e : RecordsError)
     → LeavesStore (records_of log.sight.kept) store boot
     → NotBegun log new boot e → LeavesNone log new e
-starts_none log new store boot MemoryRestart left same = (tt, same)
+starts_none log new store boot MemoryRecords left same = (tt, same)
 starts_none log new store boot Device left broke =
     (boot, record { seen = left.seen; read = left.read; next = left.next }, broke)
 starts_none log new store boot Unfit left never = absurd never
-starts_none log new store boot ExhaustedRestart left never = absurd never
+starts_none log new store boot ExhaustedRecords left never = absurd never
 
 -- a record is written behind room that was made
 pub writes_behind : (log mid new : LogState) (l m : LogRecord) → mid.kind ≡ log.kind → mid.sight ≡ log.sight
@@ -322,12 +327,12 @@ breaks_behind log mid new l m kind same is broke = subst (λ k. Breaks log new (
     })))
 
 -- the records of a log that was opened leave no manager
-pub none_left : (log : LogState) (e : RestartError)
+pub none_left : (log : LogState) (e : RecordsError)
     → NotRebuilt (records_of log.sight.kept) e → LeavesNone log log e
-none_left log MemoryRestart why = (why, refl)
+none_left log MemoryRecords why = (why, refl)
 none_left log Device never = absurd never
 none_left log Unfit why = (why, refl)
-none_left log ExhaustedRestart why = (why, refl)
+none_left log ExhaustedRecords why = (why, refl)
 
 -- a log that stays the same but for its room leaves a manager that stands
 pub kept_alike : (s : KvSight) (log : LogState) → IsKept s → log.kind ≡ s.log.kind
@@ -335,6 +340,7 @@ pub kept_alike : (s : KvSight) (log : LogState) → IsKept s → log.kind ≡ s.
 kept_alike s log kept kind stays = record {
   kind = kind ∙ kept.kind;
   ordered = ap (λ (k : LogSight). are_ordered (records_of k.kept)) stays ∙ kept.ordered;
+  counted = subst (λ (k : LogSight). AreCounted (records_of k.kept)) (sym stays) kept.counted;
   stands = λ works. record {
     doubts = λ x. (stands works).doubts x
         ∙ ap (λ (k : LogSight). marked_state (mark_at (records_of k.kept) x)) (sym stays);
@@ -356,21 +362,27 @@ kept_alike s log kept kind stays = record {
 
 -- a log that did not restart leaves a manager that stands, or that has failed
 pub kept_unstarted : (s : KvSight) (log : LogState) (keep : ℕ) (l : LogRecord) (e : RestartError)
-    → IsKept s → are_ordered (left_by_crash s.log.sight keep ++ l ∷ []) ≡ true → log.kind ≡ s.log.kind
+    → IsKept s → are_ordered (left_by_crash s.log.sight keep ++ l ∷ []) ≡ true
+    → AreCounted (left_by_crash s.log.sight keep ++ l ∷ []) → log.kind ≡ s.log.kind
     → FailsToRestart s.log log keep l e → IsKept (record s { log = log })
-kept_unstarted s log keep l MemoryRestart kept behind kind stays = kept_alike s log kept kind stays
-kept_unstarted s log keep l Device kept behind kind broke = record {
+kept_unstarted s log keep l restarts.Memory kept behind counts kind stays = kept_alike s log kept kind stays
+kept_unstarted s log keep l restarts.Device kept behind counts kind broke = record {
   kind = kind ∙ kept.kind;
-  ordered = elim broke.either [
-    | inl as_left ↦ (ap are_ordered as_left.0
-        ∙ ordered_front (left_by_crash s.log.sight keep) (l ∷ []) behind)
-    | inr with_boot ↦ (ap (λ (k : Kept). are_ordered (records_of k)) with_boot
-        ∙ ap are_ordered (append-nil (left_by_crash s.log.sight keep ++ l ∷ [])) ∙ behind)
-  ];
+  counted = subst AreCounted (sym broke.stand)
+      (counted_front (left_by_crash s.log.sight keep ++ take broke.appended (l ∷ []))
+      (drop broke.appended (l ∷ [])) (subst AreCounted (sym whole) counts));
+  ordered = ap are_ordered broke.stand
+      ∙ ordered_front (left_by_crash s.log.sight keep ++ take broke.appended (l ∷ []))
+      (drop broke.appended (l ∷ [])) (ap are_ordered whole ∙ behind);
   stands = λ works. absurd (let never : true ≡ false = sym broke.failed ∙ works in cc);
 }
-kept_unstarted s log keep l Unfit kept behind kind never = absurd never
-kept_unstarted s log keep l ExhaustedRestart kept behind kind never = absurd never
+  where
+    whole : (left_by_crash s.log.sight keep ++ take broke.appended (l ∷ [])) ++ drop broke.appended (l ∷ [])
+        ≡ left_by_crash s.log.sight keep ++ l ∷ []
+    whole = append_assoc (left_by_crash s.log.sight keep) (take broke.appended (l ∷ []))
+        (drop broke.appended (l ∷ []))
+        ∙ ap (λ ls. left_by_crash s.log.sight keep ++ ls) (take-append-drop broke.appended (l ∷ []))
+kept_unstarted s log keep l restarts.Exhausted kept behind counts kind never = absurd never
 
 -- what replays and what is rebuilt of it
 pub left_store : (ls : List LogRecord) (last : Option ℕ) (left : List (Xid × Bool))
@@ -383,6 +395,7 @@ left_store ls last left versions writes locks decisions listed s boot leaves is 
   read = leaves.read;
   tables = subst (λ l. Restored l s.tables) (is ∙ leaves.in_doubt) rebuilt.tables;
   stored = subst (λ v. AreData v (data_of ls)) (sym rebuilt.data_left) leaves.stored;
+  counted = leaves.counted;
   promises = λ x. ap (λ w. writes_of w x) rebuilt.writes_left ∙ leaves.promises x;
   locks_held = subst (HoldPromises leaves.seen) (sym rebuilt.locks_left) leaves.locks_held;
   decided = subst (KnowDecided ls) (sym rebuilt.decided_left) leaves.decided;
@@ -396,14 +409,14 @@ not_rebuilt ls Malformed why = inl why
 not_rebuilt ls Exhausted why = inl why
 
 -- nor is what makes no store
-pub not_stored : (ls : List LogRecord) (s : SeenLog) (left : List (Xid × Bool)) (e : RestartError)
+pub not_stored : (ls : List LogRecord) (s : SeenLog) (left : List (Xid × Bool)) (e : RecordsError)
     → seen_of ls ≡ Some s → left ≡ left_by s
     → NotStored left e → NotRebuilt ls e
-not_stored ls s left MemoryRestart read is why = tt
+not_stored ls s left MemoryRecords read is why = tt
 not_stored ls s left Device read is never = never
 not_stored ls s left Unfit read is why =
     inr (record { seen = s; read = read; refusal = why.0; refused = ap restore_refusal (sym is) ∙ why.1 })
-not_stored ls s left ExhaustedRestart read is never = absurd never
+not_stored ls s left ExhaustedRecords read is never = absurd never
 
 -- a boot fits a record
 pub boot_fits : (o : Option ℕ) (b : ℕ) → next_boot o ≡ Some b → b < 2 ^ 63

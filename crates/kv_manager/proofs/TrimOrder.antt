@@ -1,5 +1,5 @@
 -- What a trim keeps of a manager's records may follow one another, and leaves no branch in doubt that was not.
-use Rattle.std.proofs.Common.{◌≡◌, ◌≤◌, ◌<◌, ◌+◌, ℕ, suc, Bool, true, false, not, ◌&&◌, ◌||◌, cond, fold, List, [], ◌∷◌, ◌++◌, Option, Some, None, option_map, map, refl, sym, ap, subst, ◌∙◌, is_some, nat_lt, length, arith}
+use Rattle.std.proofs.Common.{◌≡◌, ◌≤◌, ◌+◌, ℕ, suc, Bool, true, false, not, ◌&&◌, ◌||◌, cond, fold, List, [], ◌∷◌, ◌++◌, Option, Some, None, option_map, map, refl, sym, ap, subst, ◌∙◌, is_some, nat_lt, length, arith}
 use Rattle.std.proofs.lemmas.Bool.Decides.{nat_tests}
 use Rattle.std.specs.List.{AllByRecursion, list_any}
 use Rattle.std.specs.Map.{lookup, remove_entry}
@@ -352,7 +352,7 @@ module _ (all behind : List LogRecord) (l : LogRecord) (s u t : SeenLog)
           opened = opened;
         })
 
-named_as : (q : Option ProcessId) (b : Branch)
+pub named_as : (q : Option ProcessId) (b : Branch)
     → option_map (name_xid q) (name_by (branch_case b) (Some b)) ≡ Some (name_xid q b)
 named_as q (CaseBranch c) = refl
 named_as q (Foreign x) = refl
@@ -418,7 +418,7 @@ pub record Trailing (all ls : List LogRecord) (u t : SeenLog) : Type 0 where
   pub read : seen_after (Some t) ls ≡ Some seen
   pub trails : Trails all [] u seen
 
-trails_from : (all behind : List LogRecord) (s u t : SeenLog)
+pub trails_from : (all behind : List LogRecord) (s u t : SeenLog)
     → AllByRecursion (λ l. is_managers l.entry ≡ true) behind → Trails all behind s t
     → seen_after (Some s) behind ≡ Some u → Trailing all (staying all behind) u t
 unfolding seen_after staying
@@ -456,10 +456,10 @@ trails_from all (l ∷ behind) s u t m trails h =
 -- The boot in front.
 
 -- a list of one record, which is an Opened
-record IsBoot (ls : List LogRecord) : Type 0 where
-  record_is : LogRecord
-  one : ls ≡ record_is ∷ []
-  opens : is_opened record_is.entry ≡ true
+pub record IsBoot (ls : List LogRecord) : Type 0 where
+  pub record_is : LogRecord
+  pub one : ls ≡ record_is ∷ []
+  pub opens : is_opened record_is.entry ≡ true
 
 boot_stays : (ls o : List LogRecord) → IsBoot o → IsBoot (fold opened_after o ls)
 boot_stays [] o h = h
@@ -469,7 +469,7 @@ boot_stays (l ∷ ls) o h = boot_stays ls (opened_after o l) (by_test (is_opened
     by_test true e = record { record_is = l; one = refl; opens = e }
     by_test false e = h
 
-boot_in_front : (ls : List LogRecord) (u : SeenLog) → has_records ls ≡ true → seen_of ls ≡ Some u
+pub boot_in_front : (ls : List LogRecord) (u : SeenLog) → has_records ls ≡ true → seen_of ls ≡ Some u
     → IsBoot (last_opened ls)
 unfolding seen_after last_opened
 boot_in_front [] u some h = absurd (cc)
@@ -484,13 +484,13 @@ boot_in_front (l ∷ ls) u some h = by_after (after nothing_seen l) refl h
         (boot_stays ls (l ∷ []) (record { record_is = l; one = refl; opens = opens }))
 
 -- what is seen of it
-record Booted (ls : List LogRecord) : Type 0 where
-  seen : SeenLog
-  read : seen_of ls ≡ Some seen
-  opened : is_some seen.boot ≡ true
-  none : seen.live ≡ []
+pub record Booted (ls : List LogRecord) : Type 0 where
+  pub seen : SeenLog
+  pub read : seen_of ls ≡ Some seen
+  pub opened : is_some seen.boot ≡ true
+  pub none : seen.live ≡ []
 
-booted : (q : Option ProcessId) (r : Record) → is_opened r ≡ true
+pub booted : (q : Option ProcessId) (r : Record) → is_opened r ≡ true
     → Booted (record { entry = r; parent = q } ∷ [])
 unfolding seen_after after
 booted q (Opened n) h = record { seen = _; read = refl; opened = refl; none = refl }

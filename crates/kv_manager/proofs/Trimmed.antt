@@ -10,7 +10,7 @@ use Rattle.tree_model.specs.declared.records.LogRecord.{LogRecord}
 use Rattle.tree_model.specs.declared.records.Record.{Record}
 use Rattle.tree_model.specs.declared.records.Record.TheVariants.{Opened, Collecting, Prepare, Commit, Abort, End, Prepared, Committed, RolledBack, Direct, HeurCommit, HeurRollback, Told, Forgot, Base, Pair, Cleared}
 use Rattle.tree_model.specs.Restarts.{is_open}
-use Rattle.tree_model.specs.Store.{base_records, pair_record, writes_of as promised_of, data_of}
+use Rattle.tree_model.specs.Store.{Data, base_records, pair_record, writes_of as promised_of, data_of}
 use Rattle.log_rules.specs.sound.Sound.{IsSound, IsSoundEntry}
 use Rattle.rec_log.specs.Sights.{Kept, LogState, NotRewritten, records_of}
 use Rattle.rec_log.specs.declared.log.LogError.{LogError}
@@ -18,16 +18,13 @@ use Rattle.rec_log.specs.declared.log.LogError.TheVariants.{Device, Memory}
 use Rattle.kv_manager.proofs.Restoring.{kept_alike}
 use Rattle.rec_log.specs.Trimming.{Trimmed}
 use Rattle.rec_log.specs.Trimming as rec_log
-use Rattle.kv_store.specs.Pairs.{keys_rise}
-use Rattle.kv_locks.specs.Locks.{LockTable}
+use Rattle.kv_store.specs.Pairs.{ArePairsOf, keys_rise}
+use Rattle.kv_store.proofs.Pairs.{same_pairs}
 use Rattle.kv_store.specs.Versions.{VersionTable}
-use Rattle.kv_store.specs.writes.Writes.{WriteTable}
-use Rattle.xa_heur.specs.Cases.{DecisionTable}
 use Rattle.tree_model.specs.Standings.{Decided, Finished, Mark, Promised, ToldOf, Unmarked, mark_at}
 use Rattle.kv_core.specs.Ends.{known_of}
 use Rattle.kv_core.specs.Decisions.{says_decided}
 use Rattle.kv_core.specs.Folds.{AreData}
-use Rattle.kv_core.proofs.Lawful.{lawful_of}
 use Rattle.kv_core.specs.Keeping.{KeepsData, is_managers}
 use Rattle.log_rules.specs.trim.Trims.{front_of_trim, trim_of}
 use Rattle.tree_model.specs.LogNames.{unnamed}
@@ -35,12 +32,13 @@ use Rattle.kv_core.proofs.Trims.{trims_keep_data}
 use Rattle.kv_manager.specs.Sights.{IsKept, IsLogged, KvSight, SaysDecided, are_ordered, has_records, logged}
 use Rattle.log_rules.specs.declared.order.seen.Promise.{Promise}
 use Rattle.log_rules.specs.order.Orders.{SeenLog, found}
-use Rattle.kv_core.specs.Replays.{Leaves, seen_of}
+use Rattle.kv_core.specs.Replays.{AreCounted, seen_of}
 use Rattle.manager_model.specs.Restarting.{marked_state}
 use Rattle.xa_tables.specs.declared.states.BranchState.TheVariants.{S0}
 use Rattle.kv_manager.proofs.Follows.{off_by}
 use Rattle.kv_manager.proofs.Fronts.{seen_where}
 use Rattle.kv_manager.proofs.Marks.{agrees_of, state_by}
+use Rattle.kv_manager.proofs.TrimCounts.{trim_counts}
 use Rattle.kv_manager.proofs.TrimOrder.{TrimFollows, trim_follows}
 use Rattle.kv_manager.proofs.Turns.{same_data}
 
@@ -91,13 +89,11 @@ of_data ls rs v count ps are counted is made =
     made ∙ (λ i. unnamed (Base ((counted ∙ are.count) i)) ∷ map (λ p. unnamed (pair_record p)) (is i))
     ∙ ap (λ ks. unnamed (Base (data_of ls).count) ∷ ks) (pairs_unnamed (data_of ls).pairs)
 
--- the keys of the data rise where records leave a manager
-pub rise_left : (ls : List LogRecord) (boot : Option ℕ) (left : List (Xid × Bool))
-    (versions : VersionTable) (writes : WriteTable)
-    (locks : LockTable) (decisions : DecisionTable) → Leaves ls boot left versions writes locks decisions
-    → keys_rise (data_of ls).pairs ≡ true
-rise_left ls boot left versions writes locks decisions leaves =
-    (lawful_of ls leaves.seen leaves.read).tied.rise
+-- the pairs of the versions are those of the data that the versions are, where the keys of both rise
+pub pairs_are_data : (v : VersionTable) (d : Data) (ps : List (List ℕ × List ℕ)) → AreData v d
+    → keys_rise d.pairs ≡ true → ArePairsOf v ps → ps ≡ d.pairs
+pairs_are_data v d ps are rise of =
+    same_pairs ps d.pairs of.rise rise (λ k. of.values k ∙ are.values k)
 
 records_behind : (s : KvSight) (log : LogState) (rs : List LogRecord) (n : ℕ)
     → AreOfData s rs → Trimmed s.log log rs n
@@ -142,6 +138,8 @@ pub kept_trimmed : (s : KvSight) (log : LogState) (rs : List LogRecord) (n : ℕ
 kept_trimmed s log rs n kept works sound of made = record {
   kind = made.log.kind ∙ kept.kind;
   ordered = ap are_ordered is ∙ ap is_some follows.read;
+  counted = subst AreCounted (sym is)
+      (trim_counts ls seen.0 (all_of_manager ls sound) stands.begun seen.1 kept.counted);
   stands = λ _. record {
     doubts = λ x. stands.doubts x ∙ by_mark x (is_open (mark_at ls x)) refl
         ∙ sym (ap (λ ks. marked_state (mark_at ks x)) is);
@@ -200,6 +198,15 @@ trimmed_ordered s kept works sound =
     let seen = seen_where ls kept.ordered in
     ap is_some (trim_follows ls seen.0 (all_of_manager ls sound) (kept.stands works).begun seen.1).read
 
+-- and its commits can be counted
+trimmed_counted : (s : KvSight) → IsKept s → s.log.sight.failed ≡ false
+    → AllByRecursion (IsSound Manager) (records_of s.log.sight.kept)
+    → AreCounted (trim_of (records_of s.log.sight.kept))
+trimmed_counted s kept works sound =
+    let ls = records_of s.log.sight.kept in
+    let seen = seen_where ls kept.ordered in
+    trim_counts ls seen.0 (all_of_manager ls sound) (kept.stands works).begun seen.1 kept.counted
+
 -- a log that was not trimmed leaves a manager that stands, or that has failed
 pub kept_untrimmed : (s : KvSight) (log : LogState) (rs : List LogRecord) (e : LogError) → IsKept s
     → s.log.sight.failed ≡ false → AllByRecursion (IsSound Manager) (records_of s.log.sight.kept)
@@ -213,6 +220,12 @@ kept_untrimmed s log rs Device kept works sound of kind broke = record {
     | inr trimmed ↦ (ap (λ (k : Kept). are_ordered (records_of k)) trimmed
         ∙ ap are_ordered (append-nil (rec_log.trim_of s.log rs))
         ∙ ap (λ ks. are_ordered (rec_log.trim_of s.log ks)) of ∙ trimmed_ordered s kept works sound)
+  ];
+  counted = elim broke.either [
+    | inl same ↦ subst (λ (k : Kept). AreCounted (records_of k)) (sym same) kept.counted
+    | inr trimmed ↦ subst AreCounted
+        (sym (ap (λ (k : Kept). records_of k) trimmed ∙ append-nil (rec_log.trim_of s.log rs)
+        ∙ ap (rec_log.trim_of s.log) of)) (trimmed_counted s kept works sound)
   ];
   stands = λ no_more. absurd (let never : true ≡ false = sym broke.failed ∙ no_more in cc);
 }

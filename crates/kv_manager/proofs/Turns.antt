@@ -1,5 +1,5 @@
 -- What a turn makes of the data and of the promises.
-use Rattle.std.proofs.Common.{◌≡◌, ◌≤◌, ◌+◌, ℕ, Bool, true, false, cond, List, [], ◌∷◌, ◌++◌, length, take, append_assoc, fold, map, Some, None, refl, sym, ap, subst, ◌∙◌, arith, rules, Option, ◌⊎◌, inl, inr}
+use Rattle.std.proofs.Common.{◌≡◌, ◌≤◌, ◌<◌, ◌+◌, ◌^◌, ℕ, Bool, true, false, cond, List, [], ◌∷◌, ◌++◌, length, take, append_assoc, fold, map, Some, None, refl, sym, ap, subst, ◌∙◌, arith, rules, Option, ◌⊎◌, inl, inr}
 use Rattle.std.proofs.lemmas.List.{append-nil}
 use Rattle.std.proofs.lemmas.List.Elements.{All-contains, All-from_recursion}
 use Rattle.std.specs.Prelude.{Contains, MatchBool}
@@ -48,6 +48,8 @@ use Rattle.xa_heur.specs.declared.decision.Decision.{Decision}
 use Rattle.xa_heur.specs.Decisions.{decided_as, decision_after, decision_of, first_told, told_behind, decided_in}
 use Rattle.xa_heur.specs.Cases.{DecisionTable, Notes, decision_in, decision_or}
 use Rattle.kv_core.specs.Decisions.{says_decided}
+use Rattle.kv_core.specs.Replays.{AreCounted}
+use Rattle.kv_core.proofs.Counting.{counted_next, counted_taken, counted_whole}
 use Rattle.kv_core.specs.Stores.{KeySight, is_decided, is_let_go, state_of}
 use Rattle.kv_core.specs.Ends.{IsDue, IsListed, IsTurn, LetsGo, OfCall, OfOperator, PublishesWrites, StagesWrites, TakesTurn, known_behind, known_of, wrote_some}
 use Rattle.kv_locks.specs.Locks.{Releases}
@@ -475,6 +477,37 @@ noted_count d HeurRollback x ws h = refl
 noted_count d (Told o) x ws h = refl
 noted_count d Forgot x ws h = refl
 
+pub applied_count : (d : Data) (e : Entry) (x : Xid) (ws : List Write) → applies e ≡ true
+    → (after_entry d e x ws).count ≡ d.count + 1
+applied_count d Prepared x ws h = absurd (cc)
+applied_count d Committed x ws h = refl
+applied_count d RolledBack x ws h = absurd (cc)
+applied_count d Direct x ws h = refl
+applied_count d HeurCommit x ws h = refl
+applied_count d HeurRollback x ws h = absurd (cc)
+applied_count d (Told o) x ws h = absurd (cc)
+applied_count d Forgot x ws h = absurd (cc)
+
+-- the commits can be counted behind a record of a branch, where one more can be of a record that commits
+pub record_counts : (s : KvSight) (e : Entry) (x : Xid) (ws : List Write) → IsKept s → s.log.sight.failed ≡ false
+    → (applies e ≡ true → s.store.versions.count + 1 < 2 ^ 63)
+    → AreCounted (records_of s.log.sight.kept ++ entry_record e x ws ∷ [])
+record_counts s e x ws kept works fits =
+    counted_next (records_of s.log.sight.kept) (entry_record e x ws) kept.counted
+    (subst (λ (d : Data). d.count < 2 ^ 63)
+    (sym (data_behind (records_of s.log.sight.kept) (entry_record e x ws)
+    ∙ ap (stored_after (logged s)) (entry_by_xid e x ws))) (by_test (applies e) refl))
+  where
+    by_test : (b : Bool) → applies e ≡ b → (after_entry (logged s) e x ws).count < 2 ^ 63
+    by_test true is =
+        let one = applied_count (logged s) e x ws is in
+        let count = (kept.stands works).are_data.count in
+        let room = fits is in
+        omega (arith, one, count, room)
+    by_test false is =
+        subst (λ n. n < 2 ^ 63) (sym (noted_count (logged s) e x ws is))
+        (counted_whole (records_of s.log.sight.kept) kept.counted)
+
 pub same_data : (v : VersionTable) (d d' : Data) → d'.count ≡ d.count → d'.pairs ≡ d.pairs
     → AreData v d → AreData v d'
 same_data v d d' count pairs are = record {
@@ -751,10 +784,14 @@ still_decided s s' x c turn e stands due is row notes made y here = by_test (sam
               ∙ decides_other (decided_in (records_of s.log.sight.kept) y) e x y ws t);
         }
 
--- the record of a branch may follow those of the log
+-- these records may follow those of the log, and the commits can be counted
+pub record AreFollowed (s : KvSight) (ls : List LogRecord) : Type 0 where
+  pub ordered : are_ordered (records_of s.log.sight.kept ++ ls) ≡ true
+  pub counted : AreCounted (records_of s.log.sight.kept ++ ls)
+
+-- the record of a branch may follow
 abbrev pub IsFollowed : KvSight → Entry → Xid → Type 0
-IsFollowed s e x =
-    are_ordered (records_of s.log.sight.kept ++ entry_record e x (writes_of s.store.writes x) ∷ []) ≡ true
+IsFollowed s e x = AreFollowed s (entry_record e x (writes_of s.store.writes x) ∷ [])
 
 pub kept_noted : (s s' : KvSight) (x : Xid) (c : Call) (turn : Turn) (e : Entry)
     → IsKept s → IsFollowed s e x → IsDueTurn s x c turn
@@ -762,7 +799,8 @@ pub kept_noted : (s s' : KvSight) (x : Xid) (c : Call) (turn : Turn) (e : Entry)
     → Writes s.log s'.log (entry_record e x (writes_of s.store.writes x)) turn.is_forced → IsKept s'
 kept_noted s s' x c turn e kept follows due is notes takes made = record {
   kind = made.kind ∙ kept.kind;
-  ordered = ap are_ordered (records_behind s s' e x ws turn.is_forced made) ∙ follows;
+  ordered = ap are_ordered (records_behind s s' e x ws turn.is_forced made) ∙ follows.ordered;
+  counted = subst AreCounted (sym (records_behind s s' e x ws turn.is_forced made)) follows.counted;
   stands = λ works. record {
     are_data = subst (AreData s'.store.versions) (sym behind)
         (same_data s'.store.versions (logged s) _ (noted_count (logged s) e x ws notes)
@@ -821,7 +859,8 @@ pub kept_committed : (s s' : KvSight) (x : Xid) (c : Call) (turn : Turn) (e : En
     → Writes s.log s'.log (entry_record e x (writes_of s.store.writes x)) turn.is_forced → IsKept s'
 kept_committed s s' x c turn e kept follows due is makes takes made = record {
   kind = made.kind ∙ kept.kind;
-  ordered = ap are_ordered (records_behind s s' e x ws turn.is_forced made) ∙ follows;
+  ordered = ap are_ordered (records_behind s s' e x ws turn.is_forced made) ∙ follows.ordered;
+  counted = subst AreCounted (sym (records_behind s s' e x ws turn.is_forced made)) follows.counted;
   stands = λ works. record {
     are_data = subst (AreData s'.store.versions) (sym committed) (applies_data s.store.versions
         s'.store.versions (logged s) ws stands.rise stands.are_data takes.versions);
@@ -858,10 +897,13 @@ kept_committed s s' x c turn e kept follows due is makes takes made = record {
 -- A device that fails leaves nothing to hold.
 
 pub kept_broken : (s s' : KvSight) (ls : List LogRecord) → IsKept s
-    → are_ordered (records_of s.log.sight.kept ++ ls) ≡ true → Breaks s.log s'.log ls → IsKept s'
+    → AreFollowed s ls → Breaks s.log s'.log ls → IsKept s'
 kept_broken s s' ls kept follows broke = record {
   kind = broke.kind ∙ kept.kind;
-  ordered = ap are_ordered broke.stand ∙ ordered_taken (records_of s.log.sight.kept) ls broke.appended follows;
+  ordered = ap are_ordered broke.stand
+      ∙ ordered_taken (records_of s.log.sight.kept) ls broke.appended follows.ordered;
+  counted = subst AreCounted (sym broke.stand)
+      (counted_taken (records_of s.log.sight.kept) ls broke.appended follows.counted);
   stands = λ works. absurd (let never : true ≡ false = sym broke.failed ∙ works in cc);
 }
 

@@ -9,14 +9,10 @@ use Rattle.kv_locks.specs.Locks.{holders_of}
 use Rattle.kv_store.specs.writes.Writes.{writes_of}
 use Rattle.kv_core.specs.Stores.{has_numbers}
 use Rattle.kv_core.specs.Ends.{known_of}
-use Rattle.manager_model.specs.declared.errors.RestartError.{RestartError as SeenError}
-use Rattle.manager_model.specs.declared.errors.RestartError.TheVariants as seen
 use Rattle.manager_model.specs.declared.errors.TrimError.{TrimError}
 use Rattle.manager_model.specs.declared.errors.TrimError.TheVariants as trims
 use Rattle.rec_log.specs.declared.log.LogError.{LogError}
 use Rattle.rec_log.specs.declared.log.LogError.TheVariants as log
-use Rattle.kv_manager.specs.declared.restart.RestartError.{RestartError}
-use Rattle.kv_manager.specs.declared.restart.RestartError.TheVariants.{Device, Exhausted, Memory, Unfit}
 use Rattle.kv_manager.specs.Sights.{KvSight}
 
 -- a limit of its own is met where no commit more can be counted
@@ -31,17 +27,10 @@ sight_of s = record {
   decided = λ x. known_of s.store x;
 }
 
--- why it did not restart: where its records leave no manager, nothing changed, as for want of memory
-abbrev pub seen_fault : RestartError → SeenError
-seen_fault Device = seen.Device
-seen_fault Memory = seen.Memory
-seen_fault Unfit = seen.Memory
-seen_fault Exhausted = seen.Memory
-
 -- why a turn of an operator's decision was not taken: the device failed, or no commit more can be counted
 abbrev pub IsRefusal : Code → DecideError → Type 0
 IsRefusal answer decides.Device = answer ≡ code.RmFail
-IsRefusal answer decides.Memory = answer ≡ code.RmErr
+IsRefusal answer decides.Exhausted = answer ≡ code.RmErr
 IsRefusal answer _ = ⊥
 
 -- why its log was not trimmed, where it was not written

@@ -17,17 +17,26 @@ use Rattle.kv_core.specs.declared.fault.ReplayError.TheVariants as replays
 use Rattle.kv_core.specs.Folds.{AreData}
 use Rattle.tree_model.specs.Store.{data_of}
 use Rattle.kv_core.specs.Decisions.{KnowDecided}
-use Rattle.kv_core.specs.Replays.{AreMalformed, CountTooFar, HoldPromises, seen_of}
+use Rattle.kv_core.specs.Replays.{AreCounted, AreMalformed, CountTooFar, HoldPromises, seen_of}
 use Rattle.kv_core.specs.Stores.{KeySight}
-use Rattle.kv_manager.specs.declared.restart.RestartError.{RestartError}
-use Rattle.kv_manager.specs.declared.restart.RestartError.TheVariants.{Device, Exhausted, Memory, Unfit}
+use Rattle.manager_model.specs.declared.errors.RestartError.{RestartError}
+use Rattle.manager_model.specs.declared.errors.RestartError.TheVariants as restarts
+use Rattle.kv_manager.specs.declared.restart.RecordsError.{RecordsError}
+use Rattle.kv_manager.specs.declared.restart.RecordsError.TheVariants.{Device, Exhausted, Memory, Unfit}
 use Rattle.kv_manager.specs.declared.restart.Ready.{Ready}
 use Rattle.kv_manager.specs.declared.manager.RestoreError.{RestoreError}
 use Rattle.kv_manager.specs.declared.manager.RestoreError.TheVariants.{Log, Records}
 use Rattle.kv_manager.specs.Sights.{KvSight, SameManager}
 
+-- the number of why no manager stands over records
+abbrev pub records_number : RecordsError → ℕ
+records_number Memory = 1
+records_number Device = 2
+records_number Unfit = 3
+records_number Exhausted = 4
+
 -- why records leave no manager
-abbrev pub error_of : ReplayError → RestartError
+abbrev pub error_of : ReplayError → RecordsError
 error_of replays.Memory = Memory
 error_of replays.Malformed = Unfit
 error_of replays.Exhausted = Exhausted
@@ -43,12 +52,14 @@ opened b = record { entry = Opened b; parent = None }
 
 -- what the records of a log leave: a manager that is not open, with the branches in doubt in the order of
 -- their promises, the data that the records make, of the branches that are prepared their writes and their
--- locks, and what operators decided; and the next boot
+-- locks, and what operators decided; and the next boot; the data of each front of the records count fewer than
+-- 2^63 commits
 pub record LeavesStore (ls : List LogRecord) (s : KeySight) (boot : ℕ) : Type 0 where
   pub seen : SeenLog
   pub read : seen_of ls ≡ Some seen
   pub tables : Restored (in_doubt_by seen) s.tables
   pub stored : AreData s.versions (data_of ls)
+  pub counted : AreCounted ls
   pub promises : (x : Xid) → writes_of s.writes x ≡ promised seen x
   pub locks_held : HoldPromises seen s.locks
   pub decided : KnowDecided ls s.decisions
@@ -68,14 +79,14 @@ pub record AreLastBoots (ls : List LogRecord) : Type 0 where
   pub spent : next_boot seen.boot ≡ None
 
 -- why what replayed makes no store
-abbrev pub NotStored : List (Xid × Bool) → RestartError → Type 0
+abbrev pub NotStored : List (Xid × Bool) → RecordsError → Type 0
 NotStored left Memory = ⊤
 NotStored left Device = ⊥
 NotStored left Unfit = (refusal : Code) × (restore_refusal left ≡ Some refusal)
 NotStored left Exhausted = ⊥
 
 -- why records leave no manager; want of memory may come at any time
-abbrev pub NotRebuilt : List LogRecord → RestartError → Type 0
+abbrev pub NotRebuilt : List LogRecord → RecordsError → Type 0
 NotRebuilt ls Memory = ⊤
 NotRebuilt ls Device = ⊥
 NotRebuilt ls Unfit = AreMalformed ls ⊎ AreTooMany ls
@@ -98,11 +109,17 @@ pub record Restarted (old new : KvSight) (keep : ℕ) (given : List Xid) : Type 
   pub log : Restarts old.log new.log keep (opened new.boot ∷ [])
   pub gives : given ≡ in_doubt new.store.tables.branches.branches
 
+-- why a manager is not made ready to restart where its own records are left, which are never refused
+abbrev pub NotReady : List LogRecord → RestartError → Type 0
+NotReady ls restarts.Memory = ⊤
+NotReady ls restarts.Device = ⊥
+NotReady ls restarts.Exhausted = AreLastBoots ls
+
 -- a log did not restart: nothing changed, or the device failed
 abbrev pub FailsToRestart : LogState → LogState → ℕ → LogRecord → RestartError → Type 0
-FailsToRestart old new keep l Memory = new.sight ≡ old.sight
-FailsToRestart old new keep l Device = RestartBreaks old new keep (l ∷ [])
-FailsToRestart old new keep l e = ⊥
+FailsToRestart old new keep l restarts.Memory = new.sight ≡ old.sight
+FailsToRestart old new keep l restarts.Device = RestartBreaks old new keep (l ∷ [])
+FailsToRestart old new keep l restarts.Exhausted = ⊥
 
 -- this boot comes behind the last one of these records
 pub record ComesNext (ls : List LogRecord) (boot : ℕ) : Type 0 where
@@ -119,10 +136,12 @@ pub record RestartFails (old new : KvSight) (keep : ℕ) : Type 0 where
   pub store : new.store ≡ old.store
   pub boot : new.boot ≡ old.boot
 
--- a manager did not restart: nothing changed, or the device failed, and the manager has failed
+-- a manager did not restart: nothing changed, also where no boot comes behind the last one; or the device failed,
+-- and the manager has failed
 abbrev pub NotRestarted : KvSight → KvSight → ℕ → RestartError → Type 0
-NotRestarted old new keep Device = RestartFails old new keep
-NotRestarted old new keep e = NotRebuilt (left_by old.log.sight keep) e × SameManager old new
+NotRestarted old new keep restarts.Memory = SameManager old new
+NotRestarted old new keep restarts.Device = RestartFails old new keep
+NotRestarted old new keep restarts.Exhausted = AreLastBoots (left_by old.log.sight keep) × SameManager old new
 
 -- Restoring from a store.
 
@@ -143,20 +162,20 @@ pub record RestoredFrom (bytes : List ℕ) (forced failures : ℕ) (s : KvSight)
   pub starts : StartsOver log s
 
 -- the record of a boot was not written: nothing changed, or the device failed under it
-abbrev pub NotBegun : LogState → LogState → ℕ → RestartError → Type 0
+abbrev pub NotBegun : LogState → LogState → ℕ → RecordsError → Type 0
 NotBegun old new boot Memory = new.sight ≡ old.sight
 NotBegun old new boot Device = Breaks old new (opened boot ∷ [])
 NotBegun old new boot e = ⊥
 
 -- the log was opened, and its records leave no manager; or the device failed under the record of the boot
-abbrev pub LeavesNone : LogState → LogState → RestartError → Type 0
+abbrev pub LeavesNone : LogState → LogState → RecordsError → Type 0
 LeavesNone old new Device = (boot : ℕ) × ComesNext (records_of old.sight.kept) boot
     × Breaks old new (opened boot ∷ [])
 LeavesNone old new e = NotRebuilt (records_of old.sight.kept) e × (new.sight ≡ old.sight)
 
 -- a store whose log was opened is handed back
 pub record HandsBack {S : Type 0} (bytes : S → List ℕ) (forced failures : S → ℕ) (old new : S)
-    (e : RestartError) : Type 0 where
+    (e : RecordsError) : Type 0 where
   pub opened_as : LogState
   pub opens : Opens Manager (bytes old) (forced old) (failures old) opened_as
   pub left_as : LogState

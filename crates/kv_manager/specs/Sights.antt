@@ -20,7 +20,7 @@ use Rattle.xa_heur.specs.Cases.{SameDecisions}
 use Rattle.tree_model.specs.declared.records.LogRecord.{LogRecord}
 use Rattle.kv_core.specs.Stores.{KeySight, state_of}
 use Rattle.kv_core.specs.Ends.{known_of}
-use Rattle.kv_core.specs.Replays.{seen_of}
+use Rattle.kv_core.specs.Replays.{AreCounted, seen_of}
 use Rattle.manager_model.specs.Restarting.{marked_state}
 
 -- what a contract sees: the key store, its log, and how often it opened
@@ -68,11 +68,12 @@ pub record IsLogged (s : KvSight) : Type 0 where
   pub doubts : (x : Xid) → doubt_of (state_of s.store x) ≡ marked_state (mark_at (records_of s.log.sight.kept) x)
   pub begun : has_records (records_of s.log.sight.kept) ≡ true
 
--- what a manager keeps: the log is a manager's, its records may follow one another, and while it has not failed
--- the data are those of its records
+-- what a manager keeps: the log is a manager's, its records may follow one another, the data of each front of them
+-- count fewer than 2^63 commits, and while it has not failed the data are those of its records
 pub record IsKept (s : KvSight) : Type 0 where
   pub kind : s.log.kind ≡ Manager
   pub ordered : are_ordered (records_of s.log.sight.kept) ≡ true
+  pub counted : AreCounted (records_of s.log.sight.kept)
   pub stands : s.log.sight.failed ≡ false → IsLogged s
 
 -- nothing changes but room; what each key was behind each commit stays

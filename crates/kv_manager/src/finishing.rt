@@ -35,7 +35,7 @@ fn decided(answer: Code) -> Result<(), DecideError>
 {
     match answer {
         Code::RmFail => Err(DecideError::Device),
-        Code::RmErr => Err(DecideError::Memory),
+        Code::RmErr => Err(DecideError::Exhausted),
         _ => Ok(()),
     }
 }
@@ -197,7 +197,7 @@ impl<L: LogStore> KvManager<L> {
 
     /// An operator decides a prepared branch, without its parent: the decision is forced, and stands until
     /// it is forgotten. The manager need not be open. Failed, then NotInDoubt: nothing changed. Memory:
-    /// nothing changed, also where no commit more can be counted. Device: it fails now.
+    /// nothing changed. Exhausted: 2^63 - 1 commits are counted; nothing changed. Device: it fails now.
     pub fn decide(&mut self, xid: &Xid, outcome: Outcome) -> Result<(), DecideError>
         ensures ok { OnOk result (Decides (sight_of self.old) (sight_of self.new) xid.now outcome) }
         ensures turn { OnOk result (Makes self.old self.new xid.now (decide_turn outcome)) }

@@ -10,4 +10,4 @@ mod restart;
 mod trimming;
 
 pub use manager::{KvManager, RestoreError};
-pub use restart::{RestartError, rebuilt};
+pub use restart::{RecordsError, rebuilt};

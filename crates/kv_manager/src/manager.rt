@@ -5,6 +5,7 @@ ghost use Rattle.key_tables.specs.declared.holders.Mode.TheVariants as mode;
 ghost use Rattle.kv_core.specs.Stores.{MovesTables, state_of};
 ghost use Rattle.kv_core.specs.Works.{Reads, Writes, work_refusal};
 ghost use Rattle.kv_core.specs.Ends.{known_of};
+ghost use Rattle.xa_branch.specs.Branches.{AreListedOnce};
 ghost use Rattle.xa_heur.specs.Decisions.{decision_at};
 ghost use Rattle.xa_assoc.specs.Answers.{Answers, Closes, Opens, Recovers, Wanted, map_ok};
 ghost use Rattle.xa_assoc.specs.Ready.{is_work_verb, leaves};
@@ -14,14 +15,15 @@ ghost use Rattle.kv_manager.specs.Sights.{SameManager, are_ordered};
 ghost use Rattle.manager_model.specs.Opening.{IsNew};
 ghost use Rattle.std.specs.List.{AllByRecursion};
 ghost use Rattle.log_rules.specs.sound.Sound.{IsSound};
-ghost use Rattle.rec_log.specs.Sights.{ReadsAs, left_by, records_of, whole_within};
+ghost use Rattle.rec_log.specs.Sights.{ReadsAs, left_by, log_state, records_of, whole_within};
 ghost use Rattle.tree_model.specs.declared.names.Kind.TheVariants as kind;
-ghost use Rattle.kv_manager.specs.Restarts.{IsReady, LeavesNone, NotRestarted, NotRestored, Restarted, RestoredFrom, StartsOver};
+ghost use Rattle.kv_manager.specs.Restarts.{IsReady, LeavesNone, NotReady, NotRestarted, NotRestored, Restarted, RestoredFrom, StartsOver};
 ghost use Rattle.kv_manager.specs.Turns.{Calls, Refuses};
 
-use crate::restart::{Ready, RestartError, ready_for, restart_log, started};
+use crate::restart::{Ready, RecordsError, ready_for, restart_log, started};
 use kv_core::KeyStore;
 use log_store::{LogStore, MemoryStore};
+use manager_model::RestartError;
 use rec_log::{OpenError, RecLog};
 use std::alloc::{AllocError, Global};
 use std::marker::Model;
@@ -42,7 +44,7 @@ pub enum RestoreError {
     Log(OpenError),
     /// The log's records leave no manager, or the record of the boot could not be written.
     #[error("the log leaves no manager: {0}")]
-    Records(RestartError),
+    Records(RecordsError),
 }
 
 /// A key store with a log, as an XA manager.
@@ -102,6 +104,13 @@ impl<L: LogStore> KvManager<L> {
         ensures { AllByRecursion (IsSound kind.Manager) (records_of self.now.log.sight.kept) }
     {
         self.log.records_are_sound();
+    }
+
+    /// Each branch that it knows is listed once, and none that is in S0.
+    pub fn branches_are_listed_once(&self)
+        ensures { AreListedOnce self.now.store.tables.branches.branches }
+    {
+        self.store.branches_are_listed_once();
     }
 
     /// The records of its log may follow one another, also where its device has failed.
@@ -281,6 +290,23 @@ impl<L: LogStore> KvManager<L> {
         self.work_call(Verb::End, thread, xid, flags)
     }
 
+    /// What the manager restarts as behind a crash that keeps so many of the log's unforced bytes. Memory.
+    /// Exhausted: no boot comes behind the last one.
+    fn ready(&self, keep: usize) -> Result<Ready, RestartError>
+        ensures ok { IfOk result (IsReady (left_by self.now.log.sight keep)) }
+        ensures err { IfErr result (NotReady (left_by self.now.log.sight keep)) }
+    {
+        self.records_are_sound();
+        let records = self.log.kept(keep, self.alloc)?;
+        match ready_for(records, self.alloc) {
+            Ok(ready) => Ok(ready),
+            Err(RecordsError::Memory) => Err(RestartError::Memory),
+            Err(RecordsError::Exhausted) => Err(RestartError::Exhausted),
+            Err(RecordsError::Device) => unreachable!(),
+            Err(RecordsError::Unfit) => unreachable!(),
+        }
+    }
+
     /// What was made ready takes the manager's place, behind the log's restart. What stood before is left in
     /// its stead.
     fn reopen(&mut self, keep: usize, ready: &mut Ready) -> Result<(), RestartError>
@@ -297,13 +323,13 @@ impl<L: LogStore> KvManager<L> {
 
     /// Restarts the manager behind a crash that keeps so many of the log's unforced bytes: it stands as the
     /// records that are left say, not open, and gives the branches in doubt, in the order of their promises.
-    /// Memory, Unfit, Exhausted: nothing changed. Device: the manager has failed until it is restarted.
+    /// Its own records are never refused. Memory: nothing changed. Exhausted: no boot below 2^63 comes behind
+    /// the last one; nothing changed. Device: the manager has failed until it is restarted.
     pub fn restart(&mut self, keep: usize) -> Result<Vec<Xid>, RestartError>
         ensures ok { IfOk result (λ given. Restarted self.old self.new keep given.items) }
         ensures err { IfErr result (NotRestarted self.old self.new keep) }
     {
-        let records = self.log.kept(keep, self.alloc)?;
-        let mut ready = ready_for(records, self.alloc)?;
+        let mut ready = self.ready(keep)?;
         let reopened = self.reopen(keep, &mut ready);
         let in_doubt = ready.into_in_doubt();
         match reopened {
@@ -314,7 +340,7 @@ impl<L: LogStore> KvManager<L> {
 
     /// A manager over a log that was opened. Device: its record of the boot could not be written. With an
     /// error the log is handed back.
-    fn over(mut log: RecLog<L>, alloc: Global) -> Result<Self, (RestartError, RecLog<L>)>
+    fn over(mut log: RecLog<L>, alloc: Global) -> Result<Self, (RecordsError, RecLog<L>)>
         requires works { log.sight.failed ≡ false }
         requires kind { log.kind ≡ kind.Manager }
         ensures ok { IfOk result (StartsOver log) }
@@ -342,6 +368,16 @@ impl<L: LogStore + Drop> KvManager<L> {
         ensures err { IfErr result (λ e. NotRestored L.bytes L.forced L.failures store e.1 e.0) }
     {
         KvManager::restore(store, alloc)
+    }
+
+    /// The store under its log, as it stands.
+    pub fn into_store(self) -> L
+        ensures { (log_state kind.Manager (L.bytes result) (L.forced result) (L.failures result)
+            (L.room result) self.log.sight.failed).sight ≡ self.log.sight }
+    {
+        let KvManager { store, log, .. } = self;
+        drop(store);
+        log.into_store()
     }
 
     /// A manager over the log in a store, which is not open: it stands as the log's records say, and the

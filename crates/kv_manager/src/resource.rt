@@ -1,10 +1,6 @@
 //! A key store with a log, as a resource manager that a process drives.
 
-ghost use Rattle.std.specs.Prelude.{◌≡◌};
-ghost use Rattle.kv_manager.specs.Resources.{seen_fault};
-
 use crate::manager::KvManager;
-use crate::restart::RestartError as RestartFault;
 use log_store::LogStore;
 use manager_model::{DecideError, ResourceManager, RestartError, TrimError};
 use std::alloc::AllocError;
@@ -14,17 +10,6 @@ use xa_codes::{Code, Flags};
 use xa_heur::Decision;
 use xa_tables::BranchState;
 use xa_xid::Xid;
-
-/// Why a manager did not restart, as a process sees it that drives it.
-fn seen_fault(fault: RestartFault) -> RestartError
-    ensures { result ≡ seen_fault fault }
-{
-    match fault {
-        RestartFault::Device => RestartError::Device,
-        RestartFault::Memory | RestartFault::Unfit | RestartFault::Exhausted =>
-            RestartError::Memory,
-    }
-}
 
 impl<L: LogStore> ResourceManager for KvManager<L> {
     ghost use Rattle.kv_manager.specs.Resources.{sight_of};
@@ -111,11 +96,13 @@ impl<L: LogStore> ResourceManager for KvManager<L> {
         KvManager::records_are_sound(self);
     }
 
+    fn branches_are_listed_once(&self) {
+        KvManager::branches_are_listed_once(self);
+    }
+
     fn restart(&mut self, keep: usize) -> Result<(), RestartError> {
-        match KvManager::restart(self, keep) {
-            Ok(_) => Ok(()),
-            Err(fault) => Err(seen_fault(fault)),
-        }
+        let _in_doubt = KvManager::restart(self, keep)?;
+        Ok(())
     }
 
     fn trim(&mut self) -> Result<usize, TrimError> {

@@ -9,12 +9,13 @@ ghost use Rattle.tree_model.specs.declared.names.Kind.TheVariants as kind;
 ghost use Rattle.log_text.specs.Made.{frame_record};
 ghost use Rattle.core_log.specs.Writes.{Writes};
 ghost use Rattle.rec_log.specs.Sights.{IsRecord, Restarts};
-ghost use Rattle.kv_manager.specs.Restarts.{FailsToRestart, IsReady, LeavesNone, LeavesStore, NotBegun, NotRebuilt, NotStored, StartsOver, error_of, next_boot, opened};
+ghost use Rattle.kv_manager.specs.Restarts.{FailsToRestart, IsReady, LeavesNone, LeavesStore, NotBegun, NotRebuilt, NotStored, StartsOver, error_of, next_boot, opened, records_number};
 
 use core_log::write;
 use kv_core::{KeyStore, ReplayError, Replayed, replay};
 use log_store::LogStore;
 use log_text::Frame;
+use manager_model::RestartError;
 use rec_log::{LogError, RecLog};
 use std::alloc::{AllocError, Global};
 use std::slice;
@@ -22,13 +23,13 @@ use thiserror::Error;
 use tree_model::{LogRecord, Record};
 use xa_xid::Xid;
 
-/// Why a manager did not restart.
+/// Why no manager stands over the records of a log that was opened.
 #[derive(Clone, Copy, Debug, PartialEq, Eq, Error)]
-pub enum RestartError {
+pub enum RecordsError {
     /// There was no memory; nothing changed.
     #[error("no memory")]
     Memory,
-    /// The device failed; the manager has failed until a restart.
+    /// The device failed under the record of the boot.
     #[error("the device failed")]
     Device,
     /// The records of the log are those of no key store: a record may not follow those before it, a branch
@@ -40,24 +41,38 @@ pub enum RestartError {
     Exhausted,
 }
 
-impl From<AllocError> for RestartError {
-    ghost use Rattle.kv_manager.specs.declared.restart.RestartError.TheVariants as error;
+impl RecordsError {
+    /// Its number: Memory 1, Device 2, Unfit 3, Exhausted 4.
+    pub fn number(self) -> u8
+        ensures { result ≡ records_number self }
+    {
+        match self {
+            RecordsError::Memory => 1,
+            RecordsError::Device => 2,
+            RecordsError::Unfit => 3,
+            RecordsError::Exhausted => 4,
+        }
+    }
+}
+
+impl From<AllocError> for RecordsError {
+    ghost use Rattle.kv_manager.specs.declared.restart.RecordsError.TheVariants as error;
 
     ghost from_gives = { λ e r. r ≡ error.Memory };
 
-    fn from(_error: AllocError) -> RestartError {
-        RestartError::Memory
+    fn from(_error: AllocError) -> RecordsError {
+        RecordsError::Memory
     }
 }
 
 /// The same, for what replays.
-fn replay_error(error: ReplayError) -> RestartError
+fn replay_error(error: ReplayError) -> RecordsError
     ensures { result ≡ error_of error }
 {
     match error {
-        ReplayError::Memory => RestartError::Memory,
-        ReplayError::Malformed => RestartError::Unfit,
-        ReplayError::Exhausted => RestartError::Exhausted,
+        ReplayError::Memory => RecordsError::Memory,
+        ReplayError::Malformed => RecordsError::Unfit,
+        ReplayError::Exhausted => RecordsError::Exhausted,
     }
 }
 
@@ -77,7 +92,7 @@ const BOOTS: u64 = 0x7fff_ffff_ffff_ffff;
 
 /// The key store of what replayed. Memory: there was none. Unfit: more branches are in doubt than it holds,
 /// or one of them twice.
-fn stored(replayed: Replayed, alloc: Global) -> Result<KeyStore, RestartError>
+fn stored(replayed: Replayed, alloc: Global) -> Result<KeyStore, RecordsError>
     requires { (t : AnyStates) → Restored replayed.left.items t
         → IsTidy (record {
           tables = t;
@@ -100,15 +115,15 @@ fn stored(replayed: Replayed, alloc: Global) -> Result<KeyStore, RestartError>
     } = replayed;
     match KeyStore::restored(alloc, left.as_slice(), writes, locks, data, decisions) {
         Ok(Ok(store)) => Ok(store),
-        Ok(Err(_)) => Err(RestartError::Unfit),
-        Err(_) => Err(RestartError::Memory),
+        Ok(Err(_)) => Err(RecordsError::Unfit),
+        Err(_) => Err(RecordsError::Memory),
     }
 }
 
 /// What the records of a log leave of a key store, and the boot behind them. Memory: there was none. Unfit:
 /// they are not the records of a key store. Exhausted: the boots or the commits count 2^63. With an error the
 /// records are gone.
-pub fn rebuilt(records: Vec<LogRecord>, alloc: Global) -> Result<(KeyStore, u64), RestartError>
+pub fn rebuilt(records: Vec<LogRecord>, alloc: Global) -> Result<(KeyStore, u64), RecordsError>
     ensures ok { IfOk result (λ made. LeavesStore records.items made.0 made.1) }
     ensures err { IfErr result (NotRebuilt records.items) }
 {
@@ -118,7 +133,7 @@ pub fn rebuilt(records: Vec<LogRecord>, alloc: Global) -> Result<(KeyStore, u64)
     };
     let Some(boot) = next_boot(replayed.boot) else {
         drop(replayed);
-        return Err(RestartError::Exhausted);
+        return Err(RecordsError::Exhausted);
     };
     match stored(replayed, alloc) {
         Ok(store) => Ok((store, boot)),
@@ -178,7 +193,7 @@ fn announced(store: &KeyStore, boot: u64, alloc: Global) -> Result<(Vec<Xid>, Fr
 }
 
 /// What a manager restarts as where these records are left. The errors are those of `rebuilt`.
-pub(crate) fn ready_for(records: Vec<LogRecord>, alloc: Global) -> Result<Ready, RestartError>
+pub(crate) fn ready_for(records: Vec<LogRecord>, alloc: Global) -> Result<Ready, RecordsError>
     ensures ok { IfOk result (IsReady records.items) }
     ensures err { IfErr result (NotRebuilt records.items) }
 {
@@ -192,7 +207,7 @@ pub(crate) fn ready_for(records: Vec<LogRecord>, alloc: Global) -> Result<Ready,
         }),
         Err(_) => {
             drop(store);
-            Err(RestartError::Memory)
+            Err(RecordsError::Memory)
         }
     }
 }
@@ -221,7 +236,7 @@ fn write_boot<L: LogStore>(
     log: &mut RecLog<L>,
     boot: u64,
     alloc: Global,
-) -> Result<(), RestartError>
+) -> Result<(), RecordsError>
     requires fits { boot < 2 ^ 63 }
     requires works { log.old.sight.failed ≡ false }
     requires kind { log.old.kind ≡ kind.Manager }
@@ -233,7 +248,7 @@ fn write_boot<L: LogStore>(
     log.reserve(opened.bytes().len())?;
     match write(log, &opened, true) {
         Ok(()) => Ok(()),
-        Err(_) => Err(RestartError::Device),
+        Err(_) => Err(RecordsError::Device),
     }
 }
 
@@ -242,7 +257,7 @@ fn write_boot<L: LogStore>(
 pub(crate) fn started<L: LogStore>(
     log: &mut RecLog<L>,
     alloc: Global,
-) -> Result<(KeyStore, u64), RestartError>
+) -> Result<(KeyStore, u64), RecordsError>
     requires works { log.old.sight.failed ≡ false }
     requires kind { log.old.kind ≡ kind.Manager }
     ensures ok { IfOk result (λ made. StartsOver log.old

@@ -1,6 +1,6 @@
 //! A manager's trim.
 
-ghost use Rattle.std.specs.Prelude.{◌≡◌, IfErr, IfOk, map};
+ghost use Rattle.std.specs.Prelude.{◌≡◌, IfErr, IfOk, false, map};
 ghost use Rattle.tree_model.specs.declared.names.Kind.TheVariants as kind;
 ghost use Rattle.tree_model.specs.Store.{base_records, data_of};
 ghost use Rattle.log_text.specs.Made.{frame_record};
@@ -10,7 +10,7 @@ ghost use Rattle.kv_manager.specs.Resources.{sight_of, trim_error};
 ghost use Rattle.manager_model.specs.Trimming.{NotTrimmed, Trims};
 
 use crate::manager::KvManager;
-use kv_core::{base_frames, pairs_of, replay};
+use kv_core::base_frames;
 use log_store::LogStore;
 use log_text::Frame;
 use manager_model::TrimError;
@@ -28,25 +28,23 @@ fn trim_error(error: LogError) -> TrimError
 }
 
 impl<L: LogStore> KvManager<L> {
-    /// The frames of the data that the log's records make, keys rising. It also gives none where the records
-    /// leave no manager.
+    /// The frames of the data that the log's records make, keys rising. They are the key store's own: the log
+    /// is not read.
     fn data_frames(&self) -> Result<Vec<Frame>, AllocError>
+        requires { self.now.log.sight.failed ≡ false }
         ensures frames { IfOk result (λ frames. map frame_record frames.items
             ≡ map unnamed (base_records (data_of (records_of self.now.log.sight.kept)))) }
         ensures sound { IfOk result (λ frames. AreRecords kind.Manager (map frame_record frames.items)) }
     {
-        let records = self.records()?;
-        let Ok(replayed) = replay(self.records()?, self.alloc) else {
-            return Err(AllocError);
-        };
-        let pairs = pairs_of(&records, &replayed.data, self.alloc)?;
-        base_frames(replayed.data.count(), &pairs, self.alloc)
+        self.records_are_sound();
+        let pairs = self.store.pairs()?;
+        base_frames(self.store.count(), &pairs, self.alloc)
     }
 
     /// Trims its log: the last Opened and the records of the branches that are not forgotten stay, and
-    /// behind them the data, keys rising, forced by one write. Gives how many records remain. Failed,
-    /// Memory: nothing changed. Device: the log stands as it was or trimmed, and the manager has failed
-    /// until a restart.
+    /// behind them the data, keys rising, forced by one write. Gives how many records remain. Its own
+    /// records are never refused. Failed, Memory: nothing changed. Device: the log stands as it was or
+    /// trimmed, and the manager has failed until a restart.
     pub fn trim(&mut self) -> Result<usize, TrimError>
         ensures ok { IfOk result (Trims (sight_of self.old) (sight_of self.new)) }
         ensures err { IfErr result (NotTrimmed (sight_of self.old) (sight_of self.new)) }

@@ -3,3 +3,6 @@ pub mod Tables
 pub mod Stages
 pub mod Order
 pub mod Pairs
+pub mod Ordered
+pub mod Sorted
+pub mod Set

@@ -1,10 +1,11 @@
 -- The data as pairs of a key and its value, keys rising.
-use Rattle.std.specs.Prelude.{◌≡◌, ℕ, Bool, true, ◌&&◌, Option, List, [], ◌∷◌}
+use Rattle.std.specs.Prelude.{◌≡◌, ℕ, Bool, true, false, ◌&&◌, if◌then◌else◌, Option, Some, None, List, [], ◌∷◌, ◌++◌, map}
+use Rattle.std.specs.List.{list_any}
 use Rattle.std.specs.Map.{lookup}
 use Rattle.tree_model.specs.declared.records.Write.{Write}
 use Rattle.tree_model.specs.Records.{same_bytes}
 use Rattle.tree_model.specs.Store.{applied, key_below}
-use Rattle.kv_store.specs.Versions.{written}
+use Rattle.kv_store.specs.Versions.{VersionTable, pair_write, value_at, written}
 
 -- the value of a key
 abbrev pub found_in : List (List ℕ × List ℕ) → List ℕ → Option (List ℕ)
@@ -29,3 +30,34 @@ pub record WritesPairs (ps : List (List ℕ × List ℕ)) (ws : List Write) : Ty
 abbrev pub ArePairsOfValues : Type 0
 ArePairsOfValues = (ps qs : List (List ℕ × List ℕ)) → keys_rise ps ≡ true → keys_rise qs ≡ true
     → ((k : List ℕ) → found_in ps k ≡ found_in qs k) → ps ≡ qs
+
+-- the pairs are these data: their keys rise, and each key has its value
+pub record ArePairsOf (s : VersionTable) (ps : List (List ℕ × List ℕ)) : Type 0 where
+  pub rise : keys_rise ps ≡ true
+  pub values : (k : List ℕ) → found_in ps k ≡ value_at s s.count k
+
+-- the data are what these pairs set, the last pair of a key counting, behind so many commits, of which none is known
+pub record AreSet (s : VersionTable) (n : ℕ) (ps : List (List ℕ × List ℕ)) : Type 0 where
+  pub base : s.base ≡ n
+  pub count : s.count ≡ n
+  pub unstaged : s.is_staged ≡ false
+  pub values : (k : List ℕ) → value_at s s.count k ≡ written (map pair_write ps) k None
+
+-- each key that has a value is one of these
+abbrev pub AreKeysOf : VersionTable → List (List ℕ) → Type 0
+AreKeysOf s ks = (k : List ℕ) → list_any (same_bytes k) ks ≡ false → value_at s s.count k ≡ None
+
+-- the key is the first of these
+abbrev pub is_next : List ℕ → List (List ℕ) → Bool
+is_next k [] = false
+is_next k (l ∷ ls) = same_bytes l k
+
+-- the pair of a key with its value, where it has one
+abbrev pub pair_if : List ℕ → Option (List ℕ) → List (List ℕ × List ℕ)
+pair_if k None = []
+pair_if k (Some v) = (k, v) ∷ []
+
+-- the pairs of these keys that have a value; of a key that stands beside itself one
+unfoldable pub pairs_at : VersionTable → List (List ℕ) → List (List ℕ × List ℕ)
+pairs_at s [] = []
+pairs_at s (k ∷ ks) = (if is_next k ks then [] else pair_if k (value_at s s.count k)) ++ pairs_at s ks

@@ -9,9 +9,12 @@
 //! set        a key of the base, as a log has it behind a trim; no commit is counted
 //! read       what a key is
 //! read_at    what it was behind so many commits, found by halving
+//! pairs      each key and what it is, keys rising
+//! from_pairs the data of such pairs
 //! ```
 #![tactic(auto)]
 
+mod data_pairs;
 pub mod law;
 mod version;
 mod versions;

@@ -2,6 +2,7 @@
 
 ghost use Rattle.std.specs.Prelude.{◌≡◌, ◌≤◌, ◌<◌, ◌+◌, ◌^◌, ◌⊎◌, ◌++◌, ◌∷◌, ℕ, List, [], true, false, IfOk, OnOk, OnErr, None, option_map};
 ghost use Rattle.key_tables.specs.Tables.{SameLists, list_at, table_of};
+ghost use Rattle.kv_store.specs.Pairs.{ArePairsOf, AreSet, keys_rise};
 ghost use Rattle.kv_store.specs.Versions.{
   Adds,
   AddsFront,
@@ -18,12 +19,13 @@ ghost use Rattle.kv_store.specs.Versions.{
   value_at,
 };
 
+use crate::data_pairs::pairs_of;
 use crate::version::{Version, keep_up_to, value_by};
 use indexmap::IndexMap;
 use std::alloc::{AllocError, Global};
 use std::marker::Model;
 use thiserror::Error;
-use tree_model::Write;
+use tree_model::{Bytes, Write};
 
 /// What was so many commits ago is not kept, or not yet.
 #[derive(Clone, Copy, Debug, PartialEq, Eq, Error)]
@@ -73,6 +75,27 @@ impl Versions {
         }
     }
 
+    /// The data that these pairs set, behind so many commits: what was before is not known. Where a key stands
+    /// twice, its last pair counts.
+    pub fn from_pairs(
+        alloc: Global,
+        count: u64,
+        pairs: &[(Bytes, Bytes)],
+    ) -> Result<Self, AllocError>
+        ensures set { IfOk result (λ versions. AreSet versions count pairs.now) }
+        ensures pairs { IfOk result (λ versions. keys_rise pairs.now ≡ true → ArePairsOf versions pairs.now) }
+    {
+        let mut versions = Versions::new(alloc, count);
+        for (key, value) in pairs {
+            let write = Write {
+                key: key.copied(alloc)?,
+                value: Some(value.copied(alloc)?),
+            };
+            versions.set(&write)?;
+        }
+        Ok(versions)
+    }
+
     /// How many commits were made.
     pub fn count(&self) -> u64
         ensures { result ≡ self.now.count }
@@ -103,6 +126,13 @@ impl Versions {
             return Err(Gone);
         }
         Ok(self.find(count, key))
+    }
+
+    /// Each key that has a value, and the value, keys rising.
+    pub fn pairs(&self) -> Result<Vec<(Bytes, Bytes)>, AllocError>
+        ensures { IfOk result (λ pairs. ArePairsOf self.now pairs.items) }
+    {
+        pairs_of(self.keys.keys().as_slice(), self, self.alloc)
     }
 
     fn find(&self, count: u64, key: &[u8]) -> Option<&[u8]>

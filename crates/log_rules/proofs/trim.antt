@@ -1,3 +1,4 @@
 pub mod Names
 pub mod Noted
 pub mod Picks
+pub mod Marked

@@ -1,3 +1,4 @@
 pub mod Stores
 pub mod Memory
 pub mod Faults
+pub mod Errors

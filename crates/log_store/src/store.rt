@@ -1,6 +1,7 @@
 //! What a log asks of the store that its bytes stand in.
 
 ghost use Rattle.std.specs.Prelude.{◌≡◌, ◌≤◌, ◌<◌, ◌+◌, List, ℕ, length, IfErr, OnOk};
+ghost use Rattle.log_store.specs.Errors.{store_error_number};
 ghost use Rattle.log_store.specs.Stores.{
   Appends,
   AppendBreaks,
@@ -25,6 +26,18 @@ pub enum StoreError {
     /// The device failed, and `failures` rose, if it was not at its top; each call says what may stand then.
     #[error("the device failed")]
     Device,
+}
+
+impl StoreError {
+    /// The number of the error, 1 or 2.
+    pub fn number(self) -> u8
+        ensures { result ≡ store_error_number self }
+    {
+        match self {
+            StoreError::Memory => 1,
+            StoreError::Device => 2,
+        }
+    }
 }
 
 /// Bytes in order, a front of which is forced: a crash cannot take it.

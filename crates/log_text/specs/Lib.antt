@@ -3,3 +3,4 @@ pub mod Payloads
 pub mod Parts
 pub mod Reading
 pub mod Made
+pub mod Marks

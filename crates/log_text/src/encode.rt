@@ -6,6 +6,7 @@ ghost use Rattle.byteorder.specs.Endian.{big_bytes};
 ghost use Rattle.xa_xid.specs.Bytes.{xid_bytes};
 ghost use Rattle.tree_model.specs.LogNames.{name_xid};
 ghost use Rattle.tree_model.specs.declared.records.Branch.TheVariants.{Case as CaseBranch};
+ghost use Rattle.log_text.specs.Marks.{mark_of};
 ghost use Rattle.log_text.specs.Payloads.{
   FitsFrame,
   IsSized,
@@ -25,6 +26,7 @@ ghost use Rattle.log_text.specs.Payloads.{
   writes_text,
 };
 
+use crate::mark::Mark;
 use crate::xids::{branch_xid, format_of, ticket_name, txn_name};
 use std::alloc::{AllocError, Global};
 use std::snapshot::Snapshot;
@@ -267,14 +269,16 @@ fn record_bytes(
     Ok(text)
 }
 
-/// The frame that a record is in a log. It is made before anything is written, as it takes memory. The record
-/// itself is not kept: only clauses read it.
+/// The frame that a record is in a log, and its mark. It is made before anything is written, as it takes
+/// memory. The record itself is not kept: only clauses read it.
 #[derive(Drop)]
 pub struct Frame {
     entry: Snapshot<Record>,
     parent: Snapshot<Option<ProcessId>>,
     bytes: Vec<u8>,
+    mark: Mark,
     ghost spells: { bytes.items ≡ record_text (record { entry = entry.value; parent = parent.value }) },
+    ghost marks: { mark ≡ mark_of (record { entry = entry.value; parent = parent.value }) },
 }
 
 impl Frame {
@@ -291,6 +295,7 @@ impl Frame {
             entry: Snapshot::of(entry),
             parent: Snapshot::of(&parent),
             bytes,
+            mark: Mark::of(entry, parent),
         })
     }
 
@@ -307,5 +312,12 @@ impl Frame {
         ensures { result.now ≡ record_text (frame_record self.now) }
     {
         &self.bytes
+    }
+
+    /// What a trim must know of its record.
+    pub fn mark(&self) -> Mark
+        ensures { result ≡ mark_of (frame_record self.now) }
+    {
+        self.mark
     }
 }

@@ -5,6 +5,7 @@
 
 mod encode;
 mod frames;
+mod mark;
 mod names;
 mod parts;
 mod records;
@@ -12,5 +13,6 @@ pub mod xids;
 
 pub use encode::{Frame, name_xid};
 pub use frames::{HEADER, first_frame};
+pub use mark::{Deed, Mark};
 pub use names::name_in;
 pub use records::{ReadFault, read_record};

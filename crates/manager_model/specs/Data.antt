@@ -1,6 +1,7 @@
 -- The data of a resource manager, as those see them that work at them: why they are in the way of an operation,
 -- and what each piece of work leaves of them.
-use Rattle.std.specs.Prelude.{◌≡◌, ℕ, Bool, true, false, ◌==◌, ◌||◌, nat_lt, if◌then◌else◌, List, [], ◌∷◌, length, Option, Some, None}
+use Rattle.std.specs.Prelude.{◌≡◌, ◌⊎◌, ◌≤◌, ℕ, Bool, true, false, ◌==◌, ◌||◌, nat_lt, if◌then◌else◌, List, [], ◌∷◌, length, Option, Some, None}
+use Rattle.std.specs.List.{AllByRecursion, IsDistinct}
 use Rattle.xa_xid.specs.declared.xid.Xid.{Xid}
 use Rattle.xa_tables.specs.declared.states.BranchState.{BranchState}
 use Rattle.xa_tables.specs.declared.states.BranchState.TheVariants.{S0, S5}
@@ -75,15 +76,33 @@ refusal_of ws hs x op =
 
 -- The data.
 
--- what each branch has written that is at work or prepared, in order of each key's first write; and who holds each
--- key
+-- what each branch has written that is at work or prepared, in order of each key's first write; who holds each key;
+-- and which branches the manager knows: those that began and are not ended
 pub record ManagerData : Type 0 where
   pub writes : Xid → List Write
   pub holders : Holdings
+  pub known : Xid → Bool
 
--- nothing is written, and no key is held
+-- nothing is written, no key is held, and no branch is known
 abbrev pub no_data : ManagerData
-no_data = record { writes = λ x. []; holders = λ k. [] }
+no_data = record { writes = λ x. []; holders = λ k. []; known = λ x. false }
+
+-- a branch in this state is known
+abbrev pub is_begun : BranchState → Bool
+is_begun S0 = false
+is_begun _ = true
+
+-- there is no room for a branch more: 1,024 different ones are known
+pub record IsFull (known : Xid → Bool) : Type 0 where
+  pub branches : List Xid
+  pub different : IsDistinct same branches
+  pub each : AllByRecursion (λ x. known x ≡ true) branches
+  pub many : 1024 ≤ length branches
+
+-- whether a branch can begin: it can where it is not known, and there is room for one more
+abbrev pub CanBegin : ManagerData → Xid → Bool → Type 0
+CanBegin d x true = (d.known x ≡ false) × (IsFull d.known → ⊥)
+CanBegin d x false = (d.known x ≡ true) ⊎ IsFull d.known
 
 -- why these data are in the way of an operation of a branch
 abbrev pub obstacle_in : ManagerData → Xid → Op → Option WorkError
@@ -101,20 +120,50 @@ pub record Locks (old new : Holdings) (x : Xid) (op : Op) : Type 0 where
   pub own : new (key_of op) ≡ given (old (key_of op)) x (mode_of op)
   pub others : (k : List ℕ) → same_key (key_of op) k ≡ false → new k ≡ old k
 
+-- no branch began, and none is ended
+abbrev pub StayKnown : ManagerData → ManagerData → Type 0
+StayKnown old new = (y : Xid) → new.known y ≡ old.known y
+
+-- a branch is known, or is not; of every other that is as it was
+pub record Knows (old new : ManagerData) (x : Xid) (is_known : Bool) : Type 0 where
+  pub own : new.known x ≡ is_known
+  pub others : (y : Xid) → same x y ≡ false → new.known y ≡ old.known y
+
 -- no branch has written anything, and each key is held as it was
-pub record Rests (old new : ManagerData) : Type 0 where
+pub record Keeps (old new : ManagerData) : Type 0 where
   pub writes : (y : Xid) → new.writes y ≡ old.writes y
   pub holders : (k : List ℕ) → new.holders k ≡ old.holders k
+
+-- nothing is written, each key is held as it was, and the same branches are known
+pub record Rests (old new : ManagerData) : Type 0 where
+  pub keeps : Keeps old new
+  pub known : StayKnown old new
+
+-- a branch began, and wrote nothing
+pub record Begins (old new : ManagerData) (x : Xid) : Type 0 where
+  pub keeps : Keeps old new
+  pub known : Knows old new x true
 
 -- a branch wrote what an operation writes, and holds its key
 pub record Operates (old new : ManagerData) (x : Xid) (op : Op) : Type 0 where
   pub wrote : Wrote old new x (op_writes (old.writes x) op)
   pub locks : Locks old.holders new.holders x op
+  pub known : StayKnown old new
 
 -- a branch let its writes and its keys go
-pub record Releases (old new : ManagerData) (x : Xid) : Type 0 where
+pub record LetsGo (old new : ManagerData) (x : Xid) : Type 0 where
   pub wrote : Wrote old new x []
   pub held : (k : List ℕ) → new.holders k ≡ without (old.holders k) x
+
+-- a branch let its writes and its keys go, and is known still
+pub record Releases (old new : ManagerData) (x : Xid) : Type 0 where
+  pub lets_go : LetsGo old new x
+  pub known : StayKnown old new
+
+-- a branch let its writes and its keys go, and is ended
+pub record Ends (old new : ManagerData) (x : Xid) : Type 0 where
+  pub lets_go : LetsGo old new x
+  pub known : Knows old new x false
 
 -- the holders of a key behind a call on a branch, which is in this state then: it holds nothing any more once it
 -- is ended or decided by an operator

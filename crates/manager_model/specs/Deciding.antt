@@ -18,7 +18,7 @@ use Rattle.manager_model.specs.Sights.{ManagerSight, SameManager}
 use Rattle.manager_model.specs.Ends.{OthersStayDecided, logged_under, state_of}
 use Rattle.tree_model.specs.CoordinatorRows.{forced}
 use Rattle.manager_model.specs.declared.errors.DecideError.{DecideError}
-use Rattle.manager_model.specs.declared.errors.DecideError.TheVariants.{Memory, Device, Failed, NotInDoubt}
+use Rattle.manager_model.specs.declared.errors.DecideError.TheVariants.{Memory, Device, Failed, NotInDoubt, Exhausted}
 
 -- the record of a decision
 abbrev pub decides_record : Branch → Outcome → Record
@@ -60,3 +60,4 @@ NotDecided old new x o NotInDoubt = (old.log.failed ≡ false)
     × (state_at old.tables x ≢ S3) × SameManager old new
 NotDecided old new x o Memory = SameManager old new
 NotDecided old new x o Device = DecideFails old new x o
+NotDecided old new x o Exhausted = (old.spent ≡ true) × SameManager old new

@@ -7,10 +7,11 @@ use Rattle.core_model.specs.Opening.{first_opened}
 use Rattle.manager_model.specs.Sights.{ManagerSight}
 
 -- a manager that was just made over an empty log: it is not open, this is its first boot, and the record of
--- that, which is forced, is its log's only one; nothing is written, and no key is held
+-- that, which is forced, is its log's only one; it knows no branch, nothing is written, and no key is held
 pub record IsNew (m : ManagerSight) : Type 0 where
   pub closed : m.tables.init ≡ R0
   pub boot : m.boot ≡ 1
+  pub branches : m.tables.branches.branches ≡ []
   pub writes : (x : Xid) → m.writes x ≡ []
   pub holders : (k : List ℕ) → m.holders k ≡ []
   pub log : m.log ≡ forced_sight (first_opened ∷ []) m.log.failures

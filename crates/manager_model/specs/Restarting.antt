@@ -1,5 +1,5 @@
 -- A manager behind a crash: what the records say that are left of its log.
-use Rattle.std.specs.Prelude.{◌≡◌, ◌+◌, ℕ, None, List, [], ◌∷◌, ◌++◌, map}
+use Rattle.std.specs.Prelude.{◌≡◌, ◌≤◌, ◌+◌, ◌^◌, ℕ, Bool, None, List, [], ◌∷◌, ◌++◌, map}
 use Rattle.xa_tables.specs.declared.states.BranchState.{BranchState}
 use Rattle.xa_tables.specs.declared.states.BranchState.TheVariants.{S0, S3, S5}
 use Rattle.xa_tables.specs.declared.states.InitState.TheVariants.{R0}
@@ -16,11 +16,11 @@ use Rattle.tree_model.specs.Standings.{Mark, Unmarked, Promised, Decided, ToldOf
 use Rattle.tree_model.specs.Store.{writes_of, data_of}
 use Rattle.rec_log.specs.Sights.{RestartBreaks, left_by}
 use Rattle.core_model.specs.States.{forced_sight}
-use Rattle.manager_model.specs.Data.{HoldWrites}
+use Rattle.manager_model.specs.Data.{HoldWrites, is_begun}
 use Rattle.manager_model.specs.Sights.{ManagerSight, SameManager}
 use Rattle.manager_model.specs.Ends.{state_of}
 use Rattle.manager_model.specs.declared.errors.RestartError.{RestartError}
-use Rattle.manager_model.specs.declared.errors.RestartError.TheVariants.{Memory, Device}
+use Rattle.manager_model.specs.declared.errors.RestartError.TheVariants.{Memory, Device, Exhausted}
 
 -- What records say of a branch, by its XID.
 
@@ -40,6 +40,10 @@ marked_writes _ ws = []
 -- what a branch has written by these records
 abbrev pub writes_left : List LogRecord → Xid → List Write
 writes_left ls x = marked_writes (mark_at ls x) (writes_of (Foreign x) (data_of ls).promised)
+
+-- whether a branch is known by these records: it is prepared, or decided by an operator
+abbrev pub is_left : List LogRecord → Xid → Bool
+is_left ls x = is_begun (marked_state (mark_at ls x))
 
 -- the boot behind those of these records
 abbrev pub next_boot : List LogRecord → ℕ
@@ -91,3 +95,4 @@ pub record RestartFails (old new : ManagerSight) (keep : ℕ) : Type 0 where
 abbrev pub NotRestarted : ManagerSight → ManagerSight → ℕ → RestartError → Type 0
 NotRestarted old new keep Memory = SameManager old new
 NotRestarted old new keep Device = RestartFails old new keep
+NotRestarted old new keep Exhausted = SameManager old new × (2 ^ 63 ≤ next_boot (left_by old.log keep))

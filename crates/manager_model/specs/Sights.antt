@@ -2,13 +2,13 @@
 use Rattle.std.specs.Prelude.{◌≡◌, ℕ, Bool, true, false, Option, List}
 use Rattle.xa_xid.specs.declared.xid.Xid.{Xid}
 use Rattle.xa_assoc.specs.declared.states.States.{States}
-use Rattle.xa_assoc.specs.Answers.{Same}
+use Rattle.xa_assoc.specs.Answers.{Same, state_at}
 use Rattle.xa_assoc.specs.declared.errors.WorkError.{WorkError}
 use Rattle.xa_heur.specs.declared.decision.Decision.{Decision}
 use Rattle.tree_model.specs.declared.messages.Op.{Op}
 use Rattle.tree_model.specs.declared.records.Write.{Write}
 use Rattle.rec_log.specs.Sights.{LogSight}
-use Rattle.manager_model.specs.Data.{Holdings, ManagerData, obstacle_in}
+use Rattle.manager_model.specs.Data.{Holdings, ManagerData, is_begun, obstacle_in}
 
 -- The tables of its calls; its log; how often it opened; whether a limit of its own is met, so that it may
 -- refuse to finish a branch; what each branch has written that is at work or prepared, in order of each key's
@@ -25,7 +25,7 @@ pub record ManagerSight : Type 0 where
 
 -- its data
 abbrev pub manager_data : ManagerSight → ManagerData
-manager_data m = record { writes = m.writes; holders = m.holders }
+manager_data m = record { writes = m.writes; holders = m.holders; known = λ x. is_begun (state_at m.tables x) }
 
 -- why its data are in the way of an operation of a branch: what the branch has written and the holders of the key
 -- alone say it

@@ -1,12 +1,14 @@
--- What an input makes of the data of a manager: which branch does an operation, or lets go what it has written
--- and holds.
-use Rattle.std.specs.Prelude.{◌≡◌, ◌+◌, ◌==◌, ◌&&◌, ℕ, Bool, true, not, is_none, if◌then◌else◌, Option, Some, None}
+-- What an input makes of the data of a manager: which branch begins, does an operation, lets go what it has written
+-- and holds, or is ended.
+use Rattle.std.specs.Prelude.{◌≡◌, ◌+◌, ◌==◌, ◌&&◌, ⊤, ℕ, Bool, true, false, not, is_none, if◌then◌else◌, Option, Some, None}
 use Rattle.xa_xid.specs.declared.xid.Xid.{Xid}
 use Rattle.tree_model.specs.declared.names.Case.{Case}
 use Rattle.tree_model.specs.declared.names.Outcome.{Outcome}
 use Rattle.tree_model.specs.declared.names.ProcessId.{ProcessId}
+use Rattle.tree_model.specs.declared.names.Ticket.{Ticket}
 use Rattle.tree_model.specs.declared.records.Branch.TheVariants.{Case as CaseBranch}
 use Rattle.tree_model.specs.LogNames.{name_xid}
+use Rattle.tree_model.specs.Names.{child_case}
 use Rattle.tree_model.specs.Plays.{held_writes}
 use Rattle.tree_model.specs.declared.messages.Op.{Op}
 use Rattle.tree_model.specs.declared.messages.Message.{Message}
@@ -20,15 +22,28 @@ use Rattle.tree_model.specs.declared.events.Act.TheVariants.{Decide, Forget}
 use Rattle.tree_model.specs.Nodes.{DataAnswer, Holding, ReadsOnly, Holds}
 use Rattle.tree_model.specs.Standings.{ManagerView}
 use Rattle.core_model.specs.States.{CoreState}
-use Rattle.core_model.specs.Turns.{no_answer}
-use Rattle.manager_model.specs.Data.{ManagerData, obstacle_in}
+use Rattle.core_model.specs.Turns.{next_ticket, no_answer}
+use Rattle.manager_model.specs.Data.{CanBegin, ManagerData, obstacle_in}
 use Rattle.manager_model.specs.Data as model_data
 
--- nothing; or the branch of a case does an operation; or it lets its writes and its keys go
+-- nothing; or the branch of a case begins; or it does an operation; or it lets its writes and its keys go, and is
+-- known still, or is ended
 pub data DataTurn : Type 0 where
   Rests : DataTurn
+  Begins : Case → DataTurn
   Operates : Case → Op → DataTurn
   Releases : Case → DataTurn
+  Ends : Case → DataTurn
+
+-- the case that a JOIN of the parent's case opens, where no ticket of that is active
+abbrev pub next_case : CoreState → Case → Case
+next_case s d = child_case d.txn (next_ticket s)
+
+-- JOIN of the parent's case, where this ticket of it is active, or none: a branch begins whose start the data let in
+abbrev pub join_data : CoreState → Case → Bool → Option Ticket → DataTurn
+join_data s d starts (Some t) = Rests
+join_data s d true None = Begins (next_case s d)
+join_data s d false None = Rests
 
 -- WORK i at a branch: the next work of an Active branch that was refused none, where the data are not in its way
 abbrev pub work_data : Case → ℕ → Op → Bool → ManagerView → Standing → DataTurn
@@ -38,13 +53,13 @@ work_data c i op does v _ = Rests
 
 -- a branch that wrote nothing is ended by its vote, and another keeps what it holds
 abbrev pub vote_data : Case → Holding → DataTurn
-vote_data c ReadsOnly = Releases c
+vote_data c ReadsOnly = Ends c
 vote_data c (Holds ws) = Rests
 
 -- PREPARE n at a branch: one that does not vote is rolled back
 abbrev pub prepare_data : Case → ℕ → Holding → ManagerView → Standing → DataTurn
 prepare_data c n holding v Active =
-    if (v.done == n) && not v.spoiled then vote_data c holding else Releases c
+    if (v.done == n) && not v.spoiled then vote_data c holding else Ends c
 prepare_data c n holding v _ = Rests
 
 -- an outcome behind an operator's decision: the first one ends the branch's data again, of which there are none
@@ -54,19 +69,20 @@ told_data c (Some o) = Rests
 
 -- COMMIT at a branch
 abbrev pub commit_data : Case → ManagerView → Standing → DataTurn
-commit_data c v Prepared = Releases c
+commit_data c v Prepared = Ends c
 commit_data c v Heuristic = told_data c v.told
 commit_data c v _ = Rests
 
 -- ABORT at a branch
 abbrev pub abort_data : Case → ManagerView → Standing → DataTurn
-abort_data c v Active = Releases c
-abort_data c v Prepared = Releases c
+abort_data c v Active = Ends c
+abort_data c v Prepared = Ends c
 abort_data c v Heuristic = told_data c v.told
 abort_data c v _ = Rests
 
 -- what a message makes of the data, which answer so; any other than these makes nothing
 abbrev pub message_data : CoreState → DataAnswer → Message → DataTurn
+message_data s a (Join d) = join_data s d a.starts (s.ticket_for d)
 message_data s a (Work c i op) = let v = s.branch_of c in work_data c i op a.does v v.standing
 message_data s a (Prepare c n) = let v = s.branch_of c in prepare_data c n a.holding v v.standing
 message_data s a (Commit c) = let v = s.branch_of c in commit_data c v v.standing
@@ -80,7 +96,7 @@ decide_data c _ = Rests
 
 -- its end
 abbrev pub forget_data : Case → Standing → DataTurn
-forget_data c Heuristic = Releases c
+forget_data c Heuristic = Ends c
 forget_data c _ = Rests
 
 -- what an act makes of the data
@@ -97,11 +113,13 @@ data_turn s a (MessageInput k m) = message_data s a m
 -- what is left of the data, by the names that the manager has for cases
 abbrev pub MovesData : ManagerData → ManagerData → (Case → Xid) → DataTurn → Type 0
 MovesData old new x Rests = model_data.Rests old new
+MovesData old new x (Begins c) = model_data.Begins old new (x c)
 MovesData old new x (Operates c op) = model_data.Operates old new (x c) op
 MovesData old new x (Releases c) = model_data.Releases old new (x c)
+MovesData old new x (Ends c) = model_data.Ends old new (x c)
 
--- what the data answer to a message: whether they are in the way of the operation of a WORK, and what the branch
--- of a PREPARE has written. Whether a branch can begin they do not say, since a manager knows only so many
+-- what the data answer to a message: whether they let the branch of a JOIN begin, whether they are in the way of the
+-- operation of a WORK, and what the branch of a PREPARE has written
 abbrev pub answer_of : ManagerData → (Case → Xid) → Bool → Message → DataAnswer
 answer_of d x begins (Join c) = record { starts = begins; does = true; holding = ReadsOnly }
 answer_of d x begins (Work c i op) =
@@ -110,10 +128,22 @@ answer_of d x begins (Prepare c n) =
     record { starts = true; does = true; holding = held_writes (d.writes (x c)) }
 answer_of d x begins _ = record { starts = true; does = true; holding = ReadsOnly }
 
+-- whether the data let the branch of a JOIN begin; any other message begins none
+abbrev pub LetsBegin : CoreState → ManagerData → (Case → Xid) → Message → Bool → Type 0
+LetsBegin s d x (Join c) begins = CanBegin d (x (next_case s c)) begins
+LetsBegin s d x _ begins = ⊤
+
+-- an answer to a message is the one that the data give
+pub record AnswersMessage (s : CoreState) (d : ManagerData) (x : Case → Xid) (m : Message) (a : DataAnswer)
+    : Type 0 where
+  pub begins : Bool
+  pub lets : LetsBegin s d x m begins
+  pub is : a ≡ answer_of d x begins m
+
 -- an answer to an input is the one that the data give; to an act they answer nothing
-abbrev pub AnswersInput : ManagerData → (Case → Xid) → Input → DataAnswer → Type 0
-AnswersInput d x (ActInput e) a = a ≡ no_answer
-AnswersInput d x (MessageInput k m) a = (begins : Bool) × (a ≡ answer_of d x begins m)
+abbrev pub AnswersInput : CoreState → ManagerData → (Case → Xid) → Input → DataAnswer → Type 0
+AnswersInput s d x (ActInput e) a = a ≡ no_answer
+AnswersInput s d x (MessageInput k m) a = AnswersMessage s d x m a
 
 -- the name that a manager below this parent has for a case
 abbrev pub case_xid : ProcessId → Case → Xid

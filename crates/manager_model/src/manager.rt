@@ -2,6 +2,7 @@
 
 ghost use Rattle.std.specs.Prelude.{◌≡◌, false, Err, IfErr, IfOk, OnErr, OnOk};
 ghost use Rattle.std.specs.List.{AllByRecursion};
+ghost use Rattle.xa_branch.specs.Branches.{AreListedOnce};
 ghost use Rattle.xa_heur.specs.Decisions.{decision_at};
 ghost use Rattle.xa_assoc.specs.Answers.{Answers, Closes, Opens, Recovers, Wanted, map_ok, state_at};
 ghost use Rattle.manager_model.specs.Sights.{Calls, ManagerSight, SameManager};
@@ -111,7 +112,7 @@ pub trait ResourceManager {
 
     /// An operator decides a prepared branch, without its parent: the decision is forced, and stands until
     /// it is forgotten. The manager need not be open. Failed, then NotInDoubt: nothing changed. Memory:
-    /// nothing changed, also where a limit of the manager's own is met. Device: it fails now.
+    /// nothing changed. Exhausted: a limit of the manager's own is met; nothing changed. Device: it fails now.
     fn decide(&mut self, xid: &Xid, outcome: Outcome) -> Result<(), DecideError>
         ensures ok { OnOk result (Decides (sight self.old) (sight self.new) xid.now outcome) }
         ensures err { IfErr result (NotDecided (sight self.old) (sight self.new) xid.now outcome) };
@@ -146,19 +147,22 @@ pub trait ResourceManager {
     fn records_are_sound(&self)
         ensures { AllByRecursion (IsSound kind.Manager) (records_of (sight self.now).log.kept) };
 
+    /// Each branch that it knows is listed once, and none that is in S0.
+    fn branches_are_listed_once(&self)
+        ensures { AreListedOnce (sight self.now).tables.branches.branches };
+
     /// Restarts the manager behind a crash that keeps so many of the log's unforced bytes: it stands as the
-    /// records say that are left, and is not open. Memory: nothing changed, also where the records leave no
-    /// manager, or no boot comes behind the last one, which is so of no log that a manager wrote. Device:
-    /// the manager has failed until it is restarted.
+    /// records say that are left, and is not open. Its own records are never refused. Memory: nothing changed.
+    /// Exhausted: no boot below 2^63 comes behind the last one; nothing changed. Device: the manager has
+    /// failed until it is restarted.
     fn restart(&mut self, keep: usize) -> Result<(), RestartError>
         ensures ok { OnOk result (Restarts (sight self.old) (sight self.new) keep) }
         ensures err { IfErr result (NotRestarted (sight self.old) (sight self.new) keep) };
 
     /// Trims the log: the last Opened and the records of the branches that are not forgotten stay, and
     /// behind them the data, keys rising, all of it forced by one write. Gives how many records remain.
-    /// Failed: nothing changed. Memory: nothing changed, also where the records leave no manager, which is
-    /// so of no log that a manager wrote. Device: the log stands as it was or trimmed, and the manager has
-    /// failed until a restart.
+    /// Its own records are never refused. Failed, Memory: nothing changed. Device: the log stands as it was or
+    /// trimmed, and the manager has failed until a restart.
     fn trim(&mut self) -> Result<usize, TrimError>
         ensures ok { IfOk result (Trims (sight self.old) (sight self.new)) }
         ensures err { IfErr result (NotTrimmed (sight self.old) (sight self.new)) };

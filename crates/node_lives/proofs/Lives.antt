@@ -157,7 +157,7 @@ anew q n es w s t f h =
     (record {
       tree = h.tree;
       nodes = h.nodes;
-      holdings = λ p. record { writes = λ x. refl; holders = λ k. refl };
+      holdings = λ p. record { keeps = record { writes = λ x. refl; holders = λ k. refl }; known = λ x. refl };
       net = h.net;
       delivered = h.delivered;
       entries = h.entries;

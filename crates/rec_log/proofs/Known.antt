@@ -1,10 +1,10 @@
 -- The bytes that are known to be whole records.
-use Rattle.std.proofs.Common.{◌≡◌, ◌≤◌, ◌+◌, ◌-◌, ℕ, Bool, true, false, List, [], ◌++◌, length, take, drop, refl, sym, ap, subst, ◌∙◌, arith, append_assoc, drop-drop, length-append, length-drop, length-take, take-append-drop}
+use Rattle.std.proofs.Common.{◌≡◌, ◌≤◌, ◌+◌, ◌-◌, ℕ, Bool, true, List, ◌++◌, length, take, drop, sym, ap, subst, ◌∙◌, arith, append_assoc, drop-drop, length-append, length-drop, length-take, take-append-drop}
 use Rattle.std.proofs.lemmas.List.{length-take-le, take-append-le, take_all}
 use Rattle.tree_model.specs.declared.names.Kind.{Kind}
 use Rattle.tree_model.specs.declared.records.LogRecord.{LogRecord}
 use Rattle.rec_log.specs.Texts.{is_whole, records_in}
-use Rattle.rec_log.specs.Sights.{EndsSound, IsKnown, IsLogText, LogState, Sounds, body, front, left_by, log_state, whole_within}
+use Rattle.rec_log.specs.Sights.{EndsSound, IsKnown, IsLogText, LogState, Sounds, body, log_state, whole_within}
 use Rattle.rec_log.proofs.Frames.{more_records, more_whole, nothing_whole}
 use Rattle.rec_log.proofs.Turns.{body_more, take_within}
 use Rattle.rec_log.proofs.Within.{left_records}
@@ -56,7 +56,7 @@ known_left p text forced known n k le m = record {
 
 -- What stands behind it.
 
-split_known : (left : List ℕ) (known : ℕ) → 5 ≤ known
+pub split_known : (left : List ℕ) (known : ℕ) → 5 ≤ known
     → body left ≡ take (known - 5) (body left) ++ drop known left
 split_known left known h =
     let sum : 5 + (known - 5) ≡ known = omega (arith, h) in

@@ -10,5 +10,6 @@ pub mod Within
 pub mod Rewriting
 pub mod Restarting
 pub mod Known
+pub mod Indexes
 pub mod Trims
 pub mod SoundRecords

@@ -1,17 +1,19 @@
 -- Restarts.
-use Rattle.std.proofs.Common.{◌≡◌, ◌≤◌, ◌+◌, ◌-◌, ◌⊎◌, inl, inr, ℕ, Bool, true, false, List, [], ◌++◌, length, take, drop, Option, Some, None, refl, sym, ap, subst, ◌∙◌, arith, append_assoc, append-nil, take-append-drop, length-append, is_some}
+use Rattle.std.proofs.Common.{◌≡◌, ◌≤◌, ◌+◌, ◌-◌, inl, inr, ℕ, Bool, true, false, List, [], ◌++◌, length, take, drop, Option, Some, None, refl, sym, ap, subst, ◌∙◌, arith, append_assoc, append-nil, take-append-drop, length-append, is_some, ◌∷◌, length-drop, length-take, if◌then◌else◌}
+use Rattle.std.proofs.lemmas.List.{take-append-le}
 use Rattle.std.proofs.Math.Seq.{take-append_seam}
 use Rattle.tree_model.specs.declared.names.Kind.{Kind}
 use Rattle.tree_model.specs.declared.records.LogRecord.{LogRecord}
-use Rattle.log_store.specs.Stores.{MoreFailures}
+use Rattle.log_store.specs.Stores.{Appends, ForceBreaks, MoreFailures}
 use Rattle.log_text.specs.Frames.{Cut, first_frame, header}
 use Rattle.log_text.specs.Payloads.{records_text}
 use Rattle.log_text.specs.Reading.{read_record}
 use Rattle.rec_log.specs.Texts.{and_records, is_whole, records_in, whole_if, whole_size}
-use Rattle.rec_log.specs.Sights.{AreRecords, IsLogText, LeavesText, Kept, LogState, RestartBreaks, Restarts, Sounds, body, front, log_state}
-use Rattle.rec_log.proofs.Frames.{more_records, more_whole, no_frame, nothing_whole, step, step_whole}
+use Rattle.rec_log.specs.Sights.{AreRecords, EndsSound, IsLogText, LogState, RestartBreaks, Restarts, Sounds, body, front, left_by, log_state, whole_within}
+use Rattle.rec_log.specs.Restarting.{BreaksLeft, LeavesText, StandsLeft, WritesLeft}
+use Rattle.rec_log.proofs.Frames.{front_of, more_records, more_whole, no_frame, nothing_whole, step, step_whole}
 use Rattle.rec_log.proofs.Openings.{frame_at}
-use Rattle.rec_log.proofs.Turns.{all_front, drop_all, records_stand, take_within}
+use Rattle.rec_log.proofs.Turns.{all_front, body_more, front_grows, front_more, drop_all, records_stand, take_within}
 use Rattle.rec_log.proofs.Within.{left_records, whole_is_full}
 use Rattle.rec_log.proofs.Written.{body_taken, whole_text, written}
 
@@ -139,69 +141,170 @@ front_stays text forced keep h =
     ap (take (forced - 5)) (body_taken (forced + keep) text (omega (arith, h)))
     ∙ take_within (forced - 5) (forced + keep - 5) (body text) (omega (arith, h))
 
-kept_is : (a b c d : List LogRecord) → a ≡ c → b ≡ d
-    → ◌≡◌ {A = Kept} (record { forced = a; unforced = b }) (record { forced = c; unforced = d })
-kept_is a b c d e f = rw (e, f) refl
+-- What a restart writes.
 
-pub restart_breaks : (p : Kind) (text new bytes : List ℕ)
-    (forced forced' keep failures failures' room room' : ℕ) (rs : List LogRecord) (failed : Bool)
-    (s : LogState)
-    → log_state p text forced failures room failed ≡ s → AreRecords p rs → IsLogText p text forced failed
-    → forced ≤ length text → LeavesText p (take (forced + keep) text) rs new
-    → ((bytes ≡ take (forced + keep) text) × (forced' ≡ forced)) ⊎ ((bytes ≡ new) × (forced' ≡ length new))
-    → MoreFailures failures failures'
-    → RestartBreaks s (log_state p bytes forced' failures' room' true) keep rs
-restart_breaks p text new bytes forced forced' keep failures failures' room room' rs failed s view are is le l
-    (inl e) g =
-    let left = left_records p text forced keep failures room failed is.header_forced le in
-    subst (λ z. RestartBreaks z (log_state p bytes forced' failures' room' true) keep rs) view
-    (record {
-      kind = refl;
-      either = inl (
-        records_stand p bytes forced' ∙ ap (λ t. records_in p 0 (body t)) e.0 ∙ left,
-        ap (λ t. records_in p 0 (front t forced')) e.0
-            ∙ ap (λ n. records_in p 0 (front (take (forced + keep) text) n)) e.1
-            ∙ ap (records_in p 0) (front_stays text forced keep is.header_forced),
-      );
-      failed = refl;
-      cause = g;
-    })
-restart_breaks p text new bytes forced forced' keep failures failures' room room' rs failed s view are is le l
-    (inr e) g =
-    let left = left_records p text forced keep failures room failed is.header_forced le in
-    let h = front_begins (forced + keep) text (omega (arith, is.header_forced)) is.begins in
-    let q = parts_of p (take (forced + keep) text) new rs h l in
-    let all : front bytes forced' ≡ body bytes = all_front bytes forced' (e.1 ∙ ap length (sym e.0)) in
-    subst (λ z. RestartBreaks z (log_state p bytes forced' failures' room' true) keep rs) view
-    (record {
-      kind = refl;
-      either = inr (kept_is _ _ _ _
-          (ap (records_in p 0) all ∙ ap (λ t. records_in p 0 (body t)) e.0
-          ∙ text_records p (take (forced + keep) text) new rs are q ∙ ap (λ t. t ++ rs) left)
-          (ap (λ t. drop (length (records_in p 0 t)) (records_in p 0 (body bytes))) all
-          ∙ drop_all (records_in p 0 (body bytes))));
-      failed = refl;
-      cause = g;
-    })
+empty : (xs : List ℕ) → length xs ≡ 0 → xs ≡ []
+empty [] e = refl
+empty (x ∷ xs) e = absurd (omega (arith, e))
 
-pub text_broken : (p : Kind) (text new bytes : List ℕ) (forced forced' keep : ℕ) (rs : List LogRecord)
-    (failed : Bool) → AreRecords p rs → IsLogText p text forced failed
-    → LeavesText p (take (forced + keep) text) rs new
-    → ((bytes ≡ take (forced + keep) text) × (forced' ≡ forced))
-    ⊎ ((bytes ≡ new) × (forced' ≡ length new)) → IsLogText p bytes forced' true
-text_broken p text new bytes forced forced' keep rs failed are is l (inl e) = record {
-  begins = ap (take 5) e.0 ∙ front_begins (forced + keep) text (omega (arith, is.header_forced)) is.begins;
-  header_forced = omega (arith, e.1, is.header_forced);
-  whole = λ h. absurd (cc);
+all_of : {A : Type 0} (xs : List A) → take (length xs) xs ≡ xs
+all_of [] = refl
+all_of (x ∷ xs) = ap (λ t. x ∷ t) (all_of xs)
+
+-- what is left is whole where its whole frames end at its end
+whole_left : (p : Kind) (left : List ℕ) → EndsSound p left (length left) → is_whole p 0 (body left) ≡ true
+whole_left p left e =
+    let s = e.sounds in
+    let none : s.tail ≡ [] =
+    empty s.tail (omega (
+      arith,
+      e.header,
+      s.sound_size,
+      ap length s.split,
+      length-append s.sound s.tail,
+      length-drop 5 left,
+    )) in
+    ap (is_whole p 0) (s.split ∙ ap (λ t. s.sound ++ t) none ∙ append-nil s.sound) ∙ s.whole
+
+pub leaves_text : (p : Kind) (left text new : List ℕ) (rs : List LogRecord) (anew : Bool)
+    → WritesLeft p left rs anew text → new ≡ (if anew then text else left ++ text) → LeavesText p left rs new
+leaves_text p left text new rs true w e = subst (λ t. LeavesText p left rs t) (sym e) w
+leaves_text p left text new rs false w e = record {
+  end = length left;
+  ends = w.0;
+  is = e ∙ ap (λ t. left ++ t) w.1 ∙ ap (λ t. t ++ records_text rs) (sym (all_of left));
 }
-text_broken p text new bytes forced forced' keep rs failed are is l (inr e) =
-    let t = text_settled p (take (forced + keep) text) new rs (length new) are
-    (front_begins (forced + keep) text (omega (arith, is.header_forced)) is.begins) l refl in
-    record {
-      begins = ap (take 5) e.0 ∙ t.begins;
-      header_forced = omega (arith, e.1, t.header_forced);
-      whole = λ h. absurd (cc);
-    }
+
+-- the text came behind what is left, and the device failed in its force
+pub force_left : {S : Type 0} (bytes : S → List ℕ) (forced failures : S → ℕ) (old mid new : S) (text : List ℕ)
+    → Appends bytes forced failures old mid text → ForceBreaks bytes forced failures mid new
+    → BreaksLeft bytes forced failures old new false text
+force_left bytes forced failures old mid new text a f = record {
+  stands = (
+    length text,
+    f.text ∙ a.text ∙ ap (λ t. bytes old ++ t) (sym (all_of text)),
+    omega (arith, f.no_less, a.forced_stays),
+  );
+  cause = subst (λ n. MoreFailures n (failures new)) a.failures_stay f.cause;
+}
+
+-- what stands where the device failed
+pub data Broken (p : Kind) (left : List ℕ) (rs : List LogRecord) (forced : ℕ) (bytes : List ℕ)
+    (forced' : ℕ) : Type 0 where
+  AsLeft : bytes ≡ left → forced' ≡ forced → Broken p left rs forced bytes forced'
+  Anew : LeavesText p left rs bytes → forced' ≡ length bytes → Broken p left rs forced bytes forced'
+  GoesOn : (came : ℕ) → is_whole p 0 (body left) ≡ true → bytes ≡ left ++ take came (records_text rs)
+      → forced ≤ forced' → Broken p left rs forced bytes forced'
+
+pub broken : (p : Kind) (left text old bytes : List ℕ) (rs : List LogRecord) (forced before forced' : ℕ)
+    (anew : Bool) → WritesLeft p left rs anew text → old ≡ left → before ≡ forced
+    → StandsLeft anew old before bytes forced' text → Broken p left rs forced bytes forced'
+broken p left text old bytes rs forced before forced' true w o b (inl e) = AsLeft (e.0 ∙ o) (e.1 ∙ b)
+broken p left text old bytes rs forced before forced' true w o b (inr e) =
+    Anew (subst (λ t. LeavesText p left rs t) (sym e.0) w) (e.1 ∙ ap length (sym e.0))
+broken p left text old bytes rs forced before forced' false w o b e =
+    GoesOn e.0 (whole_left p left w.0) (e.1 ∙ (λ j. o j ++ take e.0 (w.1 j)))
+    (omega (arith, e.2, b))
+
+-- the forced records do not become fewer
+module _ (p : Kind) (text : List ℕ) (forced keep failures room : ℕ) (failed : Bool)
+    (is : IsLogText p text forced failed) (le : forced ≤ length text) where
+  abbrev left : List ℕ
+  left = take (forced + keep) text
+
+  abbrev before : LogState
+  before = log_state p text forced failures room failed
+
+  left_is : records_in p 0 (body left) ≡ left_by before.sight keep
+  left_is = left_records p text forced keep failures room failed is.header_forced le
+
+  begins : take 5 left ≡ header
+  begins = front_begins (forced + keep) text (omega (arith, is.header_forced)) is.begins
+
+  long : forced ≤ length left
+  long = omega (arith, le, length-take (forced + keep) text)
+
+  pub text_broken : (rs : List LogRecord) (bytes : List ℕ) (forced' : ℕ) → AreRecords p rs
+      → Broken p left rs forced bytes forced' → IsLogText p bytes forced' true
+  text_broken rs bytes forced' are (AsLeft e f) = record {
+    begins = ap (take 5) e ∙ begins;
+    header_forced = omega (arith, f, is.header_forced);
+    whole = λ h. absurd (cc);
+  }
+  text_broken rs bytes forced' are (Anew l f) =
+      let t = text_settled p left bytes rs forced' are begins l f in
+      record { begins = t.begins; header_forced = t.header_forced; whole = λ h. absurd (cc) }
+  text_broken rs bytes forced' are (GoesOn came whole e f) = record {
+    begins = ap (take 5) e ∙ take-append-le 5 left (take came (records_text rs))
+        (omega (arith, long, is.header_forced)) ∙ begins;
+    header_forced = omega (arith, f, is.header_forced);
+    whole = λ h. absurd (cc);
+  }
+
+  pub breaks_restart : (rs : List LogRecord) (bytes : List ℕ) (forced' failures' room' : ℕ) → AreRecords p rs
+      → Broken p left rs forced bytes forced' → MoreFailures failures failures'
+      → RestartBreaks before (log_state p bytes forced' failures' room' true) keep rs
+  breaks_restart rs bytes forced' failures' room' are (AsLeft e f) cause = record {
+    kind = refl;
+    appended = 0;
+    stand = records_stand p bytes forced' ∙ ap (λ t. records_in p 0 (body t)) e ∙ left_is
+        ∙ sym (append-nil (left_by before.sight keep));
+    no_less = omega (
+      arith,
+      ap (λ t. length (records_in p 0 (front t forced'))) e,
+      ap (λ n. length (records_in p 0 (front left n))) f,
+      ap (λ t. length (records_in p 0 t)) (front_stays text forced keep is.header_forced),
+    );
+    failed = refl;
+    cause = cause;
+  }
+  breaks_restart rs bytes forced' failures' room' are (Anew l f) cause =
+      let q = parts_of p left bytes rs begins l in
+      let stand : records_in p 0 (body bytes) ≡ left_by before.sight keep ++ rs =
+      text_records p left bytes rs are q ∙ ap (λ t. t ++ rs) left_is in
+      record {
+        kind = refl;
+        appended = length rs;
+        stand = records_stand p bytes forced' ∙ stand
+            ∙ ap (λ t. left_by before.sight keep ++ t) (sym (all_of rs));
+        no_less = omega (
+          arith,
+          ap (λ t. length (records_in p 0 t)) (all_front bytes forced' f),
+          ap length stand,
+          length-append (left_by before.sight keep) rs,
+          length-append before.sight.kept.forced
+              (whole_within (before.sight.behind + keep) before.sight.kept.unforced),
+        );
+        failed = refl;
+        cause = cause;
+      }
+  breaks_restart rs bytes forced' failures' room' are (GoesOn came whole e f) cause =
+      let more = take came (records_text rs) in
+      let xs = records_in p 0 more in
+      let s = front_of p 0 came (records_text rs) in
+      let xs_are : xs ≡ take (length xs) rs =
+      sym (ap (take (length xs)) (sym (written p rs are) ∙ s.1) ∙ take-append_seam xs s.0) in
+      record {
+        kind = refl;
+        appended = length xs;
+        stand = records_stand p bytes forced' ∙ ap (λ t. records_in p 0 (body t)) e
+            ∙ ap (records_in p 0) (body_more left more (omega (arith, long, is.header_forced)))
+            ∙ more_records p 0 (body left) more whole
+            ∙ ap (λ t. t ++ xs) left_is ∙ ap (λ t. left_by before.sight keep ++ t) xs_are;
+        no_less = omega (
+          arith,
+          front_grows p bytes forced forced' f,
+          ap (λ t. length (records_in p 0 (front t forced))) e,
+          ap (λ t. length (records_in p 0 t)) (front_more left more forced is.header_forced long),
+          ap (λ t. length (records_in p 0 t)) (front_stays text forced keep is.header_forced),
+        );
+        failed = refl;
+        cause = cause;
+      }
+
+pub restart_breaks : (seen old new : LogState) (keep : ℕ) (rs : List LogRecord) → seen ≡ old
+    → RestartBreaks seen new keep rs → RestartBreaks old new keep rs
+restart_breaks seen old new keep rs e b = subst (λ z. RestartBreaks z new keep rs) e b
 
 from_test : (p : Kind) (bytes rest : List ℕ) (c : Cut) (o : Option LogRecord) → read_record p c.0 c.1 ≡ o
     → is_some o ≡ true → Passes p bytes rest → first_frame rest ≡ Some c → Passes p bytes c.2
@@ -223,9 +326,3 @@ pub sounds_test : (p : Kind) (bytes rest : List ℕ) (c : Cut) (b : Bool) → b 
     → Sounds p bytes (length bytes - length rest)
 sounds_test p bytes rest c b i t h e = strange_test p bytes rest c (read_record p c.0 c.1) refl
     (sym i ∙ t) h e
-
-pub came_either : (bn bc left text : List ℕ) (fn fc f0 : ℕ)
-    → ((bn ≡ bc) × (fn ≡ fc)) ⊎ ((bn ≡ text) × (fn ≡ length text)) → bc ≡ left → fc ≡ f0
-    → ((bn ≡ left) × (fn ≡ f0)) ⊎ ((bn ≡ text) × (fn ≡ length text))
-came_either bn bc left text fn fc f0 (inl e) l f = inl (e.0 ∙ l, e.1 ∙ f)
-came_either bn bc left text fn fc f0 (inr e) l f = inr e

@@ -1,9 +1,9 @@
 -- Each record that is read off bytes can stand in a log.
-use Rattle.std.proofs.Common.{◌≡◌, ◌<◌, ◌+◌, ◌*◌, ℕ, zero, suc, Bool, true, false, cond, nat_lt, List, [], ◌∷◌, length, take, drop, Option, Some, None, refl, sym, ap, subst, arith}
+use Rattle.std.proofs.Common.{◌≡◌, ◌+◌, ◌*◌, ℕ, zero, suc, Bool, true, false, cond, nat_lt, List, [], ◌∷◌, length, take, drop, Option, Some, None, refl, subst}
 use Rattle.std.specs.List.{AllByRecursion}
 use Rattle.tree_model.specs.declared.names.Kind.{Kind}
 use Rattle.tree_model.specs.declared.records.LogRecord.{LogRecord}
-use Rattle.log_text.specs.Frames.{Cut, cut_at, first_frame}
+use Rattle.log_text.specs.Frames.{Cut, first_frame}
 use Rattle.log_text.specs.Reading.{read_record}
 use Rattle.log_rules.specs.sound.Sound.{IsSound}
 use Rattle.log_rules.specs.sound.Written.{AreBytes}

@@ -1,17 +1,21 @@
 -- The frames of the records that stay in a trim.
-use Rattle.std.proofs.Common.{◌≡◌, ◌≤◌, ◌+◌, ◌-◌, ◌*◌, ℕ, suc, Bool, true, false, if◌then◌else◌, List, [], ◌∷◌, ◌++◌, length, take, drop, Option, Some, None, fold, refl, sym, ap, subst, ◌∙◌, arith, append-nil, append_assoc, length-append, get_or, ◌<◌}
-use Rattle.std.proofs.lemmas.List.{take_all, length-drop}
+use Rattle.std.proofs.Common.{◌≡◌, ◌≤◌, ◌+◌, ◌-◌, ◌*◌, ℕ, suc, Bool, true, false, if◌then◌else◌, List, [], ◌∷◌, ◌++◌, length, map, take, drop, Option, Some, None, fold, refl, sym, ap, subst, ◌∙◌, arith, append-nil, append_assoc, length-append, get_or, ◌<◌}
+use Rattle.std.proofs.lemmas.List.{length-map, map-append, take_all, length-drop}
 use Rattle.tree_model.specs.declared.names.Kind.{Kind}
 use Rattle.tree_model.specs.declared.records.LogRecord.{LogRecord}
 use Rattle.log_text.specs.Frames.{Cut, cut_at, first_frame, header}
 use Rattle.log_text.specs.Payloads.{records_text}
 use Rattle.log_text.specs.Reading.{read_record}
-use Rattle.log_rules.specs.trim.Tables.{Table, keeps, lives_of, picked}
+use Rattle.tree_model.specs.Records.{is_opened}
+use Rattle.log_text.specs.declared.mark.Mark.{Mark}
+use Rattle.log_text.specs.Marks.{mark_of, opens}
+use Rattle.log_rules.specs.trim.Tables.{Table, keeps, keeps_by, lives_of, picked}
+use Rattle.log_rules.proofs.trim.Marked.{opens_is}
 use Rattle.log_rules.specs.trim.Trims.{front_of_trim, last_opened, opened_after}
 use Rattle.log_rules.proofs.trim.Picks.{picks_what_stays}
 use Rattle.rec_log.specs.Texts.{and_records, is_whole, records_in, whole_if}
 use Rattle.rec_log.specs.Sights.{AreRecords, LogState, NotRewritten, Rewritten, body, log_state, records_of}
-use Rattle.rec_log.specs.Trimming.{Fronts, Holds, Spells, Trimmed, trim_of}
+use Rattle.rec_log.specs.Trimming.{Fronts, Holds, Spells, Stays, Trimmed, marks_in, trim_of}
 use Rattle.rec_log.specs.declared.log.LogError.{LogError}
 use Rattle.rec_log.proofs.Turns.{records_stand}
 use Rattle.rec_log.proofs.Frames.{Cuts, cut_there, cuts, no_frame, no_records, nothing_whole, step, step_whole, taken}
@@ -97,46 +101,118 @@ no_fronts bytes frame behind e = λ p l ls h. absurd (nothing l ls (sym (no_fram
     nothing : (l : LogRecord) (ls : List LogRecord) → ◌≡◌ {A = List LogRecord} [] (l ∷ ls) → ⊥
     nothing l ls q = absurd (cc)
 
--- The last Opened.
+-- The first record, by its mark.
+
+-- the records begin with one that has this mark, and those behind it have these
+record Begins (ls : List LogRecord) (m : Mark) (later : List Mark) : Type 0 where
+  pub first : LogRecord
+  pub rest : List LogRecord
+  pub is : ls ≡ first ∷ rest
+  pub mark : mark_of first ≡ m
+  pub marks : map mark_of rest ≡ later
+
+begins : (ls : List LogRecord) (m : Mark) (later : List Mark) → map mark_of ls ≡ m ∷ later → Begins ls m later
+begins [] m later e = absurd (cc)
+begins (l ∷ ls) m later e = record { first = l; rest = ls; is = refl; mark = cc; marks = cc }
+
+none_marked : (ls : List LogRecord) (left : List Mark) → map mark_of ls ≡ left → length left < 1 → ls ≡ []
+none_marked [] left e h = refl
+none_marked (l ∷ ls) left e h = absurd (omega (arith, ap length e, h))
 
 pub no_bytes : (p : Kind) → Holds p [] []
 no_bytes p = record { whole = nothing_whole p; read = no_records p }
 
-pub opened_first : (ls : List LogRecord) → last_opened ls ≡ fold opened_after [] ls
+pub nothing_stays : (p : Kind) (frames : List ℕ) (marks : List Mark) → frames ≡ [] → marks ≡ []
+    → Stays p [] frames marks
+nothing_stays p frames marks e f =
+    record { held = subst (λ xs. Holds p xs []) (sym e) (no_bytes p); marked = sym f }
+
+-- The last Opened.
+
+pub record OpenedSoFar (p : Kind) (all : List LogRecord) (left : List Mark) (rest opened : List ℕ)
+    (found : Option Mark) : Type 0 where
+  pub to_come : map mark_of (records_in p 0 rest) ≡ left
+  pub last : List LogRecord
+  pub stays : Stays p last opened (marks_in found)
+  pub folds : last_opened all ≡ fold opened_after last (records_in p 0 rest)
+
+pub opened_none : (p : Kind) (bytes opened : List ℕ) (left : List Mark)
+    → map mark_of (records_in p 0 bytes) ≡ left → opened ≡ []
+    → OpenedSoFar p (records_in p 0 bytes) left bytes opened None
 unfolding last_opened
-opened_first ls = refl
+opened_none p bytes opened left e f = record {
+  to_come = e;
+  last = [];
+  stays = nothing_stays p opened [] f refl;
+  folds = refl;
+}
+
+opened_if : (p : Kind) (b : Bool) (l : LogRecord) (last : List LogRecord) (frame opened new : List ℕ) (m : Mark)
+    (found next : Option Mark) → Stays p (l ∷ []) frame (m ∷ []) → Stays p last opened (marks_in found)
+    → new ≡ (if b then frame else opened) → next ≡ (if b then Some m else found)
+    → Stays p (if b then l ∷ [] else last) new (marks_in next)
+opened_if p true l last frame opened new m found next one before e f =
+    subst (λ o. Stays p (l ∷ []) new (marks_in o)) (sym f)
+    (subst (λ xs. Stays p (l ∷ []) xs (m ∷ [])) (sym e) one)
+opened_if p false l last frame opened new m found next one before e f =
+    subst (λ o. Stays p last new (marks_in o)) (sym f)
+    (subst (λ xs. Stays p last xs (marks_in found)) (sym e) before)
+
+pub opened_on : (p : Kind) (all : List LogRecord) (left later : List Mark) (m : Mark)
+    (rest frame behind opened new : List ℕ) (found next : Option Mark) (b : Bool)
+    → OpenedSoFar p all left rest opened found → left ≡ m ∷ later → Fronts rest frame behind
+    → b ≡ opens m.deed → new ≡ (if b then frame else opened) → next ≡ (if b then Some m else found)
+    → OpenedSoFar p all later behind new next
+opened_on p all left later m rest frame behind opened new found next b s e f is o n =
+    let g = begins (records_in p 0 rest) m later (s.to_come ∙ e) in
+    let front = f p g.first g.rest g.is in
+    let test : is_opened g.first.entry ≡ b =
+    sym (opens_is g.first.entry) ∙ ap (λ (k : Mark). opens k.deed) g.mark ∙ sym is in
+    record {
+      to_come = ap (map mark_of) front.1 ∙ g.marks;
+      last = if b then g.first ∷ [] else s.last;
+      stays = opened_if p b g.first s.last frame opened new m found next
+          (record { held = front.0; marked = ap (λ k. k ∷ []) g.mark }) s.stays o n;
+      folds = s.folds ∙ ap (fold opened_after s.last) g.is
+          ∙ ap (λ c. fold opened_after (if c then g.first ∷ [] else s.last) g.rest) test
+          ∙ ap (fold opened_after (if b then g.first ∷ [] else s.last)) (sym front.1);
+    }
+
+pub opened_all : (p : Kind) (all : List LogRecord) (left : List Mark) (rest opened : List ℕ) (found : Option Mark)
+    → OpenedSoFar p all left rest opened found → length left < 1
+    → Stays p (last_opened all) opened (marks_in found)
+opened_all p all left rest opened found s h =
+    subst (λ ls. Stays p ls opened (marks_in found))
+    (sym (s.folds ∙ ap (fold opened_after s.last) (none_marked (records_in p 0 rest) left s.to_come h))) s.stays
 
 -- The frames that are kept.
 
-pub record KeepsSoFar (p : Kind) (t : Table) (all : List LogRecord) (i : ℕ) (left : List LogRecord)
-    (rest frames : List ℕ) (kept : ℕ) : Type 0 where
-  pub to_come : records_in p 0 rest ≡ left
+pub record KeepsSoFar (p : Kind) (t : Table) (all : List LogRecord) (i : ℕ) (left : List Mark)
+    (rest frames : List ℕ) (marks : List Mark) : Type 0 where
+  pub to_come : map mark_of (records_in p 0 rest) ≡ left
   pub stay : List LogRecord
-  pub held : Holds p frames stay
-  pub counted : kept ≡ length stay
-  pub picks : picked t 0 all ≡ stay ++ picked t i left
+  pub stays : Stays p stay frames marks
+  pub picks : picked t 0 all ≡ stay ++ picked t i (records_in p 0 rest)
 
-pub keeps_none : (p : Kind) (t : Table) (all : List LogRecord) (bytes frames : List ℕ)
-    → records_in p 0 bytes ≡ all → frames ≡ [] → KeepsSoFar p t all 0 all bytes frames 0
-keeps_none p t all bytes frames e f = record {
+pub keeps_none : (p : Kind) (t : Table) (bytes frames : List ℕ) (left marks : List Mark)
+    → map mark_of (records_in p 0 bytes) ≡ left → frames ≡ [] → marks ≡ []
+    → KeepsSoFar p t (records_in p 0 bytes) 0 left bytes frames marks
+keeps_none p t bytes frames left marks e f g = record {
   to_come = e;
   stay = [];
-  held = subst (λ xs. Holds p xs []) (sym f) (no_bytes p);
-  counted = refl;
+  stays = nothing_stays p frames marks f g;
   picks = refl;
 }
-
-kept_one : (b : Bool) (l : LogRecord) → List LogRecord
-kept_one b l = if b then l ∷ [] else []
 
 one_held : (p : Kind) (b : Bool) (frame : List ℕ) (l : LogRecord) → Holds p frame (l ∷ [])
     → Holds p (if b then frame else []) (if b then l ∷ [] else [])
 one_held p true frame l h = h
 one_held p false frame l h = no_bytes p
 
-one_counted : (b : Bool) (l : LogRecord) → length (if b then l ∷ [] else []) ≡ (if b then 1 else 0)
-one_counted true l = refl
-one_counted false l = refl
+one_marked : (b : Bool) (l : LogRecord) (m : Mark) → mark_of l ≡ m
+    → map mark_of (if b then l ∷ [] else []) ≡ (if b then m ∷ [] else [])
+one_marked true l m e = ap (λ k. k ∷ []) e
+one_marked false l m e = refl
 
 one_picked : (b : Bool) (l : LogRecord) (more : List LogRecord)
     → (if b then l ∷ more else more) ≡ (if b then l ∷ [] else []) ++ more
@@ -148,49 +224,59 @@ picked_next : (t : Table) (i : ℕ) (l : LogRecord) (later : List LogRecord)
 unfolding picked
 picked_next t i l later = one_picked (keeps t i l) l (picked t (suc i) later)
 
-pub keeps_on : (p : Kind) (t : Table) (all : List LogRecord) (i next : ℕ) (left : List LogRecord)
-    (l : LogRecord) (later : List LogRecord)
-    (rest frame behind frames new : List ℕ) (kept n : ℕ) → KeepsSoFar p t all i left rest frames kept
-    → left ≡ l ∷ later → next ≡ suc i → Fronts rest frame behind
-    → new ≡ frames ++ (if keeps t i l then frame else []) → n ≡ (if keeps t i l then 1 else 0)
-    → KeepsSoFar p t all next later behind new (kept + n)
-keeps_on p t all i next left l later rest frame behind frames new kept n s e next_is f g h =
-    let front = f p l later (s.to_come ∙ e) in
-    let b = keeps t i l in
-    let one = one_counted b l in
+-- more that stays
+both_stay : (p : Kind) (xs ys new : List ℕ) (ls ms : List LogRecord) (marks more next : List Mark)
+    → Stays p ls xs marks → Stays p ms ys more → new ≡ xs ++ ys → next ≡ marks ++ more
+    → Stays p (ls ++ ms) new next
+both_stay p xs ys new ls ms marks more next s h e f = record {
+  held = subst (λ zs. Holds p zs (ls ++ ms)) (sym e) (held p xs ys ls ms s.held h.held);
+  marked = map-append mark_of ls ms ∙ ap (λ ks. ks ++ map mark_of ms) s.marked
+      ∙ ap (λ ks. marks ++ ks) h.marked ∙ sym f;
+}
+
+pub keeps_on : (p : Kind) (t : Table) (all : List LogRecord) (i next : ℕ) (left later : List Mark) (m : Mark)
+    (rest frame behind frames new : List ℕ) (marks more : List Mark) (b : Bool)
+    → KeepsSoFar p t all i left rest frames marks
+    → left ≡ m ∷ later → next ≡ suc i → Fronts rest frame behind → b ≡ keeps_by t i m.name
+    → new ≡ frames ++ (if b then frame else []) → more ≡ marks ++ (if b then m ∷ [] else [])
+    → KeepsSoFar p t all next later behind new more
+keeps_on p t all i next left later m rest frame behind frames new marks more b s e next_is f is n k =
+    let g = begins (records_in p 0 rest) m later (s.to_come ∙ e) in
+    let front = f p g.first g.rest g.is in
+    let test : keeps t i g.first ≡ b = ap (λ (z : Mark). keeps_by t i z.name) g.mark ∙ sym is in
+    let one : List LogRecord = if b then g.first ∷ [] else [] in
     record {
-      to_come = front.1;
-      stay = s.stay ++ (if keeps t i l then l ∷ [] else []);
-      held = subst (λ xs. Holds p xs (s.stay ++ (if keeps t i l then l ∷ [] else []))) (sym g)
-          (held p frames _ s.stay _ s.held (one_held p b frame l front.0));
-      counted = omega (arith, s.counted, h, one, length-append s.stay (if keeps t i l then l ∷ [] else []));
-      picks = s.picks ∙ ap (λ ls. s.stay ++ picked t i ls) e
-          ∙ ap (λ ls. s.stay ++ ls) (picked_next t i l later)
-          ∙ sym (append_assoc s.stay (if keeps t i l then l ∷ [] else []) (picked t (suc i) later))
-          ∙ ap (λ k. (s.stay ++ (if keeps t i l then l ∷ [] else [])) ++ picked t k later) (sym next_is);
+      to_come = ap (map mark_of) front.1 ∙ g.marks;
+      stay = s.stay ++ one;
+      stays = both_stay p frames (if b then frame else []) new s.stay one marks (if b then m ∷ [] else []) more
+          s.stays (record {
+            held = one_held p b frame g.first front.0;
+            marked = one_marked b g.first m g.mark;
+          }) n k;
+      picks = s.picks ∙ ap (λ ls. s.stay ++ picked t i ls) g.is
+          ∙ ap (λ ls. s.stay ++ ls) (picked_next t i g.first g.rest
+          ∙ ap (λ c. (if c then g.first ∷ [] else []) ++ picked t (suc i) g.rest) test)
+          ∙ sym (append_assoc s.stay one (picked t (suc i) g.rest))
+          ∙ ap (λ ls. (s.stay ++ one) ++ picked t (suc i) ls) (sym front.1)
+          ∙ ap (λ j. (s.stay ++ one) ++ picked t j (records_in p 0 behind)) (sym next_is);
     }
 
--- the records behind the first
-pub behind_first : (left : List LogRecord) (l : LogRecord) → 1 ≤ length left → l ≡ get_or left 0 l
-    → left ≡ l ∷ take (length left - 1) (drop 1 left)
-behind_first [] l h e = absurd (omega (arith, h))
-behind_first (k ∷ ls) l h e =
-    let all : take (length (k ∷ ls) - 1) ls ≡ ls = take_all (length (k ∷ ls) - 1) ls (omega arith) in
-    ap (λ t. k ∷ t) (sym all) ∙ ap (λ z. z ∷ take (length (k ∷ ls) - 1) ls) (sym e)
+-- the marks behind the first
+pub behind_first : (left : List Mark) (m : Mark) → 1 ≤ length left → m ≡ get_or left 0 m
+    → left ≡ m ∷ take (length left - 1) (drop 1 left)
+behind_first [] m h e = absurd (omega (arith, h))
+behind_first (k ∷ ms) m h e =
+    let all : take (length (k ∷ ms) - 1) ms ≡ ms = take_all (length (k ∷ ms) - 1) ms (omega arith) in
+    ap (λ t. k ∷ t) (sym all) ∙ ap (λ z. z ∷ take (length (k ∷ ms) - 1) ms) (sym e)
 
-none_left : (left : List LogRecord) → length left < 1 → left ≡ []
-none_left [] h = refl
-none_left (l ∷ ls) h = absurd (omega (arith, h))
-
-pub keeps_all : (p : Kind) (t : Table) (all : List LogRecord) (i : ℕ) (left : List LogRecord)
-    (rest frames : List ℕ) (kept : ℕ)
-    → KeepsSoFar p t all i left rest frames kept → length left < 1
-    → Holds p frames (picked t 0 all) × (kept ≡ length (picked t 0 all))
+pub keeps_all : (p : Kind) (t : Table) (all : List LogRecord) (i : ℕ) (left : List Mark)
+    (rest frames : List ℕ) (marks : List Mark)
+    → KeepsSoFar p t all i left rest frames marks → length left < 1 → Stays p (picked t 0 all) frames marks
 unfolding picked
-keeps_all p t all i left rest frames kept s e =
-    let is : picked t 0 all ≡ s.stay = s.picks ∙ ap (λ ls. s.stay ++ picked t i ls) (none_left left e)
-    ∙ append-nil s.stay in
-    (subst (Holds p frames) (sym is) s.held, s.counted ∙ ap length (sym is))
+keeps_all p t all i left rest frames marks s h =
+    subst (λ ls. Stays p ls frames marks)
+    (sym (s.picks ∙ ap (λ ls. s.stay ++ picked t i ls) (none_marked (records_in p 0 rest) left s.to_come h)
+    ∙ append-nil s.stay)) s.stays
 
 -- The whole text.
 
@@ -198,41 +284,28 @@ front_is : (ls : List LogRecord) → last_opened ls ++ picked (lives_of ls) 0 ls
 unfolding front_of_trim
 front_is ls = ap (λ ms. last_opened ls ++ ms) (picks_what_stays ls)
 
-text_by : (p : Kind) (text opened frames : List ℕ) (ls rs : List LogRecord)
-    → text ≡ ((header ++ opened) ++ frames) ++ records_text rs
-    → Holds p opened (last_opened ls) → Holds p frames (picked (lives_of ls) 0 ls) → AreRecords p rs
-    → Spells p text (front_of_trim ls ++ rs)
-text_by p text opened frames ls rs e o f are =
-    let joined : text ≡ header ++ ((opened ++ frames) ++ records_text rs) =
-    e ∙ ap (λ z. z ++ records_text rs) (append_assoc header opened frames)
-    ∙ append_assoc header (opened ++ frames) (records_text rs) in
-    let kept = held p opened frames (last_opened ls) _ o f in
-    let all = held p (opened ++ frames) (records_text rs) _ rs kept (held_text p rs are) in
-    spelled p text ((opened ++ frames) ++ records_text rs) (front_of_trim ls ++ rs) joined
-    (subst (λ ms. Holds p ((opened ++ frames) ++ records_text rs) (ms ++ rs)) (front_is ls) all)
+-- what stays in front
+pub front_stays : (p : Kind) (ls : List LogRecord) (opened frames : List ℕ) (found : Option Mark)
+    (kept marks : List Mark) → Stays p (last_opened ls) opened (marks_in found)
+    → Stays p (picked (lives_of ls) 0 ls) frames kept → marks ≡ marks_in found ++ kept
+    → Stays p (front_of_trim ls) (opened ++ frames) marks
+front_stays p ls opened frames found kept marks o f e =
+    subst (λ ms. Stays p ms (opened ++ frames) marks) (front_is ls)
+    (both_stay p opened frames (opened ++ frames) _ _ (marks_in found) kept marks o f refl e)
 
-pub text_of_trim : (p : Kind) (text opened frames : List ℕ) (t : Table)
-    (ls noted read shown rs : List LogRecord) → noted ≡ ls → read ≡ ls → shown ≡ ls
-    → t ≡ lives_of noted → text ≡ ((header ++ opened) ++ frames) ++ records_text rs
-    → Holds p opened (last_opened read) → Holds p frames (picked t 0 shown) → AreRecords p rs
-    → Spells p text (front_of_trim ls ++ rs)
-text_of_trim p text opened frames t ls noted read shown rs n r s l e o f are =
-    text_by p text opened frames ls rs e (subst (λ ms. Holds p opened (last_opened ms)) r o)
-    (subst (λ ms. Holds p frames (picked (lives_of ls) 0 ms)) s
-    (subst (λ u. Holds p frames (picked u 0 shown)) (l ∙ ap lives_of n) f)) are
+-- the text, of the bytes of its front
+pub front_text : (text front opened frames : List ℕ) (rs : List LogRecord) → front ≡ (header ++ opened) ++ frames
+    → text ≡ front ++ records_text rs → text ≡ (header ++ (opened ++ frames)) ++ records_text rs
+front_text text front opened frames rs e f =
+    f ∙ ap (λ z. z ++ records_text rs) (e ∙ append_assoc header opened frames)
 
-pub count_of_trim : (first kept behind : ℕ) (t : Table) (ls noted read shown rs : List LogRecord) → noted ≡ ls
-    → read ≡ ls → shown ≡ ls → t ≡ lives_of noted
-    → first ≡ length (last_opened read) → kept ≡ length (picked t 0 shown) → behind ≡ length rs
-    → first + kept + behind ≡ length (front_of_trim ls ++ rs)
-count_of_trim first kept behind t ls noted read shown rs n r s l f k b =
-    let f' : first ≡ length (last_opened ls) = f ∙ ap (λ ms. length (last_opened ms)) r in
-    let k' : kept ≡ length (picked (lives_of ls) 0 ls) = k
-    ∙ ap (λ u. length (picked u 0 shown)) (l ∙ ap lives_of n)
-    ∙ ap (λ ms. length (picked (lives_of ls) 0 ms)) s in
-    let whole = length-append (last_opened ls) (picked (lives_of ls) 0 ls) in
-    let all = length-append (front_of_trim ls) rs in
-    omega (arith, f', k', b, whole, all, ap length (front_is ls))
+pub text_of_trim : (p : Kind) (text kept : List ℕ) (marks : List Mark) (ls rs : List LogRecord)
+    → text ≡ (header ++ kept) ++ records_text rs → Stays p (front_of_trim ls) kept marks → AreRecords p rs
+    → Spells p text (front_of_trim ls ++ rs)
+text_of_trim p text kept marks ls rs e s are =
+    spelled p text (kept ++ records_text rs) (front_of_trim ls ++ rs)
+    (e ∙ append_assoc header kept (records_text rs))
+    (held p kept (records_text rs) (front_of_trim ls) rs s.held (held_text p rs are))
 
 -- A log that was trimmed.
 
@@ -246,24 +319,31 @@ pub trim_read : (p : Kind) (text bytes made asked : List ℕ) (forced failures r
     (s : LogState) (rs : List LogRecord)
     → log_state p text forced failures room failed ≡ s → bytes ≡ body text → asked ≡ made
     → Spells p made (front_of_trim (records_in p 0 bytes) ++ rs)
-    → records_in s.kind 0 (body asked) ≡ trim_of s rs
+    → records_in p 0 (body asked) ≡ trim_of s rs
 trim_read p text bytes made asked forced failures room failed s rs view e a spells =
-    ap (λ k. records_in k 0 (body asked)) (sym (ap (λ z. z.kind) view)) ∙ ap (λ t. records_in p 0 (body t)) a
+    ap (λ t. records_in p 0 (body t)) a
     ∙ spells.holds.read
     ∙ ap (λ ls. front_of_trim ls ++ rs) (kept_is p text bytes forced failures room failed s view e)
 
-pub trim_counted : (p : Kind) (text bytes : List ℕ) (count forced failures room : ℕ) (failed : Bool)
-    (s : LogState) (rs : List LogRecord)
+pub trim_counted : (p : Kind) (text bytes : List ℕ) (marks : List Mark)
+    (count forced failures room : ℕ) (failed : Bool) (s : LogState) (rs : List LogRecord)
     → log_state p text forced failures room failed ≡ s → bytes ≡ body text
-    → count ≡ length (front_of_trim (records_in p 0 bytes) ++ rs)
+    → marks ≡ map mark_of (front_of_trim (records_in p 0 bytes)) → count ≡ length marks + length rs
     → count ≡ length (trim_of s rs)
-trim_counted p text bytes count forced failures room failed s rs view e c =
-    c ∙ ap (λ ls. length (front_of_trim ls ++ rs)) (kept_is p text bytes forced failures room failed s view e)
+trim_counted p text bytes marks count forced failures room failed s rs view e m c =
+    let front : List LogRecord = front_of_trim (records_in p 0 bytes) in
+    let all : count ≡ length (front ++ rs) =
+    omega (arith, c, ap length m, length-map front mark_of, length-append front rs) in
+    all ∙ ap (λ ls. length (front_of_trim ls ++ rs)) (kept_is p text bytes forced failures room failed s view e)
 
-pub trimmed : (old new : LogState) (ls rs : List LogRecord) (count : ℕ) → ls ≡ trim_of old rs
-    → Rewritten old new ls → count ≡ length (trim_of old rs) → Trimmed old new rs count
-trimmed old new ls rs count e r c = record { log = subst (λ ms. Rewritten old new ms) e r; counted = c }
+pub trimmed : (seen old new : LogState) (ls rs : List LogRecord) (count : ℕ) → seen ≡ old → ls ≡ trim_of old rs
+    → Rewritten seen new ls → count ≡ length (trim_of old rs) → Trimmed old new rs count
+trimmed seen old new ls rs count view e r c = record {
+  log = subst (λ s. Rewritten s new (trim_of old rs)) view (subst (λ ms. Rewritten seen new ms) e r);
+  counted = c;
+}
 
-pub not_trimmed : (old new : LogState) (ls rs : List LogRecord) (e : LogError) → ls ≡ trim_of old rs
-    → NotRewritten old new ls e → NotRewritten old new (trim_of old rs) e
-not_trimmed old new ls rs e is r = subst (λ ms. NotRewritten old new ms e) is r
+pub not_trimmed : (seen old new : LogState) (ls rs : List LogRecord) (e : LogError) → seen ≡ old
+    → ls ≡ trim_of old rs → NotRewritten seen new ls e → NotRewritten old new (trim_of old rs) e
+not_trimmed seen old new ls rs e view is r =
+    subst (λ s. NotRewritten s new (trim_of old rs) e) view (subst (λ ms. NotRewritten seen new ms e) is r)

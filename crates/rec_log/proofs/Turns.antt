@@ -188,7 +188,7 @@ text_forced p text text' forced forced' failed ok is le e f =
       whole = λ _. whole;
     }
 
-front_grows : (p : Kind) (text : List ℕ) (n m : ℕ) → n ≤ m
+pub front_grows : (p : Kind) (text : List ℕ) (n m : ℕ) → n ≤ m
     → length (records_in p 0 (front text n)) ≤ length (records_in p 0 (front text m))
 front_grows p text n m h =
     let e = front_of p 0 (n - 5) (front text m) in

@@ -1,4 +1,6 @@
 pub mod Texts
 pub mod Sights
+pub mod Restarting
 pub mod Openings
 pub mod Trimming
+pub mod Errors

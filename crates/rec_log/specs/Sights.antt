@@ -169,12 +169,6 @@ pub record EndsSound (p : Kind) (text : List ℕ) (end : ℕ) : Type 0 where
   pub there : end ≤ length text
   pub sounds : Sounds p (body text) (end - 5)
 
--- what a restart writes: what is left without a torn tail, and new records
-pub record LeavesText (p : Kind) (left : List ℕ) (rs : List LogRecord) (text : List ℕ) : Type 0 where
-  pub end : ℕ
-  pub ends : EndsSound p left end
-  pub is : text ≡ take end left ++ records_text rs
-
 -- a log of what a crash left that kept so many bytes, and of these new records, all of them forced
 pub record Restarts (old new : LogState) (keep : ℕ) (rs : List LogRecord) : Type 0 where
   pub kind : new.kind ≡ old.kind
@@ -184,13 +178,13 @@ pub record Restarts (old new : LogState) (keep : ℕ) (rs : List LogRecord) : Ty
   pub works : new.sight.failed ≡ false
   pub failures : new.sight.failures ≡ old.sight.failures
 
--- the crash took place and the device failed: what it left stands, as much of it forced as was before; or it
--- and the new records do, all of them forced
+-- the crash took place and the device failed: what it left stands, and behind it a front of the new records;
+-- the forced front ends anywhere behind the records that were forced
 pub record RestartBreaks (old new : LogState) (keep : ℕ) (rs : List LogRecord) : Type 0 where
   pub kind : new.kind ≡ old.kind
-  pub either : ((records_of new.sight.kept ≡ left_by old.sight keep)
-      × (new.sight.kept.forced ≡ old.sight.kept.forced))
-      ⊎ (new.sight.kept ≡ record { forced = left_by old.sight keep ++ rs; unforced = [] })
+  pub appended : ℕ
+  pub stand : records_of new.sight.kept ≡ left_by old.sight keep ++ take appended rs
+  pub no_less : length old.sight.kept.forced ≤ length new.sight.kept.forced
   pub failed : new.sight.failed ≡ true
   pub cause : MoreFailures old.sight.failures new.sight.failures
 

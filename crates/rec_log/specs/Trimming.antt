@@ -1,9 +1,11 @@
 -- A log that is put in place of another, and what a trim leaves.
-use Rattle.std.specs.Prelude.{◌≡◌, ◌≤◌, ℕ, true, List, [], ◌∷◌, ◌++◌, length, take}
+use Rattle.std.specs.Prelude.{◌≡◌, ◌≤◌, ◌-◌, ◌⊎◌, ℕ, true, List, [], ◌∷◌, ◌++◌, length, map, take, Option, Some, None}
 use Rattle.tree_model.specs.declared.names.Kind.{Kind}
 use Rattle.tree_model.specs.declared.records.LogRecord.{LogRecord}
 use Rattle.log_text.specs.Frames.{header}
 pub use Rattle.log_rules.specs.trim.Trims.{front_of_trim}
+use Rattle.log_text.specs.Marks.{mark_of}
+use Rattle.log_text.specs.declared.mark.Mark.{Mark}
 use Rattle.rec_log.specs.Texts.{is_whole, records_in}
 use Rattle.rec_log.specs.Sights.{LogState, Rewritten, body, records_of}
 
@@ -11,6 +13,30 @@ use Rattle.rec_log.specs.Sights.{LogState, Rewritten, body, records_of}
 pub record Holds (p : Kind) (bytes : List ℕ) (ls : List LogRecord) : Type 0 where
   pub whole : is_whole p 0 bytes ≡ true
   pub read : records_in p 0 bytes ≡ ls
+
+-- the bytes are the whole frames of these records, and these are their marks
+pub record Stays (p : Kind) (ls : List LogRecord) (frames : List ℕ) (marks : List Mark) : Type 0 where
+  pub held : Holds p frames ls
+  pub marked : map mark_of ls ≡ marks
+
+-- the first so many bytes of a log are its header and whole records, and these are their marks
+pub record IsIndex (p : Kind) (text : List ℕ) (size : ℕ) (marks : List Mark) : Type 0 where
+  pub header : 5 ≤ size
+  pub within : size ≤ length text
+  pub whole : is_whole p 0 (take (size - 5) (body text)) ≡ true
+  pub marked : map mark_of (records_in p 0 (take (size - 5) (body text))) ≡ marks
+
+-- what is indexed, by its size and its marks: as much as before, or one record more, which stands right
+-- behind it between these places
+abbrev pub Follows : ℕ → List Mark → ℕ → List Mark → ℕ → ℕ → LogRecord → Type 0
+Follows size marks size' marks' from to l =
+    ((size' ≡ size) × (marks' ≡ marks))
+    ⊎ ((size ≡ from) × (size' ≡ to) × (marks' ≡ marks ++ mark_of l ∷ []))
+
+-- the mark, where there is one
+abbrev pub marks_in : Option Mark → List Mark
+marks_in None = []
+marks_in (Some m) = m ∷ []
 
 -- the text is a log of these records
 pub record Spells (p : Kind) (text : List ℕ) (ls : List LogRecord) : Type 0 where

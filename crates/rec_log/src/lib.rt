@@ -33,6 +33,7 @@
 //! ```
 #![tactic(auto)]
 
+mod index;
 pub mod law;
 mod log;
 mod opening;

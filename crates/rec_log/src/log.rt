@@ -7,30 +7,48 @@ ghost use Rattle.log_text.specs.Reading.{read_record};
 ghost use Rattle.log_text.specs.Frames.{header};
 ghost use Rattle.log_text.specs.Made.{frame_record};
 ghost use Rattle.log_text.specs.Payloads.{record_text, records_text};
-ghost use Rattle.rec_log.specs.Sights.{Appended, AreRecords, Breaks, EndsSound, Forced, IsKnown, IsRecord, LeavesText, NotRestarted, NotRewritten, ReadsAs, Restarts, Rewritten, Sounds, body, left_by, log_state, records_of, whole_within};
+ghost use Rattle.rec_log.specs.Sights.{Appended, AreRecords, Breaks, EndsSound, Forced, IsKnown, IsRecord, NotRestarted, NotRewritten, ReadsAs, Restarts, Rewritten, Sounds, body, left_by, log_state, records_of, whole_within};
 ghost use Rattle.log_store.specs.Stores.{Replaces};
 ghost use Rattle.rec_log.specs.Openings.{IsRefused, NotOpened, Opens, Settles};
+ghost use Rattle.rec_log.specs.Errors.{log_error_number};
+ghost use Rattle.rec_log.specs.Restarting.{BreaksLeft, PutsLeft, WritesLeft};
 ghost use Rattle.rec_log.specs.Texts.{records_in};
-ghost use Rattle.rec_log.specs.Trimming.{Spells, Trimmed, trim_of};
+ghost use Rattle.rec_log.specs.Trimming.{IsIndex, Spells, Trimmed, trim_of};
 
+use crate::index::Index;
 use crate::opening::{Found, OpenError, find};
 use crate::trimming::trimmed_text;
 use log_store::{LogStore, MemoryStore, StoreError};
 use log_text::{Frame, HEADER, ReadFault, first_frame, read_record};
 use std::alloc::{AllocError, Global};
 use std::marker::Model;
+use thiserror::Error;
 use tree_model::{Kind, LogRecord};
 
 /// Why a log did not do what it was asked.
-#[derive(Clone, Copy, PartialEq, Eq)]
+#[derive(Clone, Copy, Debug, PartialEq, Eq, Error)]
 pub enum LogError {
     /// There was no memory; nothing changed.
+    #[error("no memory")]
     Memory,
     /// The device failed. The log has failed until it is restarted or opened.
+    #[error("the device failed")]
     Device,
 }
 
-/// The log of a process. What it keeps of its records is their bytes alone.
+impl LogError {
+    /// The number of the error, 1 or 2.
+    pub fn number(self) -> u8
+        ensures { result ≡ log_error_number self }
+    {
+        match self {
+            LogError::Memory => 1,
+            LogError::Device => 2,
+        }
+    }
+}
+
+/// The log of a process. What it keeps of its records is their bytes, and an index for its trims.
 #[derive(Drop)]
 pub struct RecLog<L: LogStore> {
     kind: Kind,
@@ -38,11 +56,15 @@ pub struct RecLog<L: LogStore> {
     /// How many bytes at the front are known to be the header and whole records, all of them forced: a
     /// restart looks for the end of the last whole record behind them alone.
     known: usize,
+    /// What a trim must know of the records at the front. An append takes its record in; a trim, what stands
+    /// behind it still.
+    index: Index,
     failed: bool,
 }
 
 impl<L: LogStore> Model for RecLog<L> {
     ghost use Rattle.rec_log.specs.Sights.{LogState, IsKnown, IsLogText, log_state};
+    ghost use Rattle.rec_log.specs.Trimming.{IsIndex};
 
     ghost Value = { LogState };
 
@@ -50,7 +72,8 @@ impl<L: LogStore> Model for RecLog<L> {
         (L.room l.store) l.failed };
 
     ghost invariant = { λ l. IsLogText l.kind (L.bytes l.store) (L.forced l.store) l.failed
-        × IsKnown l.kind (L.bytes l.store) (L.forced l.store) l.known };
+        × IsKnown l.kind (L.bytes l.store) (L.forced l.store) l.known
+        × IsIndex l.kind (L.bytes l.store) l.index.size l.index.marks.items };
 }
 
 /// The bytes behind the header.
@@ -76,11 +99,7 @@ fn left_by(bytes: &[u8], forced: usize, keep: usize) -> &[u8]
 }
 
 /// The records at the front of the bytes behind a header.
-pub(crate) fn records_in(
-    kind: Kind,
-    bytes: &[u8],
-    alloc: Global,
-) -> Result<Vec<LogRecord>, AllocError>
+fn records_in(kind: Kind, bytes: &[u8], alloc: Global) -> Result<Vec<LogRecord>, AllocError>
     ensures { IfOk result (λ records. records.items ≡ records_in kind 0 bytes.now) }
 {
     let mut records = Vec::new(alloc);
@@ -97,7 +116,7 @@ pub(crate) fn records_in(
 }
 
 /// The records at the front of what stands behind the known bytes.
-fn records_behind(
+pub(crate) fn records_behind(
     kind: Kind,
     left: &[u8],
     known: usize,
@@ -169,21 +188,41 @@ fn sound_end(kind: Kind, left: &[u8], known: usize, alloc: Global) -> Result<usi
     Ok(known + sound_size(kind, behind, alloc)?)
 }
 
-/// The text that a restart writes.
+/// What a restart writes. Where a torn tail is left, all that is to stand, and true; else the new frames,
+/// which are to stand behind what is left, and false.
 fn text_left(
     kind: Kind,
     left: &[u8],
     known: usize,
     new: &[Frame],
     alloc: Global,
-) -> Result<Vec<u8>, AllocError>
+) -> Result<(bool, Vec<u8>), AllocError>
     requires { IsKnown kind left.now (length left.now) known }
-    ensures { IfOk result (λ text. LeavesText kind left.now (map frame_record new.now) text.items) }
+    ensures { IfOk result (λ r. WritesLeft kind left.now (map frame_record new.now) r.0 r.1.items) }
 {
     let end = sound_end(kind, left, known, alloc)?;
-    let mut text = front_of(left, end, alloc)?;
+    let is_torn = end < left.len();
+    let mut text = Vec::new(alloc);
+    if is_torn {
+        text.extend_from_slice(&left[..end])?;
+    }
     push_frames(&mut text, new)?;
-    Ok(text)
+    Ok((is_torn, text))
+}
+
+/// Puts these bytes in place of all that stands, or behind it, and forces all.
+fn write_left<L: LogStore>(store: &mut L, anew: bool, text: &[u8]) -> Result<(), StoreError>
+    ensures ok { OnOk result (PutsLeft L.bytes L.forced L.failures store.old store.new anew text.now) }
+    ensures memory { IfErr result (λ e. e ≡ StoreError.Memory
+        → L.room store.old < length (L.bytes store.old) + length text.now) }
+    ensures device { IfErr result (λ e. e ≡ StoreError.Device
+        → BreaksLeft L.bytes L.forced L.failures store.old store.new anew text.now) }
+{
+    if anew {
+        return store.replace(text);
+    }
+    store.append(text)?;
+    store.force()
 }
 
 /// The text of a log of these records alone.
@@ -242,6 +281,7 @@ impl<L: LogStore + Drop> RecLog<L> {
             kind,
             store,
             known: HEADER.len(),
+            index: Index::new(alloc),
             failed: false,
         })
     }
@@ -270,11 +310,15 @@ impl<L: LogStore> RecLog<L> {
         ensures kind { self.new.kind ≡ self.old.kind }
         ensures room { OnOk result (more ≤ self.new.room) }
     {
+        self.index.reserve()?;
         self.store.reserve(more)
     }
 
-    /// Appends a record, where there is room for its frame; it is not forced. Device: the device failed, and
-    /// any front of the frame stands; the log has failed until its restart.
+    /// Appends a record, where there is room for its frame; it is not forced. The record is one that a log
+    /// of this sort can hold, so that its frame reads as it: its kind is of that sort, its name whole, its
+    /// numbers and lengths in range. Whether it may follow those that stand is not asked: a log whose records
+    /// stand out of order is refused where it is opened. Device: the device failed, and any front of the
+    /// frame stands; the log has failed until its restart.
     pub fn append(&mut self, frame: &Frame) -> Result<(), LogError>
         requires room { length (record_text (frame_record frame.now)) ≤ self.old.room }
         requires works { self.old.sight.failed ≡ false }
@@ -283,10 +327,13 @@ impl<L: LogStore> RecLog<L> {
         ensures err { IfErr result (λ e. (e ≡ LogError.Device)
             × Breaks self.old self.new (frame_record frame.now ∷ [])) }
     {
+        let from = self.store.bytes().len();
         if let Err(_) = self.store.append(frame.bytes()) {
             self.failed = true;
             return Err(LogError::Device);
         }
+        let to = self.store.bytes().len();
+        self.index.follow(frame, from, to);
         Ok(())
     }
 
@@ -358,9 +405,10 @@ impl<L: LogStore> RecLog<L> {
     }
 
     /// After a crash that kept so many bytes behind the forced front: the records of what is left, a torn
-    /// tail gone, and these new ones behind them, all of them forced by one `replace`. All memory is taken
-    /// before the crash. Memory: nothing changed. Device: the new records stand or do not, and the log has
-    /// failed.
+    /// tail gone, and these new ones behind them, all of them forced: by one append and one force, or, where
+    /// a torn tail is left, by one `replace`. All memory is taken before the crash. Memory: nothing changed.
+    /// Device: what is left stands, and behind it any first ones of the new records; what was forced is; and
+    /// the log has failed.
     pub fn restart(&mut self, keep: usize, new: &[Frame], alloc: Global) -> Result<(), LogError>
         requires { AreRecords self.old.kind (map frame_record new.now) }
         ensures kind { self.new.kind ≡ self.old.kind }
@@ -369,17 +417,18 @@ impl<L: LogStore> RecLog<L> {
     {
         let forced = self.store.forced();
         let left = left_by(self.store.bytes(), forced, keep);
-        let text = match text_left(self.kind, left, self.known, new, alloc) {
-            Ok(text) => text,
+        let (is_torn, text) = match text_left(self.kind, left, self.known, new, alloc) {
+            Ok(writing) => writing,
             Err(_) => return Err(LogError::Memory),
         };
         if let Err(_) = self.store.reserve(text.len()) {
             return Err(LogError::Memory);
         }
+        self.index = Index::new(alloc);
         self.store.crash(keep);
-        match self.store.replace(&text) {
+        match write_left(&mut self.store, is_torn, &text) {
             Ok(()) => {
-                self.known = text.len();
+                self.known = self.store.bytes().len();
                 self.failed = false;
                 Ok(())
             }
@@ -401,14 +450,15 @@ impl<L: LogStore> RecLog<L> {
         ensures err { IfErr result (λ e. NotRewritten self.old self.new (map frame_record new.now) e) }
     {
         match text_of(new, alloc) {
-            Ok(text) => self.put(&text),
+            Ok(text) => self.put(&text, Index::new(alloc)),
             Err(_) => Err(LogError::Memory),
         }
     }
 
-    /// Puts the log of this text in place of all that stand.
-    fn put(&mut self, text: &[u8]) -> Result<(), LogError>
+    /// Puts the log of this text in place of all that stand, with this index of it.
+    fn put(&mut self, text: &[u8], index: Index) -> Result<(), LogError>
         requires works { self.old.sight.failed ≡ false }
+        requires index { IsIndex self.old.kind text.now index.size index.marks.items }
         requires sound { Spells self.old.kind text.now (records_in self.old.kind 0 (body text.now)) }
         ensures kind { self.new.kind ≡ self.old.kind }
         ensures ok { OnOk result (Rewritten self.old self.new (records_in self.old.kind 0 (body text.now))) }
@@ -420,10 +470,12 @@ impl<L: LogStore> RecLog<L> {
         }
         if let Err(_) = self.store.replace(text) {
             self.known = HEADER.len();
+            self.index.clear();
             self.failed = true;
             return Err(LogError::Device);
         }
         self.known = text.len();
+        self.index = index;
         Ok(())
     }
 
@@ -439,11 +491,22 @@ impl<L: LogStore> RecLog<L> {
         ensures err { IfErr result (λ e. NotRewritten self.old self.new
             (trim_of self.old (map frame_record behind.now)) e) }
     {
-        let (text, count) = match trimmed_text(self.kind, body(self.store.bytes()), behind, alloc) {
+        let bytes = self.store.bytes();
+        if let Err(_) = self.index.extend(self.kind, bytes, alloc) {
+            return Err(LogError::Memory);
+        }
+        let (text, index) = match trimmed_text(
+            self.kind,
+            body(bytes),
+            &self.index.marks,
+            behind,
+            alloc,
+        ) {
             Ok(trimmed) => trimmed,
             Err(_) => return Err(LogError::Memory),
         };
-        match self.put(&text) {
+        let count = index.marks.len() + behind.len();
+        match self.put(&text, index) {
             Ok(()) => Ok(count),
             Err(error) => Err(error),
         }

@@ -3,6 +3,7 @@
 ghost use Rattle.std.specs.Prelude.{◌≡◌, ◌≤◌, ◌-◌, None, Some, IfOk, IfErr, OnOk, length, take, drop};
 ghost use Rattle.log_text.specs.Reading.{read_record};
 ghost use Rattle.log_text.specs.Frames.{header};
+ghost use Rattle.rec_log.specs.Errors.{open_error_number};
 ghost use Rattle.rec_log.specs.Openings.{Ends, IsFault, IsFound, IsNoLog, after_frame};
 ghost use Rattle.tree_model.specs.Records.{same_bytes};
 
@@ -24,6 +25,19 @@ pub enum OpenError {
     /// The bytes are no log: the first byte of the first frame that is wrong, 0 for the header.
     #[error("damaged at byte {0}")]
     Damaged(usize),
+}
+
+impl OpenError {
+    /// The number of the refusal, from 1 to 3.
+    pub fn number(self) -> u8
+        ensures { result ≡ open_error_number self }
+    {
+        match self {
+            OpenError::Memory => 1,
+            OpenError::Device => 2,
+            OpenError::Damaged(_) => 3,
+        }
+    }
 }
 
 /// Takes the record of a frame. Malformed comes exactly where there is none, or it may not follow the

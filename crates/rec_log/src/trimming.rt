@@ -1,20 +1,29 @@
 //! The text of the records that stay in a trim.
 
-ghost use Rattle.std.specs.Prelude.{◌≡◌, ◌≤◌, ◌++◌, [], IfOk, OnOk, if◌then◌else◌, length, map};
+ghost use Rattle.std.specs.Prelude.{◌≡◌, ◌++◌, ◌∷◌, [], IfOk, OnOk, if◌then◌else◌, length, map};
 ghost use Rattle.log_text.specs.Frames.{header};
 ghost use Rattle.log_text.specs.Made.{frame_record};
 ghost use Rattle.log_text.specs.Payloads.{records_text};
 ghost use Rattle.log_rules.specs.trim.Trims.{front_of_trim, last_opened};
 ghost use Rattle.log_rules.specs.trim.Tables.{lives_of, picked};
+ghost use Rattle.log_text.specs.Marks.{mark_of};
 ghost use Rattle.rec_log.specs.Sights.{AreRecords};
 ghost use Rattle.rec_log.specs.Texts.{records_in};
-ghost use Rattle.rec_log.specs.Trimming.{Fronts, Holds, Spells};
+ghost use Rattle.rec_log.specs.Trimming.{Fronts, Holds, IsIndex, Spells, Stays, marks_in};
 
-use crate::log::{push_frames, records_in};
+use crate::index::Index;
+use crate::log::push_frames;
 use log_rules::trim::Lives;
-use log_text::{Frame, HEADER, first_frame};
+use log_text::{Frame, HEADER, Mark, first_frame};
 use std::alloc::{AllocError, Global};
-use tree_model::{Kind, LogRecord, Record};
+use tree_model::Kind;
+
+/// Records that stay: their frames, and their marks.
+#[derive(Drop)]
+struct Staying {
+    frames: Vec<u8>,
+    marks: Vec<Mark>,
+}
 
 /// The first frame of bytes that begin with a record, and what is behind it.
 fn frame_at(bytes: &[u8]) -> (&[u8], &[u8])
@@ -26,120 +35,140 @@ fn frame_at(bytes: &[u8]) -> (&[u8], &[u8])
     }
 }
 
-/// The frame of the last Opened, and 1; no bytes and 0 where there is none.
-fn opened_frame<'a>(kind: Kind, bytes: &'a [u8], records: &[LogRecord]) -> (&'a [u8], usize)
-    requires { records_in kind 0 bytes.now ≡ records.now }
-    ensures frame { Holds kind result.0.now (last_opened records.now) }
-    ensures count { result.1 ≡ length (last_opened records.now) }
-    ensures one { result.1 ≤ 1 }
+/// The frame of the last Opened, and its mark; no bytes where there is none.
+fn opened_frame<'a>(kind: Kind, bytes: &'a [u8], marks: &[Mark]) -> (&'a [u8], Option<Mark>)
+    requires { map mark_of (records_in kind 0 bytes.now) ≡ marks.now }
+    ensures { Stays kind (last_opened (records_in kind 0 bytes.now)) result.0.now (marks_in result.1) }
 {
     let mut opened: &'a [u8] = &[];
-    let mut count = 0;
-    let mut left = records;
+    let mut found = None;
+    let mut left = marks;
     let mut rest = bytes;
-    while let [entry, later @ ..] = left {
+    while let [mark, later @ ..] = left {
         let (frame, behind) = frame_at(rest);
-        if matches!(entry.entry, Record::Opened(_)) {
+        if mark.is_opened() {
             opened = frame;
-            count = 1;
+            found = Some(*mark);
         }
         left = later;
         rest = behind;
     }
-    (opened, count)
+    (opened, found)
 }
 
-/// Adds a frame that is to be kept, and tells how many were added.
-fn keep_if(keeps: bool, frames: &mut Vec<u8>, frame: &[u8]) -> Result<usize, AllocError>
-    ensures frames { OnOk result (frames.new.items ≡ frames.old.items ++ (if keeps then frame.now else [])) }
-    ensures count { IfOk result (λ n. n ≡ (if keeps then 1 else 0)) }
-    ensures one { IfOk result (λ n. n ≤ 1) }
+/// Adds a frame that is to be kept.
+fn keep_frame(keeps: bool, frames: &mut Vec<u8>, frame: &[u8]) -> Result<(), AllocError>
+    ensures { OnOk result (frames.new.items ≡ frames.old.items ++ (if keeps then frame.now else [])) }
 {
-    if !keeps {
-        return Ok(0);
+    if keeps {
+        frames.extend_from_slice(frame)?;
     }
-    frames.extend_from_slice(frame)?;
-    Ok(1)
+    Ok(())
 }
 
-/// The frames of the records that stay, and how many they are.
+/// Adds the mark of a record that is to be kept.
+fn keep_mark(keeps: bool, marks: &mut Vec<Mark>, mark: Mark) -> Result<(), AllocError>
+    ensures { OnOk result (marks.new.items ≡ marks.old.items ++ (if keeps then mark ∷ [] else [])) }
+{
+    if keeps {
+        marks.extend_from_slice(&[mark])?;
+    }
+    Ok(())
+}
+
+/// The records that stay, of those with these marks.
 fn kept_frames(
     kind: Kind,
     bytes: &[u8],
-    records: &[LogRecord],
+    marks: &[Mark],
     lives: &Lives,
     alloc: Global,
-) -> Result<(Vec<u8>, usize), AllocError>
-    requires { records_in kind 0 bytes.now ≡ records.now }
-    ensures frames { IfOk result (λ r. Holds kind r.0.items (picked lives.now 0 records.now)
-        × (r.1 ≡ length (picked lives.now 0 records.now))) }
-    ensures few { IfOk result (λ r. r.1 ≤ length records.now) }
+) -> Result<Staying, AllocError>
+    requires { map mark_of (records_in kind 0 bytes.now) ≡ marks.now }
+    ensures { IfOk result (λ kept. Stays kind (picked lives.now 0 (records_in kind 0 bytes.now))
+        kept.frames.items kept.marks.items) }
 {
     let mut frames = Vec::new(alloc);
-    let mut kept = 0;
+    let mut kept = Vec::new(alloc);
     let mut place = 0;
-    let mut left = records;
+    let mut left = marks;
     let mut rest = bytes;
-    while let [entry, later @ ..] = left {
+    while let [mark, later @ ..] = left {
         let (frame, behind) = frame_at(rest);
-        kept += keep_if(lives.keeps(place, entry), &mut frames, frame)?;
+        let keeps = lives.keeps(place, mark);
+        keep_frame(keeps, &mut frames, frame)?;
+        keep_mark(keeps, &mut kept, *mark)?;
         place += 1;
         left = later;
         rest = behind;
     }
-    Ok((frames, kept))
+    Ok(Staying {
+        frames,
+        marks: kept,
+    })
 }
 
-/// The frames of the records that stay in a trim of these, and how many they are.
-fn staying_frames(
+/// The records that stay in a trim of those with these marks.
+fn staying_records(
     kind: Kind,
     bytes: &[u8],
-    records: &[LogRecord],
+    marks: &[Mark],
     alloc: Global,
-) -> Result<(Vec<u8>, usize), AllocError>
-    requires { records_in kind 0 bytes.now ≡ records.now }
-    ensures frames { IfOk result (λ r. Holds kind r.0.items (picked (lives_of records.now) 0 records.now)
-        × (r.1 ≡ length (picked (lives_of records.now) 0 records.now))) }
-    ensures few { IfOk result (λ r. r.1 ≤ length records.now) }
+) -> Result<Staying, AllocError>
+    requires { map mark_of (records_in kind 0 bytes.now) ≡ marks.now }
+    ensures { IfOk result (λ kept. Stays kind (picked (lives_of (records_in kind 0 bytes.now)) 0
+        (records_in kind 0 bytes.now)) kept.frames.items kept.marks.items) }
 {
-    let lives = Lives::of(records, alloc)?;
-    kept_frames(kind, bytes, records, &lives, alloc)
+    let lives = Lives::of(marks, alloc)?;
+    kept_frames(kind, bytes, marks, &lives, alloc)
 }
 
-/// A text of the header, the frame of the last Opened, the frames that stay, and these behind them.
-fn joined_text(
-    opened: &[u8],
-    frames: &[u8],
-    behind: &[Frame],
-    alloc: Global,
-) -> Result<Vec<u8>, AllocError>
-    ensures { IfOk result (λ text. text.items ≡ ((header ++ opened.now) ++ frames.now)
-        ++ records_text (map frame_record behind.now)) }
+/// A text of the header, the frame of the last Opened, and the frames that stay.
+fn front_text(opened: &[u8], frames: &[u8], alloc: Global) -> Result<Vec<u8>, AllocError>
+    ensures { IfOk result (λ text. text.items ≡ (header ++ opened.now) ++ frames.now) }
 {
     let mut text = Vec::from_slice(alloc, &HEADER)?;
     text.extend_from_slice(opened)?;
     text.extend_from_slice(frames)?;
-    push_frames(&mut text, behind)?;
     Ok(text)
 }
 
-/// The text of a log of what stays of the records in these bytes, and of these records behind it; and how
-/// many they are.
+/// The mark of the last Opened, where there is one, and those that stay.
+fn front_marks(opened: Option<Mark>, kept: &[Mark], alloc: Global) -> Result<Vec<Mark>, AllocError>
+    ensures { IfOk result (λ marks. marks.items ≡ marks_in opened ++ kept.now) }
+{
+    let mut marks = Vec::new(alloc);
+    if let Some(mark) = opened {
+        marks.push(mark)?;
+    }
+    marks.extend_from_slice(kept)?;
+    Ok(marks)
+}
+
+/// The text of a log of what stays of the records in these bytes, and of these records behind it; and its
+/// index, which has the marks of what stays.
 pub(crate) fn trimmed_text(
     kind: Kind,
     bytes: &[u8],
+    marks: &[Mark],
     behind: &[Frame],
     alloc: Global,
-) -> Result<(Vec<u8>, usize), AllocError>
-    requires { AreRecords kind (map frame_record behind.now) }
+) -> Result<(Vec<u8>, Index), AllocError>
+    requires records { AreRecords kind (map frame_record behind.now) }
+    requires marked { map mark_of (records_in kind 0 bytes.now) ≡ marks.now }
     ensures text { IfOk result (λ r. Spells kind r.0.items
         (front_of_trim (records_in kind 0 bytes.now) ++ map frame_record behind.now)) }
-    ensures count { IfOk result (λ r. r.1 ≡ length
-        (front_of_trim (records_in kind 0 bytes.now) ++ map frame_record behind.now)) }
+    ensures index { IfOk result (λ r. IsIndex kind r.0.items r.1.size r.1.marks.items) }
+    ensures count { IfOk result (λ r. r.1.marks.items
+        ≡ map mark_of (front_of_trim (records_in kind 0 bytes.now))) }
 {
-    let records = records_in(kind, bytes, alloc)?;
-    let (opened, first) = opened_frame(kind, bytes, &records);
-    let (frames, kept) = staying_frames(kind, bytes, &records, alloc)?;
-    let text = joined_text(opened, &frames, behind, alloc)?;
-    Ok((text, first + kept + behind.len()))
+    let (opened, first) = opened_frame(kind, bytes, marks);
+    let kept = staying_records(kind, bytes, marks, alloc)?;
+    let mut text = front_text(opened, &kept.frames, alloc)?;
+    let index = Index {
+        size: text.len(),
+        marks: front_marks(first, &kept.marks, alloc)?,
+    };
+    push_frames(&mut text, behind)?;
+    Ok((text, index))
 }

@@ -44,7 +44,8 @@ use Rattle.sub_core.specs.Steps.{Acts, NotActed, turn_at}
 use Rattle.sub_core.proofs.Ties.{behind, keeps_decided, moved_tied}
 use Rattle.sub_core.proofs.Rows.{handled}
 use Rattle.sub_core.proofs.Ends.{AreOf, log_by, log_is, not_done, not_turned, retires_at}
-use Rattle.sub_core.proofs.Outcomes.{decided_data, decided_records, ended_data, never_retired, retired_abort, untouched}
+use Rattle.sub_core.proofs.LetGo.{decided_data, ended_data}
+use Rattle.sub_core.proofs.Outcomes.{decided_records, never_retired, retired_abort, untouched}
 use Rattle.sub_core.proofs.Staying.{Stays, data_rest}
 use Rattle.sub_core.proofs.Doing.{notes_at}
 
@@ -289,7 +290,7 @@ module _ (s : SubState) (key : ℕ) (c : Case) (x : Xid) (o : Outcome) (tied : I
         writes = subst (λ (q : DataTurn). MovesData (manager_data s.manager) (manager_data m) (λ c. xid_of s c) q)
             (sym (outcome_data s key c x None kept at o))
             (subst (λ (y : Xid). model_data.Releases (manager_data s.manager) (manager_data m) y) named.is
-            (decided_data s.manager m x (outcome_call o) f there));
+            (decided_data s.manager m x (outcome_call o) f (tied.stands c (decided x None) at.live) there));
       }
 
   pub told_tied : (t : BranchTable) (m : ManagerSight) → Notes s.table t key (Heuristic (Some o))
@@ -346,7 +347,7 @@ module _ (s : SubState) (key : ℕ) (c : Case) (x : Xid) (told : Option Outcome)
             f.comes.boot);
         writes = subst (λ (q : DataTurn). MovesData (manager_data s.manager) (manager_data m) (λ c. xid_of s c) q)
             (sym (ap (λ (k : Option Branch). forget_data c (kept_view k).standing) at.live))
-            (subst (λ (y : Xid). model_data.Releases (manager_data s.manager) (manager_data m) y) named.is
+            (subst (λ (y : Xid). model_data.Ends (manager_data s.manager) (manager_data m) y) named.is
             (ended_data s.manager m x call.Forget f refl));
       }
 

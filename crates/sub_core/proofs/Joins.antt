@@ -23,7 +23,12 @@ use Rattle.tree_model.specs.Reactions.{sends_only}
 use Rattle.tree_model.specs.Standings.{ManagerView}
 use Rattle.core_model.specs.States.{SameCore}
 use Rattle.core_model.specs.Turns.{Issues, Says, Turn, leaf_joined_turn, next_ticket}
-use Rattle.manager_model.specs.Sights.{ManagerSight, SameManager}
+use Rattle.manager_model.specs.Data as model_data
+use Rattle.manager_model.specs.Sights.{ManagerSight, SameManager, manager_data}
+use Rattle.manager_model.specs.Turns.{MovesData, join_data}
+use Rattle.xa_tables.specs.declared.states.BranchState.TheVariants.{S2}
+use Rattle.sub_deeds.proofs.Known.{comes_known, same_known}
+use Rattle.sub_core.proofs.Staying.{rests}
 use Rattle.sub_deeds.specs.Deeds.{Begins, HasBegun, starts}
 use Rattle.sub_branch.specs.declared.branch.Branch.{Branch}
 use Rattle.sub_table.specs.Tables.{BranchTable, Opens, SameTable, branch_in, kept_view, opened, ticket_in, view_in}
@@ -84,8 +89,14 @@ repeated s d t e = record {
       (shown [] (post s.me s.parent (Joined d t) ∷ [])))
       (ap (turn_by s d (starts s.manager (xid_of s (next_case s d)))) e)
       (said s s (MessageInput k (Join d)) (post s.me s.parent (Joined d t) ∷ []) (stays_core s));
-  writes = record { writes = λ y. refl; holders = λ k. refl };
+  writes = subst (λ (o : Option Ticket). MovesData (manager_data s.manager) (manager_data s.manager) (λ c. xid_of s c)
+      (join_data (core_of s) d (starts s.manager (xid_of s (next_case s d))) o)) e (rests s.manager);
 }
+
+-- what the data make of a start
+abbrev joined_data : SubState → SubState → Case → Bool → Option Ticket → Type 0
+joined_data s new d b o =
+    MovesData (manager_data s.manager) (manager_data new.manager) (λ c. xid_of s c) (join_data (core_of s) d b o)
 
 -- a fresh ticket was given
 pub issued : (s new : SubState) (d : Case) → ticket_in s.table d ≡ None → Joins s new d true
@@ -100,7 +111,8 @@ issued s new d ungiven j =
       turns = λ k.
           subst (λ (turn : Turn). Turns s new (MessageInput k (Join d)) turn (shown [] ls)) (sym is)
           (record { moves = j.1; effect = sends_only ls; does = refl; shown = refl });
-      writes = j.2;
+      writes = subst (λ (o : Option Ticket). joined_data s new d (starts s.manager (xid_of s (next_case s d))) o)
+          (sym ungiven) (subst (λ (b : Bool). joined_data s new d b None) (sym j.0) j.2);
     }
 
 -- the manager refused the start: nothing is said
@@ -114,7 +126,8 @@ refused s new d ungiven j =
       turns = λ k.
           subst (λ (turn : Turn). Turns s new (MessageInput k (Join d)) turn (shown [] [])) (sym is)
           (said s new (MessageInput k (Join d)) [] j.1);
-      writes = j.2;
+      writes = subst (λ (o : Option Ticket). joined_data s new d (starts s.manager (xid_of s (next_case s d))) o)
+          (sym ungiven) (subst (λ (b : Bool). joined_data s new d b None) (sym j.0) j.2);
     }
 
 -- The case of a fresh ticket.
@@ -227,7 +240,10 @@ module _ (s : SubState) (d : Case) (t : BranchTable) (m : ManagerSight) (x : Xid
       place = refl;
       boot = h.1.comes.boot;
     },
-    record { writes = h.1.rest.writes; holders = h.1.rest.holders },
+    subst (λ (y : Xid). model_data.Begins (manager_data s.manager) (manager_data m) y) named.is (record {
+      keeps = record { writes = h.1.rest.writes; holders = h.1.rest.holders };
+      known = comes_known s.manager m x S2 h.1.comes;
+    }),
   )
 
 -- The start was refused, or wanted memory.
@@ -278,7 +294,10 @@ not_begun s d t m x named same h = (
   ap (starts s.manager) (sym named.is)
       ∙ h.0,
   undone_core s t m same h.1,
-  record { writes = h.1.rest.writes; holders = h.1.rest.holders },
+  record {
+    keeps = record { writes = h.1.rest.writes; holders = h.1.rest.holders };
+    known = same_known s.manager m h.1.tables;
+  },
 )
 
 -- The XID.

@@ -1,6 +1,8 @@
 pub mod Ties
 pub mod Rows
 pub mod Ends
+pub mod LetGo
+pub mod Answering
 pub mod Votes
 pub mod Outcomes
 pub mod Staying

@@ -2,6 +2,9 @@
 use Rattle.std.proofs.Common.{◌≡◌, ◌∙◌, ◌∷◌, [], false, List, None, refl, sym, ap, arith}
 use Rattle.std.specs.Prelude.{length}
 use Rattle.xa_codes.specs.declared.code.Code.{Code}
+use Rattle.xa_tables.specs.declared.states.BranchState.{BranchState}
+use Rattle.xa_xid.specs.declared.xid.Xid.{Xid}
+use Rattle.xa_branch.specs.Branches.{BranchList, state_in}
 use Rattle.xa_assoc.specs.Associations.{AssocList, IsBare, moved_of}
 use Rattle.xa_assoc.specs.Answers.{Opens}
 use Rattle.tree_model.specs.declared.names.Case.{Case}
@@ -12,7 +15,8 @@ use Rattle.live_table.specs.Tables.{live_value}
 use Rattle.core_model.specs.Opening.{IsOpened}
 use Rattle.core_model.proofs.Opened.{opened_is_read}
 use Rattle.manager_model.specs.Opening.{IsNew}
-use Rattle.manager_model.specs.Sights.{Calls, ManagerSight}
+use Rattle.manager_model.specs.Data.{Rests, is_begun, no_data}
+use Rattle.manager_model.specs.Sights.{Calls, ManagerSight, manager_data}
 use Rattle.sub_deeds.specs.Deeds.{IsIdle, IsQuiet}
 use Rattle.sub_table.specs.Tables.{BranchTable, branch_in, kept_view, ticket_in, view_in}
 use Rattle.sub_core.specs.Subordinates.{IsTied, core_of}
@@ -49,6 +53,17 @@ module _ (old m : ManagerSight) (new : IsNew old) (refuses : Code → Type 0) (a
   idle = let o = calls.works up in record {
     opened = o.init;
     quiet = bare_quiet m.tables.associations (o.anew new.closed).0 (o.anew new.closed).1;
+  }
+
+  -- it has no data
+  pub opened_data : Rests no_data (manager_data m)
+  opened_data = record {
+    keeps = record {
+      writes = λ y. calls.rest.writes y ∙ new.writes y;
+      holders = λ k. calls.rest.holders k ∙ new.holders k;
+    };
+    known = λ y. ap (λ (bs : List (Xid × BranchState)). is_begun (state_in bs y))
+        (ap (λ (bs : BranchList). bs.branches) (calls.works up).branches ∙ new.branches);
   }
 
   pub opened_tied : (me parent : ProcessId) (tree : List TreeEntry) (t : BranchTable)

@@ -23,12 +23,12 @@ use Rattle.core_model.specs.Makes.{retired_by}
 use Rattle.manager_model.specs.Sights.{ManagerSight, manager_data}
 use Rattle.xa_heur.specs.declared.decision.Decision.{Decision}
 use Rattle.xa_tables.specs.declared.states.BranchState.{BranchState}
-use Rattle.xa_tables.specs.declared.states.BranchState.TheVariants.{S0, S5}
+use Rattle.xa_tables.specs.declared.states.BranchState.TheVariants.{S0}
 use Rattle.manager_model.specs.Data.{held_with}
-use Rattle.manager_model.specs.Ends.{left_with, row_for, row_of, written_by}
+use Rattle.manager_model.specs.Ends.{row_of, written_by}
 use Rattle.manager_model.specs.Data as model_data
 use Rattle.sub_deeds.specs.Deeds.{Finishes, NotFinished, can_roll_back}
-use Rattle.manager_model.specs.Turns.{DataTurn, MovesData, Releases, abort_data, commit_data, message_data, prepare_data, vote_data}
+use Rattle.manager_model.specs.Turns.{DataTurn, Ends, MovesData, abort_data, commit_data, message_data, prepare_data, vote_data}
 use Rattle.sub_branch.specs.declared.branch.Branch.{Branch}
 use Rattle.sub_branch.specs.declared.branch.Stage.{Stage}
 use Rattle.sub_branch.specs.declared.branch.Stage.TheVariants.{Active, Heuristic, Prepared}
@@ -39,30 +39,10 @@ use Rattle.sub_core.proofs.Ties.{behind, keeps_decided, moved_tied, one}
 use Rattle.sub_core.proofs.Rows.{handled}
 use Rattle.sub_core.proofs.Ends.{AreOf, log_is, not_turned, retires_at}
 use Rattle.sub_core.proofs.Votes.{retired_prepare}
+use Rattle.sub_core.proofs.LetGo.{ended_data}
 
 some_same : {A : Type 0} (a b : A) → Some a ≡ Some b → a ≡ b
 some_same a b e = cc
-
--- a call by which a branch is ended, or that comes behind an operator's decision, lets its writes and its keys go
-pub ended_data : (old new : ManagerSight) (x : Xid) (call : Call) → Finishes old new x call
-    → (row_for old x call).1 ≡ S0 → model_data.Releases (manager_data old) (manager_data new) x
-ended_data old new x call f is = record {
-  wrote = record {
-    own = f.own ∙ ap (λ (q : BranchState). left_with q (old.writes x)) is;
-    others = f.others;
-  };
-  held = λ k. f.held k ∙ ap (λ (q : BranchState). held_with q x (old.holders k)) is;
-}
-
-pub decided_data : (old new : ManagerSight) (x : Xid) (call : Call) → Finishes old new x call
-    → (row_for old x call).1 ≡ S5 → model_data.Releases (manager_data old) (manager_data new) x
-decided_data old new x call f is = record {
-  wrote = record {
-    own = f.own ∙ ap (λ (q : BranchState). left_with q (old.writes x)) is;
-    others = f.others;
-  };
-  held = λ k. f.held k ∙ ap (λ (q : BranchState). held_with q x (old.holders k)) is;
-}
 
 -- the record of what an operator decided of a case, as any process is seen
 abbrev pub decided_records : SubState → Case → List Record
@@ -78,7 +58,7 @@ pub record EndsBy (s : SubState) (c : Case) (b : Branch) (message : Message) (ca
   pub of : AreOf c row.written
   pub tickets : (k : ℕ) (d : Case) → retired_at c d (ticket_in s.table d)
       ≡ retired_by (MessageInput k message) d (ticket_in s.table d)
-  pub drops : message_data (core_of s) (answer_for s message) message ≡ Releases c
+  pub drops : message_data (core_of s) (answer_for s message) message ≡ Ends c
   pub gone : (row_of call (stage_state b.stage) (s.manager.writes b.xid) (s.manager.decided b.xid)).1 ≡ S0
 
 module _ (s : SubState) (key : ℕ) (c : Case) (b : Branch) (message : Message) (call : Call) (row : LeafRow)
@@ -103,7 +83,7 @@ module _ (s : SubState) (key : ℕ) (c : Case) (b : Branch) (message : Message) 
             (MessageInput k message)
             (λ d o apart. refl) (λ e. absurd (cc))) f.comes.boot);
         writes = subst (λ (t : DataTurn). MovesData (manager_data s.manager) (manager_data m) (λ c. xid_of s c) t) (sym ends.drops)
-            (subst (λ (y : Xid). model_data.Releases (manager_data s.manager) (manager_data m) y) (tied.named c b at.live).is
+            (subst (λ (y : Xid). model_data.Ends (manager_data s.manager) (manager_data m) y) (tied.named c b at.live).is
             (ended_data s.manager m b.xid call f (ap (λ (q : BranchState).
             (row_of call q (s.manager.writes b.xid) (s.manager.decided b.xid)).1) (tied.stands c b at.live)
             ∙ ends.gone)));
@@ -189,7 +169,7 @@ refuse_row s key c g n works p x at unfit =
       of = tt;
       tickets = λ k d. retired_prepare k works c d (ticket_in s.table d);
       drops = ap (λ (o : Option Branch). prepare_data c works holding (kept_view o) (kept_view o).standing) at.live
-          ∙ ap (λ b. if b then vote_data c holding else Releases c) unfit;
+          ∙ ap (λ b. if b then vote_data c holding else Ends c) unfit;
       gone = rolled_gone g n p (s.manager.writes x) (s.manager.decided x);
     }
 

@@ -15,7 +15,7 @@ use Rattle.sub_table.specs.declared.rebuilt.Rebuilt.{Rebuilt}
 use Rattle.sub_table.specs.Rebuilt.{Rebuilds}
 use Rattle.sub_core.specs.Steps.{PromisesLeft, left_before}
 use Rattle.sub_core.specs.Subordinates.{IsTied, SubState, core_of}
-use Rattle.sub_core.proofs.Restarted.{reopened_tied, restarted, shown_restart}
+use Rattle.sub_core.proofs.Restarted.{promises_left, reopened_tied, restarted, shown_restart}
 
 -- the records before the last
 before_last : (ls : List LogRecord) (l : LogRecord)
@@ -69,10 +69,4 @@ module _ (s : SubState) (all : ℕ) (r : Rebuilt) (mid m : ManagerSight)
       (restarted s all r mid m refuses answer rebuilt restarts calls)
 
   pub over_promises : PromisesLeft (left_by s.manager.log all) m
-  over_promises = record {
-    writes = λ x. calls.rest.writes x ∙ restarts.writes x;
-    held = record {
-      held = λ x k named. calls.rest.holders k ∙ restarts.held.held x k named;
-      free = λ k none. calls.rest.holders k ∙ restarts.held.free k none;
-    };
-  }
+  over_promises = promises_left s.manager mid m all refuses answer restarts calls

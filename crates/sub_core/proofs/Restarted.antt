@@ -27,10 +27,11 @@ use Rattle.xa_tables.specs.declared.states.BranchState.TheVariants.{S5}
 use Rattle.xa_heur.specs.declared.decision.Decision.{Decision}
 use Rattle.xa_heur.specs.Decisions.{decided_in, decision_of}
 use Rattle.log_text.specs.Parts.{name_in}
-use Rattle.rec_log.specs.Sights.{RestartBreaks, left_by}
+use Rattle.rec_log.specs.Sights.{LogSight, RestartBreaks, left_by}
 use Rattle.core_model.specs.States.{forced_sight}
 use Rattle.core_model.specs.Restarting.{NotRestarted, Restarts, restarted_log}
 use Rattle.core_model.proofs.Alike.{same_view}
+use Rattle.manager_model.specs.Data.{is_begun}
 use Rattle.manager_model.specs.Ends.{state_of}
 use Rattle.manager_model.specs.Restarting.{RestartFails, Restarts as ManagerRestarts, boot_record, marked_state, next_boot}
 use Rattle.manager_model.specs.Sights.{Calls, ManagerSight}
@@ -48,6 +49,7 @@ use Rattle.sub_branch.specs.declared.branch.Branch.{Branch}
 use Rattle.sub_branch.specs.declared.branch.Stage.{Stage}
 use Rattle.sub_branch.specs.declared.branch.Stage.TheVariants.{Active, Heuristic, Prepared}
 use Rattle.sub_core.specs.Subordinates.{AgreesWith, IsGiven, IsNamed, IsTied, SubState, core_of, decided_at, stage_state}
+use Rattle.sub_core.specs.Steps.{PromisesLeft}
 use Rattle.sub_core.proofs.Joins.{is_real}
 use Rattle.sub_core.proofs.Opened.{bare_quiet}
 use Rattle.sub_core.proofs.Ties.{behind, still_tied}
@@ -62,6 +64,20 @@ shown_restart boot messages =
       messages = messages;
       kept = None;
     }
+
+-- the data are those that the records leave
+pub promises_left : (old mid m : ManagerSight) (keep : ℕ) (refuses : Code → Type 0) (answer : Code)
+    → ManagerRestarts old mid keep
+    → Calls mid m (refuses answer) (λ s t. Opens s t 0 false answer) → PromisesLeft (left_by old.log keep) m
+promises_left old mid m keep refuses answer restarts calls = record {
+  writes = λ x. calls.rest.writes x ∙ restarts.writes x;
+  held = record {
+    held = λ x k named. calls.rest.holders k ∙ restarts.held.held x k named;
+    free = λ k none. calls.rest.holders k ∙ restarts.held.free k none;
+  };
+  known = λ x. ap is_begun (ap (λ (bs : BranchList). state_in bs.branches x)
+      (calls.works (ap (λ (l : LogSight). l.failed) restarts.log)).branches ∙ restarts.states x);
+}
 
 module _ (s : SubState) (keep : ℕ) (r : Rebuilt) (mid m : ManagerSight)
     (refuses : Code → Type 0) (answer : Code)

@@ -61,9 +61,9 @@ heard s c message row stays = record {
   writes = stays.writes;
 }
 
--- nothing is written, and each key is held as it was
+-- a manager that has not changed
 pub rests : (m : ManagerSight) → model_data.Rests (manager_data m) (manager_data m)
-rests m = record { writes = λ y. refl; holders = λ k. refl }
+rests m = record { keeps = record { writes = λ y. refl; holders = λ k. refl }; known = λ y. refl }
 
 -- a message of which the data rest leaves them
 pub data_rest : (s : SubState) (m : Message) → message_data (core_of s) (answer_for s m) m ≡ Rests → Writes s s m

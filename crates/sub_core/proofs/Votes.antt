@@ -31,14 +31,16 @@ use Rattle.core_model.specs.Makes.{retired_by}
 use Rattle.manager_model.specs.Sights.{ManagerSight, manager_data}
 use Rattle.xa_heur.specs.declared.decision.Decision.{Decision}
 use Rattle.manager_model.specs.Ends.{left_with, prepare_row, row_for, written_by}
-use Rattle.manager_model.specs.Data.{held_with}
+use Rattle.manager_model.specs.Data.{held_with, is_begun}
 use Rattle.manager_model.specs.Data as model_data
-use Rattle.manager_model.specs.Turns.{DataTurn, MovesData, Releases, message_data, prepare_data, vote_data}
+use Rattle.manager_model.specs.Turns.{DataTurn, Ends, MovesData, message_data, prepare_data, vote_data}
 use Rattle.sub_deeds.specs.Deeds.{Finishes, NotFinished, vote_of}
 use Rattle.sub_branch.specs.declared.branch.Branch.{Branch}
 use Rattle.sub_table.specs.Tables.{BranchTable, Retires, kept_view, nothing, promised, retired_at, ticket_in}
 use Rattle.sub_core.specs.Subordinates.{Hears, IsAt, IsTied, NotHeard, NotTurned, SubState, Turns, active, answer_for, core_of, turn_for, xid_of}
 use Rattle.sub_deeds.specs.Replies.{shown}
+use Rattle.sub_deeds.proofs.Known.{stays_known}
+use Rattle.sub_core.proofs.LetGo.{ended_data}
 use Rattle.sub_core.proofs.Ties.{behind, keeps_decided, moved_tied}
 use Rattle.sub_core.proofs.Rows.{handled}
 use Rattle.sub_core.proofs.Ends.{AreOf, RetiresAt, log_is, not_turned, retires_at}
@@ -98,13 +100,17 @@ module _ (s : SubState) (key : ℕ) (c g : Case) (n : ℕ) (x : Xid) (tied : IsT
   data_is =
       let holding = held_writes (s.manager.writes (xid_of s c)) in
       ap (λ (o : Option Branch). prepare_data c n holding (kept_view o) (kept_view o).standing) at.live
-      ∙ ap (λ b. if b && true then vote_data c holding else Releases c) (same_number n)
+      ∙ ap (λ b. if b && true then vote_data c holding else Ends c) (same_number n)
 
   stayed : (m : ManagerSight) → Finishes s.manager m x call.Prepare
       → (row_for s.manager x call.Prepare).1 ≡ S3 → model_data.Rests (manager_data s.manager) (manager_data m)
   stayed m f is = record {
-    writes = λ y. by_name y (same x y) refl;
-    holders = λ k. f.held k ∙ ap (λ (q : BranchState). held_with q x (s.manager.holders k)) is;
+    keeps = record {
+      writes = λ y. by_name y (same x y) refl;
+      holders = λ k. f.held k ∙ ap (λ (q : BranchState). held_with q x (s.manager.holders k)) is;
+    };
+    known = stays_known s.manager m x (row_for s.manager x call.Prepare).1 f.comes
+        (ap is_begun (tied.stands c (active x g n false) at.live) ∙ sym (ap is_begun is));
   }
     where
       by_name : (y : Xid) (b : Bool) → same x y ≡ b → m.writes y ≡ s.manager.writes y
@@ -115,15 +121,9 @@ module _ (s : SubState) (key : ℕ) (c g : Case) (n : ℕ) (x : Xid) (tied : IsT
   voted_data : (m : ManagerSight) (ws : List Write) → s.manager.writes x ≡ ws
       → Finishes s.manager m x call.Prepare
       → MovesData (manager_data s.manager) (manager_data m) (λ c. xid_of s c) (vote_data c (held_writes ws))
-  voted_data m [] is f = subst (λ (y : Xid). model_data.Releases (manager_data s.manager) (manager_data m) y)
+  voted_data m [] is f = subst (λ (y : Xid). model_data.Ends (manager_data s.manager) (manager_data m) y)
       (tied.named c (active x g n false) at.live).is
-      (record {
-        wrote = record {
-          own = f.own ∙ ap (λ (vs : List Write). left_with (prepare_row vs).1 (s.manager.writes x)) is;
-          others = f.others;
-        };
-        held = λ k. f.held k ∙ ap (λ (vs : List Write). held_with (prepare_row vs).1 x (s.manager.holders k)) is;
-      })
+      (ended_data s.manager m x call.Prepare f (ap (λ (vs : List Write). (prepare_row vs).1) is))
   voted_data m (w ∷ ws) is f = stayed m f (ap (λ (vs : List Write). (prepare_row vs).1) is)
 
   pub not_voted : (m : ManagerSight) (e : StepError) → NotFinished s.manager m x call.Prepare e

@@ -14,7 +14,7 @@ use Rattle.tree_model.specs.Nodes.{DataAnswer}
 use Rattle.core_model.specs.States.{CoreState}
 use Rattle.core_model.specs.Turns.{Turn, manager_act, no_answer}
 use Rattle.rec_log.specs.Sights.{left_by}
-use Rattle.manager_model.specs.Restarting.{Restarts, writes_left}
+use Rattle.manager_model.specs.Restarting.{Restarts, is_left, writes_left}
 use Rattle.manager_model.specs.Sights.{Calls, ManagerSight, manager_data}
 use Rattle.manager_model.specs.Data.{HoldWrites}
 use Rattle.manager_model.specs.Turns.{MovesData, act_data}
@@ -64,10 +64,12 @@ abbrev pub left_before : ManagerSight → List LogRecord
 left_before m = take (length (left_by m.log 0) - 1) (left_by m.log 0)
 
 -- where these records were left, each branch that is in doubt by them has the writes that it promised, and no
--- other branch has any; and it holds their keys, and nothing else is held
+-- other branch has any; it holds their keys, and nothing else is held; and those in doubt and those that an operator
+-- decided are known
 pub record PromisesLeft (left : List LogRecord) (m : ManagerSight) : Type 0 where
   pub writes : (x : Xid) → m.writes x ≡ writes_left left x
   pub held : HoldWrites (writes_left left) m.holders
+  pub known : (x : Xid) → (manager_data m).known x ≡ is_left left x
 
 -- so it is behind a restart, by the records that were left
 abbrev pub LeavesPromises : SubState → ℕ → SubState → Type 0

@@ -29,7 +29,6 @@ use Rattle.tree_model.specs.declared.names.Outcome.{Outcome}
 use Rattle.tree_model.specs.declared.names.Outcome.TheVariants.{Committed, Aborted}
 use Rattle.tree_model.specs.ManagerRows.{is_acknowledged}
 use Rattle.tree_model.specs.CoordinatorRows.{post}
-use Rattle.tree_model.specs.Names.{child_case}
 use Rattle.tree_model.specs.Nodes.{AtLeaf, DataAnswer, Effect, Place, ReadsOnly, reaction_of}
 use Rattle.tree_model.specs.LogNames.{name_xid}
 use Rattle.tree_model.specs.Plays.{held_writes}
@@ -41,8 +40,8 @@ use Rattle.core_model.specs.Turns.{Refuses, Turn, decision_records, manager_turn
 use Rattle.core_model.specs.Makes.{BreaksIn, IssuesTicket, Moves}
 use Rattle.manager_model.specs.Sights.{ManagerSight, manager_data, obstacle}
 use Rattle.sub_deeds.specs.Deeds.{IsIdle, KeepsManager, starts}
-use Rattle.manager_model.specs.Data.{Rests}
-use Rattle.manager_model.specs.Turns.{MovesData, message_data}
+use Rattle.manager_model.specs.Data.{Begins, Rests}
+use Rattle.manager_model.specs.Turns.{MovesData, message_data, next_case as next_of}
 use Rattle.sub_branch.specs.declared.branch.Branch.{Branch}
 use Rattle.sub_branch.specs.declared.branch.Stage.{Stage}
 use Rattle.sub_branch.specs.declared.branch.Stage.TheVariants.{Active, Heuristic, Prepared}
@@ -111,7 +110,7 @@ xid_of s c = name_xid (Some s.parent) (CaseBranch c)
 
 -- the case that a JOIN of the parent's case would open
 abbrev pub next_case : SubState → Case → Case
-next_case s d = child_case d.txn (next_ticket (core_of s))
+next_case s d = next_of (core_of s) d
 
 -- what the manager's data answer to a message
 abbrev pub answer_for : SubState → Message → DataAnswer
@@ -200,7 +199,8 @@ pub record Hears (old new : SubState) (m : Message) (reaction : Reaction) : Type
 abbrev pub Joins : SubState → SubState → Case → Bool → Type 0
 Joins old new d true =
     (starts old.manager (xid_of old (next_case old d)) ≡ true)
-    × IssuesTicket (core_of old) (core_of new) d (next_ticket (core_of old)) × Rests (manager_data old.manager) (manager_data new.manager)
+    × IssuesTicket (core_of old) (core_of new) d (next_ticket (core_of old))
+    × Begins (manager_data old.manager) (manager_data new.manager) (xid_of old (next_case old d))
 Joins old new d false =
     (starts old.manager (xid_of old (next_case old d)) ≡ false) × SameCore (core_of old) (core_of new)
     × Rests (manager_data old.manager) (manager_data new.manager)

@@ -85,8 +85,8 @@ impl<M: ResourceManager> Subordinate<M> {
     /// Restarts behind a crash that keeps so many of the log's unforced bytes: each case in doubt asks for
     /// its outcome, and so does one that an operator decided and that was not told. All memory is taken
     /// before the crash. Memory: nothing changed, also where the records that are left are none that a run
-    /// makes: those of no manager, or with a ticket of a boot to come. Device: it has failed until it is
-    /// restarted.
+    /// makes, as with a ticket of a boot to come, or where no boot comes behind their last one. Device: it has
+    /// failed until it is restarted.
     pub fn restart(&mut self, keep: usize) -> Result<Reaction, StepError>
         ensures ok { IfOk result (Restarts (state M.sight self.old) keep (state M.sight self.new)) }
         ensures writes { OnOk result (LeavesPromises (seen M.sight self.old) keep (seen M.sight self.new)) }
@@ -113,6 +113,7 @@ impl<M: ResourceManager> Subordinate<M> {
                 })
             }
             Err(RestartError::Memory) => Err(StepError::Memory),
+            Err(RestartError::Exhausted) => Err(StepError::Memory),
             Err(RestartError::Device) => Err(StepError::Device),
         }
     }

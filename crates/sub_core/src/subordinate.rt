@@ -8,9 +8,11 @@ ghost use Rattle.live_table.specs.Tables.{live_count};
 ghost use Rattle.manager_model.specs.Data.{Rests, no_data};
 ghost use Rattle.manager_model.specs.Opening.{IsNew};
 ghost use Rattle.manager_model.specs.Sights.{manager_data};
+ghost use Rattle.manager_model.specs.Turns.{AnswersInput, case_xid};
 ghost use Rattle.sub_table.specs.Tables.{IsKept};
-ghost use Rattle.sub_core.specs.Subordinates.{FindsBranch};
-ghost use Rattle.sub_core.specs.Steps.{state};
+ghost use Rattle.sub_core.specs.Subordinates.{FindsBranch, seen};
+ghost use Rattle.sub_core.specs.Steps.{data_answer, state};
+ghost use Rattle.tree_model.specs.declared.events.Input.{Input};
 
 use manager_model::ResourceManager;
 use std::alloc::Global;
@@ -136,11 +138,27 @@ impl<M: ResourceManager> Subordinate<M> {
         self.manager.has_failed()
     }
 
+    /// What it takes for the answers of the manager's data are those that they give.
+    pub fn data_answers(&self)
+        ensures { (i : Input) → AnswersInput (state M.sight self.now) (manager_data (M.sight self.now.manager))
+            (case_xid self.now.parent) i (data_answer (seen M.sight self.now) i) }
+    {
+        self.manager.branches_are_listed_once();
+    }
+
     /// The manager that it drives, which has its log.
     pub fn manager(&self) -> &M
         ensures { result.now ≡ self.now.manager }
     {
         &self.manager
+    }
+
+    /// The manager that it drives, as it stands.
+    pub fn into_manager(self) -> M
+        ensures { result ≡ self.manager }
+    {
+        let Subordinate { manager, .. } = self;
+        manager
     }
 }
 

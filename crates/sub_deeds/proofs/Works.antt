@@ -21,7 +21,7 @@ use Rattle.xa_assoc.specs.declared.states.States.{States}
 use Rattle.xa_assoc.specs.Answers.{Answers, ByState, Checked, Ends, Reacts, Refuses, Same, Walks, Wanted, left_state, start_reaction, state_at}
 use Rattle.xa_assoc.specs.Reacting.{by_state, end_call, left_by}
 use Rattle.manager_model.specs.Sights.{Calls, ManagerSight, SameData, SameManager, obstacle}
-use Rattle.manager_model.specs.Data.{Locks, key_of, mode_of, refusal_of as refusal_by_data}
+use Rattle.manager_model.specs.Data.{Locks, is_begun, key_of, mode_of, refusal_of as refusal_by_data}
 use Rattle.key_tables.specs.Holders.{given}
 use Rattle.key_tables.specs.declared.holders.Holder.{Holder}
 use Rattle.xa_assoc.specs.declared.errors.WorkError.{WorkError}
@@ -33,6 +33,7 @@ use Rattle.rec_log.specs.Sights.{LogSight}
 use Rattle.manager_model.specs.Works.{WorkRefused, Works as Does, refusal_by, state_refusal, work_refusal}
 use Rattle.sub_deeds.specs.Deeds.{Comes, HasBegun, Idles, IsIdle, IsQuiet, Works, starts}
 use Rattle.sub_deeds.proofs.Kept.{idle_again}
+use Rattle.sub_deeds.proofs.Known.{stays_known}
 use Rattle.sub_deeds.proofs.Turning.{no_seat, none_active, not_busy, quiet_again, with_room}
 
 -- any rows: a start and an end do not ask for them
@@ -345,12 +346,13 @@ module _ (old mid back new : ManagerSight) (x : Xid) (op : Op) (start : Code)
       → Works old new x op true
   worked end does ending =
       let b : does.branch ≡ x = same_name does.branch x (sym does.active ∙ at_work.begins.turns.active) in
+      let comes : Comes old new x S2 = ended old back new x true 0x0400_0000 end (still_up back does.log)
+      (same_work old.tables mid.tables back.tables x does.tables at_work)
+      named (does.boot ∙ starting.boot)
+      (λ y. does.decided y ∙ starting.rest.decided y) refl ending in
       record {
         allowed = ap is_none (sym in_way ∙ does.allowed);
-        comes = ended old back new x true 0x0400_0000 end (still_up back does.log)
-            (same_work old.tables mid.tables back.tables x does.tables at_work)
-            named (does.boot ∙ starting.boot)
-            (λ y. does.decided y ∙ starting.rest.decided y) refl ending;
+        comes = comes;
         log = ending.log ∙ does.log ∙ starting.log;
         operates = record {
           wrote = record {
@@ -365,6 +367,7 @@ module _ (old mid back new : ManagerSight) (x : Xid) (op : Op) (start : Code)
             others = λ k apart. ending.rest.holders k ∙ (locks_at does).others k apart
                 ∙ starting.rest.holders k;
           };
+          known = stays_known old new x S2 comes (ap is_begun at);
         };
       }
 
@@ -373,16 +376,20 @@ module _ (old mid back new : ManagerSight) (x : Xid) (op : Op) (start : Code)
       → Works old new x op false
   spoiled end e other refused ending =
       let why = refusal_of mid back op e other refused in
+      let comes : Comes old new x S4 = ended old back new x false 0x2000_0000 end (still_up back why.1.log)
+      (same_work old.tables mid.tables back.tables x why.1.tables at_work) named
+      (why.1.boot ∙ starting.boot)
+      (λ y. why.1.rest.decided y ∙ starting.rest.decided y) refl ending in
       record {
         allowed = ap is_none (sym in_way ∙ why.0);
-        comes = ended old back new x false 0x2000_0000 end (still_up back why.1.log)
-            (same_work old.tables mid.tables back.tables x why.1.tables at_work) named
-            (why.1.boot ∙ starting.boot)
-            (λ y. why.1.rest.decided y ∙ starting.rest.decided y) refl ending;
+        comes = comes;
         log = ending.log ∙ why.1.log ∙ starting.log;
         operates = record {
-          writes = λ y. ending.rest.writes y ∙ why.1.rest.writes y ∙ starting.rest.writes y;
-          holders = λ k. ending.rest.holders k ∙ why.1.rest.holders k ∙ starting.rest.holders k;
+          keeps = record {
+            writes = λ y. ending.rest.writes y ∙ why.1.rest.writes y ∙ starting.rest.writes y;
+            holders = λ k. ending.rest.holders k ∙ why.1.rest.holders k ∙ starting.rest.holders k;
+          };
+          known = stays_known old new x S4 comes (ap is_begun at);
         };
       }
 

@@ -152,9 +152,12 @@ pub fn decide<M: ResourceManager>(
     match manager.decide(xid, outcome) {
         Ok(()) => Ok(()),
         Err(DecideError::Device) => Err(StepError::Device),
-        Err(DecideError::Memory | DecideError::Failed | DecideError::NotInDoubt) => {
-            Err(StepError::Memory)
-        }
+        Err(
+            DecideError::Memory
+            | DecideError::Failed
+            | DecideError::NotInDoubt
+            | DecideError::Exhausted,
+        ) => Err(StepError::Memory),
     }
 }
 

@@ -1,12 +1,16 @@
 //! A log whose device fails once: what stands then, and that a restart goes on. And a log that is written
 //! anew.
 
+ghost use Rattle.std.specs.Prelude.{◌≡◌, IfOk};
+ghost use Rattle.tree_model.specs.declared.names.Kind.TheVariants.{Coordinator};
+
 use crate::damage::COMMITTED;
+use core_log::coordinator_frame;
 use log_store::{FaultStore, LogStore, MemoryStore, StoreCall};
 use rec_log::{LogError, OpenError, RecLog};
 use std::alloc::Global;
 use std::test::Fail;
-use tree_model::Kind;
+use tree_model::{Kind, Record};
 
 /// A store with the log of a commit, which fails at its first call of this kind.
 fn failing(torn: &[u8], call: StoreCall, alloc: Global) -> Result<FaultStore, Fail> {
@@ -16,7 +20,9 @@ fn failing(torn: &[u8], call: StoreCall, alloc: Global) -> Result<FaultStore, Fa
 }
 
 /// The log in a store, which has not failed.
-fn opened<L: LogStore + Drop>(store: L, alloc: Global) -> Result<RecLog<L>, Fail> {
+fn opened<L: LogStore + Drop>(store: L, alloc: Global) -> Result<RecLog<L>, Fail>
+    ensures { IfOk result (λ log. log.kind ≡ Coordinator) }
+{
     match RecLog::open(store, Kind::Coordinator, alloc) {
         Ok(log) => Ok(log),
         Err(_) => Err(Fail::from("a log")),
@@ -24,7 +30,9 @@ fn opened<L: LogStore + Drop>(store: L, alloc: Global) -> Result<RecLog<L>, Fail
 }
 
 /// The log of a commit, whose device fails at the first call of this kind.
-fn failing_log(call: StoreCall, alloc: Global) -> Result<RecLog<FaultStore>, Fail> {
+fn failing_log(call: StoreCall, alloc: Global) -> Result<RecLog<FaultStore>, Fail>
+    ensures { IfOk result (λ log. log.kind ≡ Coordinator) }
+{
     opened(failing(&[], call, alloc)?, alloc)
 }
 
@@ -57,6 +65,29 @@ fn a_failed_force_fails_the_log(rt: HostRuntime) -> Result<(), Fail> {
     let mut log = failing_log(StoreCall::Force, alloc)?;
     assert!(rt; force_fails(&mut log));
     assert_eq!(rt; log.records(alloc)?.len(), 3);
+    Ok(())
+}
+
+/// Restarts the log with the record of its second boot; what the crash takes is all that is not forced.
+fn restarts(log: &mut RecLog<FaultStore>, alloc: Global) -> Result<bool, Fail>
+    requires { log.old.kind ≡ Coordinator }
+    ensures { log.new.kind ≡ log.old.kind }
+{
+    let frames = [coordinator_frame(&Record::Opened(2), None, alloc)?];
+    Ok(log.restart(0, &frames, alloc) == Ok(()))
+}
+
+/// A restart whose force fails leaves its record behind the others, not forced, and the log has failed: the
+/// next crash takes it, and the next restart writes it again.
+#[test]
+fn a_failed_restart_goes_on_at_the_next(rt: HostRuntime) -> Result<(), Fail> {
+    let alloc = rt.alloc();
+    let mut log = failing_log(StoreCall::Force, alloc)?;
+    assert!(rt; !restarts(&mut log, alloc)? && log.failed());
+    assert_eq!(rt; log.records(alloc)?.len(), 4);
+    assert_eq!(rt; log.kept(0, alloc)?.len(), 3);
+    assert!(rt; restarts(&mut log, alloc)? && !log.failed());
+    assert_eq!(rt; log.kept(0, alloc)?.len(), 4);
     Ok(())
 }
 

@@ -7,6 +7,8 @@
 #[cfg(test)]
 mod always_out_of_memory;
 #[cfg(test)]
+mod appends;
+#[cfg(test)]
 mod codes;
 #[cfg(test)]
 mod commits;

@@ -1,7 +1,10 @@
 //! A cluster that opens: its processes, each over an empty store, and the passes of its callers.
 
 ghost use Rattle.std.specs.Prelude.{◌≡◌, ◌+◌, ◌<◌, ◌≤◌, IfOk, OnOk, get_or, length};
+ghost use Rattle.manager_model.specs.Data.{Rests, no_data};
 ghost use Rattle.tree_model.specs.Trees.{IsTree};
+ghost use Rattle.tree_node.specs.Nodes.{core_of, data_of};
+ghost use Rattle.tree_node.specs.Openings.{OpenedAs};
 ghost use Rattle.tree_cluster.specs.Opening.{IsTableOf, KeepsSeats, names_of};
 ghost use Rattle.tree_cluster.specs.Passes.{new_passes};
 
@@ -9,7 +12,7 @@ use log_store::MemoryStore;
 use std::alloc::{AllocError, Global};
 use std::sync::Mutex;
 use tree_model::{ProcessId, Tree, TreeEntry};
-use tree_node::{OpenError, copied_tree, open_node};
+use tree_node::{Node, OpenError, copied_tree, open_node};
 use tree_threads::{Pass, Seated};
 use tree_ties::seats::{Opened, Place, Seats, Ties, give, open, seat};
 
@@ -34,6 +37,20 @@ pub fn seats(alloc: Global, tree: &Tree) -> Result<Opened, AllocError>
     open(alloc, &names)
 }
 
+/// Opens the process of an entry over an empty store in memory, which a refusal lets go.
+fn opened(alloc: Global, entry: &TreeEntry, tree: Tree) -> Result<Node<MemoryStore>, OpenError>
+    ensures ok { IfOk result (λ node. OpenedAs tree entry.now (core_of node)) }
+    ensures holdings { IfOk result (λ node. Rests no_data (data_of node)) }
+{
+    match open_node(alloc, entry, tree, MemoryStore::new(alloc)) {
+        Ok(node) => Ok(node),
+        Err((error, store)) => {
+            drop(store);
+            Err(error)
+        }
+    }
+}
+
 /// Opens the process of the entry at this place of the tree over an empty store in memory, and gives it the next
 /// seat.
 fn open_seated<N: Seats>(
@@ -51,7 +68,7 @@ fn open_seated<N: Seats>(
     ensures { OnOk result (KeepsSeats N.table tree.now (place + 1) journal.old.me.0.journal.given journal.new) }
 {
     let copy = copied_tree(alloc, tree)?;
-    let node = open_node(alloc, entry, copy, MemoryStore::new(alloc))?;
+    let node = opened(alloc, entry, copy)?;
     Ok(Seated::new(entry.id, place, node, seat(ties, journal)))
 }
 

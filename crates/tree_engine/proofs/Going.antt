@@ -121,5 +121,6 @@ ran tree s now given refusal n is opens h = record {
   start = s;
   opens = opens;
   leads = h.leads;
+  itself = h.itself;
   run = run_of tree s now given refusal is opens h.leads h.itself;
 }

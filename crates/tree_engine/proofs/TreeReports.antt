@@ -51,6 +51,7 @@ run_reported text_of output input tree events refusal end r script plays text st
       end = end;
       opens = plays.opens;
       leads = plays.leads;
+      itself = plays.itself;
       moves = plays.run.moves;
       world = plays.run.world;
       tree_is = plays.run.tree_is;

@@ -3,3 +3,4 @@ pub mod Texts
 pub mod Logs
 pub mod Trees
 pub mod Runs
+pub mod OneText

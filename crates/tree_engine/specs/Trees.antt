@@ -21,7 +21,7 @@ use Rattle.trace_lines.specs.Trace.{entries_text, entry_text, lines_text}
 use Rattle.report_io.specs.declared.status.Status.{Status}
 use Rattle.report_io.specs.declared.status.Status.TheVariants.{Ended, Refused, Stopped}
 use Rattle.tree_reports.specs.SecondRuns.{EndsReported}
-use Rattle.core_law.specs.worlds.Refusals.{IsRunOf, LeadsTo, Refusal, RefusesIn}
+use Rattle.core_law.specs.worlds.Refusals.{IsForItself, IsRunOf, LeadsTo, Refusal, RefusesIn}
 use Rattle.core_law.specs.worlds.Runs.{IsOpened}
 use Rattle.core_law.specs.worlds.Ties.{Follows}
 use Rattle.core_law.specs.worlds.Worlds.{WorldState}
@@ -64,12 +64,14 @@ abbrev pub IsNumbered : Refusal → Type 0
 IsNumbered None = Unit {0}
 IsNumbered (Some refused) = refused.0 + 1 < 2 ^ 64
 
--- a tree opened, these events led it, up to the refused one, to this state, and that is a run of the model
+-- a tree opened, these events led it, up to the refused one, to this state, and that is a run of the model; the
+-- refused one was refused for itself
 pub record Plays (tree : List TreeEntry) (events : List Event) (refusal : Refusal)
     (end : WorldState) : Type 0 where
   pub start : WorldState
   pub opens : IsOpened start tree
   pub leads : LeadsTo start events refusal end
+  pub itself : IsForItself refusal
   pub run : IsRunOf tree events refusal end
 
 -- the last line
@@ -104,7 +106,7 @@ Tells Counts w refusal text = text ≡ (trace_of w ++ last_line refusal) ++ coun
 -- The text is that of the run of just these events: they led the tree, opened, to a state that stands for a
 -- run of the model, with its journal, its messages and its processes; of this run the headline holds, each End
 -- of the root in it reports mismatches truly, and the text tells that state. A refused event is one that the
--- model refuses there by that number.
+-- model refuses there by that number; it was refused neither for memory nor because a device failed.
 pub record RunsOver (output : Output) (tree : List TreeEntry) (events : List Event) (status : Status)
     (text : List ℕ) : Type 0 where
   pub refusal : Refusal
@@ -112,6 +114,7 @@ pub record RunsOver (output : Output) (tree : List TreeEntry) (events : List Eve
   pub end : WorldState
   pub opens : IsOpened start tree
   pub leads : LeadsTo start events refusal end
+  pub itself : IsForItself refusal
   pub moves : List Made
   pub world : World
   pub tree_is : end.tree ≡ tree

@@ -7,6 +7,7 @@ mod counting;
 mod counts;
 mod drawn;
 mod kinds;
+pub mod law;
 mod logs;
 mod rows;
 mod run;

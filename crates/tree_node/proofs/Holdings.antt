@@ -1,8 +1,6 @@
 -- The data of a process: in what it handles, in a restart and in a trim.
 use Rattle.std.proofs.Common.{◌≡◌, ◌≢◌, ℕ, true, false, Option, Some, None, List, Result, Ok, Err, IfOk, IfErr, OnOk, refl}
 use Rattle.tree_model.specs.declared.names.ProcessId.{ProcessId}
-use Rattle.tree_model.specs.declared.messages.Message.{Message}
-use Rattle.tree_model.specs.declared.messages.Message.TheVariants.{Join, Work, Prepare}
 use Rattle.tree_model.specs.declared.events.Input.{Input}
 use Rattle.tree_model.specs.declared.events.Input.TheVariants.{Act as ActInput, Message as MessageInput}
 use Rattle.tree_model.specs.declared.events.Reaction.{Reaction}
@@ -22,18 +20,19 @@ use Rattle.coord_core.specs.States.{CoordinatorValue, role_below, state}
 use Rattle.manager_model.specs.Data.{ManagerData, Rests, no_data}
 use Rattle.manager_model.specs.Sights.{manager_data}
 use Rattle.manager_model.specs.Turns.{AnswersInput, MovesData, case_xid, data_turn}
-use Rattle.sub_deeds.specs.Deeds.{KeepsManager, starts}
-use Rattle.sub_core.specs.Subordinates.{SubState, core_of, next_case, xid_of}
+use Rattle.sub_deeds.specs.Deeds.{KeepsManager}
+use Rattle.sub_deeds.proofs.Known.{kept_known}
+use Rattle.sub_core.specs.Subordinates.{SubState, core_of}
 use Rattle.sub_core.specs.Steps.{Leaves, LeavesPromises, data_answer}
 use Rattle.tree_node.specs.Nodes.{KeepsData, NotHandled}
 use Rattle.tree_node.proofs.Same.{rests}
 
 -- A coordinator has no data.
 
-none_handle : (parent : Option ProcessId) (d e : ManagerData) (s : CoreState) (a : DataAnswer) (i : Input)
-    → HandlesData (role_below parent) d e s a i
-none_handle None d e s a i = tt
-none_handle (Some p) d e s a i = tt
+none_handle : (parent : Option ProcessId) (d e : ManagerData) (s : CoreState) (i : Input)
+    → HandlesData (role_below parent) d e s no_answer i
+none_handle None d e s i = refl
+none_handle (Some p) d e s i = refl
 
 pub none_restart : (parent : Option ProcessId) (ls : List LogRecord) (d : ManagerData)
     → RestartsData (role_below parent) ls d
@@ -50,7 +49,7 @@ pub coordinator_handles : (v w : CoordinatorValue) (i : Input) (r : Result React
 coordinator_handles v w i (Ok r) h = record {
   answer = no_answer;
   makes = h;
-  holdings = none_handle v.parent no_data no_data (state v) no_answer i;
+  holdings = none_handle v.parent no_data no_data (state v) i;
 }
 coordinator_handles v w i (Err e) h = tt
 
@@ -62,40 +61,33 @@ coordinator_stops v w i (Err e) h = record { answer = no_answer; not_made = h; k
 
 -- A manager's data answer, and are left so.
 
-answers_message : (s : SubState) (k : ℕ) (m : Message)
-    → AnswersInput (manager_data s.manager) (case_xid s.parent) (MessageInput k m) (data_answer s (MessageInput k m))
-answers_message s k (Join d) = (starts s.manager (xid_of s (next_case s d)), refl)
-answers_message s k (Work c i op) = (true, refl)
-answers_message s k (Prepare c n) = (true, refl)
-answers_message s k _ = (true, refl)
-
 moves_so : (s t : SubState) (i : Input) → Leaves i s t
     → MovesData (manager_data s.manager) (manager_data t.manager) (case_xid s.parent)
     (data_turn (core_of s) (data_answer s i) i)
 moves_so s t (ActInput a) leaves = leaves
 moves_so s t (MessageInput k m) leaves = leaves
 
-answers_so : (s : SubState) (i : Input)
-    → AnswersInput (manager_data s.manager) (case_xid s.parent) i (data_answer s i)
-answers_so s (ActInput a) = refl
-answers_so s (MessageInput k m) = answers_message s k m
-
 pub manager_handles : (s t : SubState) (i : Input) (r : Result Reaction StepError)
+    → AnswersInput (core_of s) (manager_data s.manager) (case_xid s.parent) i (data_answer s i)
     → IfOk r (Makes (core_of s) (core_of t) (data_answer s i) i) → OnOk r (Leaves i s t)
     → IfOk r (HandlesInput (core_of s) (core_of t) (manager_data s.manager) (manager_data t.manager) i)
-manager_handles s t i (Ok r) makes leaves = record {
+manager_handles s t i (Ok r) answers makes leaves = record {
   answer = data_answer s i;
   makes = makes;
-  holdings = (answers_so s i, moves_so s t i leaves);
+  holdings = (answers, moves_so s t i leaves);
 }
-manager_handles s t i (Err e) makes leaves = tt
+manager_handles s t i (Err e) answers makes leaves = tt
+
+kept_data : (s t : SubState) → KeepsManager s.manager t.manager
+    → Rests (manager_data s.manager) (manager_data t.manager)
+kept_data s t keeps = record {
+  keeps = record { writes = keeps.rest.writes; holders = keeps.rest.holders };
+  known = kept_known s.manager t.manager keeps;
+}
 
 pub kept_by : (s t : SubState) (e : StepError) → (e ≢ Device → KeepsManager s.manager t.manager)
     → KeepsData (manager_data s.manager) (manager_data t.manager) e
-kept_by s t e keeps = λ other. record {
-  writes = (keeps other).rest.writes;
-  holders = (keeps other).rest.holders;
-}
+kept_by s t e keeps = λ other. kept_data s t (keeps other)
 
 pub manager_stops : (s t : SubState) (i : Input) (r : Result Reaction StepError)
     → IfErr r (NotMade (core_of s) (core_of t) (data_answer s i) i)
@@ -127,12 +119,12 @@ nothing_kept (Err e) = λ _. rests no_data
 pub manager_restarts : (s t : SubState) (keep : ℕ) (r : Result Reaction StepError)
     → OnOk r (LeavesPromises s keep t)
     → OnOk r (HoldsPromises (left_by s.manager.log keep) (manager_data t.manager))
-manager_restarts s t keep (Ok r) leaves = record { writes = leaves.writes; held = leaves.held }
+manager_restarts s t keep (Ok r) leaves = record { writes = leaves.writes; held = leaves.held; known = leaves.known }
 manager_restarts s t keep (Err e) leaves = tt
 
 pub manager_trims : (s t : SubState) (r : Result ℕ StepError) → OnOk r (KeepsManager s.manager t.manager)
     → OnOk r (Rests (manager_data s.manager) (manager_data t.manager))
-manager_trims s t (Ok n) keeps = record { writes = keeps.rest.writes; holders = keeps.rest.holders }
+manager_trims s t (Ok n) keeps = kept_data s t keeps
 manager_trims s t (Err e) keeps = tt
 
 pub manager_kept : {A : Type 0} (s t : SubState) (r : Result A StepError)

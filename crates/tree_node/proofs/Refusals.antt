@@ -18,10 +18,10 @@ use Rattle.coord_core.specs.States.{NotOpened as CoordinatorNotOpened}
 use Rattle.kv_core.specs.Replays.{AreMalformed, BreaksLimits, CountTooFar, seen_after, seen_of}
 use Rattle.kv_manager.specs.declared.manager.RestoreError.{RestoreError}
 use Rattle.kv_manager.specs.declared.manager.RestoreError.TheVariants as restores
-use Rattle.kv_manager.specs.declared.restart.RestartError.{RestartError}
-use Rattle.kv_manager.specs.declared.restart.RestartError.TheVariants as restarts
+use Rattle.kv_manager.specs.declared.restart.RecordsError.{RecordsError}
+use Rattle.kv_manager.specs.declared.restart.RecordsError.TheVariants as restarts
 use Rattle.kv_manager.specs.Restarts.{AreLastBoots, AreTooMany, HandsBack, NotRebuilt, NotRestored, next_boot}
-use Rattle.tree_node.specs.Openings.{ProcessNotOpened, error_of_log, error_of_manager, error_of_step}
+use Rattle.tree_node.specs.Openings.{HandsBack as HandsStoreBack, ProcessNotOpened, error_of_log, error_of_manager, error_of_step}
 use Rattle.tree_node.proofs.EmptyLogs.{no_records, nothing_read}
 
 -- Logs.
@@ -41,6 +41,15 @@ log_refused bytes forced failures k p old new (logs.Damaged place) empty h =
     absurd (whole_not_damaged [] 0 place
     (sym (nothing_read k) ∙ ap (read_log k) (sym empty) ∙ h.1))
 
+-- the store that is handed back with that
+pub log_handed_back : {S : Type 0} (bytes : S → List ℕ) (forced failures : S → ℕ) (k : Kind) (p : ProcessId)
+    (old new : S) (e : LogError) → bytes old ≡ []
+    → LogNotOpened bytes forced failures k old new e
+    → HandsStoreBack failures old new (error_of_log p e)
+log_handed_back bytes forced failures k p old new logs.Memory empty h = h.failures_stay
+log_handed_back bytes forced failures k p old new logs.Device empty h = h.breaks.cause
+log_handed_back bytes forced failures k p old new (logs.Damaged place) empty h = h.0
+
 -- Coordinators.
 
 -- a coordinator over an empty log is refused likewise
@@ -53,6 +62,17 @@ coordinator_refused bytes failures p old new opened left steps.Memory empty at t
 coordinator_refused bytes failures p old new opened left steps.Device empty at to h =
     (refl, record { empty = empty; left = new; more = omega (arith, at, to, h.cause) })
 coordinator_refused bytes failures p old new opened left e empty at to h = absurd h
+
+-- the store that is handed back with that
+pub coordinator_handed_back : {S : Type 0} (failures : S → ℕ) (p : ProcessId) (old new : S)
+    (opened left : LogState) (e : StepError)
+    → opened.sight.failures ≡ failures old → left.sight.failures ≡ failures new
+    → CoordinatorNotOpened opened left e
+    → HandsStoreBack failures old new (error_of_step p e)
+coordinator_handed_back failures p old new opened left steps.Memory at to h =
+    sym to ∙ ap (λ (s : LogSight). s.failures) h ∙ at
+coordinator_handed_back failures p old new opened left steps.Device at to h = omega (arith, at, to, h.cause)
+coordinator_handed_back failures p old new opened left e at to h = absurd h
 
 -- Managers.
 
@@ -105,7 +125,7 @@ never_exhausted (inl far) = none_too_far far
 never_exhausted (inr last) = none_last last
 
 -- the log of an empty store leaves what no records leave
-as_none : {S : Type 0} (bytes : S → List ℕ) (forced failures : S → ℕ) (old new : S) (e : RestartError)
+as_none : {S : Type 0} (bytes : S → List ℕ) (forced failures : S → ℕ) (old new : S) (e : RecordsError)
     → bytes old ≡ [] → (h : HandsBack bytes forced failures old new e)
     → NotRebuilt (records_of h.opened_as.sight.kept) e → NotRebuilt [] e
 as_none bytes forced failures old new e empty h = subst (λ ls. NotRebuilt ls e)
@@ -113,7 +133,7 @@ as_none bytes forced failures old new e empty h = subst (λ ls. NotRebuilt ls e)
 
 -- a key store over an empty log is refused likewise
 records_refused : {S : Type 0} (bytes : S → List ℕ) (forced failures : S → ℕ) (p : ProcessId)
-    (old new : S) (e : RestartError) → bytes old ≡ []
+    (old new : S) (e : RecordsError) → bytes old ≡ []
     → HandsBack bytes forced failures old new e
     → ProcessNotOpened bytes failures p (Some old) (error_of_manager p (restores.Records e))
 records_refused bytes forced failures p old new restarts.Memory empty h = tt
@@ -135,3 +155,28 @@ manager_refused bytes forced failures p old new (restores.Log e) empty h =
     log_refused bytes forced failures Manager p old new e empty h
 manager_refused bytes forced failures p old new (restores.Records e) empty h =
     records_refused bytes forced failures p old new e empty h
+
+-- the store that is handed back with that
+records_handed_back : {S : Type 0} (bytes : S → List ℕ) (forced failures : S → ℕ) (p : ProcessId)
+    (old new : S) (e : RecordsError) → bytes old ≡ []
+    → HandsBack bytes forced failures old new e
+    → HandsStoreBack failures old new (error_of_manager p (restores.Records e))
+records_handed_back bytes forced failures p old new restarts.Memory empty h =
+    let to : h.left_as.sight.failures ≡ failures new = ap (λ (s : LogSight). s.failures) h.holds in
+    sym to ∙ ap (λ (s : LogSight). s.failures) h.why.1 ∙ h.opens.failures_stay
+records_handed_back bytes forced failures p old new restarts.Device empty h =
+    let to : h.left_as.sight.failures ≡ failures new = ap (λ (s : LogSight). s.failures) h.holds in
+    omega (arith, h.opens.failures_stay, to, h.why.2.cause)
+records_handed_back bytes forced failures p old new restarts.Unfit empty h =
+    absurd (never_unfit (as_none bytes forced failures old new restarts.Unfit empty h h.why.0))
+records_handed_back bytes forced failures p old new restarts.Exhausted empty h = absurd
+    (never_exhausted (as_none bytes forced failures old new restarts.Exhausted empty h h.why.0))
+
+pub manager_handed_back : {S : Type 0} (bytes : S → List ℕ) (forced failures : S → ℕ) (p : ProcessId)
+    (old new : S) (e : RestoreError) → bytes old ≡ []
+    → NotRestored bytes forced failures old new e
+    → HandsStoreBack failures old new (error_of_manager p e)
+manager_handed_back bytes forced failures p old new (restores.Log e) empty h =
+    log_handed_back bytes forced failures Manager p old new e empty h
+manager_handed_back bytes forced failures p old new (restores.Records e) empty h =
+    records_handed_back bytes forced failures p old new e empty h

@@ -7,8 +7,6 @@ use Rattle.tree_model.specs.declared.names.ProcessId.{ProcessId}
 use Rattle.tree_model.specs.declared.trees.TreeEntry.{TreeEntry}
 use Rattle.tree_model.specs.declared.events.Reaction.{Reaction}
 use Rattle.tree_model.specs.declared.names.Kind.TheVariants.{Coordinator, Manager}
-use Rattle.tree_model.specs.declared.events.StepError.{StepError}
-use Rattle.tree_model.specs.declared.events.StepError.TheVariants as steps
 use Rattle.tree_model.specs.declared.records.LogRecord.{LogRecord}
 use Rattle.tree_model.specs.Nodes.{AtLeaf, Place, Role, role_by}
 use Rattle.log_store.specs.Stores.{MoreFailures}
@@ -25,14 +23,16 @@ use Rattle.manager_model.specs.Sights.{ManagerSight, manager_data}
 use Rattle.sub_core.specs.Steps.{PromisesLeft}
 use Rattle.manager_model.specs.Restarting.{IsRestarted, Restarts as ManagerRestarts}
 use Rattle.coord_core.specs.Reopened.{NotReopened as CoordinatorNotReopened}
+use Rattle.coord_core.specs.declared.restarting.ReopenError.{ReopenError as CoordinatorError}
+use Rattle.coord_core.specs.declared.restarting.ReopenError.TheVariants as coordinators
 use Rattle.kv_manager.specs.declared.manager.RestoreError.{RestoreError}
 use Rattle.kv_manager.specs.declared.manager.RestoreError.TheVariants as restores
-use Rattle.kv_manager.specs.declared.restart.RestartError.TheVariants as restarts
+use Rattle.kv_manager.specs.declared.restart.RecordsError.TheVariants as restarts
 use Rattle.kv_manager.specs.Resources.{sight_of}
 use Rattle.kv_manager.specs.Restarts.{LeavesStore, NotRestored, Restarted, RestoredFrom, StartsOver, opened}
 use Rattle.kv_manager.specs.Sights.{KvSight}
 use Rattle.kv_manager.proofs.Restarted.{restarted}
-use Rattle.tree_node.specs.Reopenings.{NotReopened, Reopens, error_of_log, error_of_manager, error_of_step}
+use Rattle.tree_node.specs.Reopenings.{NotReopened, Reopens, error_of_coordinator, error_of_log, error_of_manager}
 
 -- Managers.
 
@@ -104,7 +104,7 @@ module _ (me parent : ProcessId) (tree : List TreeEntry) (bytes : List ℕ) (for
         restarts = λ old so keep is. restarts (sight_of (before r.log s)) 0 here old
             (record { place_is = so.place_is; failures_are = so.failures_are ∙ sym r.opens.failures_stay })
             keep (is ∙ sym left);
-        holdings = record { writes = p.writes; held = p.held };
+        holdings = record { writes = p.writes; held = p.held; known = p.known };
       }
 
 -- Coordinators.
@@ -150,17 +150,19 @@ log_fails bytes forced failures k old new logs.Device h = record { left = new; m
 log_fails bytes forced failures k old new (logs.Damaged place) h = h.1
 
 pub coordinator_fails : {S : Type 0} (bytes : S → List ℕ) (forced failures : S → ℕ) (place : Place) (old new : S)
-    (opened left : LogState) (e : StepError)
-    → opened.sight.failures ≡ failures old → left.sight.failures ≡ failures new
+    (opened left : LogState) (e : CoordinatorError)
+    → Opens Coordinator (bytes old) (forced old) (failures old) opened → left.sight.failures ≡ failures new
     → CoordinatorNotReopened place opened.sight left.sight e
-    → NotReopened bytes forced failures Coordinator old (error_of_step e)
-coordinator_fails bytes forced failures place old new opened left steps.Memory at to h = tt
-coordinator_fails bytes forced failures place old new opened left steps.Device at to h =
-    let from : h.before.log.failures ≡ failures old = ap (λ (l : LogSight). l.failures) h.log_is ∙ at in
+    → NotReopened bytes forced failures Coordinator old (error_of_coordinator e)
+coordinator_fails bytes forced failures place old new opened left coordinators.Memory opens to h = tt
+coordinator_fails bytes forced failures place old new opened left coordinators.Device opens to h =
+    let from : h.before.log.failures ≡ failures old =
+    ap (λ (l : LogSight). l.failures) h.log_is ∙ opens.failures_stay in
     let until : h.behind.log.failures ≡ failures new = ap (λ (l : LogSight). l.failures) h.log_left ∙ to in
-    let more : MoreFailures (failures old) (failures new) = omega (arith, from, until, h.refused.0.cause) in
+    let more : MoreFailures (failures old) (failures new) = omega (arith, from, until, h.broke.0.cause) in
     record { left = new; more = more }
-coordinator_fails bytes forced failures place old new opened left e at to h = absurd h.refused
+coordinator_fails bytes forced failures place old new opened left coordinators.Unfit opens to h =
+    record { log = opened; opens = opens; why = h.1 }
 
 pub manager_fails : {S : Type 0} (bytes : S → List ℕ) (forced failures : S → ℕ) (old new : S)
     (e : RestoreError) → NotRestored bytes forced failures old new e

@@ -22,6 +22,6 @@ same_core s =
       };
     }
 
--- nothing is written, and each key is held as it was
+-- data that have not changed
 pub rests : (d : ManagerData) → Rests d d
-rests d = record { writes = λ y. refl; holders = λ k. refl }
+rests d = record { keeps = record { writes = λ y. refl; holders = λ k. refl }; known = λ y. refl }

@@ -8,7 +8,7 @@ use Rattle.tree_model.specs.declared.records.LogRecord.{LogRecord}
 use Rattle.tree_model.specs.declared.events.StepError.{StepError}
 use Rattle.tree_model.specs.declared.events.StepError.TheVariants.{Device}
 use Rattle.tree_model.specs.Nodes.{DataAnswer, Role, AtLeaf}
-use Rattle.rec_log.specs.Sights.{ReadsAs, records_of}
+use Rattle.rec_log.specs.Sights.{ReadsAs, log_state, records_of}
 use Rattle.core_model.specs.States.{CoreState}
 use Rattle.core_model.specs.Makes.{NotMade}
 use Rattle.core_law.specs.Steps.{IsSoundLog}
@@ -44,6 +44,11 @@ log_kind _ = CoordinatorKind
 -- the bytes read as the log of this process
 abbrev pub SpellsLog : CoreState → List ℕ → Type 0
 SpellsLog s text = ReadsAs (log_kind s.place.role) text (records_of s.log.kept) s.log.failed
+
+-- a store holds the log of this process: its bytes, what is forced of them, and how often its device failed
+abbrev pub HoldsLog : {L : Type 0} → (L → List ℕ) → (L → ℕ) → (L → ℕ) → CoreState → L → Type 0
+HoldsLog bytes forced failures s store =
+    (log_state (log_kind s.place.role) (bytes store) (forced store) (failures store) 0 s.log.failed).sight ≡ s.log
 
 -- the records of a manager may follow one another; that a coordinator's may is a law of every run
 abbrev pub FollowAt : Role → List LogRecord → Type 0

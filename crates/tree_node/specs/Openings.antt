@@ -10,7 +10,7 @@ use Rattle.rec_log.specs.declared.opening.OpenError.{OpenError as LogError}
 use Rattle.rec_log.specs.declared.opening.OpenError.TheVariants as logs
 use Rattle.kv_manager.specs.declared.manager.RestoreError.{RestoreError}
 use Rattle.kv_manager.specs.declared.manager.RestoreError.TheVariants as restores
-use Rattle.kv_manager.specs.declared.restart.RestartError.TheVariants as restarts
+use Rattle.kv_manager.specs.declared.restart.RecordsError.TheVariants as restarts
 use Rattle.core_model.specs.States.{CoreState}
 use Rattle.core_model.specs.Opening.{IsOpened as OpensAt}
 use Rattle.tree_node.specs.declared.opening.OpenError.{OpenError}
@@ -45,6 +45,13 @@ abbrev pub ProcessNotOpened : {L : Type 0} → (L → List ℕ) → (L → ℕ) 
 ProcessNotOpened bytes failures p store Memory = ⊤
 ProcessNotOpened bytes failures p store (Device q) = (q ≡ p) × IsSomeAnd store (DeviceFailed bytes failures)
 ProcessNotOpened bytes failures p store (Store q) = (q ≡ p) × IsNoEmptyStore bytes store
+
+-- the store that is handed back where its process did not open: its device failed in that, or did not; one that
+-- had bytes is as it was
+abbrev pub HandsBack : {L : Type 0} → (L → ℕ) → L → L → OpenError → Type 0
+HandsBack failures old new Memory = failures new ≡ failures old
+HandsBack failures old new (Device p) = MoreFailures (failures old) (failures new)
+HandsBack failures old new (Store p) = new ≡ old
 
 -- the number of an error
 abbrev pub open_error_number : OpenError → ℕ

@@ -1,5 +1,5 @@
 -- A process that goes on over the log that an earlier one left, and why none did.
-use Rattle.std.specs.Prelude.{◌≡◌, ⊤, ◌⊎◌, ℕ, Option, Some, List}
+use Rattle.std.specs.Prelude.{◌≡◌, ⊤, ◌⊎◌, ℕ, false, Option, Some, List, map}
 use Rattle.tree_model.specs.declared.names.Kind.{Kind}
 use Rattle.tree_model.specs.declared.names.Kind.TheVariants.{Coordinator, Manager}
 use Rattle.tree_model.specs.declared.names.ProcessId.{ProcessId}
@@ -20,8 +20,11 @@ use Rattle.core_law.specs.worlds.Worlds.{RestartsData}
 use Rattle.manager_model.specs.Data.{ManagerData}
 use Rattle.kv_manager.specs.declared.manager.RestoreError.{RestoreError}
 use Rattle.kv_manager.specs.declared.manager.RestoreError.TheVariants as restores
-use Rattle.kv_manager.specs.declared.restart.RestartError.TheVariants as restarts
+use Rattle.kv_manager.specs.declared.restart.RecordsError.TheVariants as restarts
 use Rattle.kv_manager.specs.Restarts.{NotRebuilt}
+use Rattle.coord_core.specs.declared.restarting.ReopenError.{ReopenError as CoordinatorError}
+use Rattle.coord_core.specs.declared.restarting.ReopenError.TheVariants as coordinators
+use Rattle.inquire_core.specs.Numbered.{are_numbered}
 use Rattle.tree_node.specs.declared.reopening.ReopenError.{ReopenError}
 use Rattle.tree_node.specs.declared.reopening.ReopenError.TheVariants.{Memory, Device, Damaged, Unfit}
 
@@ -56,6 +59,17 @@ pub record LeavesNoManager (p : Kind) (bytes : List ℕ) (forced failures : ℕ)
   pub why : NotRebuilt (records_of log.sight.kept) restarts.Unfit
       ⊎ NotRebuilt (records_of log.sight.kept) restarts.Exhausted
 
+-- the bytes are the log of records of which one is of a case of a boot that the log had not reached
+pub record LeavesNoCoordinator (p : Kind) (bytes : List ℕ) (forced failures : ℕ) : Type 0 where
+  pub log : LogState
+  pub opens : Opens p bytes forced failures log
+  pub why : are_numbered 0 (map (λ l. l.entry) (records_of log.sight.kept)) ≡ false
+
+-- the bytes are the log of records that leave no process of this kind
+abbrev pub LeavesNone : Kind → List ℕ → ℕ → ℕ → Type 0
+LeavesNone Coordinator bytes forced failures = LeavesNoCoordinator Coordinator bytes forced failures
+LeavesNone Manager bytes forced failures = LeavesNoManager Manager bytes forced failures
+
 -- the device failed: there is a store that has more failures, as a failure leaves one, or whose count is at its
 -- top
 pub record FailsOver {L : Type 0} (failures : L → ℕ) (store : L) : Type 0 where
@@ -67,7 +81,7 @@ abbrev pub NotReopened : {L : Type 0} → (L → List ℕ) → (L → ℕ) → (
 NotReopened bytes forced failures p store Memory = ⊤
 NotReopened bytes forced failures p store Device = FailsOver failures store
 NotReopened bytes forced failures p store (Damaged place) = read_log p (bytes store) ≡ DamagedLog place
-NotReopened bytes forced failures p store Unfit = LeavesNoManager p (bytes store) (forced store) (failures store)
+NotReopened bytes forced failures p store Unfit = LeavesNone p (bytes store) (forced store) (failures store)
 
 -- the number of an error
 abbrev pub reopen_error_number : ReopenError → ℕ
@@ -86,6 +100,12 @@ error_of_log (logs.Damaged place) = Damaged place
 abbrev pub error_of_step : StepError → ReopenError
 error_of_step steps.Memory = Memory
 error_of_step e = Device
+
+-- likewise, where no coordinator goes on
+abbrev pub error_of_coordinator : CoordinatorError → ReopenError
+error_of_coordinator coordinators.Memory = Memory
+error_of_coordinator coordinators.Device = Device
+error_of_coordinator coordinators.Unfit = Unfit
 
 -- likewise, where its key store was not restored
 abbrev pub error_of_manager : RestoreError → ReopenError

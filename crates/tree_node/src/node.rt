@@ -10,7 +10,7 @@ ghost use Rattle.sub_core.specs.Steps.{state as manager_state};
 ghost use Rattle.core_law.specs.worlds.Worlds.{HandlesInput};
 ghost use Rattle.manager_model.specs.Data.{no_data};
 ghost use Rattle.manager_model.specs.Sights.{manager_data};
-ghost use Rattle.tree_node.specs.Nodes.{NotHandled, SpellsLog, core_of, data_of, live_at};
+ghost use Rattle.tree_node.specs.Nodes.{NotHandled, HoldsLog, SpellsLog, core_of, data_of, live_at};
 
 use coord_core::Coordinator;
 use core_model::InputRef;
@@ -111,6 +111,18 @@ impl<L: LogStore> Node<L> {
     }
 }
 
+impl<L: LogStore + Drop> Node<L> {
+    /// The store under its log, as it stands.
+    pub fn into_store(self) -> L
+        ensures { HoldsLog L.bytes L.forced L.failures (core_of self) result }
+    {
+        match self {
+            Node::Coordinator(coordinator) => coordinator_store(coordinator),
+            Node::Manager(manager) => manager_store(manager),
+        }
+    }
+}
+
 impl Node<MemoryStore> {
     /// A store in memory does not fail.
     pub fn never_failed(&self)
@@ -121,6 +133,20 @@ impl Node<MemoryStore> {
             Node::Manager(manager) => manager.manager().never_failed(),
         }
     }
+}
+
+/// The store under a coordinator's log.
+fn coordinator_store<L: LogStore + Drop>(coordinator: Coordinator<L>) -> L
+    ensures { HoldsLog L.bytes L.forced L.failures (coordinator_state coordinator) result }
+{
+    coordinator.into_store()
+}
+
+/// The store under a manager's log.
+fn manager_store<L: LogStore + Drop>(manager: Subordinate<KvManager<L>>) -> L
+    ensures { HoldsLog L.bytes L.forced L.failures (manager_state sight_of manager) result }
+{
+    manager.into_manager().into_store()
 }
 
 /// The bytes of a coordinator's log.
@@ -157,5 +183,6 @@ fn step_manager<L: LogStore>(
         (manager_state sight_of manager.new) (manager_data (sight_of manager.old.manager))
         (manager_data (sight_of manager.new.manager)) (input_of input.entry)) }
 {
+    manager.data_answers();
     manager.step(input)
 }

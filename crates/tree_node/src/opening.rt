@@ -7,6 +7,7 @@ ghost use Rattle.tree_model.specs.Nodes.{Role, role_by};
 ghost use Rattle.manager_model.specs.Data.{Rests, no_data};
 ghost use Rattle.tree_node.specs.Nodes.{core_of, data_of};
 ghost use Rattle.tree_node.specs.Openings.{
+  HandsBack,
   OpenedAs,
   OpenedAt,
   ProcessNotOpened,
@@ -18,7 +19,7 @@ ghost use Rattle.tree_node.specs.Openings.{
 
 use crate::node::Node;
 use coord_core::Coordinator;
-use kv_manager::{KvManager, RestartError, RestoreError};
+use kv_manager::{KvManager, RecordsError, RestoreError};
 use log_store::LogStore;
 use rec_log::{OpenError as LogOpenError, RecLog};
 use std::alloc::{AllocError, Global};
@@ -60,13 +61,6 @@ impl From<AllocError> for OpenError {
     }
 }
 
-/// Lets go of what a refusal handed back, and tells why.
-fn refused<T: Drop>(_left: T, why: OpenError) -> OpenError
-    ensures { result ≡ why }
-{
-    why
-}
-
 fn of_log(me: ProcessId, error: LogOpenError) -> OpenError
     ensures { result ≡ error_of_log me error }
 {
@@ -91,8 +85,8 @@ fn of_manager(me: ProcessId, error: RestoreError) -> OpenError
 {
     match error {
         RestoreError::Log(error) => of_log(me, error),
-        RestoreError::Records(RestartError::Memory) => OpenError::Memory,
-        RestoreError::Records(RestartError::Device) => OpenError::Device(me),
+        RestoreError::Records(RecordsError::Memory) => OpenError::Memory,
+        RestoreError::Records(RecordsError::Device) => OpenError::Device(me),
         RestoreError::Records(_) => OpenError::Store(me),
     }
 }
@@ -128,17 +122,18 @@ fn empty_log<L: LogStore + Drop>(
     alloc: Global,
     me: ProcessId,
     store: L,
-) -> Result<RecLog<L>, OpenError>
+) -> Result<RecLog<L>, (OpenError, L)>
     requires { L.bytes store ≡ [] }
     ensures kind { IfOk result (λ log. log.kind ≡ kind.Coordinator) }
     ensures works { IfOk result (λ log. log.sight.failed ≡ false) }
     ensures empty { IfOk result (λ log. records_of log.sight.kept ≡ []) }
     ensures failures { IfOk result (λ log. log.sight.failures ≡ L.failures store) }
-    ensures err { IfErr result (ProcessNotOpened L.bytes L.failures me (Some store)) }
+    ensures err { IfErr result (λ e. ProcessNotOpened L.bytes L.failures me (Some store) e.0) }
+    ensures handed_back { IfErr result (λ e. HandsBack L.failures store e.1 e.0) }
 {
     match RecLog::open(store, Kind::Coordinator, alloc) {
         Ok(log) => Ok(log),
-        Err((error, store)) => Err(refused(store, of_log(me, error))),
+        Err((error, store)) => Err((of_log(me, error), store)),
     }
 }
 
@@ -149,17 +144,18 @@ fn open_coordinator<L: LogStore + Drop>(
     parent: Option<ProcessId>,
     tree: Tree,
     store: L,
-) -> Result<Node<L>, OpenError>
+) -> Result<Node<L>, (OpenError, L)>
     requires { L.bytes store ≡ [] }
     ensures ok { IfOk result (λ node. OpenedAt
         (record { me = me; role = role_by kind.Coordinator parent; tree = tree }) (core_of node)) }
     ensures holdings { IfOk result (λ node. Rests no_data (data_of node)) }
-    ensures err { IfErr result (ProcessNotOpened L.bytes L.failures me (Some store)) }
+    ensures err { IfErr result (λ e. ProcessNotOpened L.bytes L.failures me (Some store) e.0) }
+    ensures handed_back { IfErr result (λ e. HandsBack L.failures store e.1 e.0) }
 {
     let log = empty_log(alloc, me, store)?;
     match Coordinator::open(alloc, me, parent, tree, log) {
         Ok(coordinator) => Ok(Node::Coordinator(coordinator)),
-        Err((error, log)) => Err(refused(log.into_store(), of_step(me, error))),
+        Err((error, log)) => Err((of_step(me, error), log.into_store())),
     }
 }
 
@@ -170,32 +166,35 @@ fn open_manager<L: LogStore + Drop>(
     parent: ProcessId,
     tree: Tree,
     store: L,
-) -> Result<Node<L>, OpenError>
+) -> Result<Node<L>, (OpenError, L)>
     requires { L.bytes store ≡ [] }
     ensures ok { IfOk result
         (λ node. OpenedAt (record { me = me; role = Role.AtLeaf parent; tree = tree }) (core_of node)) }
     ensures holdings { IfOk result (λ node. Rests no_data (data_of node)) }
-    ensures err { IfErr result (ProcessNotOpened L.bytes L.failures me (Some store)) }
+    ensures err { IfErr result (λ e. ProcessNotOpened L.bytes L.failures me (Some store) e.0) }
+    ensures handed_back { IfErr result (λ e. HandsBack L.failures store e.1 e.0) }
 {
     match KvManager::create(store, alloc) {
         Ok(manager) => Ok(Node::Manager(Subordinate::open(alloc, me, parent, tree, manager))),
-        Err((error, store)) => Err(refused(store, of_manager(me, error))),
+        Err((error, store)) => Err((of_manager(me, error), store)),
     }
 }
 
 /// Opens the process of an entry over an empty store. A process without a parent is the root, whatever its kind.
 ///
-/// Memory: a growth was refused. Device: the device of the store failed. Behind a refusal the store is let go.
+/// With a refusal the store is handed back. Memory: a growth was refused; no record stands in the store, though
+/// a header may. Device: the device of the store failed.
 pub fn open_node<L: LogStore + Drop>(
     alloc: Global,
     entry: &TreeEntry,
     tree: Tree,
     store: L,
-) -> Result<Node<L>, OpenError>
+) -> Result<Node<L>, (OpenError, L)>
     requires { L.bytes store ≡ [] }
     ensures ok { IfOk result (λ node. OpenedAs tree entry.now (core_of node)) }
     ensures holdings { IfOk result (λ node. Rests no_data (data_of node)) }
-    ensures err { IfErr result (ProcessNotOpened L.bytes L.failures entry.now.id (Some store)) }
+    ensures err { IfErr result (λ e. ProcessNotOpened L.bytes L.failures entry.now.id (Some store) e.0) }
+    ensures handed_back { IfErr result (λ e. HandsBack L.failures store e.1 e.0) }
 {
     match (entry.kind, entry.parent) {
         (Kind::Manager, Some(parent)) => open_manager(alloc, entry.id, parent, tree, store),

@@ -10,6 +10,7 @@ ghost use Rattle.tree_node.specs.Reopenings.{
   NotReopened,
   Reopens,
   ReopensAs,
+  error_of_coordinator,
   error_of_log,
   error_of_manager,
   error_of_step,
@@ -18,8 +19,8 @@ ghost use Rattle.tree_node.specs.Reopenings.{
 };
 
 use crate::node::Node;
-use coord_core::Coordinator;
-use kv_manager::{KvManager, RestartError, RestoreError};
+use coord_core::{Coordinator, ReopenError as CoordinatorError};
+use kv_manager::{KvManager, RecordsError, RestoreError};
 use log_store::LogStore;
 use rec_log::{OpenError, RecLog};
 use std::alloc::Global;
@@ -30,7 +31,7 @@ use tree_model::{Kind, ProcessId, Reaction, StepError, Tree, TreeEntry};
 /// Why no process goes on over the log in a store.
 #[derive(Clone, Copy, Debug, PartialEq, Eq, Error)]
 pub enum ReopenError {
-    /// A growth was refused; or the records are none that a run of the process makes.
+    /// A growth was refused; or a coordinator's boots are used up.
     #[error("no memory")]
     Memory,
     /// The device of the store failed.
@@ -40,8 +41,8 @@ pub enum ReopenError {
     /// header.
     #[error("damaged at byte {0}")]
     Damaged(usize),
-    /// The records are those of no key store.
-    #[error("the records are those of no key store")]
+    /// The records are those of no such process.
+    #[error("the records are those of no such process")]
     Unfit,
 }
 
@@ -85,13 +86,23 @@ fn of_step(error: StepError) -> ReopenError
     }
 }
 
+fn of_coordinator(error: CoordinatorError) -> ReopenError
+    ensures { result ≡ error_of_coordinator error }
+{
+    match error {
+        CoordinatorError::Memory => ReopenError::Memory,
+        CoordinatorError::Device => ReopenError::Device,
+        CoordinatorError::Unfit => ReopenError::Unfit,
+    }
+}
+
 fn of_manager(error: RestoreError) -> ReopenError
     ensures { result ≡ error_of_manager error }
 {
     match error {
         RestoreError::Log(error) => of_log(error),
-        RestoreError::Records(RestartError::Memory) => ReopenError::Memory,
-        RestoreError::Records(RestartError::Device) => ReopenError::Device,
+        RestoreError::Records(RecordsError::Memory) => ReopenError::Memory,
+        RestoreError::Records(RecordsError::Device) => ReopenError::Device,
         RestoreError::Records(_) => ReopenError::Unfit,
     }
 }
@@ -134,7 +145,7 @@ fn reopen_coordinator<L: LogStore + Drop>(
     let log = left_log(alloc, store)?;
     match Coordinator::reopen(alloc, me, parent, tree, log) {
         Ok((coordinator, reaction)) => Ok((Node::Coordinator(coordinator), reaction)),
-        Err((error, log)) => Err(refused(log.into_store(), of_step(error))),
+        Err((error, log)) => Err(refused(log.into_store(), of_coordinator(error))),
     }
 }
 
@@ -162,9 +173,9 @@ fn reopen_manager<L: LogStore + Drop>(
 /// log without a record is that of a process which never opened. What it logs and sends as it restarts comes
 /// with it. A process without a parent is the root, whatever its kind.
 ///
-/// Memory: a growth was refused, or the log's records are none that a run of the process makes. Device: the
-/// device of the store failed. Damaged: the bytes are no log of such a process. Unfit: the records leave no
-/// manager. Behind a refusal the store is let go.
+/// Memory: a growth was refused, or a coordinator's boots are used up. Device: the device of the store failed.
+/// Damaged: the bytes are no log of such a process. Unfit: the records leave no manager, or one of a
+/// coordinator's is of a case of a boot that the log had not reached. Behind a refusal the store is let go.
 pub fn reopen_node<L: LogStore + Drop>(
     alloc: Global,
     entry: &TreeEntry,

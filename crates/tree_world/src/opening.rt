@@ -10,6 +10,7 @@ ghost use Rattle.core_law.specs.worlds.Runs.{IsOpened};
 ghost use Rattle.core_law.specs.worlds.Modelled.{KeepsHeadline};
 ghost use Rattle.log_store.specs.Memory.{memory_bytes};
 ghost use Rattle.manager_model.specs.Data.{Rests, no_data};
+ghost use Rattle.tree_node.specs.Nodes.{core_of, data_of};
 ghost use Rattle.tree_node.specs.Openings.{OpenedAs, ProcessNotOpened};
 ghost use Rattle.tree_world.specs.Nodes.{kept_at, nodes_at};
 ghost use Rattle.tree_world.specs.Openings.{AreOpened, NotOpened};
@@ -48,6 +49,24 @@ fn put_by_name<V: Drop>(
     Ok(())
 }
 
+/// Opens the process of an entry over an empty store, which a refusal lets go.
+fn opened<L: LogStore + Drop>(
+    alloc: Global,
+    entry: &TreeEntry,
+    tree: Tree,
+    store: L,
+) -> Result<Node<L>, OpenError>
+    requires { L.bytes store ≡ [] }
+    ensures ok { IfOk result (λ node. OpenedAs tree entry.now (core_of node)) }
+    ensures holdings { IfOk result (λ node. Rests no_data (data_of node)) }
+    ensures err { IfErr result (ProcessNotOpened L.bytes L.failures entry.now.id (Some store)) }
+{
+    match open_node(alloc, entry, tree, store) {
+        Ok(node) => Ok(node),
+        Err((error, store)) => Err(refused(store, error)),
+    }
+}
+
 /// Opens the process of an entry over this store, beside those that are open. Store: there is none, or it
 /// has bytes.
 fn open_more<L: LogStore + Drop>(
@@ -72,7 +91,7 @@ fn open_more<L: LogStore + Drop>(
     if !store.bytes().is_empty() {
         return Err(refused(store, OpenError::Store(entry.id)));
     }
-    let node = open_node(alloc, entry, copied_tree(alloc, tree)?, store)?;
+    let node = opened(alloc, entry, copied_tree(alloc, tree)?, store)?;
     put_by_name(nodes, entry.id, node)?;
     Ok(())
 }

@@ -24,7 +24,7 @@ impl States {
     ghost use Rattle.std.specs.Prelude.{◌≡◌, ◌≢◌, ◌≤◌, ◌||◌, not, length, IfOk, IfErr, OnErr, MatchResult, Err, Some, None, true, false};
     ghost use Rattle.xa_tables.specs.declared.call.Call.TheVariants as call;
     ghost use Rattle.xa_assoc.specs.Associations.{active_of, start_plan, resume_plan, suspend_plan, end_plan};
-    ghost use Rattle.xa_branch.specs.Branches.{Finds, StandsAt, in_doubt};
+    ghost use Rattle.xa_branch.specs.Branches.{AreListedOnce, Finds, StandsAt, in_doubt};
     ghost use Rattle.xa_xid.specs.declared.xid.Xid.{Xid as AnyXid};
     ghost use Rattle.xa_assoc.specs.Reacting.{IsAt, resumed, suspend_call, end_call};
     ghost use Rattle.xa_assoc.specs.Answers.{Same, IsNew, Opens, Closes, Wanted, Answers, Recovers, Takes, map_ok, Reacts, Resumes, Suspends, Ends, left_state, is_held, start_reaction, join_reaction, state_at};
@@ -94,6 +94,13 @@ impl States {
         ensures { length self.now.branches.branches ≤ 1024 }
     {
         self.branches.are_few();
+    }
+
+    /// Each known branch is listed once, and none that is in S0.
+    pub fn branches_are_listed_once(&self)
+        ensures { AreListedOnce self.now.branches.branches }
+    {
+        self.branches.are_listed_once();
     }
 
     /// The branches in doubt (in S3 and S5), in order of beginning.

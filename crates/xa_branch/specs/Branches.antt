@@ -1,6 +1,7 @@
 -- The branches that a resource manager knows.
-use Rattle.std.specs.Prelude.{◌≡◌, ℕ, ◌≤◌, ◌<◌, Bool, true, false, not, List, [], Option, Some, None, unwrap_or, is_some, length, position, take, drop, map, filter, nat_lt, nat_le, if◌then◌else◌}
+use Rattle.std.specs.Prelude.{◌≡◌, ◌≢◌, ℕ, ◌≤◌, ◌<◌, Bool, true, false, not, List, [], Option, Some, None, unwrap_or, is_some, length, position, take, drop, map, filter, nat_lt, nat_le, if◌then◌else◌}
 use Rattle.std.specs.Map.{keys_of, lookup, remove_entry}
+use Rattle.std.specs.List.{AllByRecursion, IsDistinct}
 use Rattle.indexmap.specs.IndexMap.{insert_entry}
 use Rattle.xa_codes.specs.declared.code.Code.{Code}
 use Rattle.xa_codes.specs.declared.code.Code.TheVariants as code
@@ -31,6 +32,11 @@ state_in bs x = unwrap_or (lookup (same x) bs) S0
 abbrev pub placed : List (Xid × BranchState) → Xid → BranchState → List (Xid × BranchState)
 placed bs x S0 = remove_entry (same x) bs
 placed bs x s = insert_entry same bs x s
+
+-- each branch is listed once, and none that is in S0
+pub record AreListedOnce (bs : List (Xid × BranchState)) : Type 0 where
+  pub once : IsDistinct same (keys_of bs)
+  pub begun : AllByRecursion (λ e. e.1 ≢ S0) bs
 
 -- a known branch stands at this place among them
 pub record StandsAt (bs : List (Xid × BranchState)) (x : Xid) (place : ℕ) : Type 0 where

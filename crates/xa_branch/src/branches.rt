@@ -3,7 +3,7 @@
 ghost use Rattle.std.specs.Prelude.{◌≡◌, ◌≢◌, ◌⊎◌, ◌≤◌, ◌<◌, ◌+◌, [], length, IfOk, OnOk, OnErr, MatchResult, IsOk, Some, None, Bool, true, false, nat_le, position};
 ghost use Rattle.std.specs.Map.{keys_of, lookup};
 ghost use Rattle.xa_branch.specs.Names.{same};
-ghost use Rattle.xa_branch.specs.Branches.{BranchList, Finds, Moves, Begins, Scans as Scanned, is_known, state_in, Stays, in_doubt, starts_scan, ends_scan, scan_refusal};
+ghost use Rattle.xa_branch.specs.Branches.{AreListedOnce, BranchList, Finds, Moves, Begins, Scans as Scanned, is_known, state_in, Stays, in_doubt, starts_scan, ends_scan, scan_refusal};
 
 use crate::scans::Scans;
 use indexmap::IndexMap;
@@ -39,7 +39,9 @@ pub struct Branches {
 }
 
 impl Model for Branches {
-    ghost use Rattle.std.specs.Prelude.{◌≤◌, length};
+    ghost use Rattle.std.specs.Prelude.{◌≢◌, ◌≤◌, length};
+    ghost use Rattle.std.specs.List.{AllByRecursion};
+    ghost use Rattle.xa_tables.specs.declared.states.BranchState.TheVariants.{S0};
     ghost use Rattle.indexmap.specs.IndexMap.{spare};
     ghost use Rattle.xa_branch.specs.Branches.{BranchList};
 
@@ -47,7 +49,8 @@ impl Model for Branches {
 
     ghost view = { λ b. record { branches = b.states.entries; room = spare b.states; scans = b.scans } };
 
-    ghost invariant = { λ b. length b.states.entries ≤ 1024 };
+    ghost invariant = { λ b. (length b.states.entries ≤ 1024)
+        × AllByRecursion (λ e. e.1 ≢ S0) b.states.entries };
 }
 
 impl Branches {
@@ -68,6 +71,13 @@ impl Branches {
         ensures { length self.now.branches ≤ 1024 }
     {
         let _ = &self.alloc;
+    }
+
+    /// Each known branch is listed once, and none that is in S0.
+    pub fn are_listed_once(&self)
+        ensures { AreListedOnce self.now.branches }
+    {
+        let _ = self.states.len();
     }
 
     /// Makes room for so many more branches.

@@ -57,8 +57,8 @@ use Rattle.manager_model.specs.declared.errors.TrimError.TheVariants as trim_err
 use Rattle.kv_manager.specs.Sights.{KvSight, SameManager}
 use Rattle.kv_manager.specs.Turns.{Calls, Fails, Finishes, Logs, Makes as MakesTurn, Refuses as RefusesWork, Takes as TakesTurn, Made, Broke, Spent, Failed, Refused, Taken}
 use Rattle.kv_manager.specs.Restarts.{NotRestarted, RestartFails, Restarted, opened}
-use Rattle.kv_manager.specs.declared.restart.RestartError.{RestartError}
-use Rattle.kv_manager.specs.declared.restart.RestartError.TheVariants as restart_error
+use Rattle.manager_model.specs.declared.errors.RestartError.{RestartError}
+use Rattle.manager_model.specs.declared.errors.RestartError.TheVariants as restart_error
 use Rattle.xa_engine.specs.declared.script.request.BranchCall.{BranchCall}
 use Rattle.xa_engine.specs.declared.script.request.BranchCall.TheVariants.{Start, End, Prepare, Commit, Rollback, Forget}
 use Rattle.xa_engine.specs.declared.script.request.Request.{Request}
@@ -250,7 +250,6 @@ unbooted_stands : (old new : KvSight) (keep : ℕ) (e : RestartError) → (e ≡
 unbooted_stands old new keep restart_error.Memory no_memory h = absurd (no_memory refl)
 unbooted_stands old new keep restart_error.Device no_memory h =
     same_one old.store.tables new.store.tables (ap (λ (s : KeySight). s.tables) h.store)
-unbooted_stands old new keep restart_error.Unfit no_memory h = h.1.tables
 unbooted_stands old new keep restart_error.Exhausted no_memory h = h.1.tables
 
 boot_moved : (old new : KvSight) (keep : Option ℕ) (a : Answer) → Boots old new keep a
@@ -305,6 +304,8 @@ decide_moved old new x o (answer.NotDecided decide_error.Failed) h =
     record { move = WorkMove; shown = refl; makes = h.1.1.tables }
 decide_moved old new x o (answer.NotDecided decide_error.NotInDoubt) h =
     record { move = WorkMove; shown = refl; makes = h.1.2.tables }
+decide_moved old new x o (answer.NotDecided decide_error.Exhausted) h =
+    record { move = WorkMove; shown = refl; makes = h.1.1.tables }
 decide_moved old new x o (answer.Code c) h = absurd h
 decide_moved old new x o (answer.Given xs) h = absurd h
 decide_moved old new x o (answer.Found v) h = absurd h

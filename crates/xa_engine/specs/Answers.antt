@@ -8,8 +8,8 @@ use Rattle.xa_xid.specs.Text.{xid_text}
 use Rattle.xa_assoc.specs.Errors.{number_of}
 use Rattle.xa_assoc.specs.declared.errors.WorkError.{WorkError}
 use Rattle.xa_assoc.specs.declared.errors.WorkError.TheVariants.{Locked}
-use Rattle.kv_manager.specs.declared.restart.RestartError.{RestartError}
-use Rattle.kv_manager.specs.declared.restart.RestartError.TheVariants.{Memory, Device, Unfit, Exhausted}
+use Rattle.manager_model.specs.declared.errors.RestartError.{RestartError}
+use Rattle.manager_model.specs.declared.errors.RestartError.TheVariants.{Memory, Device, Exhausted}
 use Rattle.manager_model.specs.declared.errors.DecideError.{DecideError}
 use Rattle.manager_model.specs.declared.errors.DecideError.TheVariants as decide_error
 use Rattle.manager_model.specs.declared.errors.TrimError.{TrimError}
@@ -38,7 +38,6 @@ refusal_text e = codes "refused " ++ decimal (number_of e) ++ holder_text e ++ 1
 abbrev pub restart_number : RestartError → ℕ
 restart_number Memory = 0
 restart_number Device = 2
-restart_number Unfit = 3
 restart_number Exhausted = 4
 
 -- the number of why a log was not trimmed; want of memory has none, since no output names it
@@ -50,6 +49,7 @@ trim_number trim_error.Failed = 5
 -- the number of why a branch was not decided; want of memory has none, since no output names it
 abbrev pub decide_number : DecideError → ℕ
 decide_number decide_error.Memory = 0
+decide_number decide_error.Exhausted = 4
 decide_number decide_error.Device = 5
 decide_number decide_error.Failed = 5
 decide_number decide_error.NotInDoubt = 7

@@ -14,7 +14,7 @@ use Rattle.tree_model.specs.declared.messages.Op.TheVariants.{Put, Get, Delete}
 use Rattle.key_tables.specs.declared.holders.Mode.TheVariants.{Exclusive, Shared}
 use Rattle.kv_core.specs.Stores.{MovesTables}
 use Rattle.kv_core.specs.Works.{Reads, Writes, work_refusal}
-use Rattle.kv_manager.specs.declared.restart.RestartError.TheVariants as restart_error
+use Rattle.manager_model.specs.declared.errors.RestartError.TheVariants as restart_error
 use Rattle.kv_manager.specs.Sights.{KvSight}
 use Rattle.kv_turns.specs.Turns.{decide_turn}
 use Rattle.kv_manager.specs.Turns.{Calls, Finishes, Makes as TakesTurn, NotTaken, Refuses}

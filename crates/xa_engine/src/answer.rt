@@ -4,8 +4,7 @@ ghost use Rattle.std.specs.Prelude.{◌≡◌, ◌++◌, ◌∷◌, [], OnOk, de
 ghost use Rattle.xa_xid.specs.Text.{xid_text};
 ghost use Rattle.xa_engine.specs.Answers.{answer_text, branch_text, decide_number, given_text, refusal_text, restart_number, trim_number};
 
-use kv_manager::RestartError;
-use manager_model::{DecideError, TrimError};
+use manager_model::{DecideError, RestartError, TrimError};
 use std::alloc::{AllocError, Global};
 use trace_lines::{push, push_number};
 use tree_model::{Bytes, Sequence};
@@ -45,7 +44,6 @@ fn restart_number(error: RestartError) -> u64
     match error {
         RestartError::Memory => 0,
         RestartError::Device => 2,
-        RestartError::Unfit => 3,
         RestartError::Exhausted => 4,
     }
 }
@@ -69,6 +67,7 @@ fn decide_number(error: DecideError) -> u64
 {
     match error {
         DecideError::Memory => 0,
+        DecideError::Exhausted => 4,
         DecideError::Device | DecideError::Failed => 5,
         DecideError::NotInDoubt => 7,
     }

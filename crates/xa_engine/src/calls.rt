@@ -8,9 +8,9 @@ ghost use Rattle.xa_engine.specs.Makes.{Boots, CallsBranch, Decides, IsRead, IsR
 
 use crate::answer::Answer;
 use crate::script::{BranchCall, Request};
-use kv_manager::{KvManager, RestartError};
+use kv_manager::KvManager;
 use log_store::MemoryStore;
-use manager_model::{DecideError, TrimError};
+use manager_model::{DecideError, RestartError, TrimError};
 use std::alloc::AllocError;
 use tree_model::{Op, Outcome, Sequence};
 use xa_assoc::WorkError;

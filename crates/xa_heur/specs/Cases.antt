@@ -1,5 +1,5 @@
 -- The branches that operators decided.
-use Rattle.std.specs.Prelude.{◌≡◌, ℕ, Bool, false, Option, List, unwrap_or}
+use Rattle.std.specs.Prelude.{◌≡◌, ℕ, Bool, false, Option, List, map, unwrap_or}
 use Rattle.std.specs.Map.{lookup}
 use Rattle.xa_xid.specs.declared.xid.Xid.{Xid}
 use Rattle.xa_xid.specs.contracts.xid.XidPartialEq.TheImpl as names
@@ -16,6 +16,10 @@ same = names.ghosts.eq
 pub record DecisionTable : Type 0 where
   pub decisions : List (Xid × Decision)
   pub room : ℕ
+
+-- the decided branches
+abbrev pub open_cases : DecisionTable → List Xid
+open_cases t = map (λ e. e.0) t.decisions
 
 -- what an operator decided of a branch: None where none did
 abbrev pub decision_in : DecisionTable → Xid → Option Decision

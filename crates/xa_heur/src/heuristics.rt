@@ -2,7 +2,7 @@
 
 ghost use Rattle.std.specs.Prelude.{◌≡◌, ◌≤◌, [], None, Some, OnErr, OnOk, is_some, true};
 ghost use Rattle.xa_heur.specs.Decisions.{decided_as, told_behind};
-ghost use Rattle.xa_heur.specs.Cases.{Notes, SameDecisions, decision_in, decision_or};
+ghost use Rattle.xa_heur.specs.Cases.{Notes, SameDecisions, decision_in, decision_or, open_cases};
 
 use crate::decision::Decision;
 use indexmap::IndexMap;
@@ -34,6 +34,13 @@ impl Heuristics {
         Heuristics {
             decisions: IndexMap::new(alloc),
         }
+    }
+
+    /// The branches that operators decided and that are not forgotten, in order of their decisions.
+    pub fn open_cases(&self) -> &[Xid]
+        ensures { result.now ≡ open_cases self.now }
+    {
+        self.decisions.keys().as_slice()
     }
 
     /// What an operator decided of a branch, and what it was told since.

@@ -8,6 +8,7 @@
 //! told       the first outcome that a decided branch is told counts
 //! forget     the decision is forgotten
 //! restore    a decision that a log says an operator made
+//! open_cases the branches that are decided and not forgotten
 //! ```
 #![tactic(auto)]
 

@@ -18,7 +18,7 @@ use Rattle.tree_model.specs.declared.standings.Standing.TheVariants as standing
 use Rattle.tree_model.specs.declared.trees.TreeEntry.{TreeEntry}
 use Rattle.tree_model.specs.Names.{child_case, same_case, same_outcome, same_ticket, same_txn}
 use Rattle.tree_model.specs.Records.{boot_of, has, has_case, in_list, is_abort, is_commit, is_end, is_prepare, named_by, named_in, promised_by, promised_in, record_case}
-use Rattle.tree_model.specs.Restarts.{case_stays, is_known, recorded_view, restarted, staying, trimmed, trims}
+use Rattle.tree_model.specs.Restarts.{case_stays, is_known, restarted, staying, trimmed, trims}
 use Rattle.tree_model.specs.Nodes.{Below, AtRoot, Effect, Heard, Node, Place, after, entries_written, kept, opened_node}
 use Rattle.tree_model.specs.Memory.{Asked, Memory, has_acked, memory_of}
 use Rattle.tree_model.specs.Standings.{belongs, case_of_child, coordinator_view, own_cases, standing_by}

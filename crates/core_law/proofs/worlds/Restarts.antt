@@ -17,24 +17,30 @@ use Rattle.core_law.proofs.worlds.RunRestarts.{restarts_move, trims_move}
 use Rattle.core_law.specs.worlds.Worlds.{HasFailed, RestartsAt, TrimsAt, WorldState}
 use Rattle.core_law.specs.worlds.Ties.{Follows, FollowsBy, GoesOnBy}
 use Rattle.core_law.specs.worlds.Refusals.{model_refusal, refusal_in}
-use Rattle.core_law.proofs.worlds.Steps.{ShowsMoves, entered_goes_on, in_full, listed_at}
+use Rattle.core_law.proofs.worlds.Steps.{EntersBy, ShowsMoves, entered_follows, in_full, listed_at, moved_goes_on}
 
 module _ (journal : List Made → List Entry) (shows : ShowsMoves journal) (es : List Made)
     (w : World) (s s' : WorldState)
     (f : FollowsBy journal es w s) (q : ProcessId) (is_tree : IsTree s.tree) where
-  pub restart_goes_on : (bytes : Option ℕ) → RestartsAt s s' q bytes → GoesOnBy journal es w s'
-  restart_goes_on bytes h =
+  pub restart_follows : (bytes : Option ℕ) (h : RestartsAt s s' q bytes)
+      → EntersBy journal es w s s' (quiet_move q (restart_of h.before h.keep) None) h.reaction
+  restart_follows bytes h =
       let here = f.follows.nodes q h.before h.moves.stood in
       let listed = listed_at es w (in_full s es) q h.before f.follows h.moves.stood in
       let made = restarts_move s.tree w q h.before h.behind here.place here.stands listed
       (keeps_own s.tree es w is_tree f.follows.is_run q listed) h.keep h.reaction h.restarts in
-      entered_goes_on journal es w s s' f q (restart_of h.before h.keep) no_answer
+      entered_follows journal es w s s' f q (restart_of h.before h.keep) no_answer
       h.before h.behind tt h.moves
       shows h.reaction s.delivered h.enters made.effect made.left made.makes made.shown
       (h.restarts.place ∙ here.place) made.stands
 
-  pub trim_goes_on : TrimsAt s s' q → GoesOnBy journal es w s'
-  trim_goes_on h =
+  pub restart_goes_on : (bytes : Option ℕ) → RestartsAt s s' q bytes → GoesOnBy journal es w s'
+  restart_goes_on bytes h = moved_goes_on journal es w s s' (quiet_move q (restart_of h.before h.keep) None)
+      (restart_follows bytes h).moved
+
+  pub trim_follows : (h : TrimsAt s s' q)
+      → EntersBy journal es w s s' (quiet_move q Trimming None) (trim_reaction h.remain)
+  trim_follows h =
       let here = f.follows.nodes q h.before h.moves.stood in
       let listed = listed_at es w (in_full s es) q h.before f.follows h.moves.stood in
       let up : (w.at q).failed ≡ false = sym here.stands.failed ∙ h.works in
@@ -42,9 +48,12 @@ module _ (journal : List Made → List Entry) (shows : ShowsMoves journal) (es :
       (keeps_own s.tree es w is_tree f.follows.is_run q listed) up
       (all_opened s.tree es w f.follows.is_run q) h.sound
       (open_fits s.tree es w f.follows.is_run q up) h.remain h.trims in
-      entered_goes_on journal es w s s' f q Trimming no_answer h.before h.behind tt h.moves
+      entered_follows journal es w s s' f q Trimming no_answer h.before h.behind tt h.moves
       shows (trim_reaction h.remain) s.delivered h.enters made.effect made.left made.makes made.shown
       (h.trims.rest.place ∙ here.place) made.stands
+
+  pub trim_goes_on : TrimsAt s s' q → GoesOnBy journal es w s'
+  trim_goes_on h = moved_goes_on journal es w s s' (quiet_move q Trimming None) (trim_follows h).moved
 
 -- Refusals.
 

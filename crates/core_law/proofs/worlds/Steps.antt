@@ -156,25 +156,55 @@ listed_at es w s q c f stood = sym (f.listed q) ∙ ap is_some stood
 abbrev pub in_full : WorldState → List Made → WorldState
 in_full s es = record s { entries = journal_of es }
 
+-- Behind a move of the model's world the run goes on by it, and the state came to one that stands for that.
+pub record MovesBy (journal : List Made → List Entry) (es : List Made) (w : World) (s s' : WorldState)
+    (m : Move) : Type 0 where
+  pub effect : Effect
+  pub world : World
+  pub happens : Happens w.net m.step.process m.step.happening
+  pub by_this : m.version ≡ this_version
+  pub tree : s'.tree ≡ s.tree
+  pub makes : world_makes s.tree w m ≡ Some (effect, world)
+  pub follows : FollowsBy journal (record { move = m; effect = effect } ∷ es) world s'
+
+-- and what it shows was shown
+pub record EntersBy (journal : List Made → List Entry) (es : List Made) (w : World) (s s' : WorldState)
+    (m : Move) (reaction : Reaction) : Type 0 where
+  pub moved : MovesBy journal es w s s' m
+  pub shown : reaction ≡ reaction_of moved.effect
+
+pub moved_goes_on : (journal : List Made → List Entry) (es : List Made) (w : World) (s s' : WorldState) (m : Move)
+    → MovesBy journal es w s s' m → GoesOnBy journal es w s'
+moved_goes_on journal es w s s' m h =
+    record {
+      later = record { move = m; effect = h.effect } ∷ [];
+      world = h.world;
+      leads = subst (λ t. Continues t w (record { move = m; effect = h.effect } ∷ []) h.world) (sym h.tree)
+          (goes_on [] w m h.effect h.world stays h.happens h.makes);
+      follows = h.follows;
+    }
+
 module _ (journal : List Made → List Entry) (es : List Made) (w : World) (s s' : WorldState)
     (f : FollowsBy journal es w s)
     (q : ProcessId) (h : Happening) (a : DataAnswer) (before behind : CoreState) (happens : Happens w.net q h)
     (moves : MovesNode s s' q before behind) where
   -- a move of the model's world behind which the process stands as it was left: the run goes on by it
-  pub move_goes_on : (fault : Option Fault) (e : Effect) (n : Node)
+  pub move_follows : (fault : Option Fault) (e : Effect) (n : Node)
       → world_makes s.tree w (move_with q h fault a) ≡ Some (e, world_after w q n e)
       → s'.net ≡ w.net ++ e.messages → journal (made_with q h fault a e ∷ es) ≡ s'.entries
-      → behind.place ≡ place_of s.tree q → Stands n behind → GoesOnBy journal es w s'
-  move_goes_on fault e n step net shown place stands =
+      → behind.place ≡ place_of s.tree q → Stands n behind → MovesBy journal es w s s' (move_with q h fault a)
+  move_follows fault e n step net shown place stands =
       let m = made_with q h fault a e in
       let w' = world_after w q n e in
       let old = in_full s es in
       let new = in_full s' (m ∷ es) in
       record {
-        later = m ∷ [];
+        effect = e;
         world = w';
-        leads = subst (λ t. Continues t w (m ∷ []) w') (sym moves.tree)
-            (goes_on [] w m.move e w' stays happens step);
+        happens = happens;
+        by_this = refl;
+        tree = moves.tree;
+        makes = step;
         follows = record {
           follows = record {
             is_run = subst (λ t. IsRun t (m ∷ es) w') (sym moves.tree)
@@ -191,33 +221,47 @@ module _ (journal : List Made → List Entry) (es : List Made) (w : World) (s s'
         };
       }
 
+  pub move_goes_on : (fault : Option Fault) (e : Effect) (n : Node)
+      → world_makes s.tree w (move_with q h fault a) ≡ Some (e, world_after w q n e)
+      → s'.net ≡ w.net ++ e.messages → journal (made_with q h fault a e ∷ es) ≡ s'.entries
+      → behind.place ≡ place_of s.tree q → Stands n behind → GoesOnBy journal es w s'
+  move_goes_on fault e n step net shown place stands =
+      moved_goes_on journal es w s s' (move_with q h fault a) (move_follows fault e n step net shown place stands)
+
   -- one in which no device failed, and which is entered
-  pub entered_goes_on : ShowsMoves journal → (reaction : Reaction) (marked : List Bool)
+  pub entered_follows : ShowsMoves journal → (reaction : Reaction) (marked : List Bool)
       → Enters s s' q h reaction marked
       → (e : Effect) (n : Node) → world_makes s.tree w (move_with q h None a) ≡ Some (e, world_after w q n e)
       → reaction ≡ reaction_of e → behind.place ≡ place_of s.tree q
-      → Stands n behind → GoesOnBy journal es w s'
-  entered_goes_on shows reaction marked enters e n step shown =
-      move_goes_on None e n step (sent_by w s s' e reaction f.follows.net shown enters.net)
-      (shows es q h a e ∙ (ap (λ xs. xs ++ step_entry q h (reaction_of e) ∷ []) f.shown
-      ∙ (ap (λ y. s.entries ++ step_entry q h y ∷ []) (sym shown) ∙ sym enters.entries)))
+      → Stands n behind → EntersBy journal es w s s' (move_with q h None a) reaction
+  unfolding move_follows
+  entered_follows shows reaction marked enters e n step shown place stands = record {
+    moved = move_follows None e n step (sent_by w s s' e reaction f.follows.net shown enters.net)
+        (shows es q h a e ∙ (ap (λ xs. xs ++ step_entry q h (reaction_of e) ∷ []) f.shown
+        ∙ (ap (λ y. s.entries ++ step_entry q h y ∷ []) (sym shown) ∙ sym enters.entries))) place stands;
+    shown = shown;
+  }
 
-pub step_goes_on : (journal : List Made → List Entry) → ShowsMoves journal
-    → (law : (tree : List TreeEntry) → IsTree tree → InputsAsTheModel tree) (es : List Made)
+module _ (journal : List Made → List Entry) (shows : ShowsMoves journal)
+    (law : (tree : List TreeEntry) → IsTree tree → InputsAsTheModel tree) (es : List Made)
     (w : World) (s s' : WorldState)
-    (q : ProcessId) (i : Input) (marked : List Bool) → IsTree s.tree
-    → FollowsBy journal es w s → InputStands w.net q i
-    → Steps s s' q i marked → GoesOnBy journal es w s'
-step_goes_on journal shows law es w s s' q i marked is_tree f stands h =
-    let here = f.follows.nodes q h.before h.moves.stood in
-    let listed = listed_at es w (in_full s es) q h.before f.follows h.moves.stood in
-    let made : MadeSo s.tree w q h.handles.answer i h.behind h.reaction =
-    law s.tree is_tree es w q h.before h.behind h.handles.answer i h.reaction f.follows.is_run listed stands
-    here.place here.stands h.handles.makes in
-    entered_goes_on journal es w s s' f q (Handles i) h.handles.answer h.before h.behind stands h.moves
-    shows h.reaction marked h.enters made.effect made.node
-    (made_at s.tree w (input_move q i None h.handles.answer) made.effect made.node listed made.makes)
-    made.shown made.place made.stands
+    (q : ProcessId) (i : Input) (marked : List Bool) (is_tree : IsTree s.tree)
+    (f : FollowsBy journal es w s) (stands : InputStands w.net q i)
+    (h : Steps s s' q i marked) where
+  pub step_follows : EntersBy journal es w s s' (input_move q i None h.handles.answer) h.reaction
+  step_follows =
+      let here = f.follows.nodes q h.before h.moves.stood in
+      let listed = listed_at es w (in_full s es) q h.before f.follows h.moves.stood in
+      let made : MadeSo s.tree w q h.handles.answer i h.behind h.reaction =
+      law s.tree is_tree es w q h.before h.behind h.handles.answer i h.reaction f.follows.is_run listed stands
+      here.place here.stands h.handles.makes in
+      entered_follows journal es w s s' f q (Handles i) h.handles.answer h.before h.behind stands h.moves
+      shows h.reaction marked h.enters made.effect made.node
+      (made_at s.tree w (input_move q i None h.handles.answer) made.effect made.node listed made.makes)
+      made.shown made.place made.stands
+
+  pub step_goes_on : GoesOnBy journal es w s'
+  step_goes_on = moved_goes_on journal es w s s' (input_move q i None h.handles.answer) step_follows.moved
 
 -- a message with a number stands in the net
 pub sent_stands : (net : List Envelope) (k : ℕ) (envelope : Envelope) → sent_as net k ≡ Some envelope

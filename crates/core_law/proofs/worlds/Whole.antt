@@ -33,7 +33,7 @@ pub record ForItself (e : StepError) : Type 0 where
   pub memory : e ≢ step_error.Memory
   pub device : e ≢ step_error.Device
 
-not_acted : (s t : WorldState) (q : ProcessId) (a : Act) (e : StepError) → ForItself e → NotActed s t q a e
+pub not_acted : (s t : WorldState) (q : ProcessId) (a : Act) (e : StepError) → ForItself e → NotActed s t q a e
     → Same s t × RefusesAt (s.node_at q) (ActInput a) e
 not_acted s t q a step_error.Memory itself h = absurd (itself.memory refl)
 not_acted s t q a step_error.Device itself h = absurd (itself.device refl)
@@ -45,7 +45,7 @@ not_acted s t q a step_error.NothingToForget itself h = h
 not_acted s t q a step_error.Failed itself h = h
 not_acted s t q a step_error.NoSuch itself h = h
 
-not_delivered : (s t : WorldState) (k : ℕ) (e : StepError) → ForItself e → NotDelivered s t k e → Same s t
+pub not_delivered : (s t : WorldState) (k : ℕ) (e : StepError) → ForItself e → NotDelivered s t k e → Same s t
     × RefusesMessage s k (sent_as s.net k) e
 not_delivered s t k step_error.Memory itself h = absurd (itself.memory refl)
 not_delivered s t k step_error.Device itself h = absurd (itself.device refl)
@@ -57,7 +57,7 @@ not_delivered s t k step_error.NothingToForget itself h = h
 not_delivered s t k step_error.Failed itself h = h
 not_delivered s t k step_error.NoSuch itself h = h
 
-refused_message : (es : List Made) (w : World) (s : WorldState) (k : ℕ) (o : Option Envelope) (e : StepError)
+pub refused_message : (es : List Made) (w : World) (s : WorldState) (k : ℕ) (o : Option Envelope) (e : StepError)
     → Follows es w s → RefusesMessage s k o e
     → RefusesDelivery s.tree w k o e
 refused_message es w s k None e f h = h
@@ -71,7 +71,7 @@ refused_delivery es w s k e f h =
     (refused_message es w s k (sent_as s.net k) e f h)
 
 -- a restart that was refused for itself is of no process of the tree
-not_restarted : (s t : WorldState) (q : ProcessId) (bytes : Option ℕ) (e : StepError) → ForItself e
+pub not_restarted : (s t : WorldState) (q : ProcessId) (bytes : Option ℕ) (e : StepError) → ForItself e
     → NotRestartedAt s t q bytes e
     → Same s t × (s.node_at q ≡ None) × (e ≡ step_error.NoSuch)
 not_restarted s t q bytes step_error.Memory itself h = absurd (itself.memory refl)
@@ -85,7 +85,7 @@ not_restarted s t q bytes step_error.Failed itself h = absurd h
 not_restarted s t q bytes step_error.NoSuch itself h = (h.0, h.1, refl)
 
 -- of a trim that was refused for itself there is no process, or it has failed
-not_trimmed : (es : List Made) (w : World) (s t : WorldState) (q : ProcessId) (e : StepError) → Follows es w s
+pub not_trimmed : (es : List Made) (w : World) (s t : WorldState) (q : ProcessId) (e : StepError) → Follows es w s
     → ForItself e → NotTrimmedAt s t q e
     → Same s t × RefusesEvent s.tree w t.delivered (Trim q) e
 not_trimmed es w s t q step_error.Memory f itself h = absurd (itself.memory refl)

@@ -23,12 +23,12 @@ use Rattle.tree_model.specs.Trees.{root_of}
 use Rattle.tree_model.specs.Plays.{process_of_act, sent_as}
 use Rattle.rec_log.specs.Sights.{left_by, records_of}
 use Rattle.core_model.specs.States.{CoreState, SameCore}
-use Rattle.core_model.specs.Turns.{Finds, Refuses, asked_by, turn_of}
+use Rattle.core_model.specs.Turns.{Finds, Refuses, asked_by, no_answer, turn_of}
 use Rattle.core_model.specs.Makes.{IsBroken, Makes}
 use Rattle.core_model.specs.Restarting.{NotRestarted, NotTrimmed, Restarts, Trims}
 use Rattle.manager_model.specs.Data.{HoldWrites, ManagerData, Rests}
 use Rattle.manager_model.specs.Turns.{AnswersInput, MovesData, case_xid, data_turn}
-use Rattle.manager_model.specs.Restarting.{writes_left}
+use Rattle.manager_model.specs.Restarting.{is_left, writes_left}
 use Rattle.core_law.specs.Steps.{IsSoundLog, restart_of, trim_reaction}
 
 -- The tree, what each process keeps, the data of each manager (of a coordinator this says nothing), every
@@ -44,11 +44,12 @@ pub record WorldState : Type 0 where
 
 -- One step.
 
--- a manager's data answer so to an input, and behind it they are what it makes of them; a coordinator has none
+-- a manager's data answer so to an input, and behind it they are what it makes of them; a coordinator has none, and
+-- nothing is answered
 abbrev pub HandlesData : Role → ManagerData → ManagerData → CoreState → DataAnswer → Input → Type 0
 HandlesData (AtLeaf p) before behind s a input =
-    AnswersInput before (case_xid p) input a × MovesData before behind (case_xid p) (data_turn s a input)
-HandlesData _ before behind s a input = ⊤
+    AnswersInput s before (case_xid p) input a × MovesData before behind (case_xid p) (data_turn s a input)
+HandlesData _ before behind s a input = a ≡ no_answer
 
 -- a process makes an input, with what its manager's data answer to it
 pub record HandlesInput (old new : CoreState) (before behind : ManagerData) (input : Input)
@@ -100,10 +101,11 @@ KeepsBytes s (Some bytes) keep = keep ≡ bytes
 KeepsBytes s None keep = left_by s.log keep ≡ records_of s.log.kept
 
 -- behind a restart where these records are left, each branch of a manager that is in doubt has written and holds
--- what it promised, and nothing else is written or held
+-- what it promised, and nothing else is written or held; those in doubt and those that an operator decided are known
 pub record HoldsPromises (left : List LogRecord) (behind : ManagerData) : Type 0 where
   pub writes : (x : Xid) → behind.writes x ≡ writes_left left x
   pub held : HoldWrites (writes_left left) behind.holders
+  pub known : (x : Xid) → behind.known x ≡ is_left left x
 
 -- the same of a process of this role; a coordinator has no data
 abbrev pub RestartsData : Role → List LogRecord → ManagerData → Type 0

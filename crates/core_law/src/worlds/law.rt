@@ -9,6 +9,7 @@ ghost use Rattle.tree_model.specs.declared.events.StepError.{StepError};
 ghost use Rattle.tree_model.specs.declared.events.StepError.TheVariants.{Device};
 ghost use Rattle.tree_model.specs.declared.trees.TreeEntry.{TreeEntry};
 ghost use Rattle.core_law.specs.worlds.Worlds.{Applies, Stops, WorldState};
+ghost use Rattle.core_law.specs.worlds.Determined.{OneInputOneText};
 ghost use Rattle.core_law.specs.worlds.Modelled.{ModelledTreesKeepHeadline};
 ghost use Rattle.core_law.specs.worlds.Runs.{IsOpened, Leads, LeadsUntil};
 ghost use Rattle.core_law.specs.worlds.Ties.{Follows, FollowsBehindFaults, GoesOn, GoesOnBehindFaults, IsModelled, unfailed};
@@ -81,4 +82,11 @@ pub fn every_run_is_a_run_of_the_model()
 /// that run, and each End of the root in it reports truly.
 pub fn modelled_trees_keep_the_headline()
     ensures { ModelledTreesKeepHeadline }
+{}
+
+/// One input has one text: by the same events two trees of the same processes, which have opened empty logs, come to
+/// states that show the same, and refuse the same event by the same error; where no event is refused for memory, nor
+/// because a device failed.
+pub fn one_input_has_one_text()
+    ensures { OneInputOneText }
 {}

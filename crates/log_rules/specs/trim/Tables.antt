@@ -1,5 +1,5 @@
 -- What the records of a log say of each name, in a table.
-use Rattle.std.specs.Prelude.{ℕ, suc, ◌&&◌, nat_le, Bool, true, false, if◌then◌else◌, unwrap_or, option_map, List, [], ◌∷◌, Option, Some, None}
+use Rattle.std.specs.Prelude.{ℕ, suc, ◌&&◌, nat_le, Bool, true, false, if◌then◌else◌, unwrap_or, List, [], ◌∷◌, Option, Some, None}
 use Rattle.std.specs.Map.{lookup}
 use Rattle.indexmap.specs.IndexMap.{insert_entry}
 use Rattle.xa_xid.specs.declared.xid.Xid.{Xid}
@@ -8,8 +8,8 @@ use Rattle.tree_model.specs.declared.names.Ticket.{Ticket}
 use Rattle.tree_model.specs.declared.records.LogRecord.{LogRecord}
 use Rattle.tree_model.specs.declared.records.Record.{Record}
 use Rattle.tree_model.specs.declared.records.Record.TheVariants.{Collecting, Prepare, Commit, Abort, End, Prepared, Committed, RolledBack, Direct, HeurCommit, HeurRollback, Told, Forgot, Cleared}
-use Rattle.tree_model.specs.LogNames.{name_xid, record_name}
 use Rattle.tree_model.specs.Records.{none_of}
+pub use Rattle.log_text.specs.Marks.{log_name}
 use Rattle.log_rules.specs.declared.trim.lives.Life.{Life}
 use Rattle.log_rules.specs.declared.trim.lives.Said.{Said}
 use Rattle.log_rules.specs.declared.trim.lives.Said.TheVariants.{Nothing, Waits, Settled, Owes, Over, Reported}
@@ -17,10 +17,6 @@ use Rattle.log_rules.specs.declared.trim.lives.Said.TheVariants.{Nothing, Waits,
 -- two names of a log are one: they have one XID
 abbrev pub same : Xid → Xid → Bool
 same = names.ghosts.eq
-
--- the name of a record, as the log writes it; Opened, Base and Pair have none
-abbrev pub log_name : LogRecord → Option Xid
-log_name l = option_map (name_xid l.parent) (record_name l.entry)
 
 -- What the records of a name say of it.
 

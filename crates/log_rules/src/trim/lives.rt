@@ -1,15 +1,13 @@
 //! What the records of a log say of each name, as far as a trim must know.
 
-ghost use Rattle.std.specs.Prelude.{◌≡◌, IfOk, OnOk, length, option_map};
-ghost use Rattle.tree_model.specs.LogNames.{record_name};
-ghost use Rattle.tree_model.specs.Records.{none_of};
-ghost use Rattle.log_rules.specs.trim.Tables.{decides, is_live, is_prepared, keeps, life_after, life_in, lives_from, lives_of, log_name, no_life, noted, said_after};
+ghost use Rattle.std.specs.Prelude.{◌≡◌, IfOk, OnOk, length};
+ghost use Rattle.log_rules.specs.trim.Tables.{is_live, keeps_by, life_in, no_life};
+ghost use Rattle.log_rules.specs.trim.Marks.{decided_by, life_by, lives_by, lives_past, marked, said_by};
 
 use indexmap::IndexMap;
-use log_text::name_xid;
+use log_text::{Deed, Mark};
 use std::alloc::{AllocError, Global};
 use std::marker::Model;
-use tree_model::{Branch, LogRecord, Record, Tickets};
 use xa_xid::Xid;
 
 /// What the records of a name say of it.
@@ -51,72 +49,38 @@ impl Model for Lives {
     ghost view = { λ l. l.lives.entries };
 }
 
-/// The name of a record, as the log writes it; Opened, Base and Pair have none.
-fn log_name(entry: &LogRecord) -> Option<Xid>
-    ensures { result ≡ log_name entry.now }
-{
-    let branch = match &entry.entry {
-        Record::Collecting(case, _)
-        | Record::Prepare(case, _)
-        | Record::Commit(case, _)
-        | Record::Abort(case, _)
-        | Record::End(case, _)
-        | Record::Cleared(case) => Branch::Case(*case),
-        Record::Prepared(branch, _)
-        | Record::Committed(branch)
-        | Record::RolledBack(branch)
-        | Record::Direct(branch, _)
-        | Record::HeurCommit(branch)
-        | Record::HeurRollback(branch)
-        | Record::Told(branch, _)
-        | Record::Forgot(branch) => *branch,
-        Record::Opened(_) | Record::Base(_) | Record::Pair(..) => return None,
-    };
-    Some(name_xid(entry.parent, branch))
-}
-
 impl Said {
-    /// What is said behind a decision that names these tickets.
-    #[tactic(auto, unfolding(tree_model::specs::Records::none_of))]
-    fn decides(self, tickets: &Tickets) -> Said
-        ensures { result ≡ decides self tickets.now }
+    /// What is said behind a decision, which owes an acknowledgement or settles it.
+    fn decided(self, decided: Said) -> Said
+        ensures { result ≡ decided_by self decided }
     {
         match self {
             Said::Over => Said::Over,
             Said::Owes => Said::Owes,
             Said::Reported => Said::Reported,
-            _ => match tickets.as_slice() {
-                [] => Said::Settled,
-                _ => Said::Owes,
-            },
+            _ => decided,
         }
     }
 
     /// What is said behind one more record of the name.
-    fn after(self, entry: &Record) -> Said
-        ensures { result ≡ said_after self entry.now }
+    fn after(self, deed: Deed) -> Said
+        ensures { result ≡ said_by self deed }
     {
-        match entry {
-            Record::Collecting(..) | Record::Prepare(..) => match self {
+        match deed {
+            Deed::Begins => match self {
                 Said::Nothing => Said::Waits,
                 said => said,
             },
-            Record::Commit(_, tickets) | Record::Abort(_, tickets) => self.decides(tickets),
-            Record::Prepared(..)
-            | Record::HeurCommit(_)
-            | Record::HeurRollback(_)
-            | Record::Told(..) => Said::Waits,
-            Record::End(_, Some(_)) => Said::Reported,
-            Record::Cleared(_) => match self {
+            Deed::Settles => self.decided(Said::Settled),
+            Deed::Owes => self.decided(Said::Owes),
+            Deed::Prepares | Deed::Waits => Said::Waits,
+            Deed::Reports => Said::Reported,
+            Deed::Clears => match self {
                 Said::Reported => Said::Over,
                 said => said,
             },
-            Record::End(_, None)
-            | Record::Committed(_)
-            | Record::RolledBack(_)
-            | Record::Direct(..)
-            | Record::Forgot(_) => Said::Over,
-            Record::Opened(_) | Record::Base(_) | Record::Pair(..) => self,
+            Deed::Ends => Said::Over,
+            Deed::Opens | Deed::Nothing => self,
         }
     }
 
@@ -130,11 +94,11 @@ impl Said {
 
 impl Life {
     /// What is noted behind one more record of the name, before which so many stand.
-    fn after(self, place: usize, entry: &Record) -> Life
-        ensures { result ≡ life_after place self entry.now }
+    fn after(self, place: usize, deed: Deed) -> Life
+        ensures { result ≡ life_by place self deed }
     {
-        let said = self.said.after(entry);
-        let since = if matches!(entry, Record::Prepared(..)) {
+        let said = self.said.after(deed);
+        let since = if matches!(deed, Deed::Prepares) {
             place
         } else {
             self.since
@@ -158,29 +122,29 @@ impl Lives {
     }
 
     /// Notes the record that stands behind so many others.
-    fn note(&mut self, place: usize, entry: &LogRecord) -> Result<(), AllocError>
-        ensures { OnOk result (self.new ≡ noted place self.old entry.now) }
+    fn note(&mut self, place: usize, mark: &Mark) -> Result<(), AllocError>
+        ensures { OnOk result (self.new ≡ marked place self.old mark.now) }
     {
-        let Some(name) = log_name(entry) else {
+        let Some(name) = mark.name else {
             return Ok(());
         };
-        let life = self.life(&name).after(place, &entry.entry);
+        let life = self.life(&name).after(place, mark.deed);
         self.lives.insert(name, life)?;
         Ok(())
     }
 
-    /// What these records say of each name.
-    #[tactic(auto, unfolding(crate::specs::trim::Tables::lives_from))]
-    pub fn of(records: &[LogRecord], alloc: Global) -> Result<Lives, AllocError>
-        ensures { IfOk result (λ lives. lives ≡ lives_of records.now) }
+    /// What the records of these marks say of each name.
+    #[tactic(auto, unfolding(crate::specs::trim::Marks::lives_past))]
+    pub fn of(marks: &[Mark], alloc: Global) -> Result<Lives, AllocError>
+        ensures { IfOk result (λ lives. lives ≡ lives_by marks.now) }
     {
         let mut lives = Lives {
             lives: IndexMap::new(alloc),
         };
         let mut place = 0;
-        let mut rest = records;
-        while let [entry, behind @ ..] = rest {
-            lives.note(place, entry)?;
+        let mut rest = marks;
+        while let [mark, behind @ ..] = rest {
+            lives.note(place, mark)?;
             place += 1;
             rest = behind;
         }
@@ -188,10 +152,10 @@ impl Lives {
     }
 
     /// Whether the record stays that stands behind so many others.
-    pub fn keeps(&self, place: usize, entry: &LogRecord) -> bool
-        ensures { result ≡ keeps self.now place entry.now }
+    pub fn keeps(&self, place: usize, mark: &Mark) -> bool
+        ensures { result ≡ keeps_by self.now place mark.now.name }
     {
-        match log_name(entry) {
+        match mark.name {
             None => false,
             Some(name) => {
                 let life = self.life(&name);

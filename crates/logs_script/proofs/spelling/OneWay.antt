@@ -103,7 +103,8 @@ record SameFront (es fs : List TreeEntry) (m n : ℕ) (ls ks : List (List ℕ)) 
   rules : m ≡ n
   lines : ls ≡ ks
 
-text_is_one : (bytes : List ℕ) (fronts behind fronts' behind' : List (List ℕ)) (es fs : List TreeEntry)
+-- bytes have one tree text, and the same stands before and behind it
+pub text_is_one : (bytes : List ℕ) (fronts behind fronts' behind' : List (List ℕ)) (es fs : List TreeEntry)
     → HasTreeText bytes fronts behind es
     → HasTreeText bytes fronts' behind' fs → (fronts ≡ fronts') × (behind ≡ behind') × (es ≡ fs)
 text_is_one bytes fronts behind fronts' behind' es fs a b =
@@ -139,7 +140,7 @@ read_in_one_way input es fs ls ms (m, lines, front, read) (n, lines', front', re
     let is : Ok ls ≡ Ok ms = sym read ∙ read_alike es fs m n lines lines' same ∙ read' in
     (same.trees, let logs : ls ≡ ms = cc in logs)
 
-no_tree_fault : (es : List TreeEntry) (cause : TreeError) → IsTree es → has_fault es cause ≡ false
+pub no_tree_fault : (es : List TreeEntry) (cause : TreeError) → IsTree es → has_fault es cause ≡ false
 no_tree_fault es Empty h = h.not_empty
 no_tree_fault es TooMany h = h.not_too_many
 no_tree_fault es TwoParents h = h.listed_once

@@ -19,7 +19,7 @@ loop-record-preserved c =
     reading_goes_on c.args.records.items c.in-Some.record c.next.new.self.rest.items
     c.loop-record.reading.seen c.loop-record.reading.data reading
     c.take.new.self.seen c.take.new.self.data c.in_ok-take.ensures.may c.in_ok-take.ensures.takes
-    c.in_ok-take.ensures.before
+    c.in_ok-take.ensures.before c.in_ok-take.ensures.counted
 
 pub returns-in_err-take-clause-err : goal.returns-in_err-take-clause-err
 returns-in_err-take-clause-err c =

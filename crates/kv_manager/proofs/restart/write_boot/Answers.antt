@@ -1,7 +1,7 @@
 use Rattle.std.proofs.Common.{◌≤◌, ◌∙◌, length, sym, subst}
 use Rattle.log_text.specs.Made.{frame_record}
 use Rattle.rec_log.specs.Sights.{IsRecord}
-use Rattle.kv_manager.specs.declared.restart.RestartError.TheVariants.{Memory}
+use Rattle.kv_manager.specs.declared.restart.RecordsError.TheVariants.{Memory}
 use Rattle.kv_manager.specs.Restarts.{NotBegun, opened}
 use Rattle.kv_manager.proofs.Keeping.{made_error}
 use Rattle.kv_manager.proofs.Restoring.{breaks_behind, writes_behind}

@@ -1,21 +1,37 @@
-use Rattle.std.proofs.Common.{◌∙◌, refl, sym, rules}
-use Rattle.std.proofs.lemmas.List.{length-map}
+use Rattle.std.proofs.Common.{◌≡◌, ◌∙◌, ◌++◌, ap, length, sym, append_assoc, map}
+use Rattle.log_text.specs.Frames.{header}
 use Rattle.log_text.specs.Made.{frame_record}
-use Rattle.rec_log.proofs.Trims.{count_of_trim, text_of_trim}
+use Rattle.log_text.specs.Payloads.{records_text}
+use Rattle.log_rules.specs.trim.Trims.{front_of_trim}
+use Rattle.rec_log.specs.Texts.{records_in}
+use Rattle.rec_log.specs.Trimming.{Stays, marks_in}
+use Rattle.rec_log.proofs.Indexes.{index_made}
+use Rattle.rec_log.proofs.Trims.{front_stays, front_text, text_of_trim}
 use Rattle.rec_log.proofs.trimming.trimmed_text.Goals as goal
 
+stays : (c : goal.After-drop-kept-3) → Stays c.args.kind (front_of_trim (records_in c.args.kind 0 c.args.bytes.now))
+    (c.opened_frame-first.result.0.now ++ c.in_ok-kept.kept.frames.items) c.in_ok-front_marks.field-0.items
+stays c = front_stays _ _ _ _ _ _ _ c.opened_frame-first.ensures c.in_ok-kept.ensures
+    (c.in_ok-front_marks.ensures
+    ∙ ap (λ ms. marks_in c.opened_frame-first.result.1 ++ ms) c.deref-2.ensures.value)
+
+front : (c : goal.After-drop-kept-3) → c.in_ok-text.text.items
+    ≡ (header ++ c.opened_frame-first.result.0.now) ++ c.in_ok-kept.kept.frames.items
+front c = c.in_ok-text.ensures
+    ∙ ap (λ bs. (header ++ c.opened_frame-first.result.0.now) ++ bs) c.deref.ensures.value
+
+text : (c : goal.After-drop-kept-3) → c.push_frames.new.text.items
+    ≡ (header ++ (c.opened_frame-first.result.0.now ++ c.in_ok-kept.kept.frames.items))
+    ++ records_text (map frame_record c.args.behind.now)
+text c = front_text _ _ c.opened_frame-first.result.0.now c.in_ok-kept.kept.frames.items _ (front c) c.in_ok-push_frames.ensures
+
 pub returns-clause-text : goal.returns-clause-text
-returns-clause-text c =
-    let records = c.in_ok-records.ensures in
-    let shown = c.deref-2.ensures.value ∙ records in
-    text_of_trim _ _ _ _ _ _ _ _ _ _ shown (c.deref.ensures.value ∙ records) shown refl (search rules)
-    c.opened_frame-first.ensures.frame c.in_ok-frames.ensures.frames.0
-    c.requires
+returns-clause-text c = text_of_trim _ _ _ _ _ _ (text c) (stays c) c.requires.records
+
+pub returns-clause-index : goal.returns-clause-index
+returns-clause-index c = index_made _ _ _ _ _ _ _ (stays c) (text c)
+    (c.len.ensures ∙ c.in_ok-text.text.ok.0 ∙ ap length (front c
+    ∙ append_assoc header c.opened_frame-first.result.0.now c.in_ok-kept.kept.frames.items))
 
 pub returns-clause-count : goal.returns-clause-count
-returns-clause-count c =
-    let records = c.in_ok-records.ensures in
-    let shown = c.deref-2.ensures.value ∙ records in
-    count_of_trim _ _ _ _ _ _ _ _ _ shown (c.deref.ensures.value ∙ records) shown refl
-    c.opened_frame-first.ensures.count c.in_ok-frames.ensures.frames.1
-    (sym (length-map c.args.behind.now frame_record))
+returns-clause-count c = sym (stays c).marked

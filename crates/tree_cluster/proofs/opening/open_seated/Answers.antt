@@ -19,15 +19,15 @@ seat-requires-clause-journal g c = keeps_journal _ _ _ _ _ c.requires.journal
 pub seat-requires-clause-word : goal.seat-requires-clause-word
 seat-requires-clause-word g c = has_name _ _ _ _ _ _ _ c.requires.table c.requires.journal c.requires.entry.0
 
-pub new-requires-2-clause-tree : goal.new-requires-2-clause-tree
-new-requires-2-clause-tree g c =
+pub new-requires-clause-tree : goal.new-requires-clause-tree
+new-requires-clause-tree g c =
     let listed = listed_at c.args.tree.now c.args.place c.args.entry.now c.requires.entry.0 c.requires.entry.1 in (
       subst IsTree c.requires.tree.1 c.requires.tree.0,
       subst (λ t. is_listed t c.args.entry.now.id ≡ true) c.requires.tree.1 listed,
     )
 
-pub new-requires-2-clause-own : goal.new-requires-2-clause-own
-new-requires-2-clause-own g c =
+pub new-requires-clause-own : goal.new-requires-clause-own
+new-requires-clause-own g c =
     let e = c.args.entry.now in
     let core = core_of c.in_ok-node.node in
     let opened = subst (λ t. OpenedAs t e core) c.in_ok-copy.ensures c.in_ok-node.ensures.ok in

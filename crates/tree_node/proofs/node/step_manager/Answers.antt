@@ -6,7 +6,8 @@ use Rattle.tree_node.proofs.node.step_manager.Goals as goal
 
 pub returns-clause-ok : goal.returns-clause-ok
 returns-clause-ok g c = manager_handles (seen sight_of c.args.manager.now) (seen sight_of c.step.new.self)
-    (input_of c.args.input) c.step.result c.step.ensures.ok c.step.ensures.writes
+    (input_of c.args.input) c.step.result (c.data_answers.ensures (input_of c.args.input)) c.step.ensures.ok
+    c.step.ensures.writes
 
 pub returns-clause-err : goal.returns-clause-err
 returns-clause-err g c = manager_stops (seen sight_of c.args.manager.now) (seen sight_of c.step.new.self)

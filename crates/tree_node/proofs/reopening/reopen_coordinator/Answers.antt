@@ -11,9 +11,9 @@ returns-in-Ok-clause-ok g c =
     (state c.in-Ok.coordinator) c.in-Ok.reaction c.in_ok-log.ensures.ok c.in-Ok.ensures.ok
 
 pub returns-in-Err-clause-err : goal.returns-in-Err-clause-err
-returns-in-Err-clause-err g c = rw (c.refused.ensures, c.of_step.ensures)
+returns-in-Err-clause-err g c = rw (c.refused.ensures, c.of_coordinator.ensures)
     (coordinator_fails g.L.LogStore.bytes g.L.LogStore.forced g.L.LogStore.failures
     (record { me = c.args.me; role = role_below c.args.parent; tree = c.args.tree }) c.args.store
     c.into_store.result c.in_ok-log.log c.in-Err.log c.in-Err.error
-    c.in_ok-log.ensures.ok.failures_stay
+    c.in_ok-log.ensures.ok
     (ap (λ (s : LogState). s.sight.failures) (sym c.into_store.ensures)) c.in-Err.ensures.err)

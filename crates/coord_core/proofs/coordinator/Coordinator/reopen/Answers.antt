@@ -1,10 +1,11 @@
-use Rattle.std.proofs.Common.{refl, sym, ap}
-use Rattle.rec_log.specs.Sights.{LogState}
-use Rattle.coord_core.specs.States.{CoordinatorValue, state}
+use Rattle.std.proofs.Common.{subst, sym}
+use Rattle.coord_core.specs.Reopened.{NotReopened}
+use Rattle.coord_core.specs.States.{CoordinatorValue, place_of}
+use Rattle.coord_core.proofs.Restarted.{not_reopened}
 use Rattle.coord_core.proofs.coordinator.Coordinator.reopen.Goals as goal
 
-pub returns-in-Err-clause-err : goal.returns-in-Err-clause-err
-returns-in-Err-clause-err g c =
+pub returns-in-Err-restart-clause-err : goal.returns-in-Err-restart-clause-err
+returns-in-Err-restart-clause-err g c =
     let v : CoordinatorValue = record {
       me = c.args.me;
       parent = c.args.parent;
@@ -15,13 +16,6 @@ returns-in-Err-clause-err g c =
       given = 0;
       slots = c.new.result;
     } in
-    record {
-      before = state v;
-      place_is = refl;
-      log_is = refl;
-      keep = c.size-keep.result;
-      left = c.size-keep.ensures;
-      behind = state c.restart.new.self;
-      log_left = ap (λ (l : LogState). l.sight) (sym c.into_log.ensures);
-      refused = c.in-Err.ensures.err;
-    }
+    subst (NotReopened (place_of v) c.args.log.sight c.into_log.result.sight) (sym c.reopen_error.ensures)
+    (not_reopened v c.restart.new.self c.size-keep.result c.in-Err-restart.error c.into_log.result
+    c.size-keep.ensures c.into_log.ensures c.in-Err-restart.ensures.err)

@@ -4,7 +4,7 @@ use Rattle.rec_log.specs.Sights.{Restarts, left_by}
 use Rattle.kv_core.specs.Stores.{KeySight}
 use Rattle.kv_manager.specs.Restarts.{FailsToRestart, IsReady}
 use Rattle.kv_manager.specs.Sights.{IsKept, KvSight}
-use Rattle.kv_manager.proofs.Boots.{ready_ordered}
+use Rattle.kv_manager.proofs.Boots.{ready_counted, ready_ordered}
 use Rattle.kv_manager.proofs.Restoring.{kept_restarted, kept_unstarted}
 use Rattle.kv_manager.proofs.manager.KvManager.reopen.Goals as goal
 
@@ -22,6 +22,7 @@ invariant_of-self g c =
     c.in_err-restart_log.field-0.0 = search rules in
     kept_unstarted s c.restart_log.new.log c.args.keep (frame_record c.args.ready.now.opened) _
     c.self.invariant (ready_ordered (left_by s.log.sight c.args.keep) c.args.ready.now ready)
+    (ready_counted (left_by s.log.sight c.args.keep) c.args.ready.now ready)
     c.restart_log.ensures.kind why
 
 pub invariant_of-self-2 : goal.invariant_of-self-2

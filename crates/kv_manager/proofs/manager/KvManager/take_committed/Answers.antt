@@ -1,9 +1,10 @@
-use Rattle.std.proofs.Common.{rules, ◌∷◌, ◌∙◌, [], refl, sym, subst}
+use Rattle.std.proofs.Common.{rules, ◌∷◌, ◌∙◌, ◌<◌, ◌+◌, ◌^◌, [], refl, sym, subst}
 use Rattle.rec_log.specs.Sights.{Breaks}
 use Rattle.kv_turns.specs.Turns.{entry_record}
 use Rattle.kv_store.specs.writes.Writes.{writes_of}
 use Rattle.core_log.specs.Writes.{Writes}
 use Rattle.kv_core.specs.Ends.{PublishesWrites, SameButData, StagesWrites, TakesTurn}
+use Rattle.kv_core.specs.Stores.{KeySight}
 use Rattle.kv_manager.specs.Sights.{KvSight}
 use Rattle.kv_manager.specs.Turns.{Broke, Made, OnlyRoom}
 use Rattle.kv_manager.proofs.Keeping.{data_only, kept_by}
@@ -56,11 +57,13 @@ invariant_of-self-in-Ok g c =
     let takes : TakesTurn c.publish.new.self c.finish.new.self c.args.xid.now c.args.turn = search rules in
     let made : Writes s.log c.write.new.log (entry_record c.args.entry c.args.xid.now
     (writes_of s.store.writes c.args.xid.now)) c.args.turn.is_forced = search rules in
+    let fits : s.store.versions.count + 1 < 2 ^ 63 =
+    subst (λ (k : KeySight). k.versions.count + 1 < 2 ^ 63) (sym room.store) c.requires.fits in
     kept_committed s _ c.args.xid.now c.requires.due.0 c.args.turn c.args.entry c.self.invariant
     (record_follows s c.args.xid.now c.requires.due.0 c.args.turn c.args.entry c.self.invariant
     c.is_tidy.ensures.tidy c.is_tidy.ensures.limits c.is_tidy.ensures.few
     (due_same c.args.self.now s c.args.xid.now c.requires.due.0 c.args.turn room c.requires.due.1)
-    c.requires.entry)
+    c.requires.entry (λ commits. fits))
     (due_same c.args.self.now s c.args.xid.now c.requires.due.0 c.args.turn room c.requires.due.1)
     c.requires.entry c.requires.data
     (commits_by s.store c.stage.new.self c.publish.new.self c.finish.new.self c.args.xid.now c.args.turn
@@ -116,10 +119,12 @@ invariant_of-self-in-Err g c =
     (sym c.self.view_is) c.frame.ensures.stays in
     let broke : Breaks s.log c.write.new.log (entry_record c.args.entry c.args.xid.now
     (writes_of s.store.writes c.args.xid.now) ∷ []) = search rules in
+    let fits : s.store.versions.count + 1 < 2 ^ 63 =
+    subst (λ (k : KeySight). k.versions.count + 1 < 2 ^ 63) (sym room.store) c.requires.fits in
     kept_broken s broken (entry_record c.args.entry c.args.xid.now
     (writes_of s.store.writes c.args.xid.now) ∷ []) c.self.invariant
     (record_follows s c.args.xid.now c.requires.due.0 c.args.turn c.args.entry c.self.invariant
     c.is_tidy.ensures.tidy c.is_tidy.ensures.limits c.is_tidy.ensures.few
     (due_same c.args.self.now s c.args.xid.now c.requires.due.0 c.args.turn room c.requires.due.1)
-    c.requires.entry)
+    c.requires.entry (λ commits. fits))
     broke

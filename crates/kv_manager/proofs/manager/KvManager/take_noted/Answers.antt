@@ -1,4 +1,4 @@
-use Rattle.std.proofs.Common.{rules, ◌∷◌, [], refl, sym, subst}
+use Rattle.std.proofs.Common.{rules, ◌≡◌, ◌∷◌, ◌∙◌, [], true, false, refl, sym, subst}
 use Rattle.rec_log.specs.Sights.{Breaks}
 use Rattle.kv_turns.specs.Turns.{entry_record}
 use Rattle.kv_store.specs.writes.Writes.{writes_of}
@@ -43,7 +43,7 @@ invariant_of-self g c =
     (record_follows s c.args.xid.now c.requires.due.0 c.args.turn c.args.entry c.self.invariant
     c.is_tidy.ensures.tidy c.is_tidy.ensures.limits c.is_tidy.ensures.few
     (due_same c.args.self.now s c.args.xid.now c.requires.due.0 c.args.turn room c.requires.due.1)
-    c.requires.entry)
+    c.requires.entry (λ commits. absurd (let never : true ≡ false = sym commits ∙ c.requires.data in cc)))
     (due_same c.args.self.now s c.args.xid.now c.requires.due.0 c.args.turn room c.requires.due.1)
     c.requires.entry c.requires.data takes made
 
@@ -82,5 +82,5 @@ invariant_of-self-in-Err g c =
     (record_follows s c.args.xid.now c.requires.due.0 c.args.turn c.args.entry c.self.invariant
     c.is_tidy.ensures.tidy c.is_tidy.ensures.limits c.is_tidy.ensures.few
     (due_same c.args.self.now s c.args.xid.now c.requires.due.0 c.args.turn room c.requires.due.1)
-    c.requires.entry)
+    c.requires.entry (λ commits. absurd (let never : true ≡ false = sym commits ∙ c.requires.data in cc)))
     broke

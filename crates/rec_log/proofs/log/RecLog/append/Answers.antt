@@ -1,6 +1,7 @@
 use Rattle.std.proofs.Common.{◌≡◌, ◌∙◌, ◌++◌, take, false, length, refl, sym, ap, subst, arith}
 use Rattle.log_text.specs.Made.{frame_record}
 use Rattle.rec_log.specs.Sights.{IsRecord}
+use Rattle.rec_log.proofs.Indexes.{index_follows}
 use Rattle.rec_log.proofs.Known.{known_more}
 use Rattle.rec_log.proofs.Turns.{append_breaks, appended, appended_of, breaks_of, by_device, record_long, text_goes_on}
 use Rattle.rec_log.proofs.log.RecLog.append.Goals as goal
@@ -30,16 +31,20 @@ returns-in-Err-clause-err g c =
           b.forced_stays b.cause),
     )
 
-pub invariant_of-self-in_default : goal.invariant_of-self-in_default
-invariant_of-self-in_default g c =
+pub invariant_of-self-2 : goal.invariant_of-self-2
+invariant_of-self-2 g c =
     let works : c.self.inside.failed ≡ false = ap (λ s. s.sight.failed) c.self.view_is ∙ c.requires.works in
     let a = c.in_default.ensures.ok in
     let text = a.text ∙ ap (λ t. g.L.LogStore.bytes c.self.inside.store ++ t) c.bytes.ensures in
+    let is_record : IsRecord c.self.inside.kind (frame_record c.args.frame.now) =
+    subst (λ k. IsRecord k (frame_record c.args.frame.now)) (sym (ap (λ s. s.kind) c.self.view_is))
+    c.requires.sound in
     let within = g.met.L.LogStore.front c.self.inside.store in (
-      text_goes_on _ _ _ _ _ _ _ works (subst (λ k. IsRecord k (frame_record c.args.frame.now))
-          (sym (ap (λ s. s.kind) c.self.view_is)) c.requires.sound) c.self.invariant.0 within text
+      text_goes_on _ _ _ _ _ _ _ works is_record c.self.invariant.0 within text
           a.forced_stays,
       known_more _ _ _ _ _ _ _ c.self.invariant.1 within text (omega (arith, a.forced_stays)),
+      index_follows _ _ _ _ _ _ _ _ _ _ c.self.invariant.2 is_record text
+          (ap length c.bytes-from.ensures) (ap length c.bytes-to.ensures) c.follow.ensures,
     )
 
 pub returns-clause-ok : goal.returns-clause-ok

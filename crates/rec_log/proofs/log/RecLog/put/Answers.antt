@@ -1,5 +1,6 @@
 use Rattle.std.proofs.Common.{◌∙◌, ap, arith}
 use Rattle.rec_log.proofs.Turns.{by_device}
+use Rattle.rec_log.proofs.Indexes.{index_header, log_is_long}
 use Rattle.rec_log.proofs.Known.{known_header}
 use Rattle.rec_log.proofs.Rewriting.{came_of, rewrite_breaks, rewritten, spells_inside, text_either}
 use Rattle.rec_log.proofs.log.RecLog.put.Goals as goal
@@ -24,8 +25,11 @@ invariant_of-self-in-Err-replace g c =
     (λ m. omega (arith, m.small, c.in_default.ensures.room)) c.in-Err-replace.ensures.device in
     let came = came_of (g.L.LogStore.bytes c.self.inside.store) _ _ c.args.text.now
     (g.L.LogStore.forced c.self.inside.store) _ _ b.either stays.bytes_stay stays.forced_stays in
-    let text = text_either _ _ _ c.args.text.now _ _ _ _ c.self.invariant.0 spells came in
-    (text, known_header _ _ _ text.header_forced)
+    let text = text_either _ _ _ c.args.text.now _ _ _ _ c.self.invariant.0 spells came in (
+      text,
+      known_header _ _ _ text.header_forced,
+      index_header _ _ _ _ (log_is_long _ _ _ _ text) c.clear.ensures.size c.clear.ensures.marks,
+    )
 
 pub returns-clause-ok : goal.returns-clause-ok
 returns-clause-ok g c =

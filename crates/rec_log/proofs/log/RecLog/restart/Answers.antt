@@ -1,128 +1,156 @@
-use Rattle.std.proofs.Common.{◌≡◌, ◌∙◌, ◌+◌, refl, subst, sym, ap, take, map, length, arith}
+use Rattle.std.proofs.Common.{◌≡◌, ◌∙◌, ◌+◌, ◌++◌, ap, arith, if◌then◌else◌, length, length-take, map, refl, subst, sym, take}
 use Rattle.log_text.specs.Made.{frame_record}
-use Rattle.rec_log.specs.Sights.{AreRecords, LeavesText}
-use Rattle.rec_log.proofs.Known.{known_all, known_header, known_left}
+use Rattle.rec_log.specs.Restarting.{LeavesText, WritesLeft}
+use Rattle.rec_log.specs.Sights.{AreRecords}
+use Rattle.rec_log.proofs.Indexes.{index_header, log_is_long}
+use Rattle.rec_log.proofs.Known.{known_all, known_header}
 use Rattle.rec_log.proofs.Turns.{by_device}
-use Rattle.rec_log.proofs.Restarting.{came_either, front_begins, restart_breaks, restarted, text_broken, text_settled}
+use Rattle.rec_log.proofs.Restarting.{Broken, breaks_restart, broken, front_begins, leaves_text, restart_breaks, restarted, text_broken, text_settled}
 use Rattle.rec_log.proofs.log.RecLog.restart.Goals as goal
 
-pub invariant_of-self-in-Ok-replace : goal.invariant_of-self-in-Ok-replace
-invariant_of-self-in-Ok-replace g c =
+pub invariant_of-self-in-Ok-write_left : goal.invariant_of-self-in-Ok-write_left
+invariant_of-self-in-Ok-write_left g c =
+    let kind = c.self.inside.kind in
     let text = g.L.LogStore.bytes c.self.inside.store in
     let forced = g.L.LogStore.forced c.self.inside.store in
     let rs = map frame_record c.args.new.now in
-    let are : AreRecords c.self.inside.kind rs =
+    let are : AreRecords kind rs =
     subst (λ k. AreRecords k rs) (sym (ap (λ s. s.kind) c.self.view_is)) c.requires in
-    let left : c.left_by-left.result.now ≡ take (forced + c.args.keep) text =
+    let is_left : c.left_by-left.result.now ≡ take (forced + c.args.keep) text =
     c.left_by-left.ensures.left ∙ ap (λ n. take (n + c.args.keep) c.bytes.result.now) c.forced-forced.ensures
     ∙ ap (take (forced + c.args.keep)) c.bytes.ensures in
-    let leaves : LeavesText c.self.inside.kind (take (forced + c.args.keep) text) rs c.deref.result.now =
-    subst (λ t. LeavesText c.self.inside.kind (take (forced + c.args.keep) text) rs t)
+    let writes : WritesLeft kind (take (forced + c.args.keep) text) rs c.in-Ok.writing.0 c.deref.result.now =
+    subst (λ t. WritesLeft kind (take (forced + c.args.keep) text) rs c.in-Ok.writing.0 t)
     (sym c.deref.ensures.value)
-    (subst (λ t. LeavesText c.self.inside.kind t rs c.in-Ok.text.items) left c.in-Ok.ensures) in
-    let ok = c.in-Ok-replace.ensures.ok in
-    let written : LeavesText c.self.inside.kind (take (forced + c.args.keep) text) rs
-    (g.L.LogStore.bytes c.replace.new.self) =
-    subst (λ t. LeavesText c.self.inside.kind (take (forced + c.args.keep) text) rs t)
-    (sym ok.text_stands) leaves in
-    let all = ok.all ∙ ap length (sym ok.text_stands) in
-    let settled = text_settled _ _ _ rs _ are (front_begins (forced + c.args.keep) text
-    (omega (arith, c.self.invariant.0.header_forced)) c.self.invariant.0.begins) written all in (
-      settled,
-      known_all _ _ _ _ (settled.whole refl) settled.header_forced all
-          (omega (arith, c.len-self-inside.ensures, c.deref.ensures.len, ap length ok.text_stands)),
-    )
-
-pub returns-in-Ok-replace-clause-ok : goal.returns-in-Ok-replace-clause-ok
-returns-in-Ok-replace-clause-ok g c =
-    let text = g.L.LogStore.bytes c.self.inside.store in
-    let forced = g.L.LogStore.forced c.self.inside.store in
-    let rs = map frame_record c.args.new.now in
-    let are : AreRecords c.self.inside.kind rs =
-    subst (λ k. AreRecords k rs) (sym (ap (λ s. s.kind) c.self.view_is)) c.requires in
-    let left : c.left_by-left.result.now ≡ take (forced + c.args.keep) text =
-    c.left_by-left.ensures.left ∙ ap (λ n. take (n + c.args.keep) c.bytes.result.now) c.forced-forced.ensures
-    ∙ ap (take (forced + c.args.keep)) c.bytes.ensures in
-    let leaves : LeavesText c.self.inside.kind (take (forced + c.args.keep) text) rs c.deref.result.now =
-    subst (λ t. LeavesText c.self.inside.kind (take (forced + c.args.keep) text) rs t)
-    (sym c.deref.ensures.value)
-    (subst (λ t. LeavesText c.self.inside.kind t rs c.in-Ok.text.items) left c.in-Ok.ensures) in
-    let ok = c.in-Ok-replace.ensures.ok in
-    let written : LeavesText c.self.inside.kind (take (forced + c.args.keep) text) rs
-    (g.L.LogStore.bytes c.replace.new.self) =
-    subst (λ t. LeavesText c.self.inside.kind (take (forced + c.args.keep) text) rs t)
-    (sym ok.text_stands) leaves in
-    let stays = c.in_default.ensures.stays in
-    restarted _ text _ forced _ c.args.keep _ _ _
-    (g.L.LogStore.room c.replace.new.self) rs _ _ c.self.view_is are c.self.invariant.0
-    (g.met.L.LogStore.front c.self.inside.store) written (ok.all ∙ ap length (sym ok.text_stands))
-    (ok.failures_stay ∙ c.crash.ensures.left.failures_stay ∙ stays.failures_stay)
-
-pub invariant_of-self-in-Err-replace : goal.invariant_of-self-in-Err-replace
-invariant_of-self-in-Err-replace g c =
-    let text = g.L.LogStore.bytes c.self.inside.store in
-    let forced = g.L.LogStore.forced c.self.inside.store in
-    let rs = map frame_record c.args.new.now in
-    let are : AreRecords c.self.inside.kind rs =
-    subst (λ k. AreRecords k rs) (sym (ap (λ s. s.kind) c.self.view_is)) c.requires in
-    let left : c.left_by-left.result.now ≡ take (forced + c.args.keep) text =
-    c.left_by-left.ensures.left ∙ ap (λ n. take (n + c.args.keep) c.bytes.result.now) c.forced-forced.ensures
-    ∙ ap (take (forced + c.args.keep)) c.bytes.ensures in
-    let leaves : LeavesText c.self.inside.kind (take (forced + c.args.keep) text) rs c.deref.result.now =
-    subst (λ t. LeavesText c.self.inside.kind (take (forced + c.args.keep) text) rs t)
-    (sym c.deref.ensures.value)
-    (subst (λ t. LeavesText c.self.inside.kind t rs c.in-Ok.text.items) left c.in-Ok.ensures) in
+    (subst (λ t. WritesLeft kind t rs c.in-Ok.writing.0 c.in-Ok.writing.1.items) is_left c.in-Ok.ensures) in
     let stays = c.in_default.ensures.stays in
     let crash = c.crash.ensures.left in
-    let b = by_device c.in-Err-replace.field-0 _ _ c.in-Err-replace.ensures.memory
+    let old_is : g.L.LogStore.bytes c.crash.new.self ≡ take (forced + c.args.keep) text =
+    crash.text ∙ ap (λ n. take (n + c.args.keep) (g.L.LogStore.bytes c.reserve.new.self)) stays.forced_stays
+    ∙ ap (take (forced + c.args.keep)) stays.bytes_stay in
+    let ok = c.in-Ok-write_left.ensures.ok in
+    let leaves : LeavesText kind (take (forced + c.args.keep) text) rs
+    (g.L.LogStore.bytes c.write_left.new.store) =
+    leaves_text _ _ c.deref.result.now _ _ c.in-Ok.writing.0 writes (ok.text_stands
+    ∙ ap (λ o. if c.in-Ok.writing.0 then c.deref.result.now else o ++ c.deref.result.now) old_is) in
+    let settled = text_settled _ _ _ rs _ are (front_begins (forced + c.args.keep) text
+    (omega (arith, c.self.invariant.0.header_forced)) c.self.invariant.0.begins) leaves ok.all in (
+      settled,
+      known_all _ _ _ _ (settled.whole refl) settled.header_forced ok.all
+          (ap length c.bytes-in-Ok-write_left.ensures),
+      index_header _ _ _ _ (log_is_long _ _ _ _ settled) c.new.ensures.size c.new.ensures.marks,
+    )
+
+pub returns-in-Ok-write_left-clause-ok : goal.returns-in-Ok-write_left-clause-ok
+returns-in-Ok-write_left-clause-ok g c =
+    let kind = c.self.inside.kind in
+    let text = g.L.LogStore.bytes c.self.inside.store in
+    let forced = g.L.LogStore.forced c.self.inside.store in
+    let rs = map frame_record c.args.new.now in
+    let are : AreRecords kind rs =
+    subst (λ k. AreRecords k rs) (sym (ap (λ s. s.kind) c.self.view_is)) c.requires in
+    let is_left : c.left_by-left.result.now ≡ take (forced + c.args.keep) text =
+    c.left_by-left.ensures.left ∙ ap (λ n. take (n + c.args.keep) c.bytes.result.now) c.forced-forced.ensures
+    ∙ ap (take (forced + c.args.keep)) c.bytes.ensures in
+    let writes : WritesLeft kind (take (forced + c.args.keep) text) rs c.in-Ok.writing.0 c.deref.result.now =
+    subst (λ t. WritesLeft kind (take (forced + c.args.keep) text) rs c.in-Ok.writing.0 t)
+    (sym c.deref.ensures.value)
+    (subst (λ t. WritesLeft kind t rs c.in-Ok.writing.0 c.in-Ok.writing.1.items) is_left c.in-Ok.ensures) in
+    let stays = c.in_default.ensures.stays in
+    let crash = c.crash.ensures.left in
+    let old_is : g.L.LogStore.bytes c.crash.new.self ≡ take (forced + c.args.keep) text =
+    crash.text ∙ ap (λ n. take (n + c.args.keep) (g.L.LogStore.bytes c.reserve.new.self)) stays.forced_stays
+    ∙ ap (take (forced + c.args.keep)) stays.bytes_stay in
+    let ok = c.in-Ok-write_left.ensures.ok in
+    let leaves : LeavesText kind (take (forced + c.args.keep) text) rs
+    (g.L.LogStore.bytes c.write_left.new.store) =
+    leaves_text _ _ c.deref.result.now _ _ c.in-Ok.writing.0 writes (ok.text_stands
+    ∙ ap (λ o. if c.in-Ok.writing.0 then c.deref.result.now else o ++ c.deref.result.now) old_is) in
+    restarted _ text _ forced _ c.args.keep _ _ _
+    (g.L.LogStore.room c.write_left.new.store) rs _ _ c.self.view_is are c.self.invariant.0
+    (g.met.L.LogStore.front c.self.inside.store) leaves ok.all
+    (ok.failures_stay ∙ crash.failures_stay ∙ stays.failures_stay)
+
+pub invariant_of-self-in-Err-write_left : goal.invariant_of-self-in-Err-write_left
+invariant_of-self-in-Err-write_left g c =
+    let kind = c.self.inside.kind in
+    let text = g.L.LogStore.bytes c.self.inside.store in
+    let forced = g.L.LogStore.forced c.self.inside.store in
+    let rs = map frame_record c.args.new.now in
+    let are : AreRecords kind rs =
+    subst (λ k. AreRecords k rs) (sym (ap (λ s. s.kind) c.self.view_is)) c.requires in
+    let is_left : c.left_by-left.result.now ≡ take (forced + c.args.keep) text =
+    c.left_by-left.ensures.left ∙ ap (λ n. take (n + c.args.keep) c.bytes.result.now) c.forced-forced.ensures
+    ∙ ap (take (forced + c.args.keep)) c.bytes.ensures in
+    let writes : WritesLeft kind (take (forced + c.args.keep) text) rs c.in-Ok.writing.0 c.deref.result.now =
+    subst (λ t. WritesLeft kind (take (forced + c.args.keep) text) rs c.in-Ok.writing.0 t)
+    (sym c.deref.ensures.value)
+    (subst (λ t. WritesLeft kind t rs c.in-Ok.writing.0 c.in-Ok.writing.1.items) is_left c.in-Ok.ensures) in
+    let stays = c.in_default.ensures.stays in
+    let crash = c.crash.ensures.left in
+    let old_is : g.L.LogStore.bytes c.crash.new.self ≡ take (forced + c.args.keep) text =
+    crash.text ∙ ap (λ n. take (n + c.args.keep) (g.L.LogStore.bytes c.reserve.new.self)) stays.forced_stays
+    ∙ ap (take (forced + c.args.keep)) stays.bytes_stay in
+    let b = by_device c.in-Err-write_left.field-0 _ _ c.in-Err-write_left.ensures.memory
     (λ m. omega (
       arith,
-      m.small,
+      m,
       c.in_default.ensures.room,
       c.crash.ensures.room,
       c.deref.ensures.len,
       c.len.ensures,
       ap length c.deref.ensures.value,
-    )) c.in-Err-replace.ensures.device in
-    let came = came_either _ _ (take (forced + c.args.keep) text) _ _ _ forced b.either
-    (crash.text ∙ ap (λ n. take (n + c.args.keep) (g.L.LogStore.bytes c.reserve.new.self)) stays.forced_stays
-    ∙ ap (take (forced + c.args.keep)) stays.bytes_stay)
-    (crash.front ∙ stays.forced_stays) in
-    let broken = text_broken _ text c.deref.result.now _ forced _ c.args.keep rs _ are c.self.invariant.0
-    leaves came in
-    (broken, known_header _ _ _ broken.header_forced)
+      ap length old_is,
+      length-take (forced + c.args.keep) text,
+    )) c.in-Err-write_left.ensures.device in
+    let broke : Broken kind (take (forced + c.args.keep) text) rs forced
+    (g.L.LogStore.bytes c.write_left.new.store) (g.L.LogStore.forced c.write_left.new.store) =
+    broken _ _ c.deref.result.now _ _ _ forced _ _ c.in-Ok.writing.0 writes old_is
+    (crash.front ∙ stays.forced_stays) b.stands in
+    let t = text_broken kind text forced c.args.keep 0 0 c.self.inside.failed c.self.invariant.0
+    (g.met.L.LogStore.front c.self.inside.store) rs _ _ are broke in (
+      t,
+      known_header _ _ _ t.header_forced,
+      index_header _ _ _ _ (log_is_long _ _ _ _ t) c.new.ensures.size c.new.ensures.marks,
+    )
 
 pub returns-clause-err : goal.returns-clause-err
 returns-clause-err g c =
+    let kind = c.self.inside.kind in
     let text = g.L.LogStore.bytes c.self.inside.store in
     let forced = g.L.LogStore.forced c.self.inside.store in
     let rs = map frame_record c.args.new.now in
-    let are : AreRecords c.self.inside.kind rs =
+    let are : AreRecords kind rs =
     subst (λ k. AreRecords k rs) (sym (ap (λ s. s.kind) c.self.view_is)) c.requires in
-    let left : c.left_by-left.result.now ≡ take (forced + c.args.keep) text =
+    let is_left : c.left_by-left.result.now ≡ take (forced + c.args.keep) text =
     c.left_by-left.ensures.left ∙ ap (λ n. take (n + c.args.keep) c.bytes.result.now) c.forced-forced.ensures
     ∙ ap (take (forced + c.args.keep)) c.bytes.ensures in
-    let leaves : LeavesText c.self.inside.kind (take (forced + c.args.keep) text) rs c.deref.result.now =
-    subst (λ t. LeavesText c.self.inside.kind (take (forced + c.args.keep) text) rs t)
+    let writes : WritesLeft kind (take (forced + c.args.keep) text) rs c.in-Ok.writing.0 c.deref.result.now =
+    subst (λ t. WritesLeft kind (take (forced + c.args.keep) text) rs c.in-Ok.writing.0 t)
     (sym c.deref.ensures.value)
-    (subst (λ t. LeavesText c.self.inside.kind t rs c.in-Ok.text.items) left c.in-Ok.ensures) in
+    (subst (λ t. WritesLeft kind t rs c.in-Ok.writing.0 c.in-Ok.writing.1.items) is_left c.in-Ok.ensures) in
     let stays = c.in_default.ensures.stays in
     let crash = c.crash.ensures.left in
-    let b = by_device c.in-Err-replace.field-0 _ _ c.in-Err-replace.ensures.memory
+    let old_is : g.L.LogStore.bytes c.crash.new.self ≡ take (forced + c.args.keep) text =
+    crash.text ∙ ap (λ n. take (n + c.args.keep) (g.L.LogStore.bytes c.reserve.new.self)) stays.forced_stays
+    ∙ ap (take (forced + c.args.keep)) stays.bytes_stay in
+    let b = by_device c.in-Err-write_left.field-0 _ _ c.in-Err-write_left.ensures.memory
     (λ m. omega (
       arith,
-      m.small,
+      m,
       c.in_default.ensures.room,
       c.crash.ensures.room,
       c.deref.ensures.len,
       c.len.ensures,
       ap length c.deref.ensures.value,
-    )) c.in-Err-replace.ensures.device in
-    let came = came_either _ _ (take (forced + c.args.keep) text) _ _ _ forced b.either
-    (crash.text ∙ ap (λ n. take (n + c.args.keep) (g.L.LogStore.bytes c.reserve.new.self)) stays.forced_stays
-    ∙ ap (take (forced + c.args.keep)) stays.bytes_stay)
-    (crash.front ∙ stays.forced_stays) in
-    restart_breaks _ text c.deref.result.now _ forced _ c.args.keep _ _ _
-    (g.L.LogStore.room c.replace.new.self) rs _ _ c.self.view_is are c.self.invariant.0
-    (g.met.L.LogStore.front c.self.inside.store) leaves came
-    (omega (arith, b.cause, crash.failures_stay, stays.failures_stay))
+      ap length old_is,
+      length-take (forced + c.args.keep) text,
+    )) c.in-Err-write_left.ensures.device in
+    let broke : Broken kind (take (forced + c.args.keep) text) rs forced
+    (g.L.LogStore.bytes c.write_left.new.store) (g.L.LogStore.forced c.write_left.new.store) =
+    broken _ _ c.deref.result.now _ _ _ forced _ _ c.in-Ok.writing.0 writes old_is
+    (crash.front ∙ stays.forced_stays) b.stands in
+    restart_breaks _ _ _ _ _ c.self.view_is
+    (breaks_restart kind text forced c.args.keep _ _ _ c.self.invariant.0
+    (g.met.L.LogStore.front c.self.inside.store) rs _ _ _ (g.L.LogStore.room c.write_left.new.store) are broke
+    (omega (arith, b.cause, crash.failures_stay, stays.failures_stay)))

@@ -1,4 +1,5 @@
 use Rattle.std.proofs.Common.{◌∙◌}
+use Rattle.rec_log.proofs.Indexes.{index_header}
 use Rattle.rec_log.proofs.Rewriting.{alone, not_rewritten_as, rewritten_as, spells_own}
 use Rattle.rec_log.proofs.log.RecLog.rewrite.Goals as goal
 
@@ -15,3 +16,8 @@ pub returns-in-Ok-clause-err : goal.returns-in-Ok-clause-err
 returns-in-Ok-clause-err g c =
     let s = alone _ _ _ c.requires.sound (c.deref.ensures.value ∙ c.in-Ok.ensures) in
     not_rewritten_as _ _ _ _ _ s.holds.read c.put.ensures.err
+
+pub put-requires-clause-index : goal.put-requires-clause-index
+put-requires-clause-index g c =
+    let s = alone _ _ _ c.requires.sound (c.deref.ensures.value ∙ c.in-Ok.ensures) in
+    index_header _ _ _ _ s.long c.new.ensures.size c.new.ensures.marks

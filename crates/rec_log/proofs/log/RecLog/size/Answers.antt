@@ -1,4 +1,4 @@
-use Rattle.std.proofs.Common.{◌≡◌, ◌≤◌, ◌∙◌, ◌+◌, ap, arith, length, sym, take}
+use Rattle.std.proofs.Common.{◌≤◌, ◌∙◌, ◌+◌, ap, arith, length, sym}
 use Rattle.std.proofs.lemmas.List.{take_all}
 use Rattle.rec_log.specs.Texts.{records_in}
 use Rattle.rec_log.specs.Sights.{body, records_of}

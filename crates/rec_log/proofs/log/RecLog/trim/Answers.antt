@@ -1,18 +1,21 @@
-use Rattle.std.proofs.Common.{◌∙◌, ap}
+use Rattle.std.proofs.Common.{◌∙◌, ap, arith}
+use Rattle.std.proofs.lemmas.List.{length-map}
+use Rattle.log_text.specs.Made.{frame_record}
 use Rattle.rec_log.specs.Sights.{body}
 use Rattle.rec_log.proofs.Trims.{not_trimmed, trim_counted, trim_read, trimmed}
 use Rattle.rec_log.proofs.log.RecLog.trim.Goals as goal
 
 pub returns-clause-err : goal.returns-clause-err
 returns-clause-err g c =
-    let read = trim_read _ _ _ _ c.deref.result.now _ _ _ _ _ _ c.self.view_is
-    (c.body.ensures ∙ ap body c.bytes.ensures) c.deref.ensures.value c.in-Ok.ensures.text in
-    not_trimmed _ _ _ _ _ read c.in-Err-put.ensures.err
+    let read = trim_read _ _ _ _ c.deref-2.result.now _ _ _ _ _ _ c.self.view_is
+    (c.body.ensures ∙ ap body c.bytes-bytes.ensures) c.deref-2.ensures.value c.in-Ok.ensures.text in
+    not_trimmed _ _ _ _ _ _ c.self.view_is read c.in-Err-put.ensures.err
 
 pub returns-in-Ok-put-clause-ok : goal.returns-in-Ok-put-clause-ok
 returns-in-Ok-put-clause-ok g c =
-    let bytes = c.body.ensures ∙ ap body c.bytes.ensures in
-    let read = trim_read _ _ _ _ c.deref.result.now _ _ _ _ _ _ c.self.view_is bytes c.deref.ensures.value
+    let bytes = c.body.ensures ∙ ap body c.bytes-bytes.ensures in
+    let read = trim_read _ _ _ _ c.deref-2.result.now _ _ _ _ _ _ c.self.view_is bytes c.deref-2.ensures.value
     c.in-Ok.ensures.text in
-    trimmed _ _ _ _ _ read c.in-Ok-put.ensures.ok
-    (trim_counted _ _ _ _ _ _ _ _ _ _ c.self.view_is bytes c.in-Ok.ensures.count)
+    trimmed _ _ _ _ _ _ c.self.view_is read c.in-Ok-put.ensures.ok
+    (trim_counted _ _ _ _ _ _ _ _ _ _ _ c.self.view_is bytes c.in-Ok.ensures.count
+    (omega (arith, c.len.ensures, length-map c.args.behind.now frame_record)))

@@ -1,7 +1,7 @@
-use Rattle.std.proofs.Common.{◌≡◌, ◌∙◌}
+use Rattle.std.proofs.Common.{◌≡◌}
 use Rattle.xa_codes.specs.declared.code.Code.TheVariants as code
 use Rattle.manager_model.specs.Sights.{ManagerSight}
-use Rattle.sub_core.proofs.Opened.{opened, opened_tied}
+use Rattle.sub_core.proofs.Opened.{opened, opened_data, opened_tied}
 use Rattle.sub_core.proofs.subordinate.Subordinate.open.Goals as goal
 
 pub invariant_of-result : goal.invariant_of-result
@@ -14,10 +14,9 @@ invariant_of-result g c =
 
 pub returns-clause-empty : goal.returns-clause-empty
 returns-clause-empty g c =
-    record {
-      writes = λ y. c.open.ensures.rest.writes y ∙ c.requires.writes y;
-      holders = λ k. c.open.ensures.rest.holders k ∙ c.requires.holders k;
-    }
+    let old : ManagerSight = g.M.ResourceManager.sight c.args.manager in
+    let new : ManagerSight = g.M.ResourceManager.sight c.open.new.self in
+    opened_data old new c.requires (λ answer. answer ≡ code.RmFail) c.open.result c.open.ensures
 
 pub returns-clause-opened : goal.returns-clause-opened
 returns-clause-opened g c =

@@ -1,4 +1,4 @@
-use Rattle.std.proofs.Common.{◌≡◌, ◌∙◌, None, sym, subst}
+use Rattle.std.proofs.Common.{◌≡◌, None, sym, subst}
 use Rattle.xa_codes.specs.declared.code.Code.TheVariants as code
 use Rattle.rec_log.specs.Sights.{left_by}
 use Rattle.core_model.specs.Restarting.{NotRestarted, Restarts}
@@ -10,7 +10,7 @@ use Rattle.sub_table.specs.Rebuilt.{Rebuilds}
 use Rattle.tree_model.specs.Views.{leaf_place}
 use Rattle.sub_core.specs.Subordinates.{SubState, core_of, seen}
 use Rattle.sub_core.specs.Steps.{LeavesPromises, Reopens, state}
-use Rattle.sub_core.proofs.Restarted.{broken, broken_tied, reopened_tied, restarted}
+use Rattle.sub_core.proofs.Restarted.{broken, broken_tied, promises_left, reopened_tied, restarted}
 use Rattle.sub_core.proofs.Ties.{behind, same_tied}
 use Rattle.sub_core.proofs.subordinate.Subordinate.restart.Goals as goal
 
@@ -86,6 +86,20 @@ invariant_of-self-in-Err-Memory g c =
     (subst (λ e. NotRestartedBy s.manager (g.M.ResourceManager.sight c.reopen.new.manager) c.args.keep e)
     c.in-Err-Memory.field-0-is c.in-Err-Memory.ensures.err)
 
+pub invariant_of-self-in-Err-Exhausted : goal.invariant_of-self-in-Err-Exhausted
+invariant_of-self-in-Err-Exhausted g c =
+    let s : SubState = record {
+      me = c.self.inside.me;
+      parent = c.self.inside.parent;
+      tree = c.self.inside.tree;
+      given = c.self.inside.given;
+      table = c.self.inside.branches;
+      manager = g.M.ResourceManager.sight c.self.inside.manager;
+    } in
+    let why = subst (λ e. NotRestartedBy s.manager (g.M.ResourceManager.sight c.reopen.new.manager) c.args.keep e)
+    c.in-Err-Exhausted.field-0-is c.in-Err-Exhausted.ensures.err in
+    same_tied s (g.M.ResourceManager.sight c.reopen.new.manager) c.self.invariant why.0
+
 pub invariant_of-self-in-Err-Device : goal.invariant_of-self-in-Err-Device
 invariant_of-self-in-Err-Device g c =
     let s : SubState = record {
@@ -138,10 +152,4 @@ returns-in-Ok-clause-writes g c =
       table = c.in_ok-rebuilt.rebuilt.branches;
       manager = m;
     })) c.self.view_is
-    (record {
-      writes = λ x. re.calls.rest.writes x ∙ re.restarts.writes x;
-      held = record {
-        held = λ x k named. re.calls.rest.holders k ∙ re.restarts.held.held x k named;
-        free = λ k none. re.calls.rest.holders k ∙ re.restarts.held.free k none;
-      };
-    })
+    (promises_left s.manager re.mid m c.args.keep (λ answer. answer ≡ code.RmFail) re.answer re.restarts re.calls)

@@ -1,8 +1,9 @@
-use Rattle.std.proofs.Common.{◌≡◌, ◌≢◌, ◌≤◌, rules, subst, sym}
+use Rattle.std.proofs.Common.{◌≡◌, ◌≢◌, ◌≤◌, length, rules, subst, sym}
 use Rattle.indexmap.specs.Layout.{length-set_value_at}
 use Rattle.xa_tables.specs.declared.states.BranchState.TheVariants.{S0}
 use Rattle.xa_branch.specs.Branches.{Moves}
 use Rattle.xa_branch.specs.contracts.branches.Branches.{the_view}
+use Rattle.xa_branch.proofs.Listed.{AreBegun, gone, written}
 use Rattle.xa_branch.proofs.Moved.{goes_at, moves_at}
 use Rattle.xa_branch.proofs.branches.Branches.place.Goals as goal
 
@@ -27,5 +28,16 @@ returns-in-Some-clause-moved c = λ x at.
 
 pub invariant_of-self-in-Some : goal.invariant_of-self-in-Some
 invariant_of-self-in-Some c =
-    subst (λ n. n ≤ 1024) (sym (length-set_value_at c.self.inside.states.entries c.args.index c.args.to))
-    c.self.invariant
+    let stays : c.args.to ≢ S0 = search rules in (
+      subst (λ n. n ≤ 1024) (sym (length-set_value_at c.self.inside.states.entries c.args.index c.args.to))
+          c.self.invariant.0,
+      written c.self.inside.states.entries c.args.index c.args.to stays c.self.invariant.1,
+    )
+
+pub invariant_of-self : goal.invariant_of-self
+invariant_of-self c =
+    let few : length c.shift_remove_index.new.self.entries ≤ 1024 = search rules in (
+      few,
+      subst AreBegun (sym c.shift_remove_index.ensures.entries)
+          (gone c.self.inside.states.entries c.args.index c.self.invariant.1),
+    )

@@ -1,0 +1,23 @@
+-- One input, one text: what a tree makes of a list of events is determined, but for want of memory and for devices
+-- that fail.
+use Rattle.std.specs.Prelude.{◌≡◌, List}
+use Rattle.tree_model.specs.declared.events.Event.{Event}
+use Rattle.tree_model.specs.declared.trees.TreeEntry.{TreeEntry}
+use Rattle.tree_model.specs.Trees.{IsTree}
+use Rattle.core_law.specs.worlds.Worlds.{WorldState}
+use Rattle.core_law.specs.worlds.Runs.{IsOpened}
+use Rattle.core_law.specs.worlds.Refusals.{IsForItself, LeadsTo, Refusal}
+
+-- two states show the same: every step that was made, and every message that was sent, with its mark
+pub record ShowTheSame (a b : WorldState) : Type 0 where
+  pub entries : b.entries ≡ a.entries
+  pub net : b.net ≡ a.net
+  pub delivered : b.delivered ≡ a.delivered
+
+-- Two trees of the same processes, which have all opened empty logs, come to states that show the same by the same
+-- events, and the event that is refused, where there is one, is the same and refused by the same error; of each it is
+-- asked that no event be refused for memory, nor because a device failed.
+abbrev pub OneInputOneText : Type 0
+OneInputOneText = (tree : List TreeEntry) (a b c d : WorldState) (events : List Event) (r s : Refusal) → IsTree tree
+    → IsOpened a tree → IsOpened b tree → LeadsTo a events r c → LeadsTo b events s d
+    → IsForItself r → IsForItself s → (s ≡ r) × ShowTheSame c d

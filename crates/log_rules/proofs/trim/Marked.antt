@@ -1,0 +1,150 @@
+-- The marks of records say what the records say.
+use Rattle.std.proofs.Common.{◌≡◌, ℕ, suc, Bool, true, false, if◌then◌else◌, List, [], ◌∷◌, map, Option, Some, None, refl, sym, ap, ◌∙◌}
+use Rattle.indexmap.specs.IndexMap.{insert_entry}
+use Rattle.xa_xid.specs.declared.xid.Xid.{Xid}
+use Rattle.tree_model.specs.declared.names.Ticket.{Ticket}
+use Rattle.tree_model.specs.declared.records.LogRecord.{LogRecord}
+use Rattle.tree_model.specs.declared.records.Record.{Record}
+use Rattle.tree_model.specs.declared.records.Record.TheVariants as entry
+use Rattle.tree_model.specs.Records.{is_opened, none_of}
+use Rattle.log_rules.specs.declared.trim.lives.Life.{Life}
+use Rattle.log_rules.specs.declared.trim.lives.Said.{Said}
+use Rattle.log_rules.specs.declared.trim.lives.Said.TheVariants as said
+use Rattle.log_text.specs.declared.mark.Deed.{Deed}
+use Rattle.log_text.specs.declared.mark.Deed.TheVariants as deed
+use Rattle.log_rules.specs.trim.Tables.{Table, decides, is_prepared, life_after, life_in, lives_from, lives_of, log_name, noted, noted_by, said_after, same}
+use Rattle.log_text.specs.Marks.{decision_by, deed_of, mark_of, opens}
+use Rattle.log_rules.specs.trim.Marks.{life_by, lives_by, lives_past, marked, marked_by, promises, said_by}
+
+-- What a record does.
+
+by_choice : (b : Bool) → said_by said.Nothing (if b then deed.Settles else deed.Owes)
+    ≡ (if b then said.Settled else said.Owes)
+by_choice true = refl
+by_choice false = refl
+
+kept_over : (b : Bool) → said_by said.Over (if b then deed.Settles else deed.Owes) ≡ said.Over
+kept_over true = refl
+kept_over false = refl
+
+kept_owes : (b : Bool) → said_by said.Owes (if b then deed.Settles else deed.Owes) ≡ said.Owes
+kept_owes true = refl
+kept_owes false = refl
+
+kept_reported : (b : Bool) → said_by said.Reported (if b then deed.Settles else deed.Owes) ≡ said.Reported
+kept_reported true = refl
+kept_reported false = refl
+
+waits_choice : (b : Bool) → said_by said.Waits (if b then deed.Settles else deed.Owes)
+    ≡ (if b then said.Settled else said.Owes)
+waits_choice true = refl
+waits_choice false = refl
+
+settled_choice : (b : Bool) → said_by said.Settled (if b then deed.Settles else deed.Owes)
+    ≡ (if b then said.Settled else said.Owes)
+settled_choice true = refl
+settled_choice false = refl
+
+decided : (s : Said) (ts : List Ticket) → said_by s (decision_by ts) ≡ decides s ts
+decided said.Over ts = kept_over (none_of ts)
+decided said.Owes ts = kept_owes (none_of ts)
+decided said.Reported ts = kept_reported (none_of ts)
+decided said.Nothing ts = by_choice (none_of ts)
+decided said.Waits ts = waits_choice (none_of ts)
+decided said.Settled ts = settled_choice (none_of ts)
+
+says : (s : Said) (r : Record) → said_by s (deed_of r) ≡ said_after s r
+says s (entry.Opened n) = refl
+says s (entry.Collecting c ts) = refl
+says s (entry.Prepare c ts) = refl
+says s (entry.Commit c ts) = decided s ts
+says s (entry.Abort c ts) = decided s ts
+says s (entry.End c None) = refl
+says s (entry.End c (Some r)) = refl
+says s (entry.Cleared c) = refl
+says s (entry.Prepared b ws) = refl
+says s (entry.Committed b) = refl
+says s (entry.RolledBack b) = refl
+says s (entry.Direct b ws) = refl
+says s (entry.HeurCommit b) = refl
+says s (entry.HeurRollback b) = refl
+says s (entry.Told b o) = refl
+says s (entry.Forgot b) = refl
+says s (entry.Base n) = refl
+says s (entry.Pair k v) = refl
+
+no_promise : (ts : List Ticket) → promises (decision_by ts) ≡ false
+no_promise ts = by_test (none_of ts)
+  where
+    by_test : (b : Bool) → promises (if b then deed.Settles else deed.Owes) ≡ false
+    by_test true = refl
+    by_test false = refl
+
+no_opening : (ts : List Ticket) → opens (decision_by ts) ≡ false
+no_opening ts = by_test (none_of ts)
+  where
+    by_test : (b : Bool) → opens (if b then deed.Settles else deed.Owes) ≡ false
+    by_test true = refl
+    by_test false = refl
+
+promised : (r : Record) → promises (deed_of r) ≡ is_prepared r
+promised (entry.Opened n) = refl
+promised (entry.Collecting c ts) = refl
+promised (entry.Prepare c ts) = refl
+promised (entry.Commit c ts) = no_promise ts
+promised (entry.Abort c ts) = no_promise ts
+promised (entry.End c None) = refl
+promised (entry.End c (Some r)) = refl
+promised (entry.Cleared c) = refl
+promised (entry.Prepared b ws) = refl
+promised (entry.Committed b) = refl
+promised (entry.RolledBack b) = refl
+promised (entry.Direct b ws) = refl
+promised (entry.HeurCommit b) = refl
+promised (entry.HeurRollback b) = refl
+promised (entry.Told b o) = refl
+promised (entry.Forgot b) = refl
+promised (entry.Base n) = refl
+promised (entry.Pair k v) = refl
+
+-- an Opened is known by its mark
+pub opens_is : (r : Record) → opens (deed_of r) ≡ is_opened r
+opens_is (entry.Opened n) = refl
+opens_is (entry.Collecting c ts) = refl
+opens_is (entry.Prepare c ts) = refl
+opens_is (entry.Commit c ts) = no_opening ts
+opens_is (entry.Abort c ts) = no_opening ts
+opens_is (entry.End c None) = refl
+opens_is (entry.End c (Some r)) = refl
+opens_is (entry.Cleared c) = refl
+opens_is (entry.Prepared b ws) = refl
+opens_is (entry.Committed b) = refl
+opens_is (entry.RolledBack b) = refl
+opens_is (entry.Direct b ws) = refl
+opens_is (entry.HeurCommit b) = refl
+opens_is (entry.HeurRollback b) = refl
+opens_is (entry.Told b o) = refl
+opens_is (entry.Forgot b) = refl
+opens_is (entry.Base n) = refl
+opens_is (entry.Pair k v) = refl
+
+-- The table.
+
+life_is : (i : ℕ) (life : Life) (r : Record) → life_by i life (deed_of r) ≡ life_after i life r
+life_is i life r =
+    ap (λ (s : Said). record { said = s; since = if promises (deed_of r) then i else life.since })
+    (says life.said r)
+    ∙ ap (λ (b : Bool). record { said = said_after life.said r; since = if b then i else life.since })
+    (promised r)
+
+noted_is : (i : ℕ) (t : Table) (r : Record) (o : Option Xid) → marked_by i t (deed_of r) o ≡ noted_by i t r o
+noted_is i t r None = refl
+noted_is i t r (Some x) = ap (λ (life : Life). insert_entry same t x life) (life_is i (life_in t x) r)
+
+-- the marks of records make the table that the records make
+pub lives_same : (i : ℕ) (t : Table) (ls : List LogRecord) → lives_past i t (map mark_of ls) ≡ lives_from i t ls
+unfolding lives_past lives_from
+lives_same i t [] = refl
+lives_same i t (l ∷ ls) =
+    ap (λ u. lives_past (suc i) u (map mark_of ls)) (noted_is i t l.entry (log_name l))
+    ∙ lives_same (suc i) (noted i t l) ls

@@ -1,0 +1,62 @@
+-- The table that the marks of records make.
+use Rattle.std.specs.Prelude.{ℕ, suc, Bool, true, false, if◌then◌else◌, List, [], ◌∷◌, Option, Some, None}
+use Rattle.indexmap.specs.IndexMap.{insert_entry}
+use Rattle.xa_xid.specs.declared.xid.Xid.{Xid}
+use Rattle.log_text.specs.declared.mark.Deed.{Deed}
+use Rattle.log_text.specs.declared.mark.Deed.TheVariants as deed
+use Rattle.log_text.specs.declared.mark.Mark.{Mark}
+use Rattle.log_rules.specs.declared.trim.lives.Life.{Life}
+use Rattle.log_rules.specs.declared.trim.lives.Said.{Said}
+use Rattle.log_rules.specs.declared.trim.lives.Said.TheVariants as said
+use Rattle.log_rules.specs.trim.Tables.{Table, begins, clears, life_in, same}
+
+-- the record is a promise
+abbrev pub promises : Deed → Bool
+promises deed.Prepares = true
+promises _ = false
+
+-- behind a decision that says this: the case is over where it ended, what was found of it stays reported, and
+-- who owes an acknowledgement owes it still
+abbrev pub decided_by : Said → Said → Said
+decided_by said.Over s = said.Over
+decided_by said.Owes s = said.Owes
+decided_by said.Reported s = said.Reported
+decided_by _ s = s
+
+-- what is said behind one more record of the name
+abbrev pub said_by : Said → Deed → Said
+said_by s deed.Begins = begins s
+said_by s deed.Settles = decided_by s said.Settled
+said_by s deed.Owes = decided_by s said.Owes
+said_by s deed.Prepares = said.Waits
+said_by s deed.Waits = said.Waits
+said_by s deed.Reports = said.Reported
+said_by s deed.Clears = clears s
+said_by s deed.Ends = said.Over
+said_by s deed.Opens = s
+said_by s deed.Nothing = s
+
+-- what the table says of a name behind one more record of it, before which so many stand
+abbrev pub life_by : ℕ → Life → Deed → Life
+life_by i life d = record {
+  said = said_by life.said d;
+  since = if promises d then i else life.since;
+}
+
+-- the table behind one more record of this name, where it has one
+abbrev pub marked_by : ℕ → Table → Deed → Option Xid → Table
+marked_by i t d None = t
+marked_by i t d (Some x) = insert_entry same t x (life_by i (life_in t x) d)
+
+-- the table behind the record of this mark, before which so many stand
+abbrev pub marked : ℕ → Table → Mark → Table
+marked i t m = marked_by i t m.deed m.name
+
+-- the table behind the records of these marks, before which so many stand
+unfoldable pub lives_past : ℕ → Table → List Mark → Table
+lives_past i t [] = t
+lives_past i t (m ∷ ms) = lives_past (suc i) (marked i t m) ms
+
+-- what the records of these marks say of each name
+abbrev pub lives_by : List Mark → Table
+lives_by ms = lives_past 0 [] ms

@@ -1,0 +1,50 @@
+-- What a trim must know of a record: its mark.
+use Rattle.std.specs.Prelude.{Bool, true, false, if◌then◌else◌, option_map, List, Option, Some, None}
+use Rattle.xa_xid.specs.declared.xid.Xid.{Xid}
+use Rattle.tree_model.specs.declared.names.Ticket.{Ticket}
+use Rattle.tree_model.specs.declared.records.LogRecord.{LogRecord}
+use Rattle.tree_model.specs.declared.records.Record.{Record}
+use Rattle.tree_model.specs.declared.records.Record.TheVariants as entry
+use Rattle.tree_model.specs.LogNames.{name_xid, record_name}
+use Rattle.tree_model.specs.Records.{none_of}
+use Rattle.log_text.specs.declared.mark.Deed.{Deed}
+use Rattle.log_text.specs.declared.mark.Deed.TheVariants as deed
+use Rattle.log_text.specs.declared.mark.Mark.{Mark}
+
+-- the name of a record, as the log writes it; Opened, Base and Pair have none
+abbrev pub log_name : LogRecord → Option Xid
+log_name l = option_map (name_xid l.parent) (record_name l.entry)
+
+-- what a decision does that names these tickets
+abbrev pub decision_by : List Ticket → Deed
+decision_by ts = if none_of ts then deed.Settles else deed.Owes
+
+-- what a record does to what is said of its name
+abbrev pub deed_of : Record → Deed
+deed_of (entry.Opened n) = deed.Opens
+deed_of (entry.Base n) = deed.Nothing
+deed_of (entry.Pair k v) = deed.Nothing
+deed_of (entry.Collecting c ts) = deed.Begins
+deed_of (entry.Prepare c ts) = deed.Begins
+deed_of (entry.Commit c ts) = decision_by ts
+deed_of (entry.Abort c ts) = decision_by ts
+deed_of (entry.End c None) = deed.Ends
+deed_of (entry.End c (Some r)) = deed.Reports
+deed_of (entry.Cleared c) = deed.Clears
+deed_of (entry.Prepared b ws) = deed.Prepares
+deed_of (entry.Committed b) = deed.Ends
+deed_of (entry.RolledBack b) = deed.Ends
+deed_of (entry.Direct b ws) = deed.Ends
+deed_of (entry.HeurCommit b) = deed.Waits
+deed_of (entry.HeurRollback b) = deed.Waits
+deed_of (entry.Told b o) = deed.Waits
+deed_of (entry.Forgot b) = deed.Ends
+
+-- what a trim must know of a record: its name, as the log writes it, and what it does
+abbrev pub mark_of : LogRecord → Mark
+mark_of l = record { name = log_name l; deed = deed_of l.entry }
+
+-- the record is an Opened
+abbrev pub opens : Deed → Bool
+opens deed.Opens = true
+opens _ = false

@@ -1,0 +1,82 @@
+-- One input, one text.
+use Rattle.std.proofs.Common.{◌≡◌, ◌∙◌, ℕ, List, ◌++◌, Option, Some, None, refl, sym, ap, subst}
+use Rattle.tree_model.specs.declared.events.Entry.{Entry}
+use Rattle.tree_model.specs.declared.events.Event.{Event}
+use Rattle.tree_model.specs.declared.trees.TreeEntry.{TreeEntry}
+use Rattle.trace_lines.specs.Trace.{entries_text}
+use Rattle.core_law.specs.worlds.Refusals.{IsForItself, LeadsTo, Refusal}
+use Rattle.core_law.specs.worlds.Runs.{IsOpened}
+use Rattle.core_law.specs.worlds.Worlds.{WorldState}
+use Rattle.core_law.proofs.worlds.OneText.{one_text}
+use Rattle.report_io.specs.declared.status.Status.{Status}
+use Rattle.report_io.specs.declared.status.Status.TheVariants.{Ended, Refused, Stopped}
+use Rattle.tree_engine.specs.declared.tree.Output.{Output}
+use Rattle.tree_engine.specs.declared.tree.Output.TheVariants.{Counts, Logs, Picture, Trace}
+use Rattle.tree_engine.specs.OneText.{IsTrace, InputsHaveOneText}
+use Rattle.tree_engine.specs.Trees.{IsTreeReport, RefusesScript, RunsOver, RunsScript, Tells, counts_text, ending, fault_text, last_line, opened_text, trace_of}
+use Rattle.link_script.specs.declared.script.ScriptFault.{ScriptFault}
+use Rattle.tree_engine.proofs.OneScript.{no_fault, one_fault, one_script}
+use Rattle.tree_engine.proofs.TreeReports.{script_tree}
+
+-- a trace is that of its tree and its steps
+one_trace : (v w : WorldState) → w.tree ≡ v.tree → w.entries ≡ v.entries → trace_of w ≡ trace_of v
+one_trace v w tree entries =
+    ap (λ (es : List TreeEntry). opened_text es ++ entries_text 0 w.entries) tree
+    ∙ ap (λ (es : List Entry). opened_text v.tree ++ entries_text 0 es) entries
+
+one_count : (v w : WorldState) → w.tree ≡ v.tree → w.entries ≡ v.entries → counts_text w ≡ counts_text v
+one_count v w tree entries =
+    ap (λ (es : List TreeEntry). counts_text (record w { tree = es })) tree
+    ∙ ap (λ (es : List Entry). counts_text (record w { tree = v.tree; entries = es })) entries
+
+-- what is told of two states that show the same is the same
+told : (output : Output) (v w : WorldState) (r s : Refusal) (text second : List ℕ) → IsTrace output
+    → w.tree ≡ v.tree → w.entries ≡ v.entries → s ≡ r → Tells output v r text → Tells output w s second
+    → second ≡ text
+told Trace v w r s text second is tree entries same h k =
+    k ∙ ap (λ (t : List ℕ). t ++ last_line s) (one_trace v w tree entries)
+    ∙ ap (λ (x : Refusal). trace_of v ++ last_line x) same ∙ sym h
+told Counts v w r s text second is tree entries same h k =
+    k ∙ ap (λ (t : List ℕ). (t ++ last_line s) ++ counts_text w) (one_trace v w tree entries)
+    ∙ ap (λ (x : Refusal). (trace_of v ++ last_line x) ++ counts_text w) same
+    ∙ ap (λ (t : List ℕ). (trace_of v ++ last_line r) ++ t) (one_count v w tree entries) ∙ sym h
+told Logs v w r s text second is tree entries same h k = absurd is
+told Picture v w r s text second is tree entries same h k = absurd is
+
+runs_alike : (output : Output) (status other : Status) (input text second : List ℕ) → IsTrace output
+    → RunsScript output status input text → RunsScript output other input second
+    → (other ≡ status) × (second ≡ text)
+runs_alike output status other input text second is h k =
+    let one = one_script input h.tree k.tree h.events k.events h.script k.script in
+    let leads : LeadsTo k.runs.start h.events k.runs.refusal k.runs.end =
+    subst (λ (es : List Event). LeadsTo k.runs.start es k.runs.refusal k.runs.end) one.1 k.runs.leads in
+    let opens : IsOpened k.runs.start h.tree =
+    subst (λ (es : List TreeEntry). IsOpened k.runs.start es) one.0 k.runs.opens in
+    let same = one_text h.tree h.runs.start k.runs.start h.runs.end k.runs.end h.events h.runs.refusal
+    k.runs.refusal (script_tree input h.tree h.events h.script) h.runs.opens opens h.runs.leads leads h.runs.itself
+    k.runs.itself in (
+      k.runs.status_is ∙ ap ending same.0 ∙ sym h.runs.status_is,
+      told output h.runs.end k.runs.end h.runs.refusal k.runs.refusal text second is
+          (k.runs.tree_is ∙ one.0 ∙ sym h.runs.tree_is) same.1.entries same.0 h.runs.tells k.runs.tells,
+    )
+
+refused_alike : (input text second : List ℕ) → RefusesScript input text → RefusesScript input second
+    → second ≡ text
+refused_alike input text second h k =
+    k.line ∙ ap fault_text (one_fault input h.fault k.fault h.there k.there) ∙ sym h.line
+
+not_both : (output : Output) (status : Status) (input text second : List ℕ) → RunsScript output status input text
+    → RefusesScript input second → ⊥
+not_both output status input text second h k = no_fault input h.tree h.events k.fault h.script k.there
+
+pub one_input : InputsHaveOneText
+one_input output Ended Ended input text second is h k = runs_alike output Ended Ended input text second is h k
+one_input output Ended Stopped input text second is h k = runs_alike output Ended Stopped input text second is h k
+one_input output Stopped Ended input text second is h k = runs_alike output Stopped Ended input text second is h k
+one_input output Stopped Stopped input text second is h k =
+    runs_alike output Stopped Stopped input text second is h k
+one_input output Refused Refused input text second is h k = (refl, refused_alike input text second h k)
+one_input output Ended Refused input text second is h k = absurd (not_both output Ended input text second h k)
+one_input output Stopped Refused input text second is h k = absurd (not_both output Stopped input text second h k)
+one_input output Refused Ended input text second is h k = absurd (not_both output Ended input second text k h)
+one_input output Refused Stopped input text second is h k = absurd (not_both output Stopped input second text k h)
