@@ -20,7 +20,7 @@ use Rattle.tree_model.specs.Standings.{CoordinatorView, ManagerView, mark_of}
 use Rattle.tree_model.proofs.LogNameLaws.{reads_back}
 use Rattle.log_rules.specs.order.Logs.{Whole}
 use Rattle.rec_log.specs.Sights.{LogSight, left_by, records_of}
-use Rattle.core_model.specs.States.{CoreState, SameCore, forced_sight, logged}
+use Rattle.core_model.specs.States.{CoreState, SameCore, forced_sight, form_of, logged}
 use Rattle.core_model.specs.Opening.{IsOpened as OpensAt, first_opened}
 use Rattle.core_model.specs.Restarting.{ReadOff, Restarts, read_of, recorded_branch_at, recorded_view_at, restarted_log}
 use Rattle.core_law.specs.worlds.Worlds.{RestartsData, SameNode, WorldState}
@@ -205,15 +205,16 @@ undecided_at c place n opened x is = none_decided c.place.role x
 
 -- a process that sits there, and left no record
 abbrev nobody : CoreState → ℕ → CoreState
-nobody c n = record c { log = forced_sight [] n }
+nobody c n = record c { log = forced_sight (form_of c.place) [] n }
 
 -- what goes on over a log without a record has opened and heard nothing
 opens_again : (old new : CoreState) (place : Place) (n : ℕ) (reaction : Reaction) → old.place ≡ place
     → old.log.failures ≡ n → left_by old.log 0 ≡ [] → Restarts old 0 new reaction → OpensAt new place n
 opens_again old new place n reaction at count none r = record {
   place_is = r.place ∙ at;
-  log = r.log ∙ (ap (λ (ls : List LogRecord). forced_sight ls old.log.failures) (log_none old new none)
-      ∙ ap (λ (k : ℕ). forced_sight (first_opened ∷ []) k) count);
+  log = r.log ∙ (ap (λ (ls : List LogRecord). forced_sight (form_of old.place) ls old.log.failures) (log_none old new none)
+      ∙ ap (λ (k : ℕ). forced_sight (form_of old.place) (first_opened ∷ []) k) count
+      ∙ ap (λ (t : Place). forced_sight (form_of t) (first_opened ∷ []) n) at);
   read = subst (λ (rs : List Record). ReadOff new rs) (read_none old new none) r.read;
 }
 
@@ -225,7 +226,7 @@ started_first s t h =
     let old = nobody h.before n in
     let at : h.before.place ≡ seat s.tree h.entry =
     h.heard_nothing.place_is ∙ listed_place s.tree h.entry h.listed in
-    let none : left_by old.log 0 ≡ [] = all_left [] n in
+    let none : left_by old.log 0 ≡ [] = all_left (form_of h.before.place) [] n in
     let empty : [] ≡ records_of r.log.sight.kept = same_records _ _ h.torn r.opens.torn (sym h.empty ∙ r.opens.read) in
     let restarts : Restarts old 0 h.new.core h.opening =
     r.restarts old (record { place_is = at; failures_are = refl }) 0 (none ∙ empty) in

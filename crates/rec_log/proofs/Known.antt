@@ -1,7 +1,7 @@
 -- The bytes that are known to be whole records.
 use Rattle.std.proofs.Common.{◌≡◌, ◌≤◌, ◌+◌, ◌-◌, ℕ, Bool, true, List, ◌++◌, length, take, drop, sym, ap, subst, ◌∙◌, arith, append_assoc, drop-drop, length-append, length-drop, length-take, take-append-drop}
 use Rattle.std.proofs.lemmas.List.{length-take-le, take-append-le, take_all}
-use Rattle.tree_model.specs.declared.names.Kind.{Kind}
+use Rattle.log_text.specs.declared.form.LogForm.{LogForm}
 use Rattle.tree_model.specs.declared.records.LogRecord.{LogRecord}
 use Rattle.rec_log.specs.Texts.{is_whole, records_in}
 use Rattle.rec_log.specs.Sights.{EndsSound, IsKnown, IsLogText, LogState, Sounds, body, log_state, whole_within}
@@ -13,11 +13,11 @@ use Rattle.rec_log.proofs.Written.{body_taken}
 -- What is known of a text.
 
 -- of any text the header alone
-pub known_header : (p : Kind) (text : List ℕ) (forced : ℕ) → 5 ≤ forced → IsKnown p text forced 5
+pub known_header : (p : LogForm) (text : List ℕ) (forced : ℕ) → 5 ≤ forced → IsKnown p text forced 5
 known_header p text forced h = record { header = omega arith; within = h; whole = nothing_whole p }
 
 -- of a text that goes on, what was known before
-pub known_more : (p : Kind) (text text' more : List ℕ) (forced forced' known : ℕ)
+pub known_more : (p : LogForm) (text text' more : List ℕ) (forced forced' known : ℕ)
     → IsKnown p text forced known → forced ≤ length text → text' ≡ text ++ more → forced ≤ forced'
     → IsKnown p text' forced' known
 known_more p text text' more forced forced' known k le e f = record {
@@ -32,7 +32,7 @@ known_more p text text' more forced forced' known k le e f = record {
 }
 
 -- of whole records that are forced, all
-pub known_all : (p : Kind) (text : List ℕ) (forced known : ℕ) → is_whole p 0 (body text) ≡ true
+pub known_all : (p : LogForm) (text : List ℕ) (forced known : ℕ) → is_whole p 0 (body text) ≡ true
     → 5 ≤ forced → forced ≡ length text → known ≡ length text → IsKnown p text forced known
 known_all p text forced known w h f e = record {
   header = omega (arith, h, f, e);
@@ -46,7 +46,7 @@ known_same text known n h le = ap (take (known - 5)) (body_taken n text (omega (
     ∙ take_within (known - 5) (n - 5) (body text) (omega (arith, h, le))
 
 -- of what a crash leaves, what is known of the whole
-pub known_left : (p : Kind) (text : List ℕ) (forced known n : ℕ) → IsKnown p text forced known
+pub known_left : (p : LogForm) (text : List ℕ) (forced known n : ℕ) → IsKnown p text forced known
     → forced ≤ length text → forced ≤ n → IsKnown p (take n text) (length (take n text)) known
 known_left p text forced known n k le m = record {
   header = k.header;
@@ -64,14 +64,14 @@ split_known left known h =
     ∙ ap (λ t. take (known - 5) (drop 5 left) ++ t)
     (drop-drop (known - 5) 5 left ∙ ap (λ n. drop n left) sum)
 
-known_records : (p : Kind) (left : List ℕ) (known : ℕ) → IsKnown p left (length left) known
+known_records : (p : LogForm) (left : List ℕ) (known : ℕ) → IsKnown p left (length left) known
     → records_in p 0 (body left)
     ≡ records_in p 0 (take (known - 5) (body left)) ++ records_in p 0 (drop known left)
 known_records p left known k = ap (records_in p 0) (split_known left known k.header)
     ∙ more_records p 0 (take (known - 5) (body left)) (drop known left) k.whole
 
 -- where the whole frames end behind the known bytes, they end in all
-pub sound_behind : (p : Kind) (left : List ℕ) (known size end : ℕ) → IsKnown p left (length left) known
+pub sound_behind : (p : LogForm) (left : List ℕ) (known size end : ℕ) → IsKnown p left (length left) known
     → Sounds p (drop known left) size → end ≡ known + size → EndsSound p left end
 sound_behind p left known size end k s e =
     let first = take (known - 5) (body left) in
@@ -101,7 +101,7 @@ sound_behind p left known size end k s e =
     }
 
 -- how many records a crash leaves behind the forced ones
-pub counted : (p : Kind) (text : List ℕ) (forced known keep failures room : ℕ) (failed : Bool) (s : LogState)
+pub counted : (p : LogForm) (text : List ℕ) (forced known keep failures room : ℕ) (failed : Bool) (s : LogState)
     (behind before : List LogRecord)
     → log_state p text forced failures room failed ≡ s → IsLogText p text forced failed
     → IsKnown p text forced known → forced ≤ length text
@@ -119,7 +119,7 @@ counted p text forced known keep failures room failed s behind before view is k 
     ∙ ap (λ t. records_in p 0 t ++ records_in p 0 (drop known (take n text)))
     (known_same text known n k.header (omega (arith, k.within, m))) in
     let all : F ++ W ≡ first ++ behind =
-    sym (left_records p text forced keep failures room failed is.header_forced le)
+    sym (left_records p text forced keep failures room failed is.second is.header_forced le)
     ∙ cut (forced + keep) (omega arith) ∙ ap (λ t. first ++ t) (sym b) in
     let none : forced + 0 ≡ forced = omega arith in
     let now : F ≡ first ++ before =

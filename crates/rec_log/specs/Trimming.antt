@@ -1,8 +1,9 @@
 -- A log that is put in place of another, and what a trim leaves.
 use Rattle.std.specs.Prelude.{◌≡◌, ◌≤◌, ◌-◌, ◌⊎◌, ℕ, true, List, [], ◌∷◌, ◌++◌, length, map, take, Option, Some, None}
-use Rattle.tree_model.specs.declared.names.Kind.{Kind}
+use Rattle.log_text.specs.declared.form.LogForm.{LogForm}
+use Rattle.log_text.specs.declared.form.LogFormat.{LogFormat}
 use Rattle.tree_model.specs.declared.records.LogRecord.{LogRecord}
-use Rattle.log_text.specs.Frames.{header}
+use Rattle.log_text.specs.Forms.{header}
 pub use Rattle.log_rules.specs.trim.Trims.{front_of_trim}
 use Rattle.log_text.specs.Marks.{mark_of}
 use Rattle.log_text.specs.declared.mark.Mark.{Mark}
@@ -10,17 +11,17 @@ use Rattle.rec_log.specs.Texts.{is_whole, records_in}
 use Rattle.rec_log.specs.Sights.{LogState, Rewritten, body, records_of}
 
 -- the bytes are the whole frames of these records
-pub record Holds (p : Kind) (bytes : List ℕ) (ls : List LogRecord) : Type 0 where
+pub record Holds (p : LogForm) (bytes : List ℕ) (ls : List LogRecord) : Type 0 where
   pub whole : is_whole p 0 bytes ≡ true
   pub read : records_in p 0 bytes ≡ ls
 
 -- the bytes are the whole frames of these records, and these are their marks
-pub record Stays (p : Kind) (ls : List LogRecord) (frames : List ℕ) (marks : List Mark) : Type 0 where
+pub record Stays (p : LogForm) (ls : List LogRecord) (frames : List ℕ) (marks : List Mark) : Type 0 where
   pub held : Holds p frames ls
   pub marked : map mark_of ls ≡ marks
 
 -- the first so many bytes of a log are its header and whole records, and these are their marks
-pub record IsIndex (p : Kind) (text : List ℕ) (size : ℕ) (marks : List Mark) : Type 0 where
+pub record IsIndex (p : LogForm) (text : List ℕ) (size : ℕ) (marks : List Mark) : Type 0 where
   pub header : 5 ≤ size
   pub within : size ≤ length text
   pub whole : is_whole p 0 (take (size - 5) (body text)) ≡ true
@@ -39,14 +40,15 @@ marks_in None = []
 marks_in (Some m) = m ∷ []
 
 -- the text is a log of these records
-pub record Spells (p : Kind) (text : List ℕ) (ls : List LogRecord) : Type 0 where
-  pub begins : take 5 text ≡ header
+pub record Spells (p : LogForm) (text : List ℕ) (ls : List LogRecord) : Type 0 where
+  pub begins : take 5 text ≡ header p.format
   pub long : 5 ≤ length text
   pub holds : Holds p (body text) ls
 
 -- where bytes begin with a record, this is its frame, and these are the bytes behind it
-abbrev pub Fronts : List ℕ → List ℕ → List ℕ → Type 0
-Fronts bytes frame behind = (p : Kind) (l : LogRecord) (ls : List LogRecord) → records_in p 0 bytes ≡ l ∷ ls
+abbrev pub Fronts : LogFormat → List ℕ → List ℕ → List ℕ → Type 0
+Fronts f bytes frame behind = (p : LogForm) → p.format ≡ f → (l : LogRecord) (ls : List LogRecord)
+    → records_in p 0 bytes ≡ l ∷ ls
     → Holds p frame (l ∷ []) × (records_in p 0 behind ≡ ls)
 
 -- the records of a log after a trim: what stays of them, and these behind it

@@ -8,9 +8,9 @@ ghost use Rattle.log_text.specs.Made.{frame_record};
 ghost use Rattle.rec_log.specs.Trimming.{Follows, IsIndex};
 
 use crate::log::records_behind;
-use log_text::{Frame, HEADER, Mark};
+use log_text::{Frame, HEADER_SIZE, LogForm, Mark};
 use std::alloc::{AllocError, Global};
-use tree_model::{Kind, LogRecord};
+use tree_model::LogRecord;
 
 /// How many records an event writes at most.
 const RECORDS: usize = 4;
@@ -43,7 +43,7 @@ impl Index {
         ensures marks { result.marks.items ≡ [] }
     {
         Index {
-            size: HEADER.len(),
+            size: HEADER_SIZE,
             marks: Vec::new(alloc),
         }
     }
@@ -53,7 +53,7 @@ impl Index {
         ensures size { self.new.size ≡ 5 }
         ensures marks { self.new.marks.items ≡ [] }
     {
-        self.size = HEADER.len();
+        self.size = HEADER_SIZE;
         self.marks.clear();
     }
 
@@ -79,16 +79,16 @@ impl Index {
     /// Takes in the records that stand behind it, and decodes no others.
     pub(crate) fn extend(
         &mut self,
-        kind: Kind,
+        form: LogForm,
         bytes: &[u8],
         alloc: Global,
     ) -> Result<(), AllocError>
-        requires before { IsIndex kind bytes.now self.old.size self.old.marks.items }
-        requires whole { is_whole kind 0 (body bytes.now) ≡ true }
-        ensures ok { OnOk result (map mark_of (records_in kind 0 (body bytes.now)) ≡ self.new.marks.items) }
-        ensures stays { IsIndex kind bytes.now self.new.size self.new.marks.items }
+        requires before { IsIndex form bytes.now self.old.size self.old.marks.items }
+        requires whole { is_whole form 0 (body bytes.now) ≡ true }
+        ensures ok { OnOk result (map mark_of (records_in form 0 (body bytes.now)) ≡ self.new.marks.items) }
+        ensures stays { IsIndex form bytes.now self.new.size self.new.marks.items }
     {
-        let records = records_behind(kind, bytes, self.size, alloc)?;
+        let records = records_behind(form, bytes, self.size, alloc)?;
         let marks = marks_of(&records, alloc)?;
         self.marks.extend_from_slice(&marks)?;
         self.size = bytes.len();

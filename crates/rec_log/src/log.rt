@@ -4,26 +4,26 @@ ghost use Rattle.std.specs.Prelude.{◌≡◌, ◌≤◌, ◌<◌, ◌+◌, ◌+
 ghost use Rattle.std.specs.List.{AllByRecursion};
 ghost use Rattle.log_rules.specs.sound.Sound.{IsSound};
 ghost use Rattle.log_text.specs.Reading.{read_record};
-ghost use Rattle.log_text.specs.Frames.{header};
+ghost use Rattle.log_text.specs.Forms.{header, log_form};
 ghost use Rattle.log_text.specs.Made.{frame_record};
-ghost use Rattle.log_text.specs.Payloads.{record_text, records_text};
+ghost use Rattle.log_text.specs.Payloads.{record_size, record_text, records_text};
 ghost use Rattle.rec_log.specs.Sights.{Appended, AreRecords, Breaks, EndsSound, Forced, IsKnown, IsRecord, NotRestarted, NotRewritten, ReadsAs, Restarts, Rewritten, Sounds, body, left_by, log_state, records_of, whole_within};
-ghost use Rattle.log_store.specs.Stores.{Replaces};
-ghost use Rattle.rec_log.specs.Openings.{IsRefused, NotOpened, Opens, Settles};
+ghost use Rattle.log_store.specs.Stores.{AppendBreaks, Appends, MemoryRefuses, Replaces};
+ghost use Rattle.rec_log.specs.Openings.{IsRefused, NotOpened, Opens, Settles, is_old};
 ghost use Rattle.rec_log.specs.Errors.{log_error_number};
 ghost use Rattle.rec_log.specs.Restarting.{BreaksLeft, PutsLeft, WritesLeft};
 ghost use Rattle.rec_log.specs.Texts.{records_in};
 ghost use Rattle.rec_log.specs.Trimming.{IsIndex, Spells, Trimmed, trim_of};
 
 use crate::index::Index;
-use crate::opening::{Found, OpenError, find};
+use crate::opening::{Found, OpenError, find, is_old};
 use crate::trimming::trimmed_text;
 use log_store::{LogStore, MemoryStore, StoreError};
-use log_text::{Frame, HEADER, ReadFault, first_frame, read_record};
+use log_text::{Frame, HEADER_SIZE, LogForm, LogFormat, ReadFault, first_frame, read_record};
 use std::alloc::{AllocError, Global};
 use std::marker::Model;
 use thiserror::Error;
-use tree_model::{Kind, LogRecord};
+use tree_model::{Kind, LogRecord, ProcessId};
 
 /// Why a log did not do what it was asked.
 #[derive(Clone, Copy, Debug, PartialEq, Eq, Error)]
@@ -51,7 +51,7 @@ impl LogError {
 /// The log of a process. What it keeps of its records is their bytes, and an index for its trims.
 #[derive(Drop)]
 pub struct RecLog<L: LogStore> {
-    kind: Kind,
+    form: LogForm,
     store: L,
     /// How many bytes at the front are known to be the header and whole records, all of them forced: a
     /// restart looks for the end of the last whole record behind them alone.
@@ -68,20 +68,20 @@ impl<L: LogStore> Model for RecLog<L> {
 
     ghost Value = { LogState };
 
-    ghost view = { λ l. log_state l.kind (L.bytes l.store) (L.forced l.store) (L.failures l.store)
+    ghost view = { λ l. log_state l.form (L.bytes l.store) (L.forced l.store) (L.failures l.store)
         (L.room l.store) l.failed };
 
-    ghost invariant = { λ l. IsLogText l.kind (L.bytes l.store) (L.forced l.store) l.failed
-        × IsKnown l.kind (L.bytes l.store) (L.forced l.store) l.known
-        × IsIndex l.kind (L.bytes l.store) l.index.size l.index.marks.items };
+    ghost invariant = { λ l. IsLogText l.form (L.bytes l.store) (L.forced l.store) l.failed
+        × IsKnown l.form (L.bytes l.store) (L.forced l.store) l.known
+        × IsIndex l.form (L.bytes l.store) l.index.size l.index.marks.items };
 }
 
 /// The bytes behind the header.
-fn body(bytes: &[u8]) -> &[u8]
+pub(crate) fn body(bytes: &[u8]) -> &[u8]
     requires { 5 ≤ length bytes.now }
     ensures { result.now ≡ body bytes.now }
 {
-    let (_, body) = bytes.split_at(HEADER.len());
+    let (_, body) = bytes.split_at(HEADER_SIZE);
     body
 }
 
@@ -99,13 +99,17 @@ fn left_by(bytes: &[u8], forced: usize, keep: usize) -> &[u8]
 }
 
 /// The records at the front of the bytes behind a header.
-fn records_in(kind: Kind, bytes: &[u8], alloc: Global) -> Result<Vec<LogRecord>, AllocError>
-    ensures { IfOk result (λ records. records.items ≡ records_in kind 0 bytes.now) }
+pub(crate) fn records_in(
+    form: LogForm,
+    bytes: &[u8],
+    alloc: Global,
+) -> Result<Vec<LogRecord>, AllocError>
+    ensures { IfOk result (λ records. records.items ≡ records_in form 0 bytes.now) }
 {
     let mut records = Vec::new(alloc);
     let mut rest = bytes;
-    while let Some((frame_kind, payload, behind)) = first_frame(rest) {
-        match read_record(kind, frame_kind, payload, alloc) {
+    while let Some((frame_kind, payload, behind)) = first_frame(form.format, rest) {
+        match read_record(form, frame_kind, payload, alloc) {
             Ok(record) => records.push(record)?,
             Err(ReadFault::Malformed) => return Ok(records),
             Err(ReadFault::Memory) => return Err(AllocError),
@@ -117,21 +121,21 @@ fn records_in(kind: Kind, bytes: &[u8], alloc: Global) -> Result<Vec<LogRecord>,
 
 /// The records at the front of what stands behind the known bytes.
 pub(crate) fn records_behind(
-    kind: Kind,
+    form: LogForm,
     left: &[u8],
     known: usize,
     alloc: Global,
 ) -> Result<Vec<LogRecord>, AllocError>
     requires { known ≤ length left.now }
-    ensures { IfOk result (λ records. records.items ≡ records_in kind 0 (drop known left.now)) }
+    ensures { IfOk result (λ records. records.items ≡ records_in form 0 (drop known left.now)) }
 {
     let (_, behind) = left.split_at(known);
-    records_in(kind, behind, alloc)
+    records_in(form, behind, alloc)
 }
 
 /// The records that are read off these bytes can stand in a log.
-fn are_sound(kind: Kind, bytes: &[u8])
-    ensures { AllByRecursion (IsSound kind) (records_in kind 0 bytes.now) }
+fn are_sound(form: LogForm, bytes: &[u8])
+    ensures { AllByRecursion (IsSound form.kind) (records_in form 0 bytes.now) }
 {}
 
 /// The first bytes, as a list of their own.
@@ -144,10 +148,10 @@ fn front_of(bytes: &[u8], size: usize, alloc: Global) -> Result<Vec<u8>, AllocEr
 }
 
 /// Whether a frame is a record.
-fn is_record(kind: Kind, frame_kind: u8, payload: &[u8], alloc: Global) -> Result<bool, AllocError>
-    ensures { IfOk result (λ is. is ≡ is_some (read_record kind frame_kind payload.now)) }
+fn is_record(form: LogForm, frame_kind: u8, payload: &[u8], alloc: Global) -> Result<bool, AllocError>
+    ensures { IfOk result (λ is. is ≡ is_some (read_record form frame_kind payload.now)) }
 {
-    match read_record(kind, frame_kind, payload, alloc) {
+    match read_record(form, frame_kind, payload, alloc) {
         Ok(_) => Ok(true),
         Err(ReadFault::Malformed) => Ok(false),
         Err(ReadFault::Memory) => Err(AllocError),
@@ -155,12 +159,12 @@ fn is_record(kind: Kind, frame_kind: u8, payload: &[u8], alloc: Global) -> Resul
 }
 
 /// How many bytes the whole frames of records at the front are.
-fn sound_size(kind: Kind, bytes: &[u8], alloc: Global) -> Result<usize, AllocError>
-    ensures { IfOk result (λ size. Sounds kind bytes.now size) }
+fn sound_size(form: LogForm, bytes: &[u8], alloc: Global) -> Result<usize, AllocError>
+    ensures { IfOk result (λ size. Sounds form bytes.now size) }
 {
     let mut rest = bytes;
-    while let Some((frame_kind, payload, behind)) = first_frame(rest) {
-        if !is_record(kind, frame_kind, payload, alloc)? {
+    while let Some((frame_kind, payload, behind)) = first_frame(form.format, rest) {
+        if !is_record(form, frame_kind, payload, alloc)? {
             return Ok(bytes.len() - rest.len());
         }
         rest = behind;
@@ -168,45 +172,71 @@ fn sound_size(kind: Kind, bytes: &[u8], alloc: Global) -> Result<usize, AllocErr
     Ok(bytes.len() - rest.len())
 }
 
-/// Adds the bytes of these frames.
+/// Adds the bytes of these frames in a log of this form.
 #[tactic(auto, unfolding(log_text::specs::Payloads::records_text))]
-pub(crate) fn push_frames(text: &mut Vec<u8>, frames: &[Frame]) -> Result<(), AllocError>
-    ensures { OnOk result (text.new.items ≡ text.old.items ++ records_text (map frame_record frames.now)) }
+pub(crate) fn push_frames(
+    text: &mut Vec<u8>,
+    form: LogForm,
+    frames: &[Frame],
+) -> Result<(), AllocError>
+    requires { form.format ≡ LogFormat.Second }
+    ensures { OnOk result (text.new.items
+        ≡ text.old.items ++ records_text form (map frame_record frames.now)) }
 {
     for frame in frames {
-        text.extend_from_slice(frame.bytes())?;
+        frame.push(form, text)?;
     }
     Ok(())
 }
 
 /// Where the whole frames of records at the front end, looked for behind the known bytes.
-fn sound_end(kind: Kind, left: &[u8], known: usize, alloc: Global) -> Result<usize, AllocError>
-    requires { IsKnown kind left.now (length left.now) known }
-    ensures { IfOk result (λ end. EndsSound kind left.now end) }
+fn sound_end(form: LogForm, left: &[u8], known: usize, alloc: Global) -> Result<usize, AllocError>
+    requires { IsKnown form left.now (length left.now) known }
+    ensures { IfOk result (λ end. EndsSound form left.now end) }
 {
     let (_, behind) = left.split_at(known);
-    Ok(known + sound_size(kind, behind, alloc)?)
+    Ok(known + sound_size(form, behind, alloc)?)
+}
+
+/// Appends the bytes of a frame in a log of this form.
+fn append_frame<L: LogStore>(store: &mut L, form: LogForm, frame: &Frame) -> Result<(), StoreError>
+    requires { form.format ≡ LogFormat.Second }
+    ensures ok { OnOk result (Appends L.bytes L.forced L.failures store.old store.new
+        (record_text form (frame_record frame.now))) }
+    ensures room { L.room store.old ≤ L.room store.new }
+    ensures memory { IfErr result (λ e. e ≡ StoreError.Memory
+        → MemoryRefuses L.bytes L.forced L.failures store.old store.new (L.room store.old)
+        (length (L.bytes store.old) + length (record_text form (frame_record frame.now)))) }
+    ensures device { IfErr result (λ e. e ≡ StoreError.Device
+        → AppendBreaks L.bytes L.forced L.failures store.old store.new
+        (record_text form (frame_record frame.now))) }
+{
+    match frame.boot() {
+        Some(boot) => store.append(&form.opened(boot)),
+        None => store.append(frame.bytes()),
+    }
 }
 
 /// What a restart writes. Where a torn tail is left, all that is to stand, and true; else the new frames,
 /// which are to stand behind what is left, and false.
 fn text_left(
-    kind: Kind,
+    form: LogForm,
     left: &[u8],
     known: usize,
     new: &[Frame],
     alloc: Global,
 ) -> Result<(bool, Vec<u8>), AllocError>
-    requires { IsKnown kind left.now (length left.now) known }
-    ensures { IfOk result (λ r. WritesLeft kind left.now (map frame_record new.now) r.0 r.1.items) }
+    requires second { form.format ≡ LogFormat.Second }
+    requires known { IsKnown form left.now (length left.now) known }
+    ensures { IfOk result (λ r. WritesLeft form left.now (map frame_record new.now) r.0 r.1.items) }
 {
-    let end = sound_end(kind, left, known, alloc)?;
+    let end = sound_end(form, left, known, alloc)?;
     let is_torn = end < left.len();
     let mut text = Vec::new(alloc);
     if is_torn {
         text.extend_from_slice(&left[..end])?;
     }
-    push_frames(&mut text, new)?;
+    push_frames(&mut text, form, new)?;
     Ok((is_torn, text))
 }
 
@@ -226,16 +256,18 @@ fn write_left<L: LogStore>(store: &mut L, anew: bool, text: &[u8]) -> Result<(),
 }
 
 /// The text of a log of these records alone.
-fn text_of(new: &[Frame], alloc: Global) -> Result<Vec<u8>, AllocError>
-    ensures { IfOk result (λ text. text.items ≡ header ++ records_text (map frame_record new.now)) }
+fn text_of(form: LogForm, new: &[Frame], alloc: Global) -> Result<Vec<u8>, AllocError>
+    requires { form.format ≡ LogFormat.Second }
+    ensures { IfOk result (λ text. text.items
+        ≡ header form.format ++ records_text form (map frame_record new.now)) }
 {
-    let mut alone = Vec::from_slice(alloc, &HEADER)?;
-    push_frames(&mut alone, new)?;
+    let mut alone = Vec::from_slice(alloc, &form.format.header())?;
+    push_frames(&mut alone, form, new)?;
     Ok(alone)
 }
 
 /// A store in which this text stands, forced, in place of what stood there.
-fn replaced<L: LogStore + Drop>(store: L, text: &[u8]) -> Result<L, (OpenError, L)>
+pub(crate) fn replaced<L: LogStore + Drop>(store: L, text: &[u8]) -> Result<L, (OpenError, L)>
     ensures ok { IfOk result (λ new. Replaces L.bytes L.forced L.failures store new text.now) }
     ensures err { IfErr result (λ e. IsRefused L.bytes L.forced L.failures store e.1 text.now e.0) }
 {
@@ -248,18 +280,23 @@ fn replaced<L: LogStore + Drop>(store: L, text: &[u8]) -> Result<L, (OpenError, 
 }
 
 /// A store in which a log of whole frames stands that begins with these bytes.
-fn settled<L: LogStore + Drop>(kind: Kind, store: L, alloc: Global) -> Result<L, (OpenError, L)>
-    ensures ok { IfOk result (λ new. Settles kind (L.bytes store) (L.forced store) (L.failures store)
+pub(crate) fn settled<L: LogStore + Drop>(
+    form: LogForm,
+    store: L,
+    alloc: Global,
+) -> Result<L, (OpenError, L)>
+    requires { is_old (L.bytes store) ≡ false }
+    ensures ok { IfOk result (λ new. Settles form (L.bytes store) (L.forced store) (L.failures store)
         (L.bytes new) (L.forced new) (L.failures new)) }
-    ensures err { IfErr result (λ e. NotOpened L.bytes L.forced L.failures kind store e.1 e.0) }
+    ensures err { IfErr result (λ e. NotOpened L.bytes L.forced L.failures form store e.1 e.0) }
 {
-    let torn = match find(kind, store.bytes(), alloc) {
+    let torn = match find(form, store.bytes(), alloc) {
         Err(error) => return Err((error, store)),
-        Ok(Found::Empty) => return replaced(store, &HEADER),
+        Ok(Found::Empty) => return replaced(store, &form.format.header()),
         Ok(Found::Sound(torn)) => torn,
     };
     let forced = store.forced();
-    if torn == 0 && HEADER.len() <= forced {
+    if torn == 0 && HEADER_SIZE <= forced {
         return Ok(store);
     }
     let size = store.bytes().len() - torn;
@@ -270,17 +307,28 @@ fn settled<L: LogStore + Drop>(kind: Kind, store: L, alloc: Global) -> Result<L,
 }
 
 impl<L: LogStore + Drop> RecLog<L> {
-    /// A log over a store. A torn tail is removed, and an empty log is given its header, by one `replace`;
-    /// otherwise the store is left as it is. A refusal hands the store back.
-    pub fn open(store: L, kind: Kind, alloc: Global) -> Result<RecLog<L>, (OpenError, L)>
-        ensures ok { IfOk result (λ log. Opens kind (L.bytes store) (L.forced store) (L.failures store) log) }
-        ensures err { IfErr result (λ e. NotOpened L.bytes L.forced L.failures kind store e.1 e.0) }
+    /// The log of this process over a store. A torn tail is removed, and an empty log is given its header, by
+    /// one `replace`; otherwise the store is left as it is. A refusal hands the store back.
+    pub fn open(
+        store: L,
+        process: ProcessId,
+        kind: Kind,
+        alloc: Global,
+    ) -> Result<RecLog<L>, (OpenError, L)>
+        ensures ok { IfOk result (λ log. Opens (log_form process kind) (L.bytes store) (L.forced store)
+            (L.failures store) log) }
+        ensures err { IfErr result (λ e. NotOpened L.bytes L.forced L.failures (log_form process kind) store
+            e.1 e.0) }
     {
-        let store = settled(kind, store, alloc)?;
+        if is_old(store.bytes()) {
+            return Err((OpenError::OldFormat, store));
+        }
+        let form = LogForm::of(process, kind);
+        let store = settled(form, store, alloc)?;
         Ok(RecLog {
-            kind,
+            form,
             store,
-            known: HEADER.len(),
+            known: HEADER_SIZE,
             index: Index::new(alloc),
             failed: false,
         })
@@ -297,7 +345,7 @@ impl<L: LogStore> RecLog<L> {
 
     /// The store under the log, as it stands.
     pub fn into_store(self) -> L
-        ensures { log_state self.kind (L.bytes result) (L.forced result) (L.failures result)
+        ensures { log_state self.sight.form (L.bytes result) (L.forced result) (L.failures result)
             (L.room result) self.sight.failed ≡ self }
     {
         let RecLog { store, .. } = self;
@@ -307,7 +355,6 @@ impl<L: LogStore> RecLog<L> {
     /// Makes room for so many bytes of frames. A refusal changes nothing.
     pub fn reserve(&mut self, more: usize) -> Result<(), AllocError>
         ensures stays { self.new.sight ≡ self.old.sight }
-        ensures kind { self.new.kind ≡ self.old.kind }
         ensures room { OnOk result (more ≤ self.new.room) }
     {
         self.index.reserve()?;
@@ -320,15 +367,15 @@ impl<L: LogStore> RecLog<L> {
     /// stand out of order is refused where it is opened. Device: the device failed, and any front of the
     /// frame stands; the log has failed until its restart.
     pub fn append(&mut self, frame: &Frame) -> Result<(), LogError>
-        requires room { length (record_text (frame_record frame.now)) ≤ self.old.room }
+        requires room { record_size (frame_record frame.now) ≤ self.old.room }
         requires works { self.old.sight.failed ≡ false }
-        requires sound { IsRecord self.old.kind (frame_record frame.now) }
+        requires sound { IsRecord self.old.sight.form.kind (frame_record frame.now) }
         ensures ok { OnOk result (Appended self.old self.new (frame_record frame.now)) }
         ensures err { IfErr result (λ e. (e ≡ LogError.Device)
             × Breaks self.old self.new (frame_record frame.now ∷ [])) }
     {
         let from = self.store.bytes().len();
-        if let Err(_) = self.store.append(frame.bytes()) {
+        if let Err(_) = append_frame(&mut self.store, self.form, frame) {
             self.failed = true;
             return Err(LogError::Device);
         }
@@ -355,7 +402,7 @@ impl<L: LogStore> RecLog<L> {
     /// The bytes of the log, its header and its frames, as a list made anew. Behind a failure of the device
     /// a torn frame may stand at the end.
     pub fn text(&self, alloc: Global) -> Result<Vec<u8>, AllocError>
-        ensures { IfOk result (λ text. ReadsAs self.now.kind text.items
+        ensures { IfOk result (λ text. ReadsAs self.now.sight.form text.items
             (records_of self.now.sight.kept) self.now.sight.failed) }
     {
         Vec::from_slice(alloc, self.store.bytes())
@@ -372,7 +419,7 @@ impl<L: LogStore> RecLog<L> {
     pub fn records(&self, alloc: Global) -> Result<Vec<LogRecord>, AllocError>
         ensures { IfOk result (λ records. records.items ≡ records_of self.now.sight.kept) }
     {
-        records_in(self.kind, body(self.store.bytes()), alloc)
+        records_in(self.form, body(self.store.bytes()), alloc)
     }
 
     /// The records that a crash would leave which keeps so many bytes behind the forced front, as a list
@@ -382,7 +429,7 @@ impl<L: LogStore> RecLog<L> {
     {
         let forced = self.store.forced();
         let left = left_by(self.store.bytes(), forced, keep);
-        records_in(self.kind, body(left), alloc)
+        records_in(self.form, body(left), alloc)
     }
 
     /// How many of the records behind the forced ones a crash would leave that keeps so many bytes behind
@@ -392,16 +439,16 @@ impl<L: LogStore> RecLog<L> {
             ≡ length (whole_within (self.now.sight.behind + keep) self.now.sight.kept.unforced)) }
     {
         let (bytes, forced) = (self.store.bytes(), self.store.forced());
-        let left = records_behind(self.kind, left_by(bytes, forced, keep), self.known, alloc)?;
-        let front = records_behind(self.kind, left_by(bytes, forced, 0), self.known, alloc)?;
+        let left = records_behind(self.form, left_by(bytes, forced, keep), self.known, alloc)?;
+        let front = records_behind(self.form, left_by(bytes, forced, 0), self.known, alloc)?;
         Ok(left.len() - front.len())
     }
 
     /// Each record that stands was read off bytes: so it can stand in a log of this sort of process.
     pub fn records_are_sound(&self)
-        ensures { AllByRecursion (IsSound self.now.kind) (records_of self.now.sight.kept) }
+        ensures { AllByRecursion (IsSound self.now.sight.form.kind) (records_of self.now.sight.kept) }
     {
-        are_sound(self.kind, body(self.store.bytes()));
+        are_sound(self.form, body(self.store.bytes()));
     }
 
     /// After a crash that kept so many bytes behind the forced front: the records of what is left, a torn
@@ -410,14 +457,14 @@ impl<L: LogStore> RecLog<L> {
     /// Device: what is left stands, and behind it any first ones of the new records; what was forced is; and
     /// the log has failed.
     pub fn restart(&mut self, keep: usize, new: &[Frame], alloc: Global) -> Result<(), LogError>
-        requires { AreRecords self.old.kind (map frame_record new.now) }
-        ensures kind { self.new.kind ≡ self.old.kind }
+        requires { AreRecords self.old.sight.form.kind (map frame_record new.now) }
+        ensures form { self.new.sight.form ≡ self.old.sight.form }
         ensures ok { OnOk result (Restarts self.old self.new keep (map frame_record new.now)) }
         ensures err { IfErr result (λ e. NotRestarted self.old self.new keep (map frame_record new.now) e) }
     {
         let forced = self.store.forced();
         let left = left_by(self.store.bytes(), forced, keep);
-        let (is_torn, text) = match text_left(self.kind, left, self.known, new, alloc) {
+        let (is_torn, text) = match text_left(self.form, left, self.known, new, alloc) {
             Ok(writing) => writing,
             Err(_) => return Err(LogError::Memory),
         };
@@ -433,7 +480,7 @@ impl<L: LogStore> RecLog<L> {
                 Ok(())
             }
             Err(_) => {
-                self.known = HEADER.len();
+                self.known = HEADER_SIZE;
                 self.failed = true;
                 Err(LogError::Device)
             }
@@ -445,11 +492,11 @@ impl<L: LogStore> RecLog<L> {
     /// failed.
     pub fn rewrite(&mut self, new: &[Frame], alloc: Global) -> Result<(), LogError>
         requires works { self.old.sight.failed ≡ false }
-        requires sound { AreRecords self.old.kind (map frame_record new.now) }
+        requires sound { AreRecords self.old.sight.form.kind (map frame_record new.now) }
         ensures ok { OnOk result (Rewritten self.old self.new (map frame_record new.now)) }
         ensures err { IfErr result (λ e. NotRewritten self.old self.new (map frame_record new.now) e) }
     {
-        match text_of(new, alloc) {
+        match text_of(self.form, new, alloc) {
             Ok(text) => self.put(&text, Index::new(alloc)),
             Err(_) => Err(LogError::Memory),
         }
@@ -458,18 +505,20 @@ impl<L: LogStore> RecLog<L> {
     /// Puts the log of this text in place of all that stand, with this index of it.
     fn put(&mut self, text: &[u8], index: Index) -> Result<(), LogError>
         requires works { self.old.sight.failed ≡ false }
-        requires index { IsIndex self.old.kind text.now index.size index.marks.items }
-        requires sound { Spells self.old.kind text.now (records_in self.old.kind 0 (body text.now)) }
-        ensures kind { self.new.kind ≡ self.old.kind }
-        ensures ok { OnOk result (Rewritten self.old self.new (records_in self.old.kind 0 (body text.now))) }
+        requires index { IsIndex self.old.sight.form text.now index.size index.marks.items }
+        requires sound { Spells self.old.sight.form text.now
+            (records_in self.old.sight.form 0 (body text.now)) }
+        ensures form { self.new.sight.form ≡ self.old.sight.form }
+        ensures ok { OnOk result (Rewritten self.old self.new
+            (records_in self.old.sight.form 0 (body text.now))) }
         ensures err { IfErr result (λ e. NotRewritten self.old self.new
-            (records_in self.old.kind 0 (body text.now)) e) }
+            (records_in self.old.sight.form 0 (body text.now)) e) }
     {
         if let Err(_) = self.store.reserve(text.len()) {
             return Err(LogError::Memory);
         }
         if let Err(_) = self.store.replace(text) {
-            self.known = HEADER.len();
+            self.known = HEADER_SIZE;
             self.index.clear();
             self.failed = true;
             return Err(LogError::Device);
@@ -485,18 +534,18 @@ impl<L: LogStore> RecLog<L> {
     /// as it was or trimmed, and the log has failed.
     pub fn trim(&mut self, behind: &[Frame], alloc: Global) -> Result<usize, LogError>
         requires works { self.old.sight.failed ≡ false }
-        requires sound { AreRecords self.old.kind (map frame_record behind.now) }
-        ensures kind { self.new.kind ≡ self.old.kind }
+        requires sound { AreRecords self.old.sight.form.kind (map frame_record behind.now) }
+        ensures form { self.new.sight.form ≡ self.old.sight.form }
         ensures ok { IfOk result (λ count. Trimmed self.old self.new (map frame_record behind.now) count) }
         ensures err { IfErr result (λ e. NotRewritten self.old self.new
             (trim_of self.old (map frame_record behind.now)) e) }
     {
         let bytes = self.store.bytes();
-        if let Err(_) = self.index.extend(self.kind, bytes, alloc) {
+        if let Err(_) = self.index.extend(self.form, bytes, alloc) {
             return Err(LogError::Memory);
         }
         let (text, index) = match trimmed_text(
-            self.kind,
+            self.form,
             body(bytes),
             &self.index.marks,
             behind,

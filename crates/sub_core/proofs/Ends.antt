@@ -11,7 +11,7 @@ use Rattle.tree_model.specs.declared.records.Branch.TheVariants.{Case as CaseBra
 use Rattle.tree_model.specs.declared.records.LogRecord.{LogRecord}
 use Rattle.tree_model.specs.declared.records.Write.{Write}
 use Rattle.tree_model.specs.declared.events.StepError.{StepError}
-use Rattle.tree_model.specs.declared.events.StepError.TheVariants.{Memory, Device}
+use Rattle.tree_model.specs.declared.events.StepError.TheVariants.{Memory, Device, Exhausted}
 use Rattle.tree_model.specs.Nodes.{Written, entries_written}
 use Rattle.tree_model.specs.Records.{record_case}
 use Rattle.tree_model.specs.LogNames.{case_parent, in_log}
@@ -93,6 +93,7 @@ module _ (s : SubState) (c : Case) (x : Xid) (named : IsNamed s.parent c x) (giv
       place = refl;
     },
   )
+  not_done m vs row Exhausted is of h = (same_keeps s m h.0, h.1)
   not_done m vs row _ is of h = absurd h
 
   -- what a call writes, by the state of its branch, and what it has written
@@ -128,7 +129,8 @@ pub none_tied : (s : SubState) (m : ManagerSight) (ls : List LogRecord) (e : Ste
     → IsTied s → NotDone s.manager m ls e
     → IsTied (behind s s.table m)
 none_tied s m ls Memory tied h = same_tied s m tied h
-none_tied s m ls Device tied h = still_tied s m tied h.idle h.states h.decided h.boot
+none_tied s m ls Device tied h = still_tied s m tied h.idle h.states h.decided h.boot h.log.form
+none_tied s m ls Exhausted tied h = same_tied s m tied h.0
 none_tied s m ls _ tied h = absurd h
 
 -- the tie behind a call that was not made

@@ -1,5 +1,7 @@
 //! A subordinate.
 
+ghost use Rattle.tree_model.specs.declared.names.Kind.TheVariants as kind;
+ghost use Rattle.log_text.specs.Forms.{log_form};
 ghost use Rattle.std.specs.Prelude.{◌≡◌, IsTrue};
 ghost use Rattle.tree_model.specs.Nodes.{AtLeaf};
 ghost use Rattle.core_model.specs.Opening.{IsOpened};
@@ -71,7 +73,8 @@ impl<M: ResourceManager> Subordinate<M> {
         tree: Tree,
         mut manager: M,
     ) -> Subordinate<M>
-        requires { IsNew (M.sight manager) }
+        requires new { IsNew (M.sight manager) }
+        requires own { (M.sight manager).log.form ≡ log_form me kind.Manager }
         ensures opened { IsOpened (state M.sight result) (record { me = me; role = AtLeaf parent; tree = tree })
             (M.sight manager).log.failures }
         ensures empty { Rests no_data (manager_data (M.sight result.manager)) }

@@ -1,3 +1,4 @@
+pub mod HandedBack
 pub mod Handling
 pub mod Acting
 pub mod Logs

@@ -7,4 +7,4 @@ use Rattle.coord_core.proofs.writing.write_down.Goals as goal
 pub write-requires-clause-room : goal.write-requires-clause-room
 write-requires-clause-room g c =
     let framed : IsFramed c.args.parent c.in-Some.written = search rules in
-    room_for c.args.log.now (frame_record c.in-Some.written.frame) c.requires.room framed.sound.fits
+    room_for c.args.log.now (frame_record c.in-Some.written.frame) c.requires.room framed.sound

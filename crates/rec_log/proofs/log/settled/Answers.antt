@@ -7,18 +7,18 @@ use Rattle.rec_log.proofs.log.settled.Goals as goal
 
 pub returns-in-Ok-Empty-clause-ok : goal.returns-in-Ok-Empty-clause-ok
 returns-in-Ok-Empty-clause-ok g c =
-    let found : IsFound c.args.kind (g.L.LogStore.bytes c.args.store) Empty =
-    subst (λ xs. IsFound c.args.kind xs Empty) c.bytes.ensures
-    (subst (IsFound c.args.kind c.bytes.result.now) c.in-Ok-Empty.field-0-is c.in-Ok-Empty.ensures.ok) in
+    let found : IsFound c.args.form (g.L.LogStore.bytes c.args.store) Empty =
+    subst (λ xs. IsFound c.args.form xs Empty) c.bytes.ensures
+    (subst (IsFound c.args.form c.bytes.result.now) c.in-Ok-Empty.field-0-is c.in-Ok-Empty.ensures.ok) in
     IfOk-weaker c.replaced.result _ _ (λ new r. settles_empty _ _ _ _ _ _ _ found (g.met.L.LogStore.front c.args.store)
-    r.text_stands r.all r.failures_stay) c.replaced.ensures.ok
+    (r.text_stands ∙ c.header.ensures) (r.all ∙ ap length c.header.ensures) r.failures_stay) c.replaced.ensures.ok
 
 pub returns-in-Ok-clause-ok : goal.returns-in-Ok-clause-ok
 returns-in-Ok-clause-ok g c =
     let torn = c.in-Ok-Sound.torn in
-    let found : IsFound c.args.kind (g.L.LogStore.bytes c.args.store) (Sound torn) =
-    subst (λ xs. IsFound c.args.kind xs (Sound torn)) c.bytes.ensures
-    (subst (IsFound c.args.kind c.bytes.result.now) c.in-Ok-Sound.field-0-is c.in-Ok-Sound.ensures.ok) in
+    let found : IsFound c.args.form (g.L.LogStore.bytes c.args.store) (Sound torn) =
+    subst (λ xs. IsFound c.args.form xs (Sound torn)) c.bytes.ensures
+    (subst (IsFound c.args.form c.bytes.result.now) c.in-Ok-Sound.field-0-is c.in-Ok-Sound.ensures.ok) in
     let anew : IsWrittenAnew torn (g.L.LogStore.forced c.args.store) = search rules in
     let front : c.deref.result.now ≡ take (length (g.L.LogStore.bytes c.args.store) - torn)
     (g.L.LogStore.bytes c.args.store) =
@@ -31,19 +31,20 @@ returns-in-Ok-clause-ok g c =
 
 pub returns-in-Ok-Empty-clause-err : goal.returns-in-Ok-Empty-clause-err
 returns-in-Ok-Empty-clause-err g c =
-    let found : IsFound c.args.kind (g.L.LogStore.bytes c.args.store) Empty =
-    subst (λ xs. IsFound c.args.kind xs Empty) c.bytes.ensures
-    (subst (IsFound c.args.kind c.bytes.result.now) c.in-Ok-Empty.field-0-is c.in-Ok-Empty.ensures.ok) in
+    let found : IsFound c.args.form (g.L.LogStore.bytes c.args.store) Empty =
+    subst (λ xs. IsFound c.args.form xs Empty) c.bytes.ensures
+    (subst (IsFound c.args.form c.bytes.result.now) c.in-Ok-Empty.field-0-is c.in-Ok-Empty.ensures.ok) in
     IfErr-weaker c.replaced.result _ _ (λ e refused. not_opened g.L.LogStore.bytes g.L.LogStore.forced
-    g.L.LogStore.failures c.args.kind c.args.store e.1 _
-    (settles_empty _ _ _ _ _ _ _ found (g.met.L.LogStore.front c.args.store) refl refl refl) e.0 refused) c.replaced.ensures.err
+    g.L.LogStore.failures c.args.form c.args.store e.1 _
+    (settles_empty _ _ _ _ _ _ _ found (g.met.L.LogStore.front c.args.store) c.header.ensures
+    (ap length c.header.ensures) refl) e.0 refused) c.replaced.ensures.err
 
 pub returns-in-Ok-clause-err : goal.returns-in-Ok-clause-err
 returns-in-Ok-clause-err g c =
     let torn = c.in-Ok-Sound.torn in
-    let found : IsFound c.args.kind (g.L.LogStore.bytes c.args.store) (Sound torn) =
-    subst (λ xs. IsFound c.args.kind xs (Sound torn)) c.bytes.ensures
-    (subst (IsFound c.args.kind c.bytes.result.now) c.in-Ok-Sound.field-0-is c.in-Ok-Sound.ensures.ok) in
+    let found : IsFound c.args.form (g.L.LogStore.bytes c.args.store) (Sound torn) =
+    subst (λ xs. IsFound c.args.form xs (Sound torn)) c.bytes.ensures
+    (subst (IsFound c.args.form c.bytes.result.now) c.in-Ok-Sound.field-0-is c.in-Ok-Sound.ensures.ok) in
     let anew : IsWrittenAnew torn (g.L.LogStore.forced c.args.store) = search rules in
     let front : c.deref.result.now ≡ take (length (g.L.LogStore.bytes c.args.store) - torn)
     (g.L.LogStore.bytes c.args.store) =
@@ -51,5 +52,5 @@ returns-in-Ok-clause-err g c =
     (λ t. take (length t - torn) c.bytes-3.result.now) c.bytes-2.ensures
     ∙ ap (take (length (g.L.LogStore.bytes c.args.store) - torn)) c.bytes-3.ensures in
     IfErr-weaker c.replaced-in-Ok.result _ _ (λ e refused. not_opened g.L.LogStore.bytes g.L.LogStore.forced
-    g.L.LogStore.failures c.args.kind c.args.store e.1 _
+    g.L.LogStore.failures c.args.form c.args.store e.1 _
     (settles_front _ _ _ _ _ _ _ torn found anew front refl refl) e.0 refused) c.replaced-in-Ok.ensures.err

@@ -5,6 +5,6 @@ use Rattle.rec_log.proofs.log.sound_end.Goals as goal
 
 pub returns : goal.returns
 returns c =
-    sound_behind c.args.kind c.args.left.now c.args.known c.in_ok-sound_size.field-0 _ c.requires
-    (subst (λ t. Sounds c.args.kind t c.in_ok-sound_size.field-0) c.split_at.ensures.back
+    sound_behind c.args.form c.args.left.now c.args.known c.in_ok-sound_size.field-0 _ c.requires
+    (subst (λ t. Sounds c.args.form t c.in_ok-sound_size.field-0) c.split_at.ensures.back
     c.in_ok-sound_size.ensures) refl

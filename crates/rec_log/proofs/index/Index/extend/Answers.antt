@@ -6,7 +6,7 @@ use Rattle.rec_log.proofs.Indexes.{index_all, marks_behind}
 use Rattle.rec_log.proofs.index.Index.extend.Goals as goal
 
 all_marked : (c : goal.After-drop-records-2)
-    → map mark_of (records_in c.args.kind 0 (body c.args.bytes.now)) ≡ c.extend_from_slice.new.self.items
+    → map mark_of (records_in c.args.form 0 (body c.args.bytes.now)) ≡ c.extend_from_slice.new.self.items
 all_marked c =
     marks_behind _ _ _ _ _ c.requires.before
     (c.deref-2.ensures.value ∙ c.in_ok-marks.ensures

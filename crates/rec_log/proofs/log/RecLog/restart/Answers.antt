@@ -10,30 +10,30 @@ use Rattle.rec_log.proofs.log.RecLog.restart.Goals as goal
 
 pub invariant_of-self-in-Ok-write_left : goal.invariant_of-self-in-Ok-write_left
 invariant_of-self-in-Ok-write_left g c =
-    let kind = c.self.inside.kind in
+    let form = c.self.inside.form in
     let text = g.L.LogStore.bytes c.self.inside.store in
     let forced = g.L.LogStore.forced c.self.inside.store in
     let rs = map frame_record c.args.new.now in
-    let are : AreRecords kind rs =
-    subst (λ k. AreRecords k rs) (sym (ap (λ s. s.kind) c.self.view_is)) c.requires in
+    let are : AreRecords form.kind rs =
+    subst (λ k. AreRecords k rs) (sym (ap (λ s. s.sight.form.kind) c.self.view_is)) c.requires in
     let is_left : c.left_by-left.result.now ≡ take (forced + c.args.keep) text =
     c.left_by-left.ensures.left ∙ ap (λ n. take (n + c.args.keep) c.bytes.result.now) c.forced-forced.ensures
     ∙ ap (take (forced + c.args.keep)) c.bytes.ensures in
-    let writes : WritesLeft kind (take (forced + c.args.keep) text) rs c.in-Ok.writing.0 c.deref.result.now =
-    subst (λ t. WritesLeft kind (take (forced + c.args.keep) text) rs c.in-Ok.writing.0 t)
+    let writes : WritesLeft form (take (forced + c.args.keep) text) rs c.in-Ok.writing.0 c.deref.result.now =
+    subst (λ t. WritesLeft form (take (forced + c.args.keep) text) rs c.in-Ok.writing.0 t)
     (sym c.deref.ensures.value)
-    (subst (λ t. WritesLeft kind t rs c.in-Ok.writing.0 c.in-Ok.writing.1.items) is_left c.in-Ok.ensures) in
+    (subst (λ t. WritesLeft form t rs c.in-Ok.writing.0 c.in-Ok.writing.1.items) is_left c.in-Ok.ensures) in
     let stays = c.in_default.ensures.stays in
     let crash = c.crash.ensures.left in
     let old_is : g.L.LogStore.bytes c.crash.new.self ≡ take (forced + c.args.keep) text =
     crash.text ∙ ap (λ n. take (n + c.args.keep) (g.L.LogStore.bytes c.reserve.new.self)) stays.forced_stays
     ∙ ap (take (forced + c.args.keep)) stays.bytes_stay in
     let ok = c.in-Ok-write_left.ensures.ok in
-    let leaves : LeavesText kind (take (forced + c.args.keep) text) rs
+    let leaves : LeavesText form (take (forced + c.args.keep) text) rs
     (g.L.LogStore.bytes c.write_left.new.store) =
     leaves_text _ _ c.deref.result.now _ _ c.in-Ok.writing.0 writes (ok.text_stands
     ∙ ap (λ o. if c.in-Ok.writing.0 then c.deref.result.now else o ++ c.deref.result.now) old_is) in
-    let settled = text_settled _ _ _ rs _ are (front_begins (forced + c.args.keep) text
+    let settled = text_settled _ _ _ rs _ c.self.invariant.0.second are (front_begins (forced + c.args.keep) text _
     (omega (arith, c.self.invariant.0.header_forced)) c.self.invariant.0.begins) leaves ok.all in (
       settled,
       known_all _ _ _ _ (settled.whole refl) settled.header_forced ok.all
@@ -43,26 +43,26 @@ invariant_of-self-in-Ok-write_left g c =
 
 pub returns-in-Ok-write_left-clause-ok : goal.returns-in-Ok-write_left-clause-ok
 returns-in-Ok-write_left-clause-ok g c =
-    let kind = c.self.inside.kind in
+    let form = c.self.inside.form in
     let text = g.L.LogStore.bytes c.self.inside.store in
     let forced = g.L.LogStore.forced c.self.inside.store in
     let rs = map frame_record c.args.new.now in
-    let are : AreRecords kind rs =
-    subst (λ k. AreRecords k rs) (sym (ap (λ s. s.kind) c.self.view_is)) c.requires in
+    let are : AreRecords form.kind rs =
+    subst (λ k. AreRecords k rs) (sym (ap (λ s. s.sight.form.kind) c.self.view_is)) c.requires in
     let is_left : c.left_by-left.result.now ≡ take (forced + c.args.keep) text =
     c.left_by-left.ensures.left ∙ ap (λ n. take (n + c.args.keep) c.bytes.result.now) c.forced-forced.ensures
     ∙ ap (take (forced + c.args.keep)) c.bytes.ensures in
-    let writes : WritesLeft kind (take (forced + c.args.keep) text) rs c.in-Ok.writing.0 c.deref.result.now =
-    subst (λ t. WritesLeft kind (take (forced + c.args.keep) text) rs c.in-Ok.writing.0 t)
+    let writes : WritesLeft form (take (forced + c.args.keep) text) rs c.in-Ok.writing.0 c.deref.result.now =
+    subst (λ t. WritesLeft form (take (forced + c.args.keep) text) rs c.in-Ok.writing.0 t)
     (sym c.deref.ensures.value)
-    (subst (λ t. WritesLeft kind t rs c.in-Ok.writing.0 c.in-Ok.writing.1.items) is_left c.in-Ok.ensures) in
+    (subst (λ t. WritesLeft form t rs c.in-Ok.writing.0 c.in-Ok.writing.1.items) is_left c.in-Ok.ensures) in
     let stays = c.in_default.ensures.stays in
     let crash = c.crash.ensures.left in
     let old_is : g.L.LogStore.bytes c.crash.new.self ≡ take (forced + c.args.keep) text =
     crash.text ∙ ap (λ n. take (n + c.args.keep) (g.L.LogStore.bytes c.reserve.new.self)) stays.forced_stays
     ∙ ap (take (forced + c.args.keep)) stays.bytes_stay in
     let ok = c.in-Ok-write_left.ensures.ok in
-    let leaves : LeavesText kind (take (forced + c.args.keep) text) rs
+    let leaves : LeavesText form (take (forced + c.args.keep) text) rs
     (g.L.LogStore.bytes c.write_left.new.store) =
     leaves_text _ _ c.deref.result.now _ _ c.in-Ok.writing.0 writes (ok.text_stands
     ∙ ap (λ o. if c.in-Ok.writing.0 then c.deref.result.now else o ++ c.deref.result.now) old_is) in
@@ -73,19 +73,19 @@ returns-in-Ok-write_left-clause-ok g c =
 
 pub invariant_of-self-in-Err-write_left : goal.invariant_of-self-in-Err-write_left
 invariant_of-self-in-Err-write_left g c =
-    let kind = c.self.inside.kind in
+    let form = c.self.inside.form in
     let text = g.L.LogStore.bytes c.self.inside.store in
     let forced = g.L.LogStore.forced c.self.inside.store in
     let rs = map frame_record c.args.new.now in
-    let are : AreRecords kind rs =
-    subst (λ k. AreRecords k rs) (sym (ap (λ s. s.kind) c.self.view_is)) c.requires in
+    let are : AreRecords form.kind rs =
+    subst (λ k. AreRecords k rs) (sym (ap (λ s. s.sight.form.kind) c.self.view_is)) c.requires in
     let is_left : c.left_by-left.result.now ≡ take (forced + c.args.keep) text =
     c.left_by-left.ensures.left ∙ ap (λ n. take (n + c.args.keep) c.bytes.result.now) c.forced-forced.ensures
     ∙ ap (take (forced + c.args.keep)) c.bytes.ensures in
-    let writes : WritesLeft kind (take (forced + c.args.keep) text) rs c.in-Ok.writing.0 c.deref.result.now =
-    subst (λ t. WritesLeft kind (take (forced + c.args.keep) text) rs c.in-Ok.writing.0 t)
+    let writes : WritesLeft form (take (forced + c.args.keep) text) rs c.in-Ok.writing.0 c.deref.result.now =
+    subst (λ t. WritesLeft form (take (forced + c.args.keep) text) rs c.in-Ok.writing.0 t)
     (sym c.deref.ensures.value)
-    (subst (λ t. WritesLeft kind t rs c.in-Ok.writing.0 c.in-Ok.writing.1.items) is_left c.in-Ok.ensures) in
+    (subst (λ t. WritesLeft form t rs c.in-Ok.writing.0 c.in-Ok.writing.1.items) is_left c.in-Ok.ensures) in
     let stays = c.in_default.ensures.stays in
     let crash = c.crash.ensures.left in
     let old_is : g.L.LogStore.bytes c.crash.new.self ≡ take (forced + c.args.keep) text =
@@ -103,11 +103,11 @@ invariant_of-self-in-Err-write_left g c =
       ap length old_is,
       length-take (forced + c.args.keep) text,
     )) c.in-Err-write_left.ensures.device in
-    let broke : Broken kind (take (forced + c.args.keep) text) rs forced
+    let broke : Broken form (take (forced + c.args.keep) text) rs forced
     (g.L.LogStore.bytes c.write_left.new.store) (g.L.LogStore.forced c.write_left.new.store) =
     broken _ _ c.deref.result.now _ _ _ forced _ _ c.in-Ok.writing.0 writes old_is
     (crash.front ∙ stays.forced_stays) b.stands in
-    let t = text_broken kind text forced c.args.keep 0 0 c.self.inside.failed c.self.invariant.0
+    let t = text_broken form text forced c.args.keep 0 0 c.self.inside.failed c.self.invariant.0
     (g.met.L.LogStore.front c.self.inside.store) rs _ _ are broke in (
       t,
       known_header _ _ _ t.header_forced,
@@ -116,19 +116,19 @@ invariant_of-self-in-Err-write_left g c =
 
 pub returns-clause-err : goal.returns-clause-err
 returns-clause-err g c =
-    let kind = c.self.inside.kind in
+    let form = c.self.inside.form in
     let text = g.L.LogStore.bytes c.self.inside.store in
     let forced = g.L.LogStore.forced c.self.inside.store in
     let rs = map frame_record c.args.new.now in
-    let are : AreRecords kind rs =
-    subst (λ k. AreRecords k rs) (sym (ap (λ s. s.kind) c.self.view_is)) c.requires in
+    let are : AreRecords form.kind rs =
+    subst (λ k. AreRecords k rs) (sym (ap (λ s. s.sight.form.kind) c.self.view_is)) c.requires in
     let is_left : c.left_by-left.result.now ≡ take (forced + c.args.keep) text =
     c.left_by-left.ensures.left ∙ ap (λ n. take (n + c.args.keep) c.bytes.result.now) c.forced-forced.ensures
     ∙ ap (take (forced + c.args.keep)) c.bytes.ensures in
-    let writes : WritesLeft kind (take (forced + c.args.keep) text) rs c.in-Ok.writing.0 c.deref.result.now =
-    subst (λ t. WritesLeft kind (take (forced + c.args.keep) text) rs c.in-Ok.writing.0 t)
+    let writes : WritesLeft form (take (forced + c.args.keep) text) rs c.in-Ok.writing.0 c.deref.result.now =
+    subst (λ t. WritesLeft form (take (forced + c.args.keep) text) rs c.in-Ok.writing.0 t)
     (sym c.deref.ensures.value)
-    (subst (λ t. WritesLeft kind t rs c.in-Ok.writing.0 c.in-Ok.writing.1.items) is_left c.in-Ok.ensures) in
+    (subst (λ t. WritesLeft form t rs c.in-Ok.writing.0 c.in-Ok.writing.1.items) is_left c.in-Ok.ensures) in
     let stays = c.in_default.ensures.stays in
     let crash = c.crash.ensures.left in
     let old_is : g.L.LogStore.bytes c.crash.new.self ≡ take (forced + c.args.keep) text =
@@ -146,11 +146,11 @@ returns-clause-err g c =
       ap length old_is,
       length-take (forced + c.args.keep) text,
     )) c.in-Err-write_left.ensures.device in
-    let broke : Broken kind (take (forced + c.args.keep) text) rs forced
+    let broke : Broken form (take (forced + c.args.keep) text) rs forced
     (g.L.LogStore.bytes c.write_left.new.store) (g.L.LogStore.forced c.write_left.new.store) =
     broken _ _ c.deref.result.now _ _ _ forced _ _ c.in-Ok.writing.0 writes old_is
     (crash.front ∙ stays.forced_stays) b.stands in
     restart_breaks _ _ _ _ _ c.self.view_is
-    (breaks_restart kind text forced c.args.keep _ _ _ c.self.invariant.0
+    (breaks_restart form text forced c.args.keep _ _ _ c.self.invariant.0
     (g.met.L.LogStore.front c.self.inside.store) rs _ _ _ (g.L.LogStore.room c.write_left.new.store) are broke
     (omega (arith, b.cause, crash.failures_stay, stays.failures_stay)))

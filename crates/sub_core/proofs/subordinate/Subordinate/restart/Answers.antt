@@ -32,7 +32,7 @@ invariant_of-self g c =
     subst (λ v. Rebuilds (leaf_place v.me v.parent v.tree) v.parent (left_by (g.M.ResourceManager.sight
     v.manager).log c.args.keep) r) (sym c.self.view_is) c.in_ok-rebuilt.ensures.ok in
     reopened_tied s c.args.keep r re.mid m (λ answer. answer ≡ code.RmFail)
-    re.answer made re.restarts re.calls
+    re.answer made re.restarts re.calls c.self.invariant.own
 
 pub returns-in-Ok-clause-ok : goal.returns-in-Ok-clause-ok
 returns-in-Ok-clause-ok g c =
@@ -70,7 +70,8 @@ returns-in-Ok-clause-ok g c =
     (subst (λ w. Restarts (core_of s) c.args.keep (core_of n)
     (record { begun = None; written = w; told = None; messages = r.messages; kept = None }))
     (sym c.in_ok-rebuilt.ensures.written)
-    (restarted s c.args.keep r re.mid m (λ answer. answer ≡ code.RmFail) re.answer made re.restarts re.calls))
+    (restarted s c.args.keep r re.mid m (λ answer. answer ≡ code.RmFail) re.answer made re.restarts re.calls
+    c.self.invariant.own))
 
 pub invariant_of-self-in-Err-Memory : goal.invariant_of-self-in-Err-Memory
 invariant_of-self-in-Err-Memory g c =
