@@ -11,7 +11,7 @@ use Rattle.tree_audit.specs.Truths.{AreTrueOfRuns}
 use Rattle.tree_audit.specs.declared.report.Line.{Line}
 use Rattle.audit_engine.specs.Explanations.{explained_line}
 use Rattle.audit_engine.specs.Lines.{count_text, lines_text}
-use Rattle.audit_engine.specs.Refusals.{RefusesInput, TellsDamage}
+use Rattle.logs_script.specs.Refusals.{RefusesInput, TellsDamage}
 use Rattle.audit_engine.specs.declared.detail.Detail.{Detail}
 use Rattle.audit_engine.specs.declared.detail.Detail.TheVariants as detail
 use Rattle.audit_engine.specs.declared.ending.Ending.{Ending}

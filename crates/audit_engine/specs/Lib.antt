@@ -1,4 +1,3 @@
-pub mod Refusals
 pub mod Namings
 pub mod Chains
 pub mod Audits

@@ -12,10 +12,12 @@ use Rattle.tree_model.specs.CoordinatorRows.{unknown_forget}
 use Rattle.tree_model.specs.Records.{boot_of, is_reported}
 use Rattle.tree_model.specs.Standings.{CoordinatorView}
 use Rattle.log_text.specs.Made.{frame_record}
-use Rattle.rec_log.specs.Sights.{Breaks, LogState, NotRestarted as LogNotRestarted, NotRewritten, Restarts as LogRestarts, left_by, records_of}
+use Rattle.rec_log.specs.Sights.{Breaks, LogSight, LogState, NotRestarted as LogNotRestarted, NotRewritten, Restarts as LogRestarts, left_by, records_of}
 use Rattle.rec_log.specs.Trimming.{Trimmed, trim_of}
 use Rattle.rec_log.specs.declared.log.LogError.{LogError}
 use Rattle.rec_log.specs.declared.log.LogError.TheVariants as log_error
+use Rattle.log_text.specs.Forms.{log_form}
+use Rattle.core_model.proofs.Wrote.{wrote_form}
 use Rattle.core_model.specs.Opening.{first_opened}
 use Rattle.core_model.specs.Turns.{kept_records}
 use Rattle.coord_effects.specs.declared.effect.Framed.{Framed}
@@ -183,10 +185,17 @@ module _ (v : CoordinatorValue) (kept : IsCoordinator v) (log : LogState) where
   trimmed_opened (Err log_error.Device) works trimmed breaks up =
       absurd (never_both log.sight.failed breaks.failed up)
 
+-- A row's record leaves the log of the same process.
+
+pub written_form : (old new : LogState) (written : Option Framed) → WritesDown old new written
+    → new.sight.form ≡ old.sight.form
+written_form old new written writes =
+    ap (λ (s : LogSight). s.form) writes.sight ∙ wrote_form old.sight (written_of written) (framed_of written)
+
 -- An empty log that was opened.
 
 pub opened_keeps : (me : ProcessId) (parent : Option ProcessId) (tree : List TreeEntry) (old new : LogState)
-    (slots : Slots) → old.kind ≡ Coordinator → records_of old.sight.kept ≡ [] → WritesOpened old new → slots ≡ []
+    (slots : Slots) → old.sight.form ≡ log_form me Coordinator → records_of old.sight.kept ≡ [] → WritesOpened old new → slots ≡ []
     → IsCoordinator (record {
       me = me;
       parent = parent;
@@ -198,7 +207,7 @@ pub opened_keeps : (me : ProcessId) (parent : Option ProcessId) (tree : List Tre
       slots = slots;
     })
 unfolding are_numbered boot_of
-opened_keeps me parent tree old new slots kind empty writes bare =
+opened_keeps me parent tree old new slots form empty writes bare =
     subst (λ (t : Slots). IsCoordinator (record {
       me = me;
       parent = parent;
@@ -210,7 +219,7 @@ opened_keeps me parent tree old new slots kind empty writes bare =
       slots = t;
     })) (sym bare)
     (record {
-      kind = writes.kind ∙ kind;
+      form = ap (λ (s : LogSight). s.form) writes.sight ∙ form;
       active = λ k d p at is. absurd (cc);
       begun = λ k p n at. absurd (cc);
       given = λ k x n at. absurd (cc);

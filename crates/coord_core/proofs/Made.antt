@@ -2,6 +2,7 @@
 use Rattle.std.proofs.Common.{◌≡◌, ◌≤◌, ◌+◌, ◌∷◌, [], ℕ, true, false, Option, None, Some, List, map, if◌then◌else◌, Result, Ok, Err, IfOk, IfErr, refl, subst, sym, ap, ◌∙◌, arith}
 use Rattle.std.proofs.lemmas.List.{append-nil}
 use Rattle.tree_model.specs.declared.names.Case.{Case}
+use Rattle.tree_model.specs.declared.names.Kind.TheVariants.{Coordinator}
 use Rattle.tree_model.specs.declared.names.Presumption.{Presumption}
 use Rattle.tree_model.specs.declared.names.Presumption.TheVariants.{PresumeAbort, PresumeCommit}
 use Rattle.tree_model.specs.declared.names.ProcessId.{ProcessId}
@@ -12,7 +13,7 @@ use Rattle.tree_model.specs.declared.events.Input.{Input}
 use Rattle.tree_model.specs.declared.events.Reaction.{Reaction}
 use Rattle.tree_model.specs.declared.standings.Standing.TheVariants.{Unknown, Heuristic}
 use Rattle.tree_model.specs.declared.events.StepError.{StepError}
-use Rattle.tree_model.specs.declared.events.StepError.TheVariants.{Memory, Device, UnknownTxn, NotAChild, Closed, Failed, NotInDoubt, NothingToForget, NoSuch}
+use Rattle.tree_model.specs.declared.events.StepError.TheVariants.{Memory, Device, UnknownTxn, NotAChild, Closed, Failed, NotInDoubt, NothingToForget, NoSuch, Exhausted}
 use Rattle.tree_model.specs.Names.{child_case, root_case}
 use Rattle.tree_model.specs.LogNames.{in_log, parent_of}
 use Rattle.tree_model.specs.Nodes.{Written, entries_written, reaction_of}
@@ -27,20 +28,21 @@ use Rattle.tree_model.proofs.NameTests.{case_tells}
 use Rattle.live_table.specs.Tables.{AreApart, case_of, entry_at, live_value}
 use Rattle.live_table.proofs.Writes.{live_found}
 use Rattle.rec_log.specs.Sights.{Breaks, LogSight, LogState}
-use Rattle.core_model.specs.States.{CoreState, SameCore, logged, wrote}
+use Rattle.core_model.specs.States.{CoreState, SameCore, kind_of_role, logged, wrote}
 use Rattle.core_model.specs.Turns.{Says as SaysTurn, Takes as TakesTurn, clear_turn, kept_records, reacted, seat_in, no_answer, this_version}
-use Rattle.core_model.specs.Makes.{BreaksIn, Makes, NotMade, OpensCase, retired_by}
+use Rattle.core_model.specs.Bounds.{FitsBounds}
+use Rattle.core_model.specs.Makes.{BreaksIn, Makes, NotMade, OpensCase, Unbounded, retired_by}
 use Rattle.core_model.proofs.Alike.{same_view}
 use Rattle.coord_table.specs.declared.held.Held.{Held}
 use Rattle.coord_table.specs.Cases.{Begins, FitsGiven, Gives, Slots, held_view, ticket_in, view_in}
 use Rattle.coord_effects.specs.declared.seat.Seat.{Seat}
 use Rattle.coord_effects.specs.declared.effect.Framed.{Framed}
 use Rattle.coord_effects.specs.declared.effect.RowEffect.{RowEffect}
-use Rattle.coord_effects.specs.Rows.{AreFramed, Does, reaction_by, seat, written_of}
+use Rattle.coord_effects.specs.Rows.{AreFramed, Does, NotWritten, reaction_by, seat, written_of}
 use Rattle.coord_table.specs.declared.asked.Asked.{Asked}
 use Rattle.coord_table.specs.declared.asked.Asked.TheVariants.{Join, Work, Commit, AbortActive, AbortCollecting, Ask, Joined, Vote, Ack, Inquire, Prepare, Commits, Aborts}
 use Rattle.coord_table.specs.Asks.{asked_row, is_for_any, is_retiring}
-use Rattle.coord_table.specs.Takes.{AddsNone, TakesRowOf, retired_if}
+use Rattle.coord_table.specs.Takes.{AddsNone, NotTaken, SameCases, TakesRowOf, retired_if}
 use Rattle.coord_table.proofs.Given.{gone_keeps}
 use Rattle.coord_core.specs.declared.turn.Turn.{Turn}
 use Rattle.coord_core.specs.declared.turn.Turn.TheVariants.{Refuses, Begins as BeginsOne, Issues as IssuesOne, Clears}
@@ -116,6 +118,10 @@ not_made v new i turn NoSuch meets stopped = record {
   finds = meets.finds;
   refuses = meets.is ∙ stopped.1;
 }
+not_made v new i turn Exhausted meets stopped = record {
+  same = stopped.0;
+  why = Unbounded meets.found meets.finds stopped.1.effect (ap reacted meets.is ∙ stopped.1.does) stopped.1.beyond;
+}
 
 pub same_core : (s : CoreState) → SameCore s s
 same_core s =
@@ -131,6 +137,7 @@ same_core s =
             same_view (s.view_of c);
         branches = λ c. refl;
         decided = λ c. refl;
+        spent = refl;
       };
     }
 
@@ -139,6 +146,7 @@ pub refused_by : (v : CoordinatorValue) (i : Input) (e : StepError) → Meets v 
     → NotMade (state v) (state v) no_answer i e
 refused_by v i Memory meets = same_core (state v)
 refused_by v i Device meets = let clash : false ≡ true = meets.may in absurd (cc)
+refused_by v i Exhausted meets = let clash : false ≡ true = meets.may in absurd (cc)
 refused_by v i UnknownTxn meets = record {
   same = same_core (state v);
   found = meets.found;
@@ -422,7 +430,7 @@ module _ (v : CoordinatorValue) (log : LogState) (slots : Slots) (c : Case) (ask
         refl,
         record {
           log = record {
-            kind = refl;
+            form = at.form;
             appended = at.appended;
             stand = at.stand;
             no_less = at.no_less;
@@ -497,7 +505,7 @@ module _ (v : CoordinatorValue) (log : LogState) (c : Case) (effect : RowEffect)
         refl,
         record {
           log = record {
-            kind = refl;
+            form = at.form;
             appended = at.appended;
             stand = at.stand;
             no_less = at.no_less;
@@ -517,6 +525,68 @@ not_cleared v c none = (
   same_core (state v),
   ap (λ b. clear_turn (seat_in (state v) c) b (view_in v.slots c) Unknown) none,
 )
+
+-- A row that was not taken.
+
+-- its cases and its log as they were, but for room
+pub same_cases : (v : CoordinatorValue) (log : LogState) (slots : Slots) → log.sight ≡ v.log.sight
+    → SameCases v.slots slots → SameCore (state v) (state (record v { log = log; slots = slots }))
+same_cases v log slots room same = record {
+  log = room;
+  rest = record {
+    place = refl;
+    boot = refl;
+    begun = refl;
+    given = refl;
+    tickets = same.tickets;
+    views = same.views;
+    branches = λ c. refl;
+    decided = λ c. refl;
+    spent = refl;
+  };
+}
+
+-- the bounds of a coordinator below this parent
+coordinator_bounds : (p : Option ProcessId) (ws : List Written) (ls : List Envelope)
+    → FitsBounds (kind_of_role (role_below p)) (parent_of (role_below p)) ws ls → FitsBounds Coordinator p ws ls
+coordinator_bounds None ws ls fits = fits
+coordinator_bounds (Some q) ws ls fits = fits
+
+-- the row was not taken: so its turn was stopped
+pub row_untaken : (v : CoordinatorValue) (new : CoreState) (c : Case) (asked : Asked) (e : StepError)
+    → SameCore (state v) new → NotTaken (seat_for v c) (asked_row (seat (seat_for v c)) asked (view_in v.slots c)) e
+    → Stopped (state v) new (TakesTurn c (met v c asked)) e
+row_untaken v new c asked Memory same h = same
+row_untaken v new c asked Exhausted same h = (
+  same,
+  record {
+    effect = row_effect c (met v c asked);
+    does = refl;
+    beyond = λ fits. h (subst (λ (r : Row). FitsBounds Coordinator v.parent r.written r.messages)
+        (sym (row_is v c asked))
+        (coordinator_bounds v.parent (met v c asked).written (met v c asked).messages fits));
+  },
+)
+row_untaken v new c asked e same h = absurd h
+
+-- a report was not cleared
+pub clear_untaken : (v : CoordinatorValue) (new : CoreState) (c : Case) (e : StepError) → SameCore (state v) new
+    → is_reported (kept_records (state v)) c ≡ true
+    → ((view : CoordinatorView)
+    → NotWritten v.parent (unknown_forget (seat (seat_for v c)) view).written e)
+    → Stopped (state v) new (meant v (Clears c)) e
+clear_untaken v new c Memory same reported h = same
+clear_untaken v new c Exhausted same reported h = (
+  same,
+  record {
+    effect = row_effect c (unknown_forget (seat_in (state v) c) (view_in v.slots c));
+    does = ap (λ b. reacted (clear_turn (seat_in (state v) c) b (view_in v.slots c) Unknown)) reported;
+    beyond = λ fits. h (view_in v.slots c)
+        (coordinator_bounds v.parent (unknown_forget (seat_in (state v) c) (view_in v.slots c)).written
+        (unknown_forget (seat_in (state v) c) (view_in v.slots c)).messages fits).records;
+  },
+)
+clear_untaken v new c e same reported h = absurd (h (view_in v.slots c))
 
 -- where no case was added, a case under a key was there before
 pub case_before : (old new : Slots) (k : ℕ) (c : Case) → AddsNone old new

@@ -1,19 +1,25 @@
 -- A coordinator that opened an empty log.
-use Rattle.std.proofs.Common.{◌≡◌, ◌++◌, ◌∷◌, [], false, Option, None, List, refl, sym, subst, ap, ◌∙◌}
+use Rattle.std.proofs.Common.{◌≡◌, ◌++◌, ◌∷◌, [], false, Option, None, List, refl, sym, subst, ap, ◌∙◌, arith}
+use Rattle.tree_model.specs.declared.names.Kind.TheVariants.{Coordinator}
 use Rattle.tree_model.specs.declared.names.Case.{Case}
 use Rattle.tree_model.specs.declared.names.ProcessId.{ProcessId}
 use Rattle.tree_model.specs.declared.trees.TreeEntry.{TreeEntry}
 use Rattle.tree_model.specs.declared.records.Record.TheVariants.{Opened}
+use Rattle.tree_model.specs.declared.events.StepError.{StepError}
+use Rattle.tree_model.specs.declared.events.StepError.TheVariants as steps
 use Rattle.tree_model.specs.Nodes.{Place}
 use Rattle.tree_model.specs.Standings.{CoordinatorView, unknown_view}
 use Rattle.tree_model.specs.SameViews.{SameView}
 use Rattle.live_table.specs.Tables.{live_value}
 use Rattle.rec_log.specs.Sights.{LogState, records_of}
+use Rattle.log_text.specs.Forms.{log_form}
+use Rattle.core_log.specs.Writes.{NotFramed}
 use Rattle.core_model.specs.Restarting.{recorded_view_at}
 use Rattle.core_model.proofs.Opened.{opened_is_read}
 use Rattle.coord_table.specs.Cases.{Slots, ticket_in, view_in}
 use Rattle.core_model.specs.Opening.{IsOpened, first_opened}
-use Rattle.coord_core.specs.States.{WritesOpened, role_below, state}
+use Rattle.coord_core.proofs.Restarted.{coordinator_kind}
+use Rattle.coord_core.specs.States.{NotOpened, WritesOpened, role_below, state}
 
 none_given : (d : Case) → ticket_in [] d ≡ None
 unfolding ticket_in
@@ -24,7 +30,8 @@ unfolding live_value
 none_live c = refl
 
 pub opened : (me : ProcessId) (parent : Option ProcessId) (tree : List TreeEntry) (old new : LogState)
-    (slots : Slots) → records_of old.sight.kept ≡ [] → old.sight.failed ≡ false
+    (slots : Slots) → old.sight.form ≡ log_form me Coordinator → records_of old.sight.kept ≡ []
+    → old.sight.failed ≡ false
     → WritesOpened old new → slots ≡ []
     → IsOpened (state (record {
       me = me;
@@ -37,12 +44,13 @@ pub opened : (me : ProcessId) (parent : Option ProcessId) (tree : List TreeEntry
       slots = slots;
     }))
     (record { me = me; role = role_below parent; tree = tree }) old.sight.failures
-opened me parent tree old new slots empty works writes bare =
+opened me parent tree old new slots form empty works writes bare =
     let place : Place = record { me = me; role = role_below parent; tree = tree } in
     let read = opened_is_read place in
     record {
       place_is = refl;
       log = writes.sight ∙ (λ i. record {
+        form = (form ∙ ap (log_form me) (sym (coordinator_kind parent))) i;
         kept = record {
           forced = empty i ++ first_opened
               ∷ [];
@@ -63,3 +71,10 @@ opened me parent tree old new slots empty works writes bare =
         decided = read.decided;
       };
     }
+
+-- the first record has a frame
+pub first_unframed : (old new : LogState) (e : StepError) → new.sight ≡ old.sight
+    → NotFramed None (Opened 1 ∷ []) e → NotOpened old new e
+first_unframed old new steps.Memory same h = same
+first_unframed old new steps.Exhausted same h = absurd (h ((refl, omega arith), tt))
+first_unframed old new e same h = absurd h

@@ -1,5 +1,6 @@
 -- A coordinator that restarted, or was trimmed, or was not.
 use Rattle.std.proofs.Common.{◌≡◌, ◌≤◌, ◌<◌, ◌++◌, [], ℕ, true, false, Option, None, Some, List, map, length, refl, subst, sym, take, ap, ◌∙◌, arith, ◌⊎◌}
+use Rattle.std.specs.List.{AllByRecursion}
 use Rattle.tree_model.specs.declared.names.Case.{Case}
 use Rattle.tree_model.specs.declared.names.Kind.TheVariants.{Coordinator}
 use Rattle.tree_model.specs.declared.names.ProcessId.{ProcessId}
@@ -12,12 +13,14 @@ use Rattle.tree_model.specs.Standings.{CoordinatorView, unknown_branch}
 use Rattle.tree_model.specs.SameViews.{SameView}
 use Rattle.live_table.specs.Tables.{case_of, entry_at}
 use Rattle.log_text.specs.Made.{frame_record}
+use Rattle.log_rules.specs.sound.Sound.{IsSound}
 use Rattle.log_rules.specs.trim.Trims.{front_of_trim}
 use Rattle.rec_log.specs.Sights.{LogState, NotRestarted as LogNotRestarted, NotRewritten, Restarts as LogRestarts, left_by, records_of}
 use Rattle.rec_log.specs.Trimming.{Trimmed, trim_of}
 use Rattle.rec_log.specs.declared.log.LogError.{LogError}
 use Rattle.rec_log.specs.declared.log.LogError.TheVariants as log_error
-use Rattle.core_model.specs.States.{SameButLog, SameCore, logged}
+use Rattle.log_text.specs.Forms.{log_form}
+use Rattle.core_model.specs.States.{SameButLog, SameCore, kind_of_role, logged}
 use Rattle.core_model.specs.Restarting.{NotRestarted, NotTrimmed, Restarts, Trims, read_of, recorded_branch_at, recorded_view_at, restarted_log, trimmed_log}
 use Rattle.core_model.specs.Turns.{kept_records}
 use Rattle.core_model.proofs.Alike.{same_view}
@@ -25,7 +28,7 @@ use Rattle.coord_table.specs.declared.held.Held.{Held}
 use Rattle.coord_table.specs.Cases.{is_for}
 use Rattle.inquire_core.specs.Numbered.{are_numbered, numbered_in}
 use Rattle.inquire_core.specs.Readings.{role_below}
-use Rattle.coord_table.specs.Restores.{IsNumbered, IsRestored, Rebuilds}
+use Rattle.coord_table.specs.Restores.{IsNumbered, IsRestored, NotRebuilt, Rebuilds, appended_to}
 use Rattle.coord_table.specs.declared.rebuilding.Rebuilt.{Rebuilt}
 use Rattle.coord_core.proofs.Made.{never_decided}
 use Rattle.tree_model.specs.declared.events.StepError.{StepError}
@@ -46,6 +49,7 @@ same_but_log v log =
       views = λ c. same_view _;
       branches = λ c. refl;
       decided = λ c. refl;
+      spent = refl;
     }
 
 -- a log that is seen as it was
@@ -67,8 +71,14 @@ no_branches : (parent : Option ProcessId) (rs : List Record) (c : Case)
 no_branches None rs c = refl
 no_branches (Some p) rs c = refl
 
+-- a coordinator's log is a coordinator's
+pub coordinator_kind : (p : Option ProcessId) → kind_of_role (role_below p) ≡ Coordinator
+coordinator_kind None = refl
+coordinator_kind (Some p) = refl
+
 module _ (v : CoordinatorValue) (keep : ℕ) (ls : List LogRecord) (r : Rebuilt) (log : LogState)
-    (left : ls ≡ left_by v.log.sight keep) (rebuilds : Rebuilds (place_of v) ls r) where
+    (left : ls ≡ left_by v.log.sight keep) (rebuilds : Rebuilds (place_of v) ls r)
+    (own : v.log.sight.form ≡ log_form v.me Coordinator) where
   of_left : Rebuilds (place_of v) (left_by v.log.sight keep) r
   of_left = subst (λ ks. Rebuilds (place_of v) ks r) left rebuilds
 
@@ -78,6 +88,7 @@ module _ (v : CoordinatorValue) (keep : ℕ) (ls : List LogRecord) (r : Rebuilt)
       record {
         place = refl;
         log = λ i. record {
+          form = (restarted.form ∙ own ∙ ap (log_form v.me) (sym (coordinator_kind v.parent))) i;
           kept = record {
             forced = (restarted.forced ∙ ap (λ ks. left_by v.log.sight keep ++ ks) of_left.frames) i;
             unforced = restarted.unforced i;
@@ -105,7 +116,7 @@ module _ (v : CoordinatorValue) (keep : ℕ) (ls : List LogRecord) (r : Rebuilt)
   not_restarted log_error.Memory same = same_log v log same
   not_restarted log_error.Device breaks = (
     record {
-      kind = refl;
+      form = breaks.form;
       appended = breaks.appended;
       stand = subst (λ ks. records_of log.sight.kept ≡ left_by v.log.sight keep ++ take breaks.appended ks)
           of_left.frames breaks.stand;
@@ -115,6 +126,19 @@ module _ (v : CoordinatorValue) (keep : ℕ) (ls : List LogRecord) (r : Rebuilt)
     },
     refl,
   )
+
+-- nothing was rebuilt: so it did not restart
+pub not_rebuilt : (v : CoordinatorValue) (keep : ℕ) (ls : List LogRecord) (e : StepError)
+    → ls ≡ left_by v.log.sight keep → NotRebuilt (place_of v) ls e
+    → NotRestarted (state v) keep (state v) e
+not_rebuilt v keep ls steps.Memory left h = same_itself v
+not_rebuilt v keep ls steps.Exhausted left h = (
+  same_itself v,
+  λ held. h (subst (λ ks. AllByRecursion (IsSound Coordinator) (appended_to (place_of v) ks)) (sym left)
+      (subst (λ k. AllByRecursion (IsSound k) (appended_to (place_of v) (left_by v.log.sight keep)))
+      (coordinator_kind v.parent) held)),
+)
+not_rebuilt v keep ls e left h = absurd h
 
 never : (boot n : ℕ) → boot < boot → n ≤ 0
 never boot n below = absurd (omega arith)
@@ -129,13 +153,13 @@ numbered_before boot (Some p) c restored at =
 
 -- the cases that were rebuilt have numbers of earlier boots, and no ticket is active
 pub is_coordinator : (v : CoordinatorValue) (ls : List LogRecord) (r : Rebuilt) (log : LogState)
-    → Rebuilds (place_of v) ls r → log.kind ≡ Coordinator
+    → Rebuilds (place_of v) ls r → log.sight.form ≡ log_form v.me Coordinator
     → are_numbered 0 (kept_records (state (rebuilt_as v log r))) ≡ true
     → r.boot ≤ boot_of (kept_records (state (rebuilt_as v log r)))
     → IsCoordinator (rebuilt_as v log r)
-is_coordinator v ls r log rebuilds kind logged opened =
+is_coordinator v ls r log rebuilds form logged opened =
     record {
-      kind = kind;
+      form = form;
       active = λ k d p at is.
           let no : false ≡ true = sym (ap (is_for d) (rebuilds.entries k p at).ungiven) ∙ is in
           absurd (cc);
@@ -168,6 +192,10 @@ not_reopened v w keep steps.Device left all is broke =
       log_left = ap (λ (l : LogState). l.sight) (sym is);
       broke = broke;
     }
+not_reopened v w keep steps.Exhausted left all is refused = (
+  ap (λ (l : LogState). l.sight) is ∙ refused.0.log,
+  record { before = state v; place_is = refl; log_is = refl; keep = keep; left = all; beyond = refused.1 },
+)
 not_reopened v w keep e left all is refused = absurd refused
 
 -- A trim.
@@ -182,11 +210,13 @@ trimmed_as v =
     ap (λ rs. front_of_trim (records_of v.log.sight.kept) ++ logged (state v) rs)
     (sym (no_data_records v.parent (read_of (state v) (records_of v.log.sight.kept))))
 
-pub trims : (v : CoordinatorValue) (log : LogState) (count : ℕ) → Trimmed v.log log [] count
+pub trims : (v : CoordinatorValue) (log : LogState) (count : ℕ) → v.log.sight.form ≡ log_form v.me Coordinator
+    → Trimmed v.log log [] count
     → Trims (state v) (state (record v { log = log })) count
-trims v log count trimmed =
+trims v log count own trimmed =
     record {
       log = λ i. record {
+        form = (trimmed.log.form ∙ own ∙ ap (log_form v.me) (sym (coordinator_kind v.parent))) i;
         kept = record { forced = (trimmed.log.forced ∙ trimmed_as v) i; unforced = trimmed.log.unforced i };
         behind = trimmed.log.behind i;
         failed = trimmed.log.works i;

@@ -5,9 +5,9 @@ use Rattle.tree_model.specs.declared.events.StepError.TheVariants as steps
 use Rattle.tree_model.specs.Nodes.{Place}
 use Rattle.rec_log.specs.Sights.{LogSight, left_by, records_of}
 use Rattle.core_model.specs.States.{CoreState}
-use Rattle.core_model.specs.Restarting.{NotRestarted}
+use Rattle.core_model.specs.Restarting.{CannotReopen, NotRestarted}
 use Rattle.coord_core.specs.declared.restarting.ReopenError.{ReopenError}
-use Rattle.coord_core.specs.declared.restarting.ReopenError.TheVariants.{Memory, Device, Unfit}
+use Rattle.coord_core.specs.declared.restarting.ReopenError.TheVariants.{Memory, Device, Unfit, Exhausted}
 use Rattle.inquire_core.specs.Numbered.{are_numbered}
 
 -- the device failed as a process that sat here over this log restarted, where all its records were kept; and that
@@ -22,14 +22,32 @@ pub record BreaksOver (place : Place) (old new : LogSight) : Type 0 where
   pub log_left : behind.log ≡ new
   pub broke : NotRestarted before keep behind steps.Device
 
+-- a process that sits here over this log cannot append to it what its restart would, where all its records are kept
+pub record CannotReopenOver (place : Place) (log : LogSight) : Type 0 where
+  pub before : CoreState
+  pub place_is : before.place ≡ place
+  pub log_is : before.log ≡ log
+  pub keep : ℕ
+  pub left : left_by log keep ≡ records_of log.kept
+  pub beyond : CannotReopen before keep
+
 -- why no coordinator that sits here goes on over this log, and what log is handed back: it is as it was, but where
 -- the device failed; a log is unfit where a record is of a case of a boot that the log had not reached
 abbrev pub NotReopened : Place → LogSight → LogSight → ReopenError → Type 0
 NotReopened place old new Memory = new ≡ old
 NotReopened place old new Device = BreaksOver place old new
 NotReopened place old new Unfit = (new ≡ old) × (are_numbered 0 (map (λ l. l.entry) (records_of old.kept)) ≡ false)
+NotReopened place old new Exhausted = (new ≡ old) × CannotReopenOver place old
+
+-- the number of an error
+abbrev pub reopen_number : ReopenError → ℕ
+reopen_number Memory = 1
+reopen_number Device = 2
+reopen_number Unfit = 3
+reopen_number Exhausted = 4
 
 -- the error of a process that goes on over a log, for that of its restart
 abbrev pub error_of_restart : StepError → ReopenError
 error_of_restart steps.Memory = Memory
+error_of_restart steps.Exhausted = Exhausted
 error_of_restart e = Device

@@ -26,6 +26,7 @@ use Rattle.coord_table.specs.Cases.{Slots, ticket_in, view_in}
 use Rattle.coord_table.specs.Takes.{GivenAreActive}
 use Rattle.inquire_core.specs.Numbered.{are_numbered, numbered_in}
 use Rattle.inquire_core.specs.Readings.{place_below}
+use Rattle.log_text.specs.Forms.{log_form}
 
 -- who it is and its parent, if it has one; its tree; its log; its boot; how many transactions it began and
 -- tickets it gave in this boot; and its live cases
@@ -56,6 +57,7 @@ state v =
       view_of = view_in v.slots;
       branch_of = λ c. unknown_branch;
       decided_of = λ c. None;
+      spent = false;
     }
 
 -- the transaction that it began with this number in this boot
@@ -66,12 +68,12 @@ own_txn v p n = record { root = v.me; boot = v.boot; sequence = n; presumption =
 abbrev pub own_ticket : CoordinatorValue → ℕ → Ticket
 own_ticket v n = record { child = v.me; boot = v.boot; number = n }
 
--- what a coordinator keeps: its log is a coordinator's; a case whose ticket is active takes children and
+-- what a coordinator keeps: its log is its own; a case whose ticket is active takes children and
 -- work; no case is live of a transaction or a ticket that it did not number yet, or of a later boot; each case
 -- of its log was numbered in a boot that the log had reached by then, and while its device has not failed the log
 -- has reached its boot
 pub record IsCoordinator (v : CoordinatorValue) : Type 0 where
-  pub kind : v.log.kind ≡ Coordinator
+  pub form : v.log.sight.form ≡ log_form v.me Coordinator
   pub active : GivenAreActive v.slots
   pub begun : (k : ℕ) (p : Presumption) (n : ℕ)
       → case_of (entry_at v.slots k) ≡ Some (root_case (own_txn v p n)) → n ≤ v.begun
@@ -88,7 +90,6 @@ error_of log_error.Device = Device
 
 -- the first record stands forced in an empty log
 pub record WritesOpened (old new : LogState) : Type 0 where
-  pub kind : new.kind ≡ old.kind
   pub sight : new.sight ≡ wrote old.sight (record { entry = Opened 1; is_forced = true } ∷ [])
       (first_opened ∷ [])
 

@@ -4,14 +4,14 @@ use Rattle.tree_model.specs.declared.records.LogRecord.{LogRecord}
 use Rattle.tree_model.specs.declared.events.Input.{Input}
 use Rattle.tree_model.specs.declared.events.Reaction.{Reaction}
 use Rattle.tree_model.specs.declared.events.StepError.{StepError}
-use Rattle.tree_model.specs.declared.events.StepError.TheVariants.{Memory, Device}
+use Rattle.tree_model.specs.declared.events.StepError.TheVariants.{Memory, Device, Exhausted}
 use Rattle.tree_model.specs.Nodes.{Effect, reaction_of}
 use Rattle.tree_model.specs.Reactions.{Does}
 use Rattle.log_text.specs.Made.{frame_record}
 use Rattle.rec_log.specs.Sights.{LogState}
 use Rattle.core_model.specs.States.{CoreState, SameCore, wrote}
 use Rattle.core_model.specs.Turns.{Turn as CoreTurn, Refuses, reacted}
-use Rattle.core_model.specs.Makes.{BreaksIn, Moves}
+use Rattle.core_model.specs.Makes.{BreaksIn, IsWithinBounds, Moves}
 use Rattle.coord_effects.specs.declared.effect.Framed.{Framed}
 use Rattle.coord_effects.specs.Rows.{written_of}
 
@@ -22,11 +22,18 @@ pub record Turned (old new : CoreState) (i : Input) (turn : CoreTurn) (reaction 
   pub does : reacted turn ≡ Does effect
   pub shown : reaction ≡ reaction_of effect
 
--- what stopped the turn: for want of memory nothing changed; or the device failed; or the turn is this refusal, and
--- nothing changed
+-- what the turn does is beyond the bounds of numbers at this process
+pub record IsUnbounded (s : CoreState) (turn : CoreTurn) : Type 0 where
+  pub effect : Effect
+  pub does : reacted turn ≡ Does effect
+  pub beyond : IsWithinBounds s effect → ⊥
+
+-- what stopped the turn: for want of memory nothing changed, nor where it does not fit the bounds of numbers; or the
+-- device failed; or the turn is this refusal, and nothing changed
 abbrev pub Stopped : CoreState → CoreState → CoreTurn → StepError → Type 0
 Stopped old new turn Memory = SameCore old new
 Stopped old new turn Device = BreaksIn old new turn
+Stopped old new turn Exhausted = SameCore old new × IsUnbounded old turn
 Stopped old new turn e = SameCore old new × (turn ≡ Refuses e)
 
 -- the records of frames, as the log holds them
@@ -36,5 +43,4 @@ framed_of (Some w) = frame_record w.frame ∷ []
 
 -- a row's record stands in the log, if it has one
 pub record WritesDown (old new : LogState) (written : Option Framed) : Type 0 where
-  pub kind : new.kind ≡ old.kind
   pub sight : new.sight ≡ wrote old.sight (written_of written) (framed_of written)

@@ -28,8 +28,8 @@ impl<L: LogStore> Coordinator<L> {
         Ok(is_reported(&records, case))
     }
 
-    /// What is reported of the root's case is cleared, forced. UnknownTxn: nothing is reported. Memory:
-    /// nothing changed. Device: the device failed under the record.
+    /// What is reported of the root's case is cleared, forced. UnknownTxn: nothing is reported. Memory,
+    /// Exhausted: nothing changed. Device: the device failed under the record.
     pub(crate) fn clears(&mut self, case: Case) -> Result<Reaction, StepError>
         requires root { self.old.parent ≡ None }
         requires up { self.old.log.sight.failed ≡ false }

@@ -1,5 +1,6 @@
 //! What a coordinator keeps.
 
+ghost use Rattle.log_text.specs.Forms.{log_form};
 ghost use Rattle.std.specs.Prelude.{◌≡◌, ◌+◌, true, IfOk, IsTrue, length};
 ghost use Rattle.live_table.specs.Tables.{AreApart, live_count};
 ghost use Rattle.tree_model.specs.Memory.{ticket_of_child};
@@ -119,7 +120,7 @@ impl<L: LogStore> Coordinator<L> {
     /// The bytes of its log, as a list made anew. Behind a failure of the device a torn frame may stand at
     /// the end.
     pub fn log_text(&self) -> Result<Vec<u8>, AllocError>
-        ensures { IfOk result (λ text. ReadsAs kind.Coordinator text.items
+        ensures { IfOk result (λ text. ReadsAs (log_form self.now.me kind.Coordinator) text.items
             (records_of (state self.now).log.kept) (state self.now).log.failed) }
     {
         self.log.text(self.alloc)

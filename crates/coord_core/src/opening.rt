@@ -1,5 +1,6 @@
 //! Opening a coordinator.
 
+ghost use Rattle.log_text.specs.Forms.{log_form};
 ghost use Rattle.std.specs.Prelude.{◌≡◌, [], false, IfErr, IfOk, OnOk};
 ghost use Rattle.tree_model.specs.declared.names.Kind.TheVariants as kind;
 ghost use Rattle.rec_log.specs.Sights.{records_of};
@@ -17,7 +18,7 @@ use tree_model::{ProcessId, Record, StepError, Tree};
 /// The first record of an empty log: boot 1, forced. Memory: the log is as it was. Device: the log has
 /// failed.
 fn write_opened<L: LogStore>(alloc: Global, log: &mut RecLog<L>) -> Result<(), StepError>
-    requires kind { log.old.kind ≡ kind.Coordinator }
+    requires kind { log.old.sight.form.kind ≡ kind.Coordinator }
     requires works { log.old.sight.failed ≡ false }
     ensures ok { OnOk result (WritesOpened log.old log.new) }
     ensures err { IfErr result (NotOpened log.old log.new) }
@@ -41,7 +42,7 @@ impl<L: LogStore + Drop> Coordinator<L> {
         tree: Tree,
         log: RecLog<L>,
     ) -> Result<Coordinator<L>, (StepError, RecLog<L>)>
-        requires kind { log.kind ≡ kind.Coordinator }
+        requires form { log.sight.form ≡ log_form me kind.Coordinator }
         requires works { log.sight.failed ≡ false }
         requires empty { records_of log.sight.kept ≡ [] }
         ensures ok { IfOk result (λ c. IsOpened (state c)

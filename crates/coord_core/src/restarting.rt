@@ -1,12 +1,13 @@
 //! A coordinator's restart, and its trim.
 
+ghost use Rattle.log_text.specs.Forms.{log_form};
 ghost use Rattle.std.specs.Prelude.{◌≡◌, ℕ, IfErr, IfOk, map};
 ghost use Rattle.tree_model.specs.declared.names.Kind.TheVariants as kind;
 ghost use Rattle.rec_log.specs.Sights.{left_by, log_state, records_of};
 ghost use Rattle.core_model.specs.States.{CoreState};
 ghost use Rattle.core_model.specs.Restarting.{LeftSo, NotRestarted, NotTrimmed, Restarts, Trims};
 ghost use Rattle.inquire_core.specs.Numbered.{are_numbered};
-ghost use Rattle.coord_core.specs.Reopened.{NotReopened, error_of_restart};
+ghost use Rattle.coord_core.specs.Reopened.{NotReopened, error_of_restart, reopen_number};
 ghost use Rattle.coord_core.specs.States.{error_of, role_below, state};
 
 use crate::coordinator::Coordinator;
@@ -31,7 +32,7 @@ fn step_error(error: LogError) -> StepError
 /// Why no coordinator goes on over the log that an earlier one left.
 #[derive(Clone, Copy, Debug, PartialEq, Eq, Error)]
 pub enum ReopenError {
-    /// A growth was refused, or the boots are used up.
+    /// A growth was refused.
     #[error("no memory")]
     Memory,
     /// The device failed.
@@ -40,6 +41,24 @@ pub enum ReopenError {
     /// A record is of a case of a boot that the log had not reached.
     #[error("a record is of a case of a boot that the log had not reached")]
     Unfit,
+    /// No log holds what a restart would append: the boots are used up, or an Abort would name more than 255
+    /// tickets.
+    #[error("numbers are used up")]
+    Exhausted,
+}
+
+impl ReopenError {
+    /// Its number, 1 to 4.
+    pub fn number(self) -> u8
+        ensures { result ≡ reopen_number self }
+    {
+        match self {
+            ReopenError::Memory => 1,
+            ReopenError::Device => 2,
+            ReopenError::Unfit => 3,
+            ReopenError::Exhausted => 4,
+        }
+    }
 }
 
 /// The error of a process that goes on over a log, for that of its restart.
@@ -48,6 +67,7 @@ fn reopen_error(error: StepError) -> ReopenError
 {
     match error {
         StepError::Memory => ReopenError::Memory,
+        StepError::Exhausted => ReopenError::Exhausted,
         _ => ReopenError::Device,
     }
 }
@@ -65,9 +85,9 @@ impl<L: LogStore> Coordinator<L> {
     /// Restarts behind a crash that keeps so many of the log's unforced bytes: what is left of the log is
     /// read, Opened with the next boot is appended, and an Abort record of each case that collected votes
     /// behind a record, all of it forced by one write. Decisions go out again, and cases in doubt ask. All
-    /// memory is taken before the crash, and the records are gone through once. Memory: nothing changed; it
-    /// also stands for boots that are used up, 2^63 - 1 of them, and for more than 255 tickets in an Abort.
-    /// Device: the crash took place and the device failed under it; the coordinator has failed until it is
+    /// memory is taken before the crash, and the records are gone through once. Memory: nothing changed.
+    /// Exhausted: no log holds what it would append, since 2^63 - 1 boots are used up, or an Abort would name
+    /// more than 255 tickets; nothing changed. Device: the crash took place and the device failed under it; the coordinator has failed until it is
     /// restarted.
     pub fn restart(&mut self, keep: usize) -> Result<Reaction, StepError>
         ensures ok { IfOk result (Restarts (state self.old) keep (state self.new)) }
@@ -104,8 +124,8 @@ impl<L: LogStore> Coordinator<L> {
 
 impl<L: LogStore + Drop> Coordinator<L> {
     /// The coordinator `me` of this tree below this parent, as it restarts over the log that an earlier one
-    /// left: the records that stand in it are what a crash left. A refusal hands the log back. Memory, Device:
-    /// as of `restart`. Unfit: a record of the log is of a case of a boot that the log had not reached, which
+    /// left: the records that stand in it are what a crash left. A refusal hands the log back. Memory,
+    /// Exhausted, Device: as of `restart`. Unfit: a record of the log is of a case of a boot that the log had not reached, which
     /// no coordinator writes; the log is as it was.
     pub fn reopen(
         alloc: Global,
@@ -114,7 +134,7 @@ impl<L: LogStore + Drop> Coordinator<L> {
         tree: Tree,
         log: RecLog<L>,
     ) -> Result<(Coordinator<L>, Reaction), (ReopenError, RecLog<L>)>
-        requires { log.kind ≡ kind.Coordinator }
+        requires { log.sight.form ≡ log_form me kind.Coordinator }
         ensures ok { IfOk result (λ made. (old : CoreState) → LeftSo old
             (record { me = me; role = role_below parent; tree = tree }) log.sight.failures
             → (keep : ℕ) → left_by old.log keep ≡ records_of log.sight.kept
@@ -147,7 +167,7 @@ impl<L: LogStore + Drop> Coordinator<L> {
 
     /// The store under its log, as it stands.
     pub fn into_store(self) -> L
-        ensures { (log_state kind.Coordinator (L.bytes result) (L.forced result) (L.failures result)
+        ensures { (log_state (log_form self.me kind.Coordinator) (L.bytes result) (L.forced result) (L.failures result)
             (L.room result) (state self).log.failed).sight ≡ (state self).log }
     {
         self.into_log().into_store()

@@ -21,7 +21,7 @@ pub(crate) fn write_down<L: LogStore>(
     parent: Option<ProcessId>,
     written: &Option<Framed>,
 ) -> Result<(), LogError>
-    requires kind { log.old.kind ≡ kind.Coordinator }
+    requires kind { log.old.sight.form.kind ≡ kind.Coordinator }
     requires room { HasRoom log.old }
     requires works { log.old.sight.failed ≡ false }
     requires framed { AreFramed parent written.now }

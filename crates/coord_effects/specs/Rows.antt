@@ -8,6 +8,7 @@ use Rattle.tree_model.specs.declared.names.Outcome.TheVariants.{Committed, Abort
 use Rattle.tree_model.specs.declared.names.Ticket.{Ticket}
 use Rattle.tree_model.specs.declared.messages.Envelope.{Envelope}
 use Rattle.tree_model.specs.declared.events.Reaction.{Reaction}
+use Rattle.tree_model.specs.declared.events.StepError.{StepError}
 use Rattle.tree_model.specs.declared.events.Told.{Told}
 use Rattle.tree_model.specs.declared.records.Record.{Record}
 use Rattle.tree_model.specs.declared.records.Record.TheVariants.{Commit as CommitRecord, Abort as AbortRecord, End as EndRecord}
@@ -15,7 +16,7 @@ use Rattle.tree_model.specs.declared.records.Reports.{Reports}
 use Rattle.tree_model.specs.declared.standings.Standing.{Standing}
 use Rattle.tree_model.specs.declared.standings.Standing.TheVariants.{Committing, Aborting}
 use Rattle.tree_model.specs.LogNames.{in_log}
-use Rattle.tree_model.specs.Nodes.{Written as WrittenRecord, logged_of, reaction_of}
+use Rattle.tree_model.specs.Nodes.{Written as WrittenRecord, entries_written, logged_of, reaction_of}
 use Rattle.tree_model.specs.Standings.{CoordinatorView}
 use Rattle.tree_model.specs.CoordinatorRows.{Row, Seat as CaseSeat, Reason as AnyReason, ByVote, ByAct, ByAbort}
 use Rattle.tree_model.specs.Reactions.{row_effect}
@@ -23,6 +24,7 @@ use Rattle.tree_model.specs.SameViews.{SameView}
 use Rattle.log_text.specs.Made.{frame_record}
 use Rattle.rec_log.specs.Sights.{IsRecord}
 use Rattle.core_model.specs.Turns.{this_version}
+use Rattle.core_log.specs.Writes.{NotFramed}
 use Rattle.coord_effects.specs.declared.seat.Seat.{Seat}
 use Rattle.coord_effects.specs.declared.seat.Reason.{Reason}
 use Rattle.coord_effects.specs.declared.seat.Reason.TheVariants.{Vote, Act, Abort}
@@ -87,6 +89,10 @@ AreFramed parent (Some w) = IsFramed parent w
 pub record Frames (parent : Option ProcessId) (framed : Framed) (w : Written) : Type 0 where
   pub written : written_by framed ≡ meant w
   pub framed_so : IsFramed parent framed
+
+-- why these records are not written at a coordinator below this parent
+abbrev pub NotWritten : Option ProcessId → List WrittenRecord → StepError → Type 0
+NotWritten parent ws e = NotFramed parent (entries_written ws) e
 
 -- the reaction that shows an effect
 abbrev pub reaction_by : RowEffect → Reaction

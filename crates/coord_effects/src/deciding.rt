@@ -1,15 +1,15 @@
 //! A record that a row writes, and where the case is left behind it.
 
-ghost use Rattle.std.specs.Prelude.{◌≡◌, true, IfOk, OnErr, OnOk};
+ghost use Rattle.std.specs.Prelude.{◌≡◌, ◌∷◌, [], true, IfErr, IfOk, OnErr, OnOk};
 ghost use Rattle.tree_model.specs.CoordinatorRows.{awaits as awaits_view};
 ghost use Rattle.tree_model.specs.Standings.{unknown_view};
-ghost use Rattle.coord_effects.specs.Rows.{ShowsRecord, decision as decision_of, decision_names, waits as waits_for};
+ghost use Rattle.coord_effects.specs.Rows.{NotWritten, ShowsRecord, decision as decision_of, decision_names, meant, waits as waits_for};
 
 use crate::effect::{RowEffect, Written};
 use crate::seat::Seat;
 use coord_case::Live;
-use std::alloc::{AllocError, Global};
-use tree_model::{Case, Envelopes, Outcome, Record, Sequence, Standing, Ticket, Told};
+use std::alloc::Global;
+use tree_model::{Case, Envelopes, Outcome, Record, Sequence, Standing, StepError, Ticket, Told};
 
 /// Commit of the case, with these names.
 fn commit_record(case: Case, named: Sequence<Ticket>) -> Record
@@ -56,7 +56,8 @@ fn waits(outcome: Outcome) -> Standing
 }
 
 /// A decision that each of these owes an acknowledgement of: its record is forced and names them, and the
-/// case waits for them, or is forgotten where there are none. Memory: nothing changed.
+/// case waits for them, or is forgotten where there are none. Memory; Exhausted, where no log holds the record:
+/// nothing changed.
 #[tactic(auto, using(crate::proofs::Decisions::names_decided))]
 pub fn decides_owed(
     alloc: Global,
@@ -66,11 +67,13 @@ pub fn decides_owed(
     told: Option<Told>,
     messages: Envelopes,
     live: &mut Live,
-) -> Result<RowEffect, AllocError>
+) -> Result<RowEffect, StepError>
     ensures shows { IfOk result (λ effect. ShowsRecord seat.parent effect
         (record { entry = decision_of seat.case outcome owed.items; forced = true }) told messages) }
     ensures waiting { OnOk result (live.new ≡ awaits_view (waits_for outcome) owed.items live.old) }
     ensures err { OnErr result (live.new ≡ live.old) }
+    ensures unwritten { IfErr result (NotWritten seat.parent
+        (record { entry = decision_of seat.case outcome owed.items; is_forced = true } ∷ [])) }
 {
     let written = Written::forced(decision(seat.case, outcome, Sequence::from_vec(owed)));
     let effect = RowEffect::writes(alloc, &seat, &written, told, messages)?;
@@ -78,7 +81,7 @@ pub fn decides_owed(
     Ok(effect)
 }
 
-/// A record behind which nobody owes anything: the case is forgotten. Memory: nothing changed.
+/// A record behind which nobody owes anything: the case is forgotten. The errors are those of `decides_owed`.
 pub fn forgets_behind(
     alloc: Global,
     seat: Seat,
@@ -86,10 +89,11 @@ pub fn forgets_behind(
     told: Option<Told>,
     messages: Envelopes,
     live: &mut Live,
-) -> Result<RowEffect, AllocError>
+) -> Result<RowEffect, StepError>
     ensures shows { IfOk result (λ effect. ShowsRecord seat.parent effect written.now told messages) }
     ensures forgotten { OnOk result (live.new ≡ unknown_view) }
     ensures err { OnErr result (live.new ≡ live.old) }
+    ensures unwritten { IfErr result (NotWritten seat.parent (meant written.now ∷ [])) }
 {
     let effect = RowEffect::writes(alloc, &seat, written, told, messages)?;
     live.forget();

@@ -1,14 +1,14 @@
 //! What a row of the reaction table does.
 
-ghost use Rattle.std.specs.Prelude.{◌≡◌, [], false, true, IfOk};
+ghost use Rattle.std.specs.Prelude.{◌≡◌, ◌∷◌, [], false, true, IfErr, IfOk};
 ghost use Rattle.tree_model.specs.Nodes.{logged_of};
-ghost use Rattle.coord_effects.specs.Rows.{Frames, Shows, ShowsRecord, meant, reaction_by};
+ghost use Rattle.coord_effects.specs.Rows.{Frames, NotWritten, Shows, ShowsRecord, meant, reaction_by};
 
 use crate::seat::Seat;
 use core_log::coordinator_frame;
 use log_text::Frame;
-use std::alloc::{AllocError, Global};
-use tree_model::{Envelopes, Logged, Reaction, Record, Sequence, Told};
+use std::alloc::Global;
+use tree_model::{Envelopes, Logged, Reaction, Record, Sequence, StepError, Told};
 
 /// A record that a row writes, as it stands in the log, and whether it is forced.
 #[derive(Drop)]
@@ -45,10 +45,10 @@ impl Written {
         }
     }
 
-    /// The record as it stands in the log of this coordinator. One that no log can hold is refused as for
-    /// want of memory.
-    fn framed(&self, alloc: Global, seat: &Seat) -> Result<Framed, AllocError>
-        ensures { IfOk result (λ framed. Frames seat.now.parent framed self.now) }
+    /// The record as it stands in the log of this coordinator. Exhausted: no log holds it.
+    fn framed(&self, alloc: Global, seat: &Seat) -> Result<Framed, StepError>
+        ensures ok { IfOk result (λ framed. Frames seat.now.parent framed self.now) }
+        ensures unwritten { IfErr result (NotWritten seat.now.parent (meant self.now ∷ [])) }
     {
         Ok(Framed {
             frame: coordinator_frame(&self.entry, seat.parent, alloc)?,
@@ -104,16 +104,16 @@ impl RowEffect {
         }
     }
 
-    /// A record is written, this is told, and these messages go out. A record that no log can hold is
-    /// refused as for want of memory.
+    /// A record is written, this is told, and these messages go out. Exhausted: no log holds the record.
     pub fn writes(
         alloc: Global,
         seat: &Seat,
         written: &Written,
         told: Option<Told>,
         messages: Envelopes,
-    ) -> Result<RowEffect, AllocError>
-        ensures { IfOk result (λ effect. ShowsRecord seat.now.parent effect written.now told messages) }
+    ) -> Result<RowEffect, StepError>
+        ensures ok { IfOk result (λ effect. ShowsRecord seat.now.parent effect written.now told messages) }
+        ensures unwritten { IfErr result (NotWritten seat.now.parent (meant written.now ∷ [])) }
     {
         let mut shown = Sequence::new(alloc);
         shown.push(written.shown())?;

@@ -1,6 +1,6 @@
 //! Rows of the reaction table for a case that promised, below the root (R*).
 
-ghost use Rattle.std.specs.Prelude.{◌≡◌, IfOk, OnErr};
+ghost use Rattle.std.specs.Prelude.{◌≡◌, IfErr, IfOk, OnErr};
 ghost use Rattle.tree_model.specs.CoordinatorRows.{
   prepared_abort as abort_row,
   prepared_ask as ask_row,
@@ -9,22 +9,24 @@ ghost use Rattle.tree_model.specs.CoordinatorRows.{
 };
 ghost use Rattle.tree_model.specs.SameViews.{SameView};
 ghost use Rattle.core_model.specs.Turns.{this_version};
-ghost use Rattle.coord_effects.specs.Rows.{Does, seat as seat_meant};
+ghost use Rattle.coord_effects.specs.Rows.{Does, NotWritten, seat as seat_meant};
 
 use crate::deciding::{decides_owed, forgets_behind};
 use crate::effect::{RowEffect, Written};
 use crate::seat::{Seat, tell_each, up};
 use coord_case::Live;
 use std::alloc::{AllocError, Global};
-use tree_model::{Message, Outcome, Presumption, Record, Sequence};
+use tree_model::{Message, Outcome, Presumption, Record, Sequence, StepError};
 
 /// Prepared, COMMIT: the promised are told. Under Presumed Abort the decision is forced and names those that
 /// owe an acknowledgement; it is acknowledged itself behind the last of theirs. Under Presumed Commit nobody
-/// owes one. Memory: nothing changed.
-pub fn prepared_commit(alloc: Global, seat: Seat, live: &mut Live) -> Result<RowEffect, AllocError>
+/// owes one. Memory, Exhausted: nothing changed.
+pub fn prepared_commit(alloc: Global, seat: Seat, live: &mut Live) -> Result<RowEffect, StepError>
     ensures ok { IfOk result (λ effect. Does seat
         (commit_row this_version (seat_meant seat) live.old) effect live.new) }
     ensures err { OnErr result (live.new ≡ live.old) }
+    ensures unwritten { IfErr result (NotWritten seat.parent
+        (commit_row this_version (seat_meant seat) live.old).written) }
 {
     let promised = Vec::from_slice(alloc, live.promised())?;
     let mut messages = Sequence::new(alloc);
@@ -49,11 +51,14 @@ pub fn prepared_commit(alloc: Global, seat: Seat, live: &mut Live) -> Result<Row
 }
 
 /// Prepared, ABORT: the promised are told. Under Presumed Commit the abort is forced and names those that owe
-/// an acknowledgement, as above; under Presumed Abort nobody owes one. Memory: nothing changed.
-pub fn prepared_abort(alloc: Global, seat: Seat, live: &mut Live) -> Result<RowEffect, AllocError>
+/// an acknowledgement, as above; under Presumed Abort nobody owes one. Memory, Exhausted:
+/// nothing changed.
+pub fn prepared_abort(alloc: Global, seat: Seat, live: &mut Live) -> Result<RowEffect, StepError>
     ensures ok { IfOk result (λ effect. Does seat
         (abort_row this_version (seat_meant seat) live.old) effect live.new) }
     ensures err { OnErr result (live.new ≡ live.old) }
+    ensures unwritten { IfErr result (NotWritten seat.parent
+        (abort_row this_version (seat_meant seat) live.old).written) }
 {
     let promised = Vec::from_slice(alloc, live.promised())?;
     let mut messages = Sequence::new(alloc);

@@ -1,6 +1,7 @@
 -- A vote that counts, and one that is taken back.
-use Rattle.std.proofs.Common.{◌≡◌, Bool, true, false, not, ◌&&◌, ◌||◌, List, [], ◌∷◌, ◌++◌, refl, sym, ap, ◌∙◌}
+use Rattle.std.proofs.Common.{◌≡◌, Bool, true, false, not, ◌&&◌, ◌||◌, List, [], ◌∷◌, ◌++◌, refl, subst, sym, ap, ◌∙◌}
 use Rattle.tree_model.specs.declared.names.Ticket.{Ticket}
+use Rattle.tree_model.specs.declared.events.StepError.{StepError}
 use Rattle.tree_model.specs.declared.standings.Vote.{Vote}
 use Rattle.tree_model.specs.declared.standings.Vote.TheVariants.{Yes, No, Read}
 use Rattle.tree_model.specs.Names.{same_ticket}
@@ -15,7 +16,7 @@ use Rattle.core_model.proofs.Alike.{collecting_after-same, has_voted-so, row_eff
 use Rattle.coord_effects.specs.declared.effect.RowEffect.{RowEffect}
 use Rattle.coord_effects.specs.declared.seat.Seat.{Seat}
 use Rattle.coord_case.specs.Lives.{Uncounts}
-use Rattle.coord_effects.specs.Rows.{Does, seat}
+use Rattle.coord_effects.specs.Rows.{Does, NotWritten, seat}
 use Rattle.coord_case.proofs.Children.{voted_so-push}
 
 so_few : (y n r : Bool) → (y || (n || r)) ≡ false → (y ≡ false) × (n ≡ false) × (r ≡ false)
@@ -110,3 +111,15 @@ does_vote s t w old mid new effect counted counts does =
       reaction = done.reaction;
       view_is = done.view_is;
     })
+
+-- what that row does not write, the row of the vote does not
+pub unwritten_vote : (s : Seat) (t : Ticket) (w : Vote) (old mid : CoordinatorView) (e : StepError)
+    → is_counted old.accepted old.votes t ≡ true
+    → SameView mid (record old { votes = old.votes ++ (t, w) ∷ [] })
+    → NotWritten s.parent (collecting_after (seat s) mid w).written e
+    → NotWritten s.parent (collecting_vote (seat s) t w old).written e
+unwritten_vote s t w old mid e counted counts h =
+    let after = record old { votes = old.votes ++ (t, w) ∷ [] } in
+    let same : SameRow (collecting_after (seat s) mid w) (collecting_after (seat s) after w) =
+    collecting_after-same mid after counts (seat s) w in
+    rw counted (subst (λ ws. NotWritten s.parent ws e) same.written h)

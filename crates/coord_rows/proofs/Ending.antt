@@ -1,6 +1,5 @@
 -- The End behind the last acknowledgement that is owed.
 use Rattle.std.proofs.Common.{◌≡◌, ◌∙◌, true, false, if◌then◌else◌, None, Some, List, [], ◌∷◌, Result, Ok, Err, IfOk, OnOk, ap, refl, subst, sym}
-use Rattle.std.specs.declared.alloc.AllocError.{AllocError}
 use Rattle.tree_model.specs.declared.names.Outcome.{Outcome}
 use Rattle.tree_model.specs.declared.names.ProcessId.{ProcessId}
 use Rattle.tree_model.specs.declared.names.Ticket.{Ticket}
@@ -41,8 +40,8 @@ does_shown s w ms effect view shows gone =
     }
 
 -- what shows this record and leaves nothing of the case does the row that says so
-pub does_ending : (s : Seat) (w : Written) (ms : List Envelope) (row : Row) (view : CoordinatorView)
-    (made : Result RowEffect AllocError) → row ≡ ending w ms
+pub does_ending : {E : Type 0} (s : Seat) (w : Written) (ms : List Envelope) (row : Row) (view : CoordinatorView)
+    (made : Result RowEffect E) → row ≡ ending w ms
     → IfOk made (λ effect. ShowsRecord s.parent effect w None ms) → OnOk made (view ≡ unknown_view)
     → IfOk made (λ effect. Does s row effect view)
 does_ending s w ms row view (Ok effect) is shows gone =

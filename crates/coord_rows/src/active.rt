@@ -1,6 +1,6 @@
 //! Rows of the reaction table for a case that takes children and work (R*).
 
-ghost use Rattle.std.specs.Prelude.{◌≡◌, true, IfOk, OnErr};
+ghost use Rattle.std.specs.Prelude.{◌≡◌, ◌≤◌, ◌+◌, ◌^◌, true, IfErr, IfOk, OnErr};
 ghost use Rattle.tree_model.specs.Records.{in_list as is_in};
 ghost use Rattle.tree_model.specs.CoordinatorRows.{
   active_abort as abort_row,
@@ -10,15 +10,17 @@ ghost use Rattle.tree_model.specs.CoordinatorRows.{
   active_joined as joined_row,
   active_work as work_row,
 };
+ghost use Rattle.tree_model.specs.Memory.{works_of};
 ghost use Rattle.tree_model.specs.SameViews.{SameView};
-ghost use Rattle.coord_effects.specs.Rows.{Does, seat as seat_meant};
+ghost use Rattle.coord_effects.specs.Rows.{Does, NotWritten, seat as seat_meant};
+ghost use Rattle.coord_rows.specs.Works.{NotSent};
 
 use coord_case::Live;
 use coord_effects::{RowEffect, Seat, Written, acknowledge_abort, tell_each, up};
 use core_model::one_message;
 use std::alloc::{AllocError, Global};
 use tree_model::{
-    Conclusion, Message, Op, Outcome, Presumption, ProcessId, Record, Sequence, Ticket,
+    Conclusion, Message, Op, Outcome, Presumption, ProcessId, Record, Sequence, StepError, Ticket,
 };
 
 /// Active, the join act: a child that is not accepted is invited.
@@ -53,22 +55,24 @@ pub fn active_joined(
     Ok(RowEffect::quiet(alloc))
 }
 
-/// Active, the work act: the accepted child's next work is sent. Memory, or no number left: nothing changed.
+/// Active, the work act: the accepted child's next work is sent. Memory; Exhausted, where 2^64 - 1 works were
+/// sent to the child: nothing changed.
 pub fn active_work(
     alloc: Global,
     seat: Seat,
     ticket: Ticket,
     op: &Op,
     live: &mut Live,
-) -> Result<RowEffect, AllocError>
+) -> Result<RowEffect, StepError>
     requires { is_in live.old.accepted ticket ≡ true }
     ensures ok { IfOk result (λ effect. Does seat
         (work_row (seat_meant seat) ticket op.now live.old) effect live.new) }
     ensures err { OnErr result (live.new ≡ live.old) }
+    ensures unsent { IfErr result (NotSent (works_of live.old.works ticket + 1)) }
 {
     let sent = live.works_sent(&ticket);
     if sent == u64::MAX {
-        return Err(AllocError);
+        return Err(StepError::Exhausted);
     }
     let message = Message::Work(seat.child_case(ticket), sent + 1, op.copied(alloc)?);
     let messages = one_message(alloc, seat.me, ticket.child, message)?;
@@ -77,10 +81,11 @@ pub fn active_work(
 }
 
 /// Active, the commit act or PREPARE: where nobody takes part the case has read only, else each child is
-/// asked for its vote. Memory: nothing changed.
-pub fn active_commit(alloc: Global, seat: Seat, live: &mut Live) -> Result<RowEffect, AllocError>
+/// asked for its vote. Memory, Exhausted: nothing changed.
+pub fn active_commit(alloc: Global, seat: Seat, live: &mut Live) -> Result<RowEffect, StepError>
     ensures ok { IfOk result (λ effect. Does seat (commit_row (seat_meant seat) live.old) effect live.new) }
     ensures err { OnErr result (live.new ≡ live.old) }
+    ensures unwritten { IfErr result (NotWritten seat.parent (commit_row (seat_meant seat) live.old).written) }
 {
     if !live.is_alone() {
         return active_commit_with(alloc, seat, live);
@@ -91,10 +96,12 @@ pub fn active_commit(alloc: Global, seat: Seat, live: &mut Live) -> Result<RowEf
 }
 
 /// Under Presumed Commit the children are named in a forced record before they are asked.
-fn active_commit_with(alloc: Global, seat: Seat, live: &mut Live) -> Result<RowEffect, AllocError>
+fn active_commit_with(alloc: Global, seat: Seat, live: &mut Live) -> Result<RowEffect, StepError>
     ensures ok { IfOk result (λ effect. Does seat
         (commit_with_row (seat_meant seat) live.old seat.case.txn.presumption) effect live.new) }
     ensures err { OnErr result (live.new ≡ live.old) }
+    ensures unwritten { IfErr result (NotWritten seat.parent
+        (commit_with_row (seat_meant seat) live.old seat.case.txn.presumption).written) }
 {
     let messages = live.prepares(alloc, seat.me, seat.case.txn)?;
     match seat.case.txn.presumption {

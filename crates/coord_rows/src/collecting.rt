@@ -1,6 +1,6 @@
 //! Rows of the reaction table for a case that collects votes (R*).
 
-ghost use Rattle.std.specs.Prelude.{◌≡◌, IfOk, OnErr};
+ghost use Rattle.std.specs.Prelude.{◌≡◌, IfErr, IfOk, OnErr};
 ghost use Rattle.tree_model.specs.CoordinatorRows.{
   cascaded_prepares as promises_row,
   collecting_abort as abort_row,
@@ -12,26 +12,30 @@ ghost use Rattle.tree_model.specs.CoordinatorRows.{
   root_commits as commits_row,
 };
 ghost use Rattle.tree_model.specs.SameViews.{SameView};
-ghost use Rattle.coord_effects.specs.Rows.{Does, reason as reason_meant, seat as seat_meant};
+ghost use Rattle.coord_effects.specs.Rows.{Does, NotWritten, reason as reason_meant, seat as seat_meant};
 
 use coord_case::Live;
 use coord_effects::{
     Reason, RowEffect, Seat, Written, decides_owed, forgets_behind, heard_above, tell_each, up,
 };
-use std::alloc::{AllocError, Global};
-use tree_model::{Conclusion, Message, Outcome, Presumption, Record, Sequence, Ticket, Told, Vote};
+use std::alloc::Global;
+use tree_model::{
+    Conclusion, Message, Outcome, Presumption, Record, Sequence, StepError, Ticket, Told, Vote,
+};
 
-/// Collecting, a vote: the first of an accepted ticket counts. Memory: nothing changed.
+/// Collecting, a vote: the first of an accepted ticket counts. Memory, Exhausted: nothing changed.
 pub fn collecting_vote(
     alloc: Global,
     seat: Seat,
     ticket: Ticket,
     vote: Vote,
     live: &mut Live,
-) -> Result<RowEffect, AllocError>
+) -> Result<RowEffect, StepError>
     ensures ok { IfOk result (λ effect. Does seat
         (vote_row (seat_meant seat) ticket vote live.old) effect live.new) }
     ensures err { OnErr result (SameView live.new live.old) }
+    ensures unwritten { IfErr result (NotWritten seat.parent
+        (vote_row (seat_meant seat) ticket vote live.old).written) }
 {
     if !live.is_counted(&ticket) {
         return Ok(RowEffect::quiet(alloc));
@@ -52,10 +56,12 @@ fn collecting_after(
     seat: Seat,
     vote: Vote,
     live: &mut Live,
-) -> Result<RowEffect, AllocError>
+) -> Result<RowEffect, StepError>
     ensures ok { IfOk result (λ effect. Does seat
         (after_row (seat_meant seat) live.old vote) effect live.new) }
     ensures err { OnErr result (live.new ≡ live.old) }
+    ensures unwritten { IfErr result (NotWritten seat.parent
+        (after_row (seat_meant seat) live.old vote).written) }
 {
     match vote {
         Vote::No => collecting_abort(alloc, seat, Reason::Vote, live),
@@ -70,16 +76,18 @@ fn collecting_after(
 }
 
 /// Collecting, a NO, the abort act or ABORT: under Presumed Commit the abort is forced and names those that
-/// may have promised. Memory: nothing changed.
+/// may have promised. Memory, Exhausted: nothing changed.
 pub fn collecting_abort(
     alloc: Global,
     seat: Seat,
     reason: Reason,
     live: &mut Live,
-) -> Result<RowEffect, AllocError>
+) -> Result<RowEffect, StepError>
     ensures ok { IfOk result (λ effect. Does seat
         (abort_row (seat_meant seat) (reason_meant reason) live.old) effect live.new) }
     ensures err { OnErr result (live.new ≡ live.old) }
+    ensures unwritten { IfErr result (NotWritten seat.parent
+        (abort_row (seat_meant seat) (reason_meant reason) live.old).written) }
 {
     let undecided = live.undecided(alloc)?;
     abort_undecided(alloc, seat, reason, undecided, live)
@@ -91,10 +99,12 @@ fn abort_undecided(
     reason: Reason,
     undecided: Vec<Ticket>,
     live: &mut Live,
-) -> Result<RowEffect, AllocError>
+) -> Result<RowEffect, StepError>
     ensures ok { IfOk result (λ effect. Does seat (abort_by_row (seat_meant seat) (reason_meant reason)
         live.old undecided.items seat.case.txn.presumption) effect live.new) }
     ensures err { OnErr result (live.new ≡ live.old) }
+    ensures unwritten { IfErr result (NotWritten seat.parent
+        (abort_by_row (seat_meant seat) (reason_meant reason) live.old undecided.items seat.case.txn.presumption).written) }
 {
     let mut messages = heard_above(alloc, seat, reason, &undecided)?;
     tell_each(&mut messages, seat, Outcome::Aborted, &undecided)?;
@@ -113,9 +123,10 @@ fn abort_undecided(
 
 /// The last vote, and none was NO: with nobody that promised the case has read only; else the root commits,
 /// and a coordinator below it promises.
-fn collecting_full(alloc: Global, seat: Seat, live: &mut Live) -> Result<RowEffect, AllocError>
+fn collecting_full(alloc: Global, seat: Seat, live: &mut Live) -> Result<RowEffect, StepError>
     ensures ok { IfOk result (λ effect. Does seat (full_row (seat_meant seat) live.old) effect live.new) }
     ensures err { OnErr result (live.new ≡ live.old) }
+    ensures unwritten { IfErr result (NotWritten seat.parent (full_row (seat_meant seat) live.old).written) }
 {
     if live.none_voted_yes() {
         return collecting_read_only(alloc, seat, live);
@@ -128,9 +139,10 @@ fn collecting_full(alloc: Global, seat: Seat, live: &mut Live) -> Result<RowEffe
 }
 
 /// All read only: nothing is decided. Under Presumed Commit the record of the votes' collection is ended.
-fn collecting_read_only(alloc: Global, seat: Seat, live: &mut Live) -> Result<RowEffect, AllocError>
+fn collecting_read_only(alloc: Global, seat: Seat, live: &mut Live) -> Result<RowEffect, StepError>
     ensures ok { IfOk result (λ effect. Does seat (read_only_row (seat_meant seat)) effect live.new) }
     ensures err { OnErr result (live.new ≡ live.old) }
+    ensures unwritten { IfErr result (NotWritten seat.parent (read_only_row (seat_meant seat)).written) }
 {
     let messages = up(alloc, seat, Message::Read(seat.case))?;
     let told = seat.told(Conclusion::ReadOnly);
@@ -153,10 +165,12 @@ fn root_commits(
     seat: Seat,
     yes: Vec<Ticket>,
     live: &mut Live,
-) -> Result<RowEffect, AllocError>
+) -> Result<RowEffect, StepError>
     ensures ok { IfOk result (λ effect. Does seat
         (commits_row (seat_meant seat) live.old yes.items seat.case.txn.presumption) effect live.new) }
     ensures err { OnErr result (live.new ≡ live.old) }
+    ensures unwritten { IfErr result (NotWritten seat.parent
+        (commits_row (seat_meant seat) live.old yes.items seat.case.txn.presumption).written) }
 {
     let mut messages = Sequence::new(alloc);
     tell_each(&mut messages, seat, Outcome::Committed, &yes)?;
@@ -181,10 +195,12 @@ fn cascaded_prepares(
     seat: Seat,
     yes: &[Ticket],
     live: &mut Live,
-) -> Result<RowEffect, AllocError>
+) -> Result<RowEffect, StepError>
     ensures ok { IfOk result (λ effect. Does seat
         (promises_row (seat_meant seat) live.old yes.now) effect live.new) }
     ensures err { OnErr result (live.new ≡ live.old) }
+    ensures unwritten { IfErr result (NotWritten seat.parent
+        (promises_row (seat_meant seat) live.old yes.now).written) }
 {
     let messages = up(alloc, seat, Message::Yes(seat.case))?;
     let named = Sequence::from_vec(Vec::from_slice(alloc, yes)?);

@@ -1,6 +1,6 @@
 //! Rows of the reaction table for a case that was decided, and for one of which nothing is known (R*).
 
-ghost use Rattle.std.specs.Prelude.{◌≡◌, ◌++◌, [], IfOk, None, OnErr};
+ghost use Rattle.std.specs.Prelude.{◌≡◌, ◌++◌, [], IfErr, IfOk, None, OnErr};
 ghost use Rattle.tree_model.specs.Standings.{CoordinatorView};
 ghost use Rattle.tree_model.specs.CoordinatorRows.{
   aborting_abort as abort_again_row,
@@ -19,7 +19,7 @@ ghost use Rattle.tree_model.specs.CoordinatorRows.{
 ghost use Rattle.tree_model.specs.SameViews.{SameView};
 ghost use Rattle.core_model.specs.Turns.{this_version};
 ghost use Rattle.coord_effects.specs.declared.seat.Seat.{Seat as AnySeat};
-ghost use Rattle.coord_effects.specs.Rows.{Does, end_written, seat as seat_meant};
+ghost use Rattle.coord_effects.specs.Rows.{Does, NotWritten, end_written, seat as seat_meant};
 
 use crate::found::{in_order, reports_of};
 use coord_case::Live;
@@ -29,7 +29,7 @@ use coord_effects::{
 };
 use inquire_core::presumed;
 use std::alloc::{AllocError, Global};
-use tree_model::{Case, Finding, Message, Outcome, Record, Sequence, Ticket};
+use tree_model::{Case, Finding, Message, Outcome, Record, Sequence, StepError, Ticket};
 
 /// The root's End: plain where nothing was found; else with what was found, forced.
 fn root_end(alloc: Global, case: Case, found: &[Finding]) -> Result<Written, AllocError>
@@ -42,17 +42,19 @@ fn root_end(alloc: Global, case: Case, found: &[Finding]) -> Result<Written, All
 }
 
 /// The last ACK that is owed: the root writes down what was found; a coordinator below it acknowledges in its
-/// turn, with what was found. Memory: nothing changed.
+/// turn, with what was found. Memory, Exhausted: nothing changed.
 fn ends(
     alloc: Global,
     seat: Seat,
     outcome: Outcome,
     found: Vec<Finding>,
     live: &mut Live,
-) -> Result<RowEffect, AllocError>
+) -> Result<RowEffect, StepError>
     ensures ok { IfOk result (λ effect. Does seat
         (ends_row this_version (seat_meant seat) outcome [] found.items live.old) effect live.new) }
     ensures err { OnErr result (live.new ≡ live.old) }
+    ensures unwritten { IfErr result (NotWritten seat.parent
+        (ends_row this_version (seat_meant seat) outcome [] found.items live.old).written) }
 {
     match seat.parent {
         None => {
@@ -69,7 +71,8 @@ fn ends(
 }
 
 /// Committing or Aborting, an ACK that agrees with this outcome, and brings these findings: the first of a
-/// ticket that owes one counts, and the last one that is owed ends the case. Memory: nothing changed.
+/// ticket that owes one counts, and the last one that is owed ends the case. Memory, Exhausted: nothing
+/// changed.
 pub fn decided_ack(
     alloc: Global,
     seat: Seat,
@@ -77,11 +80,13 @@ pub fn decided_ack(
     ticket: Ticket,
     findings: &[Finding],
     live: &mut Live,
-) -> Result<RowEffect, AllocError>
+) -> Result<RowEffect, StepError>
     ensures ok { IfOk result (λ effect. Does seat
         (ack_row this_version (seat_meant seat) outcome ticket (live.old.found ++ findings.now) live.old)
         effect live.new) }
     ensures err { OnErr result (live.new ≡ live.old) }
+    ensures unwritten { IfErr result (NotWritten seat.parent
+        (ack_row this_version (seat_meant seat) outcome ticket (live.old.found ++ findings.now) live.old).written) }
 {
     if !live.owes(&ticket) {
         return Ok(RowEffect::quiet(alloc));
@@ -147,10 +152,13 @@ pub fn aborting_prepare(alloc: Global, seat: Seat) -> Result<RowEffect, AllocErr
     Ok(RowEffect::sends(alloc, messages))
 }
 
-/// Unknown, at the root, where what was found is reported: it is cleared, forced.
-pub fn clears(alloc: Global, seat: Seat) -> Result<RowEffect, AllocError>
-    ensures { IfOk result (λ effect. (view : CoordinatorView)
+/// Unknown, at the root, where what was found is reported: it is cleared, forced. Exhausted: no
+/// log holds the record.
+pub fn clears(alloc: Global, seat: Seat) -> Result<RowEffect, StepError>
+    ensures ok { IfOk result (λ effect. (view : CoordinatorView)
         → Does seat (clears_row (seat_meant seat) view) effect view) }
+    ensures unwritten { IfErr result (λ e. (view : CoordinatorView)
+        → NotWritten seat.parent (clears_row (seat_meant seat) view).written e) }
 {
     let written = Written::forced(Record::Cleared(seat.case));
     RowEffect::writes(alloc, &seat, &written, None, Sequence::new(alloc))

@@ -1,12 +1,15 @@
 -- The frames of records, one after another.
-use Rattle.std.proofs.Common.{◌≡◌, ◌∙◌, List, [], ◌∷◌, ◌++◌, Option, map, ap}
+use Rattle.std.proofs.Common.{◌≡◌, ◌∙◌, List, [], ◌∷◌, ◌++◌, Option, Result, Ok, Err, IfErr, IsErrAnd, map, ap, sym, subst}
 use Rattle.std.proofs.lemmas.List.{append_assoc, map-append}
 use Rattle.tree_model.specs.declared.names.Kind.{Kind}
 use Rattle.tree_model.specs.declared.names.ProcessId.{ProcessId}
 use Rattle.tree_model.specs.declared.records.LogRecord.{LogRecord}
 use Rattle.tree_model.specs.declared.records.Record.{Record}
+use Rattle.tree_model.specs.declared.events.StepError.{StepError}
+use Rattle.tree_model.specs.declared.events.StepError.TheVariants as steps
 use Rattle.tree_model.specs.LogNames.{in_log}
 use Rattle.rec_log.specs.Sights.{AreRecords, IsRecord}
+use Rattle.core_log.specs.Writes.{AreHeld, NotFramed}
 
 pub spells_more : {F : Type 0} (g : F → LogRecord) (p : Option ProcessId) (fs : List F) (f : F) (r : Record)
     (rest : List Record) (all : List LogRecord)
@@ -21,3 +24,16 @@ pub are_more : (p : Kind) (ls : List LogRecord) (l : LogRecord) → AreRecords p
     → AreRecords p (ls ++ l ∷ [])
 are_more p [] l all is = (is, tt)
 are_more p (k ∷ ls) l all is = (all.0, are_more p ls l all.1 is)
+
+-- where one of the records that are left has no frame, the records have none
+pub beyond_all : (p : Option ProcessId) (all rest : List Record) (r : Record) (e : StepError)
+    → (AreHeld p all → AreHeld p (r ∷ rest)) → NotFramed p (r ∷ []) e → NotFramed p all e
+beyond_all p all rest r steps.Memory from h = tt
+beyond_all p all rest r steps.Exhausted from h = λ held. h ((from held).0, tt)
+beyond_all p all rest r e from h = absurd h
+
+-- an error that was passed on
+pub made_error : {A E : Type 0} (Q : E → Type 0) (e : E) (r : Result A E)
+    → IsErrAnd r (λ f. f ≡ e) → Q e → IfErr r Q
+made_error Q e (Ok a) is q = absurd is
+made_error Q e (Err f) is q = subst Q (sym is) q

@@ -1,6 +1,5 @@
 -- A row that was taken through a `&mut` to the live case.
 use Rattle.std.proofs.Common.{◌≡◌, ℕ, Option, None, Some, Result, Ok, Err, IfOk, OnErr, refl, subst, sym, ap, ◌∙◌}
-use Rattle.std.specs.declared.alloc.AllocError.{AllocError}
 use Rattle.tree_model.specs.declared.names.Case.{Case}
 use Rattle.tree_model.specs.Standings.{CoordinatorView}
 use Rattle.tree_model.specs.SameViews.{SameView}
@@ -50,7 +49,7 @@ module _ (slots : Slots) (key : ℕ) (s : Seat) (asked : Asked) (v : Coordinator
   view_at = ap held_view (value_of_case slots s.case key (s.case, at.held) apart at.was
       (same_case-itself s.case)) ∙ at.live
 
-  pub takes_live : (behind : CoordinatorView) (made : Result RowEffect AllocError)
+  pub takes_live : {E : Type 0} (behind : CoordinatorView) (made : Result RowEffect E)
       → IfOk made (λ effect. Does s (asked_row (seat s) asked v) effect behind)
       → IfOk made (λ effect. TakesLive slots (with_live slots key behind) key s asked effect)
   takes_live behind (Ok effect) does =
@@ -65,7 +64,7 @@ module _ (slots : Slots) (key : ℕ) (s : Seat) (asked : Asked) (v : Coordinator
       }
   takes_live behind (Err e) does = does
 
-  pub refuses_live : (behind : CoordinatorView) (made : Result RowEffect AllocError)
+  pub refuses_live : {E : Type 0} (behind : CoordinatorView) (made : Result RowEffect E)
       → OnErr made (SameView behind v) → OnErr made (SameCases slots (with_live slots key behind))
   refuses_live behind (Ok effect) same = same
   refuses_live behind (Err e) same =

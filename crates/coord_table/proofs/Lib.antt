@@ -9,3 +9,4 @@ pub mod Framed
 pub mod Restores
 pub mod OwnCases
 pub mod Rebuilds
+mod Untaken

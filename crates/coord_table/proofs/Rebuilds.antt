@@ -1,5 +1,5 @@
 -- What a restart makes of the records of a log.
-use Rattle.std.proofs.Common.{◌≡◌, ◌∙◌, List, ◌++◌, Option, Some, None, map, unwrap_or, refl, sym, ap, subst}
+use Rattle.std.proofs.Common.{◌≡◌, ◌∙◌, List, ◌++◌, Option, Some, None, map, unwrap_or, refl, sym, ap, subst, arith}
 use Rattle.std.proofs.lemmas.List.Folds.{flat_map-map}
 use Rattle.std.specs.List.{flat_map}
 use Rattle.std.specs.Map.{lookup}
@@ -11,18 +11,22 @@ use Rattle.tree_model.specs.declared.records.LogRecord.{LogRecord}
 use Rattle.tree_model.specs.declared.records.Logged.{Logged}
 use Rattle.tree_model.specs.declared.records.Record.{Record}
 use Rattle.tree_model.specs.declared.trees.TreeEntry.{TreeEntry}
+use Rattle.tree_model.specs.declared.events.StepError.{StepError}
+use Rattle.tree_model.specs.declared.events.StepError.TheVariants as steps
 use Rattle.tree_model.specs.LogNames.{in_log, own_records}
 use Rattle.tree_model.specs.Nodes.{Place, logged_of}
-use Rattle.tree_model.specs.Records.{cases_in}
+use Rattle.tree_model.specs.Records.{boot_of, cases_in}
 use Rattle.tree_model.specs.Restarts.{coordinator_reopens, coordinator_resumes, forced_all, recorded_view, reopens, resumes, resumes_by}
 use Rattle.tree_model.specs.Standings.{CoordinatorView}
 use Rattle.log_text.specs.Made.{frame_record}
 use Rattle.rec_log.specs.Sights.{AreRecords}
+use Rattle.core_log.specs.Writes.{AreHeld, NotFramed}
 use Rattle.core_model.specs.Restarting.{recorded_view_at}
 use Rattle.coord_table.specs.declared.rebuilding.Rebuilt.{Rebuilt}
 use Rattle.inquire_core.specs.Summaries.{Summary, no_records, summary_of, view_of}
+use Rattle.inquire_core.specs.Plans.{NotPlanned}
 use Rattle.inquire_core.specs.Readings.{ReadLog, place_below, reading_of, role_below, same}
-use Rattle.coord_table.specs.Restores.{IsRestored, Rebuilds, RestoresAll, read_again, resumed_of, view_found}
+use Rattle.coord_table.specs.Restores.{IsRestored, NotRebuilt, Rebuilds, RestoresAll, read_again, resumed_of, view_found}
 use Rattle.inquire_core.proofs.Summaries.{view_recorded}
 use Rattle.inquire_core.proofs.CaseTables.{entry_by}
 use Rattle.inquire_core.proofs.Readings.{each_alike, view_is}
@@ -110,3 +114,23 @@ module _ (me : ProcessId) (parent : Option ProcessId) (tree : List TreeEntry) (l
               kept = None;
             });
       }
+
+-- What cannot be rebuilt.
+
+-- no restart was planned
+pub not_planned : (me : ProcessId) (parent : Option ProcessId) (tree : List TreeEntry) (ls : List LogRecord)
+    (e : StepError) → NotPlanned (boot_of (own_records (place_below me parent tree) ls)) e
+    → NotRebuilt (place_below me parent tree) ls e
+not_planned me parent tree ls steps.Memory h = tt
+not_planned me None tree ls steps.Exhausted h = λ held. absurd (omega (arith, h, held.0.1))
+not_planned me (Some p) tree ls steps.Exhausted h = λ held. absurd (omega (arith, h, held.0.1))
+not_planned me parent tree ls e h = absurd h
+
+-- what it appends has no frames
+pub not_framed : (me : ProcessId) (parent : Option ProcessId) (tree : List TreeEntry) (ls : List LogRecord)
+    (rs : List Record) (e : StepError) → rs ≡ coordinator_reopens (own_records (place_below me parent tree) ls)
+    → NotFramed parent rs e → NotRebuilt (place_below me parent tree) ls e
+not_framed me parent tree ls rs steps.Memory is h = tt
+not_framed me None tree ls rs steps.Exhausted is h = λ held. h (subst (AreHeld None) (sym is) held)
+not_framed me (Some p) tree ls rs steps.Exhausted is h = λ held. h (subst (AreHeld (Some p)) (sym is) held)
+not_framed me parent tree ls rs e is h = absurd h

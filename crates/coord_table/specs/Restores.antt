@@ -1,6 +1,6 @@
 -- The live cases as records leave them, and what a restart makes of a log.
-use Rattle.std.specs.Prelude.{◌≡◌, ◌<◌, ◌⊎◌, ℕ, false, Option, Some, None, List, ◌++◌, map}
-use Rattle.std.specs.List.{flat_map}
+use Rattle.std.specs.Prelude.{◌≡◌, ◌<◌, ◌⊎◌, ⊤, ℕ, false, Option, Some, None, List, ◌++◌, map}
+use Rattle.std.specs.List.{AllByRecursion, flat_map}
 use Rattle.std.specs.Map.{lookup}
 use Rattle.tree_model.specs.declared.names.Case.{Case}
 use Rattle.tree_model.specs.declared.names.Kind.TheVariants.{Coordinator}
@@ -8,6 +8,8 @@ use Rattle.tree_model.specs.declared.names.ProcessId.{ProcessId}
 use Rattle.tree_model.specs.declared.messages.Envelope.{Envelope}
 use Rattle.tree_model.specs.declared.records.LogRecord.{LogRecord}
 use Rattle.tree_model.specs.declared.records.Record.{Record}
+use Rattle.tree_model.specs.declared.events.StepError.{StepError}
+use Rattle.tree_model.specs.declared.events.StepError.TheVariants.{Exhausted, Memory}
 use Rattle.tree_model.specs.CoordinatorRows.{Seat as CaseSeat}
 use Rattle.tree_model.specs.LogNames.{in_log, own_records, parent_of}
 use Rattle.tree_model.specs.Names.{same_case}
@@ -16,6 +18,7 @@ use Rattle.tree_model.specs.Records.{boot_of}
 use Rattle.tree_model.specs.Restarts.{reopens, resumes_by}
 use Rattle.tree_model.specs.Standings.{CoordinatorView, unknown_view}
 use Rattle.live_table.specs.Tables.{entry_at, live_value}
+use Rattle.log_rules.specs.sound.Sound.{IsSound}
 use Rattle.log_text.specs.Made.{frame_record}
 use Rattle.rec_log.specs.Sights.{AreRecords}
 use Rattle.core_model.specs.Restarting.{recorded_view_at, reopening}
@@ -93,3 +96,9 @@ pub record Rebuilds (place : Place) (ls : List LogRecord) (r : Rebuilt) : Type 0
   pub tickets : (d : Case) → ticket_in r.cases d ≡ None
   pub entries : (k : ℕ) (p : Case × Held) → entry_at r.cases k ≡ Some p → IsRestored r.boot p
   pub shown : r.reaction ≡ reaction_of (reopening place.role place.me (own_records place ls))
+
+-- why nothing is made of them: memory was refused, or a record that a restart appends can stand in no log
+abbrev pub NotRebuilt : Place → List LogRecord → StepError → Type 0
+NotRebuilt place ls Memory = ⊤
+NotRebuilt place ls Exhausted = AllByRecursion (IsSound Coordinator) (appended_to place ls) → ⊥
+NotRebuilt place ls e = ⊥

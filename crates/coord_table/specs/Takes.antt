@@ -1,12 +1,17 @@
 -- What a row leaves in the table of a coordinator's live cases.
-use Rattle.std.specs.Prelude.{◌≡◌, ◌&&◌, ◌⊎◌, ℕ, Bool, true, false, if◌then◌else◌, Option, Some, None}
+use Rattle.std.specs.Prelude.{◌≡◌, ◌&&◌, ◌⊎◌, ⊤, ℕ, Bool, true, false, if◌then◌else◌, Option, Some, None}
 use Rattle.tree_model.specs.declared.names.Case.{Case}
+use Rattle.tree_model.specs.declared.names.Kind.TheVariants.{Coordinator}
 use Rattle.tree_model.specs.declared.names.Ticket.{Ticket}
+use Rattle.tree_model.specs.declared.events.StepError.{StepError}
+use Rattle.tree_model.specs.declared.events.StepError.TheVariants.{Exhausted, Memory}
+use Rattle.tree_model.specs.CoordinatorRows.{Row}
 use Rattle.tree_model.specs.declared.standings.Standing.TheVariants.{Active}
 use Rattle.tree_model.specs.Names.{child_case, same_case}
 use Rattle.tree_model.specs.Standings.{CoordinatorView, unknown_view}
 use Rattle.tree_model.specs.SameViews.{SameView}
 use Rattle.live_table.specs.Tables.{AreApart, case_of, entry_at, live_value}
+use Rattle.core_model.specs.Bounds.{FitsBounds}
 use Rattle.coord_table.specs.declared.held.Held.{Held}
 use Rattle.coord_table.specs.Cases.{Ends, FitsGiven, Relives, Retires, Slots, is_for, live_at, ticket_in, view_in}
 use Rattle.coord_effects.specs.declared.seat.Seat.{Seat}
@@ -71,3 +76,9 @@ pub record TakesRowOf (old new : Slots) (s : Seat) (asked : Asked) (effect : Row
   pub gone : view_in new s.case ≡ unknown_view → live_value new s.case ≡ None
   pub given : GivenAreActive new
   pub cases : AddsNone old new
+
+-- why the row is not taken: memory was refused, or what it does is beyond the bounds of numbers
+abbrev pub NotTaken : Seat → Row → StepError → Type 0
+NotTaken s row Memory = ⊤
+NotTaken s row Exhausted = FitsBounds Coordinator s.parent row.written row.messages → ⊥
+NotTaken s row e = ⊥

@@ -1,7 +1,7 @@
 //! What a restart makes of the records that a crash leaves.
 
-ghost use Rattle.std.specs.Prelude.{◌≡◌, true, IfOk, map};
-ghost use Rattle.coord_table.specs.Restores.{Rebuilds};
+ghost use Rattle.std.specs.Prelude.{◌≡◌, true, IfErr, IfOk, map};
+ghost use Rattle.coord_table.specs.Restores.{NotRebuilt, Rebuilds};
 ghost use Rattle.inquire_core.specs.Numbered.{are_numbered};
 ghost use Rattle.inquire_core.specs.Readings.{place_below};
 
@@ -10,8 +10,8 @@ use crate::reopening::{all_shown, framed};
 use crate::restoring::restores;
 use inquire_core::{RestartPlan, plan};
 use log_text::Frame;
-use std::alloc::{AllocError, Global};
-use tree_model::{LogRecord, ProcessId, Reaction, Tree};
+use std::alloc::Global;
+use tree_model::{LogRecord, ProcessId, Reaction, StepError, Tree};
 
 /// A coordinator as it restarts: its boot, the frames of the records that it appends, its live cases, and
 /// the reaction.
@@ -24,17 +24,18 @@ pub struct Rebuilt {
 }
 
 /// What the coordinator `me` below this parent is, as it restarts with these records of its log. It goes
-/// through them once. Refused as for want of memory is what no run leaves: a record that no log can hold, and
-/// a boot of 2^63.
+/// through them once. Exhausted: no log holds a record that it would append, since the next boot would be 2^63,
+/// or an Abort would name more than 255 tickets.
 pub fn rebuild(
     alloc: Global,
     me: ProcessId,
     parent: Option<ProcessId>,
     tree: &Tree,
     records: &[LogRecord],
-) -> Result<Rebuilt, AllocError>
+) -> Result<Rebuilt, StepError>
     requires { are_numbered 0 (map (λ l. l.entry) records.now) ≡ true }
-    ensures { IfOk result (Rebuilds (place_below me parent tree.now) records.now) }
+    ensures ok { IfOk result (Rebuilds (place_below me parent tree.now) records.now) }
+    ensures err { IfErr result (NotRebuilt (place_below me parent tree.now) records.now) }
 {
     let RestartPlan { appended, reading } = plan(alloc, me, parent, tree, records)?;
     let written = all_shown(alloc, &appended)?;

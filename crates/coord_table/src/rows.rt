@@ -1,6 +1,6 @@
 //! The row that an input meets where a case stands (R*).
 
-ghost use Rattle.std.specs.Prelude.{◌≡◌, ◌++◌, true, IfOk, OnErr};
+ghost use Rattle.std.specs.Prelude.{◌≡◌, ◌++◌, true, IfErr, IfOk, OnErr};
 ghost use Rattle.tree_model.specs.Records.{in_list as is_in};
 ghost use Rattle.tree_model.specs.CoordinatorRows.{
   on_ack as ack_row,
@@ -12,8 +12,9 @@ ghost use Rattle.tree_model.specs.CoordinatorRows.{
 ghost use Rattle.tree_model.specs.Standings.{unknown_view};
 ghost use Rattle.tree_model.specs.SameViews.{SameView};
 ghost use Rattle.core_model.specs.Turns.{this_version};
-ghost use Rattle.coord_effects.specs.Rows.{Does, seat as seat_meant};
+ghost use Rattle.coord_effects.specs.Rows.{Does, NotWritten, seat as seat_meant};
 ghost use Rattle.coord_table.specs.Asks.{Accepts, asked_row, is_for_any};
+ghost use Rattle.coord_table.specs.Takes.{NotTaken};
 
 use crate::asked::Asked;
 use coord_case::Live;
@@ -24,7 +25,7 @@ use coord_rows::{
     unknown_prepare,
 };
 use std::alloc::{AllocError, Global};
-use tree_model::{Finding, Outcome, Standing, Ticket, Vote};
+use tree_model::{Finding, Outcome, Standing, StepError, Ticket, Vote};
 
 /// JOINED of a child.
 fn on_joined(
@@ -50,10 +51,12 @@ fn on_vote(
     ticket: Ticket,
     vote: Vote,
     live: &mut Live,
-) -> Result<RowEffect, AllocError>
+) -> Result<RowEffect, StepError>
     ensures ok { IfOk result (λ effect. Does seat
         (vote_row (seat_meant seat) ticket vote live.old live.old.standing) effect live.new) }
     ensures err { OnErr result (SameView live.new live.old) }
+    ensures unwritten { IfErr result (NotWritten seat.parent
+        (vote_row (seat_meant seat) ticket vote live.old live.old.standing).written) }
 {
     match live.standing() {
         Standing::Collecting => collecting_vote(alloc, seat, ticket, vote, live),
@@ -69,11 +72,14 @@ fn on_ack(
     outcome: Outcome,
     findings: &[Finding],
     live: &mut Live,
-) -> Result<RowEffect, AllocError>
+) -> Result<RowEffect, StepError>
     ensures ok { IfOk result (λ effect. Does seat
         (ack_row this_version (seat_meant seat) ticket outcome (live.old.found ++ findings.now)
         live.old live.old.standing) effect live.new) }
     ensures err { OnErr result (live.new ≡ live.old) }
+    ensures unwritten { IfErr result (NotWritten seat.parent
+        (ack_row this_version (seat_meant seat) ticket outcome (live.old.found ++ findings.now)
+        live.old live.old.standing).written) }
 {
     match (outcome, live.standing()) {
         (Outcome::Committed, Standing::Committing) | (Outcome::Aborted, Standing::Aborting) => {
@@ -100,45 +106,49 @@ fn on_inquiry(
 }
 
 /// PREPARE of the parent.
-fn on_prepare(alloc: Global, seat: Seat, live: &mut Live) -> Result<RowEffect, AllocError>
+fn on_prepare(alloc: Global, seat: Seat, live: &mut Live) -> Result<RowEffect, StepError>
     ensures ok { IfOk result (λ effect. Does seat
         (prepare_row (seat_meant seat) live.old live.old.standing) effect live.new) }
     ensures err { OnErr result (live.new ≡ live.old) }
+    ensures unwritten { IfErr result (NotWritten seat.parent
+        (prepare_row (seat_meant seat) live.old live.old.standing).written) }
 {
     match live.standing() {
         Standing::Active => active_commit(alloc, seat, live),
-        Standing::Prepared => prepared_prepare(alloc, seat, live),
-        Standing::Aborting => aborting_prepare(alloc, seat),
-        Standing::Unknown => unknown_prepare(alloc, seat),
+        Standing::Prepared => Ok(prepared_prepare(alloc, seat, live)?),
+        Standing::Aborting => Ok(aborting_prepare(alloc, seat)?),
+        Standing::Unknown => Ok(unknown_prepare(alloc, seat)?),
         _ => Ok(RowEffect::quiet(alloc)),
     }
 }
 
-/// The live case takes the row that it meets. Memory: it says the same as before.
+/// The live case takes the row that it meets. Memory; Exhausted, where the row is beyond the bounds of numbers: it
+/// says the same as before.
 pub fn take_row(
     alloc: Global,
     seat: Seat,
     asked: Asked,
     live: &mut Live,
-) -> Result<RowEffect, AllocError>
+) -> Result<RowEffect, StepError>
     requires { Accepts asked live.old }
     ensures ok { IfOk result (λ effect. Does seat
         (asked_row (seat_meant seat) asked.entry live.old) effect live.new) }
     ensures err { OnErr result (SameView live.new live.old) }
+    ensures untaken { IfErr result (NotTaken seat (asked_row (seat_meant seat) asked.entry live.old)) }
 {
     match asked {
-        Asked::Join(child) => active_join(alloc, seat, child, live),
+        Asked::Join(child) => Ok(active_join(alloc, seat, child, live)?),
         Asked::Work(ticket, op) => active_work(alloc, seat, ticket, op, live),
         Asked::Commit => active_commit(alloc, seat, live),
-        Asked::AbortActive => active_abort(alloc, seat, live),
+        Asked::AbortActive => Ok(active_abort(alloc, seat, live)?),
         Asked::AbortCollecting => collecting_abort(alloc, seat, Reason::Act, live),
-        Asked::Ask => prepared_ask(alloc, seat, live),
-        Asked::Joined(ticket) => on_joined(alloc, seat, ticket, live),
+        Asked::Ask => Ok(prepared_ask(alloc, seat, live)?),
+        Asked::Joined(ticket) => Ok(on_joined(alloc, seat, ticket, live)?),
         Asked::Vote(ticket, vote) => on_vote(alloc, seat, ticket, vote, live),
         Asked::Ack(ticket, outcome, findings) => {
             on_ack(alloc, seat, ticket, outcome, findings, live)
         }
-        Asked::Inquire(ticket) => on_inquiry(alloc, seat, ticket, live),
+        Asked::Inquire(ticket) => Ok(on_inquiry(alloc, seat, ticket, live)?),
         Asked::Prepare => on_prepare(alloc, seat, live),
         Asked::Commits => on_commit(alloc, seat, live),
         Asked::Aborts => on_abort(alloc, seat, live),

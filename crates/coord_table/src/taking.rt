@@ -1,17 +1,19 @@
 //! A row that a case of the table takes.
 
-ghost use Rattle.std.specs.Prelude.{◌≡◌, true, None, Some, IfOk, IsSome, IsTrue, OnErr};
+ghost use Rattle.std.specs.Prelude.{◌≡◌, true, None, Some, IfErr, IfOk, IsSome, IsTrue, OnErr};
 ghost use Rattle.tree_model.specs.Standings.{unknown_view};
 ghost use Rattle.live_table.specs.Tables.{entry_at};
 ghost use Rattle.coord_table.specs.Cases.{live_at, view_in};
-ghost use Rattle.coord_table.specs.Asks.{Accepts, is_of_root};
-ghost use Rattle.coord_table.specs.Takes.{GivenAreActive, IsAt, LetsGo, RetiresIf, SameCases, TakesLive, TakesRowOf};
+ghost use Rattle.coord_table.specs.Asks.{Accepts, asked_row, is_of_root};
+ghost use Rattle.coord_effects.specs.Rows.{seat as seat_meant};
+ghost use Rattle.coord_table.specs.Takes.{GivenAreActive, IsAt, LetsGo, NotTaken, RetiresIf, SameCases, TakesLive, TakesRowOf};
 
 use crate::asked::{Asked, retires};
 use crate::cases::Cases;
 use crate::rows::take_row;
 use coord_rows::{RowEffect, Seat};
-use std::alloc::{AllocError, Global};
+use std::alloc::Global;
+use tree_model::StepError;
 
 /// The live case under the key takes the row that it meets, in its place.
 fn take_live(
@@ -20,11 +22,13 @@ fn take_live(
     key: usize,
     seat: Seat,
     asked: Asked,
-) -> Result<RowEffect, AllocError>
+) -> Result<RowEffect, StepError>
     requires at { IsAt cases.old key seat.case }
     requires accepted { Accepts asked (view_in cases.old seat.case) }
     ensures ok { IfOk result (λ effect. TakesLive cases.old cases.new key seat asked.entry effect) }
     ensures err { OnErr result (SameCases cases.old cases.new) }
+    ensures untaken { IfErr result (NotTaken seat
+        (asked_row (seat_meant seat) asked.entry (view_in cases.old seat.case))) }
 {
     let live = cases.get_mut(key).unwrap();
     take_row(alloc, seat, asked, live)
@@ -60,20 +64,23 @@ fn is_forgotten(cases: &Cases, key: usize) -> bool
 }
 
 /// The case under the key takes the row that it meets: PREPARE and ABORT retire its ticket, and it leaves
-/// the table where it is forgotten. Memory: nothing is otherwise.
+/// the table where it is forgotten. Memory; Exhausted, where the row is beyond the bounds of numbers: nothing is
+/// otherwise.
 pub fn take(
     alloc: Global,
     cases: &mut Cases,
     key: usize,
     seat: Seat,
     asked: Asked,
-) -> Result<RowEffect, AllocError>
+) -> Result<RowEffect, StepError>
     requires at { IsAt cases.old key seat.case }
     requires accepted { Accepts asked (view_in cases.old seat.case) }
     requires given { GivenAreActive cases.old }
     requires root { is_of_root asked ≡ true → seat.case.ticket ≡ None }
     ensures ok { IfOk result (λ effect. TakesRowOf cases.old cases.new seat asked.entry effect) }
     ensures err { OnErr result (SameCases cases.old cases.new) }
+    ensures untaken { IfErr result (NotTaken seat
+        (asked_row (seat_meant seat) asked.entry (view_in cases.old seat.case))) }
 {
     let effect = take_live(alloc, cases, key, seat, asked)?;
     retire_if(cases, key, retires(asked));

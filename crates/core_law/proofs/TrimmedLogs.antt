@@ -14,7 +14,7 @@ use Rattle.log_rules.specs.trim.Trims.{front_of_trim, last_opened, opened_after,
 use Rattle.log_rules.specs.sound.Sound.{IsSound}
 use Rattle.log_rules.proofs.reads.Trimmed.{coordinators_read_trims}
 use Rattle.log_rules.proofs.reads.ManagerTrims.{managers_read_trims}
-use Rattle.core_model.specs.Makes.{kind_of_role}
+use Rattle.core_model.specs.States.{kind_of_role}
 use Rattle.core_law.proofs.OwnRecords.{both_so}
 use Rattle.core_law.proofs.Records.{map_append}
 

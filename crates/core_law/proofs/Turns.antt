@@ -338,6 +338,7 @@ read_off s n =
       view_of = λ c. view_at s.place.role s.place n c;
       branch_of = λ c. branch_at s.place.role s.place n c;
       decided_of = s.decided_of;
+      spent = s.spent;
     }
 
 same_view-sym : (v w : CoordinatorView) → SameView v w → SameView w v
@@ -387,6 +388,7 @@ module _ (n : Node) (s : CoreState) (a : DataAnswer) (found : Option Case) (i : 
           views = up.views;
           branches = up.branches;
           decided = λ c. refl;
+          spent = refl;
         };
       }
 

@@ -15,8 +15,8 @@ use Rattle.tree_model.specs.Reactions.{is_passed_over}
 use Rattle.tree_model.specs.World.{Makes as Leaves, Move, Refuses, node_makes}
 use Rattle.log_rules.specs.sound.Sound.{IsSound}
 use Rattle.rec_log.specs.Sights.{records_of, whole_within}
-use Rattle.core_model.specs.States.{CoreState}
-use Rattle.core_model.specs.Makes.{IsBroken, IsRefused, Makes, kind_of_role}
+use Rattle.core_model.specs.States.{CoreState, kind_of_role}
+use Rattle.core_model.specs.Makes.{IsBroken, IsRefused, Makes}
 use Rattle.core_model.specs.Restarting.{NotRestarted, NotTrimmed, Restarts, Trims}
 use Rattle.core_model.specs.Turns.{no_answer, this_version}
 use Rattle.core_law.specs.Fits.{HasOpened, KeepsOwn, NodeFits, OpenFits}

@@ -18,7 +18,7 @@ broken_force old mid new l appended breaks =
     (λ i. appended.forced i ++ appended.unforced i)
     ∙ sym (append_assoc old.sight.kept.forced old.sight.kept.unforced (l ∷ [])) in
     record {
-      kind = breaks.kind ∙ appended.kind;
+      form = breaks.form ∙ appended.form;
       appended = 1;
       stand = breaks.stand ∙ ap (λ rs. records_of mid.sight.kept ++ rs) none
           ∙ append-nil (records_of mid.sight.kept) ∙ whole;

@@ -1,3 +1,2 @@
 pub mod Forces
-pub mod Sound
 pub mod Fitting

@@ -1,14 +1,32 @@
 -- A record that a process writes into its log.
-use Rattle.std.specs.Prelude.{◌≡◌, ◌≤◌, Bool, [], ◌∷◌}
+use Rattle.std.specs.Prelude.{◌≡◌, ◌≤◌, ⊤, Bool, Option, List, [], ◌∷◌, map}
+use Rattle.std.specs.List.{AllByRecursion}
+use Rattle.tree_model.specs.declared.events.StepError.{StepError}
+use Rattle.tree_model.specs.declared.events.StepError.TheVariants.{Exhausted, Memory}
+use Rattle.tree_model.specs.declared.names.Kind.TheVariants.{Coordinator}
+use Rattle.tree_model.specs.declared.names.ProcessId.{ProcessId}
+use Rattle.tree_model.specs.declared.records.Record.{Record}
+use Rattle.tree_model.specs.LogNames.{in_log}
+use Rattle.log_rules.specs.sound.Sound.{IsSound}
 use Rattle.tree_model.specs.declared.records.LogRecord.{LogRecord}
 use Rattle.rec_log.specs.Sights.{LogState}
 use Rattle.core_model.specs.States.{wrote}
 
--- there is room for the frame of any one record: three bytes, and a payload of at most 65,535
+-- there is room for the frame of any one record: five bytes, and a payload of at most 65,535
 abbrev pub HasRoom : LogState → Type 0
-HasRoom l = 65538 ≤ l.room
+HasRoom l = 65540 ≤ l.room
 
 -- the record stands behind the others; where it is forced, all records are
 pub record Writes (old new : LogState) (l : LogRecord) (forced : Bool) : Type 0 where
-  pub kind : new.kind ≡ old.kind
   pub sight : new.sight ≡ wrote old.sight (record { entry = l.entry; is_forced = forced } ∷ []) (l ∷ [])
+
+-- each of these records can stand in the log of a coordinator below this parent
+abbrev pub AreHeld : Option ProcessId → List Record → Type 0
+AreHeld parent rs = AllByRecursion (IsSound Coordinator) (map (in_log parent) rs)
+
+-- why a coordinator below this parent has no frames of these records: memory was refused, or one of them can stand in
+-- no log of a coordinator
+abbrev pub NotFramed : Option ProcessId → List Record → StepError → Type 0
+NotFramed parent rs Memory = ⊤
+NotFramed parent rs Exhausted = AreHeld parent rs → ⊥
+NotFramed parent rs e = ⊥

@@ -7,14 +7,13 @@ use log_store::LogStore;
 use rec_log::RecLog;
 use std::alloc::AllocError;
 
-/// How many bytes the longest frame has: a byte for the record's kind, two for the payload's length, and the
-/// payload.
-const LONGEST_FRAME: usize = 65_538;
+/// How many bytes the longest frame has: a byte for the record's kind, four for the payload's length, and the
+/// payload, which a log of the first format could hold too.
+const LONGEST_FRAME: usize = 65_540;
 
 /// Makes room for the frame of any one record. A refusal changes nothing.
 pub fn make_room<L: LogStore>(log: &mut RecLog<L>) -> Result<(), AllocError>
     ensures stays { log.new.sight ≡ log.old.sight }
-    ensures kind { log.new.kind ≡ log.old.kind }
     ensures room { OnOk result (HasRoom log.new) }
 {
     log.reserve(LONGEST_FRAME)

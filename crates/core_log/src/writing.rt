@@ -1,9 +1,8 @@
 //! A record, and its force.
 
-ghost use Rattle.std.specs.Prelude.{◌≡◌, ◌≤◌, [], ◌∷◌, false, IfErr, OnOk, length};
+ghost use Rattle.std.specs.Prelude.{◌≡◌, ◌≤◌, [], ◌∷◌, false, IfErr, OnOk};
 ghost use Rattle.log_text.specs.Made.{frame_record};
-ghost use Rattle.log_text.specs.Payloads.{record_text};
-ghost use Rattle.rec_log.specs.Sights.{Breaks, IsRecord};
+ghost use Rattle.rec_log.specs.Sights.{Breaks, IsRecord, record_size};
 ghost use Rattle.core_log.specs.Writes.{Writes};
 
 use log_store::LogStore;
@@ -14,9 +13,9 @@ use rec_log::{LogError, RecLog};
 /// before, so it cannot fail for memory. Device: the record stands or not, it may be forced, and the log has
 /// failed.
 pub fn write<L: LogStore>(log: &mut RecLog<L>, frame: &Frame, forced: bool) -> Result<(), LogError>
-    requires room { length (record_text (frame_record frame.now)) ≤ log.old.room }
+    requires room { record_size (frame_record frame.now) ≤ log.old.room }
     requires works { log.old.sight.failed ≡ false }
-    requires sound { IsRecord log.old.kind (frame_record frame.now) }
+    requires sound { IsRecord log.old.sight.form.kind (frame_record frame.now) }
     ensures ok { OnOk result (Writes log.old log.new (frame_record frame.now) forced) }
     ensures err { IfErr result (λ e. (e ≡ LogError.Device)
         × Breaks log.old log.new (frame_record frame.now ∷ [])) }

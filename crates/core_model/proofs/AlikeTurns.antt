@@ -248,6 +248,7 @@ showing-is s t same =
     let tickets : (d : Case) → s.ticket_for d ≡ t.ticket_for d = λ d. sym (same.rest.tickets d) in
     let branches : (c : Case) → s.branch_of c ≡ t.branch_of c = λ c. sym (same.rest.branches c) in
     let decided : (c : Case) → s.decided_of c ≡ t.decided_of c = λ c. sym (same.rest.decided c) in
+    let spent = sym same.rest.spent in
     (λ i. record {
       place = place i;
       log = log i;
@@ -258,6 +259,7 @@ showing-is s t same =
       view_of = t.view_of;
       branch_of = λ c. branches c i;
       decided_of = λ c. decided c i;
+      spent = spent i;
     })
 
 pub same_cores_react : (s t : CoreState) (a : DataAnswer) (found : Option Case) (i : Input) → SameCore s t

@@ -7,7 +7,7 @@ use Rattle.tree_model.specs.LogNames.{in_log, own_records, parent_of}
 use Rattle.tree_model.specs.Nodes.{Place, reaction_of}
 use Rattle.tree_model.specs.Restarts.{reopens}
 use Rattle.rec_log.specs.Sights.{LogSight, left_by}
-use Rattle.core_model.specs.States.{forced_sight}
+use Rattle.core_model.specs.States.{forced_sight, form_of}
 use Rattle.core_model.specs.Restarting.{ReadOff, reopening}
 use Rattle.core_model.specs.Laws.{LeftLogsRestartAlike}
 
@@ -16,7 +16,7 @@ abbrev log_of : Place → List LogRecord → List LogRecord
 log_of place left = left ++ map (in_log (parent_of place.role)) (reopens place.role (own_records place left))
 
 abbrev sight_of : Place → List LogRecord → ℕ → LogSight
-sight_of place left failures = forced_sight (log_of place left) failures
+sight_of place left failures = forced_sight (form_of place) (log_of place left) failures
 
 abbrev read_by : Place → List LogRecord → List Record
 read_by place left = own_records place (log_of place left)

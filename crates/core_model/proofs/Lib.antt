@@ -3,3 +3,4 @@ pub mod AlikeTurns
 pub mod Opened
 pub mod Numbers
 pub mod Lefts
+pub mod Wrote

@@ -1,5 +1,5 @@
 -- That the definitions of this crate fit one another.
-use Rattle.std.specs.Prelude.{◌≡◌, ℕ, Option, None, [], ◌∷◌}
+use Rattle.std.specs.Prelude.{◌≡◌, ℕ, Option, None, [], ◌∷◌, false}
 use Rattle.tree_model.specs.declared.names.Case.{Case}
 use Rattle.tree_model.specs.declared.records.Record.TheVariants.{Opened}
 use Rattle.tree_model.specs.declared.events.Input.{Input}
@@ -10,7 +10,7 @@ use Rattle.rec_log.specs.Sights.{left_by}
 use Rattle.core_model.specs.Makes.{Makes}
 use Rattle.tree_model.specs.Nodes.{DataAnswer, Place}
 use Rattle.tree_model.specs.Standings.{unknown_branch, unknown_view}
-use Rattle.core_model.specs.States.{CoreState, SameCore, forced_sight}
+use Rattle.core_model.specs.States.{CoreState, SameCore, forced_sight, form_of}
 use Rattle.core_model.specs.Turns.{Finds, asked_by, reacted, turn_of}
 use Rattle.core_model.specs.Restarting.{ReadOff, Restarts}
 
@@ -30,7 +30,7 @@ abbrev pub opened_core : Place → CoreState
 opened_core place =
     record {
       place = place;
-      log = forced_sight (record { entry = Opened 1; parent = None } ∷ []) 0;
+      log = forced_sight (form_of place) (record { entry = Opened 1; parent = None } ∷ []) 0;
       boot = 1;
       begun = 0;
       given = 0;
@@ -38,6 +38,7 @@ opened_core place =
       view_of = λ c. unknown_view;
       branch_of = λ c. unknown_branch;
       decided_of = λ c. None;
+      spent = false;
     }
 
 -- it stands as its one record says

@@ -1,5 +1,5 @@
 -- What a turn makes of a process, and what a refusal and a fault leave of it.
-use Rattle.std.specs.Prelude.{◌≡◌, ◌+◌, Bool, false, if◌then◌else◌, Option, Some, None, List}
+use Rattle.std.specs.Prelude.{◌≡◌, ◌+◌, Bool, true, false, if◌then◌else◌, Option, Some, None, List}
 use Rattle.tree_model.specs.declared.names.Case.{Case}
 use Rattle.tree_model.specs.declared.names.Outcome.{Outcome}
 use Rattle.tree_model.specs.declared.names.Ticket.{Ticket}
@@ -13,7 +13,7 @@ use Rattle.tree_model.specs.declared.events.Input.{Input}
 use Rattle.tree_model.specs.declared.events.Input.TheVariants.{Act as ActInput, Message as MessageInput}
 use Rattle.tree_model.specs.declared.events.Reaction.{Reaction}
 use Rattle.tree_model.specs.declared.events.StepError.{StepError}
-use Rattle.tree_model.specs.declared.events.StepError.TheVariants.{Memory, Device}
+use Rattle.tree_model.specs.declared.events.StepError.TheVariants.{Memory, Device, Exhausted}
 use Rattle.tree_model.specs.declared.records.Record.{Record}
 use Rattle.tree_model.specs.Names.{same_case, child_case, root_case}
 use Rattle.tree_model.specs.Nodes.{Role, AtLeaf, DataAnswer, Effect, entries_written, reaction_of}
@@ -23,8 +23,9 @@ use Rattle.tree_model.specs.ManagerRows.{LeafRow}
 use Rattle.tree_model.specs.Reactions.{Does}
 use Rattle.tree_model.specs.SameViews.{SameView, open_view}
 use Rattle.rec_log.specs.Sights.{LogSight, LogState, Breaks}
-use Rattle.core_model.specs.States.{CoreState, SameCore, log_behind, logged}
+use Rattle.core_model.specs.States.{CoreState, HasNumbers, SameCore, kind_of_role, log_behind, logged, parent}
 use Rattle.core_model.specs.Turns.{Turn, Refuses, Begins, Issues, Takes, Handles, Says, Finds, asked_by, reacted, turn_of}
+use Rattle.core_model.specs.Bounds.{FitsBounds}
 
 -- Tickets.
 
@@ -129,19 +130,14 @@ pub record Makes (old new : CoreState) (a : DataAnswer) (i : Input) (reaction : 
 
 -- Faults and refusals.
 
--- which kind of process has this role
-abbrev pub kind_of_role : Role → Kind
-kind_of_role (AtLeaf p) = Manager
-kind_of_role _ = Coordinator
-
 -- the process's log as its contracts see it; how much room there is does not matter
-abbrev pub seen : CoreState → LogSight → LogState
-seen s l = record { kind = kind_of_role s.place.role; sight = l; room = 0 }
+abbrev pub seen : LogSight → LogState
+seen l = record { sight = l; room = 0 }
 
 -- the device failed: a front of the records was appended, and some forced front was left; nothing is said of
 -- the rest
 pub record BreaksOff (old new : CoreState) (rs : List Record) : Type 0 where
-  pub log : Breaks (seen old old.log) (seen old new.log) (logged old rs)
+  pub log : Breaks (seen old.log) (seen new.log) (logged old rs)
   pub place : new.place ≡ old.place
 
 -- the device failed in this turn
@@ -161,9 +157,27 @@ pub record IsBroken (old new : CoreState) (a : DataAnswer) (i : Input) : Type 0 
   pub finds : Finds old (asked_by i) found
   pub breaks : BreaksIn old new (turn_of old a found i)
 
--- why an input was not made, and what that leaves: Memory changes nothing, nor does a refusal by the reaction
--- table
+-- the effect fits the bounds of numbers at this process
+abbrev pub IsWithinBounds : CoreState → Effect → Type 0
+IsWithinBounds s e = FitsBounds (kind_of_role s.place.role) (parent s) e.written e.messages
+
+-- Why an input wants numbers that are used up: none are left for a transaction and a ticket more; or a manager has
+-- met a limit of its own; or the turn of the input does not fit the bounds.
+pub data WantsNumbers (s : CoreState) (a : DataAnswer) (i : Input) : Type 0 where
+  NoneLeft : (HasNumbers s → ⊥) → WantsNumbers s a i
+  Limited : s.spent ≡ true → WantsNumbers s a i
+  Unbounded : (found : Option Case) → Finds s (asked_by i) found → (e : Effect)
+      → reacted (turn_of s a found i) ≡ Does e → (IsWithinBounds s e → ⊥) → WantsNumbers s a i
+
+-- the input wants numbers that are used up, and nothing changed
+pub record IsExhausted (old new : CoreState) (a : DataAnswer) (i : Input) : Type 0 where
+  pub same : SameCore old new
+  pub why : WantsNumbers old a i
+
+-- why an input was not made, and what that leaves: Memory changes nothing, nor do numbers that are used up, nor a
+-- refusal by the reaction table
 abbrev pub NotMade : CoreState → CoreState → DataAnswer → Input → StepError → Type 0
 NotMade old new a i Memory = SameCore old new
 NotMade old new a i Device = IsBroken old new a i
+NotMade old new a i Exhausted = IsExhausted old new a i
 NotMade old new a i e = IsRefused old new a i e

@@ -3,7 +3,7 @@ use Rattle.std.specs.Prelude.{◌≡◌, ℕ, None, [], ◌∷◌}
 use Rattle.tree_model.specs.declared.records.LogRecord.{LogRecord}
 use Rattle.tree_model.specs.declared.records.Record.TheVariants.{Opened}
 use Rattle.tree_model.specs.Nodes.{Place}
-use Rattle.core_model.specs.States.{CoreState, forced_sight}
+use Rattle.core_model.specs.States.{CoreState, forced_sight, form_of}
 use Rattle.core_model.specs.Restarting.{ReadOff}
 
 -- the first record of a log
@@ -14,5 +14,5 @@ first_opened = record { entry = Opened 1; parent = None }
 -- which is forced
 pub record IsOpened (s : CoreState) (place : Place) (failures : ℕ) : Type 0 where
   pub place_is : s.place ≡ place
-  pub log : s.log ≡ forced_sight (first_opened ∷ []) failures
+  pub log : s.log ≡ forced_sight (form_of place) (first_opened ∷ []) failures
   pub read : ReadOff s (Opened 1 ∷ [])

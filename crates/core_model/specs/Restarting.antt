@@ -1,5 +1,6 @@
 -- Opening, restart and trim of a process.
 use Rattle.std.specs.Prelude.{◌≡◌, ◌⊎◌, ℕ, true, List, [], ◌++◌, length, None}
+use Rattle.std.specs.List.{AllByRecursion}
 use Rattle.tree_model.specs.declared.names.Case.{Case}
 use Rattle.tree_model.specs.declared.names.ProcessId.{ProcessId}
 use Rattle.tree_model.specs.declared.records.LogRecord.{LogRecord}
@@ -7,7 +8,7 @@ use Rattle.tree_model.specs.declared.records.Record.{Record}
 use Rattle.tree_model.specs.declared.standings.Standing.TheVariants.{Heuristic}
 use Rattle.tree_model.specs.declared.events.Reaction.{Reaction}
 use Rattle.tree_model.specs.declared.events.StepError.{StepError}
-use Rattle.tree_model.specs.declared.events.StepError.TheVariants.{Memory, Device, Failed}
+use Rattle.tree_model.specs.declared.events.StepError.TheVariants.{Memory, Device, Failed, Exhausted}
 use Rattle.tree_model.specs.LogNames.{own_records}
 use Rattle.tree_model.specs.Records.{boot_of, decision_of}
 use Rattle.tree_model.specs.Nodes.{Role, AtLeaf, Effect, Place, reaction_of}
@@ -15,9 +16,10 @@ use Rattle.tree_model.specs.Standings.{CoordinatorView, ManagerView, unknown_bra
 use Rattle.tree_model.specs.Restarts.{data_records, forced_all, recorded_branch, recorded_view, reopens, resumes}
 use Rattle.tree_model.specs.SameViews.{SameView}
 use Rattle.log_store.specs.Stores.{MoreFailures}
+use Rattle.log_rules.specs.sound.Sound.{IsSound}
 use Rattle.rec_log.specs.Trimming.{front_of_trim}
 use Rattle.rec_log.specs.Sights.{RestartBreaks, left_by, records_of}
-use Rattle.core_model.specs.States.{CoreState, SameButLog, SameCore, forced_sight, logged}
+use Rattle.core_model.specs.States.{CoreState, SameButLog, SameCore, forced_sight, form_of, kind_of_role, logged}
 use Rattle.core_model.specs.Makes.{seen}
 
 -- What records alone say.
@@ -73,17 +75,23 @@ restarted_log s keep = left_by s.log keep ++ logged s (reopened s keep)
 -- stands as that says
 pub record Restarts (old : CoreState) (keep : ℕ) (new : CoreState) (reaction : Reaction) : Type 0 where
   pub place : new.place ≡ old.place
-  pub log : new.log ≡ forced_sight (restarted_log old keep) old.log.failures
+  pub log : new.log ≡ forced_sight (form_of old.place) (restarted_log old keep) old.log.failures
   pub read : ReadOff new (read_of old (restarted_log old keep))
   pub shown : reaction ≡ reaction_of
       (reopening old.place.role old.place.me (read_of old (left_by old.log keep)))
+
+-- a record that a restart appends can stand in no log of this sort of process: no boot below 2^63 comes behind the
+-- last one, or an Abort names more than 255 tickets
+abbrev pub CannotReopen : CoreState → ℕ → Type 0
+CannotReopen s keep = AllByRecursion (IsSound (kind_of_role s.place.role)) (logged s (reopened s keep)) → ⊥
 
 -- why a process did not restart, and what that leaves
 abbrev pub NotRestarted : CoreState → ℕ → CoreState → StepError → Type 0
 NotRestarted old keep new Memory = SameCore old new
 NotRestarted old keep new Device =
-    RestartBreaks (seen old old.log) (seen old new.log) keep (logged old (reopened old keep))
+    RestartBreaks (seen old.log) (seen new.log) keep (logged old (reopened old keep))
     × (new.place ≡ old.place)
+NotRestarted old keep new Exhausted = SameCore old new × CannotReopen old keep
 NotRestarted old keep new e = ⊥
 
 -- the process that an earlier one was: it sat here, and its device failed so often
@@ -101,7 +109,7 @@ trimmed_log s =
 
 -- the log was trimmed, all of it forced, and nothing else moved; so many records remain
 pub record Trims (old new : CoreState) (remain : ℕ) : Type 0 where
-  pub log : new.log ≡ forced_sight (trimmed_log old) old.log.failures
+  pub log : new.log ≡ forced_sight (form_of old.place) (trimmed_log old) old.log.failures
   pub counts : remain ≡ length (trimmed_log old)
   pub rest : SameButLog old new
 

@@ -1,6 +1,6 @@
 -- What a process keeps while it runs, of whatever kind it is: in place of the lists from which the model
 -- reads it off.
-use Rattle.std.specs.Prelude.{◌≡◌, ◌<◌, ◌+◌, ◌^◌, ℕ, false, if◌then◌else◌, Option, List, [], ◌++◌, map}
+use Rattle.std.specs.Prelude.{◌≡◌, ◌<◌, ◌+◌, ◌^◌, ℕ, Bool, false, if◌then◌else◌, Option, List, [], ◌++◌, map}
 use Rattle.tree_model.specs.declared.names.Case.{Case}
 use Rattle.tree_model.specs.declared.names.Outcome.{Outcome}
 use Rattle.tree_model.specs.declared.names.ProcessId.{ProcessId}
@@ -8,15 +8,20 @@ use Rattle.tree_model.specs.declared.names.Ticket.{Ticket}
 use Rattle.tree_model.specs.declared.records.LogRecord.{LogRecord}
 use Rattle.tree_model.specs.declared.records.Record.{Record}
 use Rattle.tree_model.specs.LogNames.{in_log, parent_of}
-use Rattle.tree_model.specs.Nodes.{Place, Written, entries_written, is_any_forced}
+use Rattle.tree_model.specs.declared.names.Kind.{Kind}
+use Rattle.tree_model.specs.declared.names.Kind.TheVariants.{Coordinator, Manager}
+use Rattle.tree_model.specs.Nodes.{AtLeaf, Place, Role, Written, entries_written, is_any_forced}
 use Rattle.tree_model.specs.Standings.{CoordinatorView, ManagerView}
 use Rattle.tree_model.specs.SameViews.{SameView}
+use Rattle.log_text.specs.declared.form.LogForm.{LogForm}
+use Rattle.log_text.specs.Forms.{log_form}
 use Rattle.rec_log.specs.Sights.{LogSight, records_of}
 
 -- Where it sits; its log; its boot; how many transactions it began and how many tickets it gave in this boot;
 -- the active ticket that was given to a parent's case; and how each case stands, which is Unknown where it is
--- not live; and what an operator decided of a branch that he decided (of any other this says nothing). A
--- coordinator has no branches, and a manager no coordinator's views.
+-- not live; what an operator decided of a branch that he decided (of any other this says nothing); and whether a
+-- manager has met a limit of its own. A coordinator has no branches and no such limit, and a manager no
+-- coordinator's views.
 pub record CoreState : Type 0 where
   pub place : Place
   pub log : LogSight
@@ -27,6 +32,7 @@ pub record CoreState : Type 0 where
   pub view_of : Case → CoordinatorView
   pub branch_of : Case → ManagerView
   pub decided_of : Case → Option Outcome
+  pub spent : Bool
 
 -- the parent of the process; the root has none
 abbrev pub parent : CoreState → Option ProcessId
@@ -42,6 +48,7 @@ pub record SameButLog (old new : CoreState) : Type 0 where
   pub views : (c : Case) → SameView (new.view_of c) (old.view_of c)
   pub branches : (c : Case) → new.branch_of c ≡ old.branch_of c
   pub decided : (c : Case) → new.decided_of c ≡ old.decided_of c
+  pub spent : new.spent ≡ old.spent
 
 -- nothing is otherwise
 pub record SameCore (old new : CoreState) : Type 0 where
@@ -70,7 +77,21 @@ wrote l ws ls =
 abbrev pub log_behind : CoreState → List Written → LogSight
 log_behind s ws = wrote s.log ws (logged s (entries_written ws))
 
--- a log all of whose records are forced, over a device that did not fail since
-abbrev pub forced_sight : List LogRecord → ℕ → LogSight
-forced_sight ls failures =
-    record { kept = record { forced = ls; unforced = [] }; behind = 0; failed = false; failures = failures }
+-- which kind of process has this role
+abbrev pub kind_of_role : Role → Kind
+kind_of_role (AtLeaf p) = Manager
+kind_of_role _ = Coordinator
+
+-- the form of the log of the process that sits here
+abbrev pub form_of : Place → LogForm
+form_of p = log_form p.me (kind_of_role p.role)
+
+-- a log of this form all of whose records are forced, over a device that did not fail since
+abbrev pub forced_sight : LogForm → List LogRecord → ℕ → LogSight
+forced_sight form ls failures = record {
+  form = form;
+  kept = record { forced = ls; unforced = [] };
+  behind = 0;
+  failed = false;
+  failures = failures;
+}

@@ -27,7 +27,7 @@ use Rattle.tree_model.specs.declared.events.Act.TheVariants.{Begin, Join as Join
 use Rattle.tree_model.specs.declared.events.Input.{Input}
 use Rattle.tree_model.specs.declared.events.Input.TheVariants.{Act as ActInput, Message as MessageInput}
 use Rattle.tree_model.specs.declared.events.StepError.{StepError}
-use Rattle.tree_model.specs.declared.events.StepError.TheVariants.{UnknownTxn, NotAChild, Closed, Failed, NotInDoubt, NothingToForget, NoSuch, Device}
+use Rattle.tree_model.specs.declared.events.StepError.TheVariants.{UnknownTxn, NotAChild, Closed, Failed, NotInDoubt, NothingToForget, NoSuch, Device, Exhausted}
 use Rattle.tree_model.specs.declared.trees.TreeEntry.{TreeEntry}
 use Rattle.tree_model.specs.Names.{same_txn, child_case, root_case, presumed}
 use Rattle.tree_model.specs.Records.{in_list, is_reported}
@@ -74,9 +74,10 @@ reacted (Takes c row) = Does (row_effect c row)
 reacted (Handles c row) = Does (leaf_effect row)
 reacted (Says ls) = Does (sends_only ls)
 
--- an error by which the reaction table refuses; the device's is none
+-- an error by which the reaction table refuses; the device's is none, nor is that of numbers that are used up
 abbrev pub is_refusal : StepError → Bool
 is_refusal Device = false
+is_refusal Exhausted = false
 is_refusal _ = true
 
 -- the answer of data that are asked nothing; a coordinator has none that answer anything

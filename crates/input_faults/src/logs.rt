@@ -1,6 +1,7 @@
 //! Which log is at fault.
 
 use link_script::{Front, process_of};
+use log_text::LogForm;
 use logs_script::{ProcessLog, bytes_of};
 use rec_log::{OpenError, find};
 use script_words::says_nothing;
@@ -69,7 +70,9 @@ pub fn damaged_log(
     logs: &[ProcessLog],
 ) -> Result<Option<LogFault>, AllocError> {
     for entry in tree.entries() {
-        match find(entry.kind, bytes_of(logs, entry.id), alloc) {
+        let bytes = bytes_of(logs, entry.id);
+        let form = LogForm::of_bytes(bytes, entry.id, entry.kind);
+        match find(form, bytes, alloc) {
             Ok(_) => continue,
             Err(OpenError::Damaged(place)) => {
                 return Ok(Some(LogFault::Damaged {

@@ -1,5 +1,7 @@
 -- What a restart makes of a coordinator's log.
-use Rattle.std.specs.Prelude.{◌≡◌, List, ◌++◌}
+use Rattle.std.specs.Prelude.{◌≡◌, ◌≤◌, ◌+◌, ◌^◌, ⊤, ℕ, List, ◌++◌}
+use Rattle.tree_model.specs.declared.events.StepError.{StepError}
+use Rattle.tree_model.specs.declared.events.StepError.TheVariants.{Exhausted, Memory}
 use Rattle.tree_model.specs.declared.records.Record.{Record}
 use Rattle.tree_model.specs.Restarts.{coordinator_reopens}
 use Rattle.inquire_core.specs.Readings.{reading_of}
@@ -9,3 +11,9 @@ use Rattle.inquire_core.specs.declared.planning.RestartPlan.{RestartPlan}
 pub record IsPlan (rs : List Record) (p : RestartPlan) : Type 0 where
   pub appended : p.appended.items ≡ coordinator_reopens rs
   pub reading : p.reading ≡ reading_of (rs ++ coordinator_reopens rs)
+
+-- why no restart was planned behind this boot: memory was refused, or there is no next boot
+abbrev pub NotPlanned : ℕ → StepError → Type 0
+NotPlanned boot Memory = ⊤
+NotPlanned boot Exhausted = 2 ^ 63 ≤ boot + 1
+NotPlanned boot e = ⊥

@@ -1,14 +1,15 @@
 //! What a restart makes of the records that a crash leaves.
 
-ghost use Rattle.std.specs.Prelude.{◌≡◌, ◌++◌, IfOk, OnOk};
+ghost use Rattle.std.specs.Prelude.{◌≡◌, ◌<◌, ◌+◌, ◌^◌, ◌++◌, IfErr, IfOk, OnOk};
 ghost use Rattle.tree_model.specs.LogNames.{own_records};
-ghost use Rattle.inquire_core.specs.Plans.{IsPlan};
+ghost use Rattle.tree_model.specs.Records.{boot_of};
+ghost use Rattle.inquire_core.specs.Plans.{IsPlan, NotPlanned};
 ghost use Rattle.inquire_core.specs.Readings.{abort_of, place_below, reopened_by};
 
 use crate::reading::Reading;
 use crate::recorded::Recorded;
 use std::alloc::{AllocError, Global};
-use tree_model::{Case, LogRecord, ProcessId, Record, Standing, Tree};
+use tree_model::{Case, LogRecord, ProcessId, Record, Standing, StepError, Tree};
 
 /// The largest boot.
 const LAST_BOOT: u64 = (1 << 63) - 1;
@@ -40,13 +41,11 @@ fn push_abort(
 }
 
 /// The records that a restart appends: Opened with the next boot, and an Abort record of each case that
-/// collected votes. A boot of 2^63 is refused as for want of memory.
+/// collected votes.
 fn reopens(alloc: Global, reading: &Reading) -> Result<Vec<Record>, AllocError>
+    requires { reading.now.boot + 1 < 2 ^ 63 }
     ensures { IfOk result (λ records. records.items ≡ reopened_by reading.now) }
 {
-    if reading.boot >= LAST_BOOT {
-        return Err(AllocError);
-    }
     let mut records = Vec::new(alloc);
     records.push(Record::Opened(reading.boot + 1))?;
     for (case, recorded) in &reading.cases {
@@ -56,17 +55,21 @@ fn reopens(alloc: Global, reading: &Reading) -> Result<Vec<Record>, AllocError>
 }
 
 /// What a restart of the coordinator `me` below this parent makes of the records of its log. It goes through
-/// them once. Refused as for want of memory is a boot of 2^63, which no run leaves.
+/// them once. Exhausted: the next boot would be 2^63 or more.
 pub fn plan(
     alloc: Global,
     me: ProcessId,
     parent: Option<ProcessId>,
     tree: &Tree,
     records: &[LogRecord],
-) -> Result<RestartPlan, AllocError>
-    ensures { IfOk result (IsPlan (own_records (place_below me parent tree.now) records.now)) }
+) -> Result<RestartPlan, StepError>
+    ensures ok { IfOk result (IsPlan (own_records (place_below me parent tree.now) records.now)) }
+    ensures err { IfErr result (NotPlanned (boot_of (own_records (place_below me parent tree.now) records.now))) }
 {
     let mut reading = Reading::of(alloc, me, parent, tree, records)?;
+    if reading.boot >= LAST_BOOT {
+        return Err(StepError::Exhausted);
+    }
     let appended = reopens(alloc, &reading)?;
     reading.note_all(&appended)?;
     Ok(RestartPlan { appended, reading })

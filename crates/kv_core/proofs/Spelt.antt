@@ -7,15 +7,15 @@ use Rattle.tree_model.specs.declared.records.LogRecord.{LogRecord}
 use Rattle.tree_model.specs.declared.records.Record.TheVariants.{Pair}
 use Rattle.log_text.specs.Payloads.{FitsFrame}
 use Rattle.log_rules.specs.sound.Sound.{IsSound}
-use Rattle.log_rules.proofs.sound.Sizes.{records_fit_frames}
-use Rattle.log_rules.proofs.sound.Records.{records_read_back}
+use Rattle.log_rules.proofs.sound.Sizes.{sound_fits}
+use Rattle.rec_log.proofs.SoundRecords.{sound_is_record}
 use Rattle.rec_log.specs.Sights.{AreRecords, IsRecord}
 use Rattle.tree_model.specs.LogNames.{unnamed}
 
 pub pair_fits : (k v j u : List ℕ) → IsSound Manager (unnamed (Pair k v)) → j ≡ k → u ≡ v
     → FitsFrame (record { entry = Pair j u; parent = None })
 pair_fits k v j u sound is value =
-    records_fit_frames Manager (unnamed (Pair j u))
+    sound_fits Manager (unnamed (Pair j u))
     (subst (λ a. IsSound Manager (unnamed (Pair a u))) (sym is)
     (subst (λ b. IsSound Manager (unnamed (Pair k b))) (sym value) sound))
 
@@ -28,7 +28,7 @@ each_at P (y ∷ xs) (suc i) x all within at = each_at P xs i x all.1 (omega (ar
 
 -- a sound record can stand in a log
 pub is_record : (l : LogRecord) → IsSound Manager l → IsRecord Manager l
-is_record l h = record { fits = records_fit_frames Manager l h; again = records_read_back Manager l h }
+is_record l h = sound_is_record Manager l h
 
 -- one more record that can stand in a log
 pub one_more : (ls : List LogRecord) (l : LogRecord) → AreRecords Manager ls → IsSound Manager l

@@ -2,6 +2,8 @@
 use Rattle.std.proofs.Common.{◌≡◌, ◌∙◌, ◌∷◌, [], ◌++◌, ℕ, false, List, Some, Result, Ok, Err, IfOk, refl, sym, subst, ap}
 use Rattle.xa_xid.specs.declared.xid.Xid.{Xid}
 use Rattle.tree_model.specs.declared.names.Kind.TheVariants.{Manager}
+use Rattle.tree_model.specs.declared.names.ProcessId.{ProcessId}
+use Rattle.log_text.specs.Forms.{log_form}
 use Rattle.tree_model.specs.declared.records.LogRecord.{LogRecord}
 use Rattle.tree_model.specs.Records.{same_bytes}
 use Rattle.log_rules.specs.order.Logs.{Whole, read_log}
@@ -15,9 +17,9 @@ use Rattle.kv_manager.specs.Resources.{sight_of}
 use Rattle.kv_manager.specs.Restarts.{LeavesStore, RestoredFrom, next_boot, opened}
 use Rattle.kv_manager.specs.Sights.{KvSight}
 
-nothing_read : read_log Manager [] ≡ Whole [] 0
+nothing_read : (q : ProcessId) → read_log (log_form q Manager) [] ≡ Whole [] 0
 unfolding read_log same_bytes
-nothing_read = refl
+nothing_read q = refl
 
 same_records : (a b : List LogRecord) (m n : ℕ) → Whole a m ≡ Whole b n → a ≡ b
 same_records a b m n e = cc
@@ -36,10 +38,11 @@ none_promised : (s : SeenLog) (x : Xid) (k : List ℕ) → nothing_seen ≡ s �
 unfolding names_key
 none_promised s x k is = ap (λ t. names_key (promised t x) k) (sym is)
 
-pub created : (forced failures : ℕ) (s : KvSight) → RestoredFrom [] forced failures s → IsNew (sight_of s)
-created forced failures s r =
+pub created : (process : ProcessId) (forced failures : ℕ) (s : KvSight) → RestoredFrom process [] forced failures s
+    → IsNew (sight_of s)
+created process forced failures s r =
     let none : records_of r.log.sight.kept ≡ [] = sym
-    (same_records [] (records_of r.log.sight.kept) 0 r.opens.torn (sym nothing_read ∙ r.opens.read)) in
+    (same_records [] (records_of r.log.sight.kept) 0 r.opens.torn (sym (nothing_read process) ∙ r.opens.read)) in
     let left : LeavesStore [] s.store s.boot =
     subst (λ ls. LeavesStore ls s.store s.boot) none r.starts.left in
     let boot : s.boot ≡ 1 = first_boot left.seen s.boot (nothing_said left.seen left.read) left.next in
@@ -54,6 +57,7 @@ created forced failures s r =
       holders = λ k. left.locks_held.free k (λ x. none_promised left.seen x k
           (nothing_said left.seen left.read));
       log = λ i. record {
+        form = s.log.sight.form;
         kept = record { forced = kept i; unforced = r.starts.unforced i };
         behind = r.starts.behind i;
         failed = r.starts.works i;
@@ -61,9 +65,9 @@ created forced failures s r =
       };
     }
 
-pub each_new : {E : Type 0} (bytes : List ℕ) (forced failures : ℕ) (r : Result KvSight E) → bytes ≡ []
-    → IfOk r (RestoredFrom bytes forced failures)
+pub each_new : {E : Type 0} (process : ProcessId) (bytes : List ℕ) (forced failures : ℕ) (r : Result KvSight E) → bytes ≡ []
+    → IfOk r (RestoredFrom process bytes forced failures)
     → IfOk r (λ m. IsNew (sight_of m))
-each_new bytes forced failures (Ok m) empty r =
-    created forced failures m (subst (λ bs. RestoredFrom bs forced failures m) empty r)
-each_new bytes forced failures (Err e) empty r = r
+each_new process bytes forced failures (Ok m) empty r =
+    created process forced failures m (subst (λ bs. RestoredFrom process bs forced failures m) empty r)
+each_new process bytes forced failures (Err e) empty r = r

@@ -113,7 +113,7 @@ module _ (old mid new : KvSight) (x : Xid) (o : Outcome) (works : old.log.sight.
     log = subst (λ k. Breaks (state_of_log k) (state_of_log new.log.sight)
         (logged_under x (decision_writes x o))) log
         (subst (Breaks (state_of_log mid.log.sight) (state_of_log new.log.sight)) records (record {
-          kind = refl;
+          form = failed.log.form;
           appended = failed.log.appended;
           stand = failed.log.stand;
           no_less = failed.log.no_less;

@@ -519,7 +519,7 @@ module _ (old new : KvSight) (x : Xid) (c : Call) (w : is_work c ≡ false)
       record {
         log = subst (λ rs. Breaks (state_of_log old.log.sight) (state_of_log new.log.sight)
             (logged_under x rs)) (sym entered) (record {
-              kind = refl;
+              form = failed.log.form;
               appended = failed.log.appended;
               stand = failed.log.stand;
               no_less = failed.log.no_less;

@@ -23,8 +23,9 @@ use Rattle.kv_manager.proofs.Restoring.{restored_state}
 
 -- a log that restarted, all of it forced
 log_of : (old new : LogState) (keep : ℕ) (rs : List LogRecord) → LogRestarts old new keep rs
-    → new.sight ≡ forced_sight (left_by old.sight keep ++ rs) old.sight.failures
+    → new.sight ≡ forced_sight old.sight.form (left_by old.sight keep ++ rs) old.sight.failures
 log_of old new keep rs made = λ i. record {
+  form = made.form i;
   kept = record { forced = made.forced i; unforced = made.unforced i };
   behind = made.behind i;
   failed = made.works i;
@@ -54,7 +55,7 @@ restarted old new keep given made =
       decided = λ x here. left.decided.each x;
       boot = boot;
       log = log_of old.log new.log keep (opened new.boot ∷ []) made.log
-          ∙ ap (λ n. forced_sight (ls ++ boot_record n ∷ []) old.log.sight.failures) boot;
+          ∙ ap (λ n. forced_sight old.log.sight.form (ls ++ boot_record n ∷ []) old.log.sight.failures) boot;
     }
 
 same_tables : (a b : States) → b ≡ a → Same a b
@@ -64,7 +65,7 @@ same_tables a b is = subst (Same a) (sym is)
 broken : (old new : LogState) (keep : ℕ) (rs : List LogRecord) → RestartBreaks old new keep rs
     → RestartBreaks (state_of old.sight) (state_of new.sight) keep rs
 broken old new keep rs b = record {
-  kind = refl;
+  form = b.form;
   appended = b.appended;
   stand = b.stand;
   no_less = b.no_less;

@@ -244,7 +244,7 @@ logged_left s ls left is marks decisions begun = record {
 }
 
 -- what the records leave stands with a log of them and of the boot, all of it forced
-kept_left : (s : KvSight) (ls : List LogRecord) → s.log.kind ≡ Manager → LeavesStore ls s.store s.boot
+kept_left : (s : KvSight) (ls : List LogRecord) → s.log.sight.form.kind ≡ Manager → LeavesStore ls s.store s.boot
     → s.log.sight.kept.forced ≡ ls ++ opened s.boot ∷ [] → s.log.sight.kept.unforced ≡ [] → IsKept s
 kept_left s ls kind left forced unforced =
     record {
@@ -259,21 +259,21 @@ kept_left s ls kind left forced unforced =
           (ap has_records (records_booted s ls s.boot forced unforced) ∙ has_more ls (opened s.boot));
     }
 
-pub kept_restarted : (old log : LogState) (keep : ℕ) (r : Ready) → old.kind ≡ Manager
+pub kept_restarted : (old log : LogState) (keep : ℕ) (r : Ready) → old.sight.form.kind ≡ Manager
     → IsReady (left_by_crash old.sight keep) r
     → Restarts old log keep (frame_record r.opened ∷ [])
     → IsKept (record { store = r.store; log = log; boot = r.boot })
 kept_restarted old log keep r kind ready made =
     kept_left (record { store = r.store; log = log; boot = r.boot }) (left_by_crash old.sight keep)
-    (made.kind ∙ kind) ready.left
+    (ap (λ f. f.kind) made.form ∙ kind) ready.left
     (made.forced ∙ ap (λ l. left_by_crash old.sight keep ++ l ∷ []) ready.spells) made.unforced
 
 -- a log that was opened, with the record of the boot behind its own
-pub kept_over : (log new : LogState) (store : KeySight) (boot : ℕ) → log.kind ≡ Manager → new.kind ≡ log.kind
+pub kept_over : (log new : LogState) (store : KeySight) (boot : ℕ) → log.sight.form.kind ≡ Manager → new.sight.form ≡ log.sight.form
     → StartsOver log (record { store = store; log = new; boot = boot })
     → IsKept (record { store = store; log = new; boot = boot })
 kept_over log new store boot kind same starts =
-    kept_left (record { store = store; log = new; boot = boot }) (records_of log.sight.kept) (same ∙ kind)
+    kept_left (record { store = store; log = new; boot = boot }) (records_of log.sight.kept) (ap (λ f. f.kind) same ∙ kind)
     starts.left starts.forced starts.unforced
 
 -- the record of the boot was written behind those of a log that was opened
@@ -281,6 +281,7 @@ pub starts_over : (log new : LogState) (store : KeySight) (boot : ℕ) → log.s
     → LeavesStore (records_of log.sight.kept) store boot
     → Writes log new (opened boot) true → StartsOver log (record { store = store; log = new; boot = boot })
 starts_over log new store boot works left made = record {
+  form = ap (λ (k : LogSight). k.form) made.sight;
   left = left;
   forced = ap (λ (k : LogSight). k.kept.forced) made.sight;
   unforced = ap (λ (k : LogSight). k.kept.unforced) made.sight;
@@ -300,23 +301,21 @@ starts_none log new store boot Unfit left never = absurd never
 starts_none log new store boot ExhaustedRecords left never = absurd never
 
 -- a record is written behind room that was made
-pub writes_behind : (log mid new : LogState) (l m : LogRecord) → mid.kind ≡ log.kind → mid.sight ≡ log.sight
+pub writes_behind : (log mid new : LogState) (l m : LogRecord) → mid.sight ≡ log.sight
     → l ≡ m → Writes mid new l true
     → Writes log new m true
-writes_behind log mid new l m kind same is made = subst (λ k. Writes log new k true) is (record {
-  kind = made.kind ∙ kind;
+writes_behind log mid new l m same is made = subst (λ k. Writes log new k true) is (record {
   sight = made.sight ∙ ap (λ s. wrote s (record { entry = l.entry; is_forced = true } ∷ []) (l ∷ [])) same;
 })
 
 -- and so it fails
-pub breaks_behind : (log mid new : LogState) (l m : LogRecord) → mid.kind ≡ log.kind → mid.sight ≡ log.sight
+pub breaks_behind : (log mid new : LogState) (l m : LogRecord) → mid.sight ≡ log.sight
     → l ≡ m → Breaks mid new (l ∷ [])
     → Breaks log new (m ∷ [])
-breaks_behind log mid new l m kind same is broke = subst (λ k. Breaks log new (k ∷ [])) is
-    (subst (λ k. Breaks (record { kind = k; sight = log.sight; room = log.room }) new (l ∷ [])) kind
-    (subst (λ (s : LogSight). Breaks (record { kind = mid.kind; sight = s; room = log.room })
+breaks_behind log mid new l m same is broke = subst (λ k. Breaks log new (k ∷ [])) is
+    (subst (λ (s : LogSight). Breaks (record { sight = s; room = log.room })
     new (l ∷ [])) same (record {
-      kind = broke.kind;
+      form = broke.form;
       appended = broke.appended;
       stand = broke.stand;
       no_less = broke.no_less;
@@ -324,7 +323,7 @@ breaks_behind log mid new l m kind same is broke = subst (λ k. Breaks log new (
       leaves = broke.leaves;
       failed = broke.failed;
       cause = broke.cause;
-    })))
+    }))
 
 -- the records of a log that was opened leave no manager
 pub none_left : (log : LogState) (e : RecordsError)
@@ -335,10 +334,9 @@ none_left log Unfit why = (why, refl)
 none_left log ExhaustedRecords why = (why, refl)
 
 -- a log that stays the same but for its room leaves a manager that stands
-pub kept_alike : (s : KvSight) (log : LogState) → IsKept s → log.kind ≡ s.log.kind
-    → log.sight ≡ s.log.sight → IsKept (record s { log = log })
-kept_alike s log kept kind stays = record {
-  kind = kind ∙ kept.kind;
+pub kept_alike : (s : KvSight) (log : LogState) → IsKept s → log.sight ≡ s.log.sight → IsKept (record s { log = log })
+kept_alike s log kept stays = record {
+  kind = ap (λ (k : LogSight). k.form.kind) stays ∙ kept.kind;
   ordered = ap (λ (k : LogSight). are_ordered (records_of k.kept)) stays ∙ kept.ordered;
   counted = subst (λ (k : LogSight). AreCounted (records_of k.kept)) (sym stays) kept.counted;
   stands = λ works. record {
@@ -363,11 +361,11 @@ kept_alike s log kept kind stays = record {
 -- a log that did not restart leaves a manager that stands, or that has failed
 pub kept_unstarted : (s : KvSight) (log : LogState) (keep : ℕ) (l : LogRecord) (e : RestartError)
     → IsKept s → are_ordered (left_by_crash s.log.sight keep ++ l ∷ []) ≡ true
-    → AreCounted (left_by_crash s.log.sight keep ++ l ∷ []) → log.kind ≡ s.log.kind
+    → AreCounted (left_by_crash s.log.sight keep ++ l ∷ [])
     → FailsToRestart s.log log keep l e → IsKept (record s { log = log })
-kept_unstarted s log keep l restarts.Memory kept behind counts kind stays = kept_alike s log kept kind stays
-kept_unstarted s log keep l restarts.Device kept behind counts kind broke = record {
-  kind = kind ∙ kept.kind;
+kept_unstarted s log keep l restarts.Memory kept behind counts stays = kept_alike s log kept stays
+kept_unstarted s log keep l restarts.Device kept behind counts broke = record {
+  kind = ap (λ f. f.kind) broke.form ∙ kept.kind;
   counted = subst AreCounted (sym broke.stand)
       (counted_front (left_by_crash s.log.sight keep ++ take broke.appended (l ∷ []))
       (drop broke.appended (l ∷ [])) (subst AreCounted (sym whole) counts));
@@ -382,7 +380,7 @@ kept_unstarted s log keep l restarts.Device kept behind counts kind broke = reco
     whole = append_assoc (left_by_crash s.log.sight keep) (take broke.appended (l ∷ []))
         (drop broke.appended (l ∷ []))
         ∙ ap (λ ls. left_by_crash s.log.sight keep ++ ls) (take-append-drop broke.appended (l ∷ []))
-kept_unstarted s log keep l restarts.Exhausted kept behind counts kind never = absurd never
+kept_unstarted s log keep l restarts.Exhausted kept behind counts never = absurd never
 
 -- what replays and what is rebuilt of it
 pub left_store : (ls : List LogRecord) (last : Option ℕ) (left : List (Xid × Bool))

@@ -136,7 +136,7 @@ pub kept_trimmed : (s : KvSight) (log : LogState) (rs : List LogRecord) (n : ℕ
     → AllByRecursion (IsSound Manager) (records_of s.log.sight.kept) → AreOfData s rs → Trimmed s.log log rs n
     → IsKept (record s { log = log })
 kept_trimmed s log rs n kept works sound of made = record {
-  kind = made.log.kind ∙ kept.kind;
+  kind = ap (λ f. f.kind) made.log.form ∙ kept.kind;
   ordered = ap are_ordered is ∙ ap is_some follows.read;
   counted = subst AreCounted (sym is)
       (trim_counts ls seen.0 (all_of_manager ls sound) stands.begun seen.1 kept.counted);
@@ -210,11 +210,11 @@ trimmed_counted s kept works sound =
 -- a log that was not trimmed leaves a manager that stands, or that has failed
 pub kept_untrimmed : (s : KvSight) (log : LogState) (rs : List LogRecord) (e : LogError) → IsKept s
     → s.log.sight.failed ≡ false → AllByRecursion (IsSound Manager) (records_of s.log.sight.kept)
-    → AreOfData s rs → log.kind ≡ s.log.kind → NotRewritten s.log log (rec_log.trim_of s.log rs) e
+    → AreOfData s rs → NotRewritten s.log log (rec_log.trim_of s.log rs) e
     → IsKept (record s { log = log })
-kept_untrimmed s log rs Memory kept works sound of kind stays = kept_alike s log kept kind stays
-kept_untrimmed s log rs Device kept works sound of kind broke = record {
-  kind = kind ∙ kept.kind;
+kept_untrimmed s log rs Memory kept works sound of stays = kept_alike s log kept stays
+kept_untrimmed s log rs Device kept works sound of broke = record {
+  kind = ap (λ f. f.kind) broke.form ∙ kept.kind;
   ordered = elim broke.either [
     | inl same ↦ (ap (λ (k : Kept). are_ordered (records_of k)) same ∙ kept.ordered)
     | inr trimmed ↦ (ap (λ (k : Kept). are_ordered (records_of k)) trimmed

@@ -793,12 +793,24 @@ pub record AreFollowed (s : KvSight) (ls : List LogRecord) : Type 0 where
 abbrev pub IsFollowed : KvSight → Entry → Xid → Type 0
 IsFollowed s e x = AreFollowed s (entry_record e x (writes_of s.store.writes x) ∷ [])
 
+-- what is written leaves a log of its sort
+written_kind : (s s' : KvSight) (e : Entry) (x : Xid) (is_forced : Bool)
+    → Writes s.log s'.log (entry_record e x (writes_of s.store.writes x)) is_forced
+    → s'.log.sight.form.kind ≡ s.log.sight.form.kind
+written_kind s s' e x is_forced made =
+    ap (λ (k : LogSight). k.form.kind) made.sight
+    ∙ ap (λ f. f.kind) (by_force is_forced s.log.sight (entry_record e x (writes_of s.store.writes x)))
+  where
+    by_force : (b : Bool) (k : LogSight) (l : LogRecord) → (with_record k l b).form ≡ k.form
+    by_force true k l = refl
+    by_force false k l = refl
+
 pub kept_noted : (s s' : KvSight) (x : Xid) (c : Call) (turn : Turn) (e : Entry)
     → IsKept s → IsFollowed s e x → IsDueTurn s x c turn
     → turn.entry ≡ Some e → applies e ≡ false → TakesTurn s.store s'.store x turn
     → Writes s.log s'.log (entry_record e x (writes_of s.store.writes x)) turn.is_forced → IsKept s'
 kept_noted s s' x c turn e kept follows due is notes takes made = record {
-  kind = made.kind ∙ kept.kind;
+  kind = written_kind s s' e x turn.is_forced made ∙ kept.kind;
   ordered = ap are_ordered (records_behind s s' e x ws turn.is_forced made) ∙ follows.ordered;
   counted = subst AreCounted (sym (records_behind s s' e x ws turn.is_forced made)) follows.counted;
   stands = λ works. record {
@@ -858,7 +870,7 @@ pub kept_committed : (s s' : KvSight) (x : Xid) (c : Call) (turn : Turn) (e : En
     → turn.entry ≡ Some e → applies e ≡ true → Commits s.store s'.store x turn
     → Writes s.log s'.log (entry_record e x (writes_of s.store.writes x)) turn.is_forced → IsKept s'
 kept_committed s s' x c turn e kept follows due is makes takes made = record {
-  kind = made.kind ∙ kept.kind;
+  kind = written_kind s s' e x turn.is_forced made ∙ kept.kind;
   ordered = ap are_ordered (records_behind s s' e x ws turn.is_forced made) ∙ follows.ordered;
   counted = subst AreCounted (sym (records_behind s s' e x ws turn.is_forced made)) follows.counted;
   stands = λ works. record {
@@ -899,7 +911,7 @@ kept_committed s s' x c turn e kept follows due is makes takes made = record {
 pub kept_broken : (s s' : KvSight) (ls : List LogRecord) → IsKept s
     → AreFollowed s ls → Breaks s.log s'.log ls → IsKept s'
 kept_broken s s' ls kept follows broke = record {
-  kind = broke.kind ∙ kept.kind;
+  kind = ap (λ f. f.kind) broke.form ∙ kept.kind;
   ordered = ap are_ordered broke.stand
       ∙ ordered_taken (records_of s.log.sight.kept) ls broke.appended follows.ordered;
   counted = subst AreCounted (sym broke.stand)
@@ -961,7 +973,7 @@ fails_by old s s' x turn e room is broke tables writes locks decisions boot = re
   writes_it = is;
   log = subst (λ (v : KeySight). Breaks old.log s'.log
       (entry_record e x (writes_of v.writes x) ∷ [])) room.store (record {
-        kind = broke.kind ∙ room.kind;
+        form = broke.form ∙ ap (λ (k : LogSight). k.form) room.sight;
         appended = broke.appended;
         stand = broke.stand ∙ ap (λ (k : LogSight). records_of k.kept ++ take broke.appended (l ∷ [])) room.sight;
         no_less = subst (λ (k : LogSight). length k.kept.forced

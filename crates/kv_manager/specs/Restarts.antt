@@ -27,6 +27,8 @@ use Rattle.kv_manager.specs.declared.restart.Ready.{Ready}
 use Rattle.kv_manager.specs.declared.manager.RestoreError.{RestoreError}
 use Rattle.kv_manager.specs.declared.manager.RestoreError.TheVariants.{Log, Records}
 use Rattle.kv_manager.specs.Sights.{KvSight, SameManager}
+use Rattle.log_text.specs.Forms.{log_form}
+use Rattle.tree_model.specs.declared.names.ProcessId.{ProcessId}
 
 -- the number of why no manager stands over records
 abbrev pub records_number : RecordsError → ℕ
@@ -148,6 +150,7 @@ NotRestarted old new keep restarts.Exhausted = AreLastBoots (left_by old.log.sig
 -- a manager over a log that was opened: the store is what the log's records leave, and the log has these and
 -- the next boot, all forced
 pub record StartsOver (log : LogState) (s : KvSight) : Type 0 where
+  pub form : s.log.sight.form ≡ log.sight.form
   pub left : LeavesStore (records_of log.sight.kept) s.store s.boot
   pub forced : s.log.sight.kept.forced ≡ records_of log.sight.kept ++ opened s.boot ∷ []
   pub unforced : s.log.sight.kept.unforced ≡ []
@@ -155,10 +158,10 @@ pub record StartsOver (log : LogState) (s : KvSight) : Type 0 where
   pub works : s.log.sight.failed ≡ false
   pub failures : s.log.sight.failures ≡ log.sight.failures
 
--- a manager over the log of these bytes
-pub record RestoredFrom (bytes : List ℕ) (forced failures : ℕ) (s : KvSight) : Type 0 where
+-- the manager of this process over the log of these bytes
+pub record RestoredFrom (process : ProcessId) (bytes : List ℕ) (forced failures : ℕ) (s : KvSight) : Type 0 where
   pub log : LogState
-  pub opens : Opens Manager bytes forced failures log
+  pub opens : Opens (log_form process Manager) bytes forced failures log
   pub starts : StartsOver log s
 
 -- the record of a boot was not written: nothing changed, or the device failed under it
@@ -174,16 +177,18 @@ LeavesNone old new Device = (boot : ℕ) × ComesNext (records_of old.sight.kept
 LeavesNone old new e = NotRebuilt (records_of old.sight.kept) e × (new.sight ≡ old.sight)
 
 -- a store whose log was opened is handed back
-pub record HandsBack {S : Type 0} (bytes : S → List ℕ) (forced failures : S → ℕ) (old new : S)
-    (e : RecordsError) : Type 0 where
+pub record HandsBack {S : Type 0} (bytes : S → List ℕ) (forced failures : S → ℕ) (process : ProcessId)
+    (old new : S) (e : RecordsError) : Type 0 where
   pub opened_as : LogState
-  pub opens : Opens Manager (bytes old) (forced old) (failures old) opened_as
+  pub opens : Opens (log_form process Manager) (bytes old) (forced old) (failures old) opened_as
   pub left_as : LogState
   pub holds : left_as.sight
-      ≡ (log_state Manager (bytes new) (forced new) (failures new) 0 left_as.sight.failed).sight
+      ≡ (log_state (log_form process Manager) (bytes new) (forced new) (failures new) 0 left_as.sight.failed).sight
   pub why : LeavesNone opened_as left_as e
 
 -- why no manager is restored, and what store is handed back
-abbrev pub NotRestored : {S : Type 0} → (S → List ℕ) → (S → ℕ) → (S → ℕ) → S → S → RestoreError → Type 0
-NotRestored bytes forced failures old new (Log e) = NotOpened bytes forced failures Manager old new e
-NotRestored bytes forced failures old new (Records e) = HandsBack bytes forced failures old new e
+abbrev pub NotRestored : {S : Type 0} → (S → List ℕ) → (S → ℕ) → (S → ℕ) → ProcessId → S → S
+    → RestoreError → Type 0
+NotRestored bytes forced failures p old new (Log e) =
+    NotOpened bytes forced failures (log_form p Manager) old new e
+NotRestored bytes forced failures p old new (Records e) = HandsBack bytes forced failures p old new e

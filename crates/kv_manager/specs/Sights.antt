@@ -71,7 +71,7 @@ pub record IsLogged (s : KvSight) : Type 0 where
 -- what a manager keeps: the log is a manager's, its records may follow one another, the data of each front of them
 -- count fewer than 2^63 commits, and while it has not failed the data are those of its records
 pub record IsKept (s : KvSight) : Type 0 where
-  pub kind : s.log.kind ≡ Manager
+  pub kind : s.log.sight.form.kind ≡ Manager
   pub ordered : are_ordered (records_of s.log.sight.kept) ≡ true
   pub counted : AreCounted (records_of s.log.sight.kept)
   pub stands : s.log.sight.failed ≡ false → IsLogged s

@@ -119,7 +119,6 @@ HasWrites _ ws = ⊤
 pub record OnlyRoom (old new : KvSight) : Type 0 where
   pub store : new.store ≡ old.store
   pub sight : new.log.sight ≡ old.log.sight
-  pub kind : new.log.kind ≡ old.log.kind
   pub boot : new.boot ≡ old.boot
 
 -- The other calls.

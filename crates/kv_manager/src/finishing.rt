@@ -7,7 +7,7 @@ ghost use Rattle.xa_codes.specs.Codes.{is_own};
 ghost use Rattle.kv_manager.specs.Resources.{IsRefusal, sight_of};
 ghost use Rattle.kv_manager.specs.Sights.{SameManager};
 ghost use Rattle.log_text.specs.Made.{frame_record};
-ghost use Rattle.log_text.specs.Payloads.{record_text};
+ghost use Rattle.log_text.specs.Payloads.{record_size};
 ghost use Rattle.rec_log.specs.Sights.{IsRecord};
 ghost use Rattle.tree_model.specs.declared.names.Kind.TheVariants as kind;
 ghost use Rattle.kv_store.specs.writes.Writes.{writes_of};
@@ -60,12 +60,12 @@ impl<L: LogStore> KvManager<L> {
         requires { HasWrites entry (writes_of self.old.store.writes xid.now) }
         ensures record { IfOk result (λ frame. frame_record frame ≡ entry_record entry xid.now
             (writes_of self.old.store.writes xid.now)) }
-        ensures room { IfOk result (λ frame. length (record_text (frame_record frame)) ≤ self.new.log.room) }
+        ensures room { IfOk result (λ frame. record_size (frame_record frame) ≤ self.new.log.room) }
         ensures sound { IfOk result (λ frame. IsRecord kind.Manager (frame_record frame)) }
         ensures stays { OnlyRoom self.old self.new }
     {
         let frame = entry.frame(xid, self.writes_in(xid, entry), self.alloc)?;
-        self.log.reserve(frame.bytes().len())?;
+        self.log.reserve(frame.size())?;
         Ok(frame)
     }
 

@@ -1,5 +1,6 @@
 //! A key store with a log, as an XA manager.
 
+ghost use Rattle.log_text.specs.Forms.{log_form};
 ghost use Rattle.std.specs.Prelude.{◌≡◌, ◌<◌, ◌+◌, [], length, false, true, IfOk, IfErr, OnOk, OnErr, Err, Some, None};
 ghost use Rattle.key_tables.specs.declared.holders.Mode.TheVariants as mode;
 ghost use Rattle.kv_core.specs.Stores.{MovesTables, state_of};
@@ -29,7 +30,7 @@ use std::alloc::{AllocError, Global};
 use std::marker::Model;
 use std::mem;
 use thiserror::Error;
-use tree_model::{Bytes, Kind, LogRecord};
+use tree_model::{Bytes, Kind, LogRecord, ProcessId};
 use xa_assoc::WorkError;
 use xa_codes::{Code, Flags};
 use xa_heur::Decision;
@@ -77,8 +78,8 @@ impl<L: LogStore> KvManager<L> {
     /// The bytes of its log, as a list made anew. Behind a failure of the device a torn frame may stand at
     /// the end.
     pub fn log_text(&self) -> Result<Vec<u8>, AllocError>
-        ensures { IfOk result (λ text. ReadsAs kind.Manager text.items (records_of self.now.log.sight.kept)
-            self.now.log.sight.failed) }
+        ensures { IfOk result (λ text. ReadsAs self.now.log.sight.form text.items
+            (records_of self.now.log.sight.kept) self.now.log.sight.failed) }
     {
         self.log.text(self.alloc)
     }
@@ -342,9 +343,9 @@ impl<L: LogStore> KvManager<L> {
     /// error the log is handed back.
     fn over(mut log: RecLog<L>, alloc: Global) -> Result<Self, (RecordsError, RecLog<L>)>
         requires works { log.sight.failed ≡ false }
-        requires kind { log.kind ≡ kind.Manager }
+        requires kind { log.sight.form.kind ≡ kind.Manager }
         ensures ok { IfOk result (StartsOver log) }
-        ensures err { IfErr result (λ e. LeavesNone log e.1 e.0 × (e.1.kind ≡ kind.Manager)) }
+        ensures err { IfErr result (λ e. LeavesNone log e.1 e.0 × (e.1.sight.form ≡ log.sight.form)) }
     {
         match started(&mut log, alloc) {
             Ok((store, boot)) => Ok(KvManager {
@@ -359,20 +360,21 @@ impl<L: LogStore> KvManager<L> {
 }
 
 impl<L: LogStore + Drop> KvManager<L> {
-    /// A manager over an empty store, which is not open: its log has the record of its first boot. The
-    /// errors are those of `restore`.
-    pub fn create(store: L, alloc: Global) -> Result<Self, (RestoreError, L)>
+    /// A manager of this process over an empty store, which is not open: its log has the record of its first
+    /// boot. The errors are those of `restore`.
+    pub fn create(store: L, process: ProcessId, alloc: Global) -> Result<Self, (RestoreError, L)>
         requires { L.bytes store ≡ [] }
         ensures ok { IfOk result (λ manager. IsNew (sight_of manager)) }
+        ensures form { IfOk result (λ manager. manager.log.sight.form ≡ log_form process kind.Manager) }
         ensures failures { IfOk result (λ manager. manager.log.sight.failures ≡ L.failures store) }
-        ensures err { IfErr result (λ e. NotRestored L.bytes L.forced L.failures store e.1 e.0) }
+        ensures err { IfErr result (λ e. NotRestored L.bytes L.forced L.failures process store e.1 e.0) }
     {
-        KvManager::restore(store, alloc)
+        KvManager::restore(store, process, alloc)
     }
 
     /// The store under its log, as it stands.
     pub fn into_store(self) -> L
-        ensures { (log_state kind.Manager (L.bytes result) (L.forced result) (L.failures result)
+        ensures { (log_state self.log.sight.form (L.bytes result) (L.forced result) (L.failures result)
             (L.room result) self.log.sight.failed).sight ≡ self.log.sight }
     {
         let KvManager { store, log, .. } = self;
@@ -380,15 +382,15 @@ impl<L: LogStore + Drop> KvManager<L> {
         log.into_store()
     }
 
-    /// A manager over the log in a store, which is not open: it stands as the log's records say, and the
-    /// record of its boot is written behind them. With a refusal the store is handed back. Log: the bytes are
-    /// no log, or it was not opened. Records: the log's records leave no manager, and the log is as it was
-    /// opened; or the record could not be written.
-    pub fn restore(store: L, alloc: Global) -> Result<Self, (RestoreError, L)>
-        ensures ok { IfOk result (RestoredFrom (L.bytes store) (L.forced store) (L.failures store)) }
-        ensures err { IfErr result (λ e. NotRestored L.bytes L.forced L.failures store e.1 e.0) }
+    /// The manager of this process over the log in a store, which is not open: it stands as the log's records
+    /// say, and the record of its boot is written behind them. With a refusal the store is handed back. Log:
+    /// the bytes are no log, or it was not opened. Records: the log's records leave no manager, and the log is
+    /// as it was opened; or the record could not be written.
+    pub fn restore(store: L, process: ProcessId, alloc: Global) -> Result<Self, (RestoreError, L)>
+        ensures ok { IfOk result (RestoredFrom process (L.bytes store) (L.forced store) (L.failures store)) }
+        ensures err { IfErr result (λ e. NotRestored L.bytes L.forced L.failures process store e.1 e.0) }
     {
-        let log = match RecLog::open(store, Kind::Manager, alloc) {
+        let log = match RecLog::open(store, process, Kind::Manager, alloc) {
             Ok(log) => log,
             Err((error, store)) => return Err((RestoreError::Log(error), store)),
         };

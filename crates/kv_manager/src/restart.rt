@@ -219,8 +219,8 @@ pub(crate) fn restart_log<L: LogStore>(
     opened: &Frame,
     alloc: Global,
 ) -> Result<(), RestartError>
-    requires { IsRecord log.old.kind (frame_record opened.now) }
-    ensures kind { log.new.kind ≡ log.old.kind }
+    requires { IsRecord log.old.sight.form.kind (frame_record opened.now) }
+    ensures form { log.new.sight.form ≡ log.old.sight.form }
     ensures ok { OnOk result (Restarts log.old log.new keep (frame_record opened.now ∷ [])) }
     ensures err { IfErr result (λ e. FailsToRestart log.old log.new keep (frame_record opened.now) e) }
 {
@@ -239,13 +239,13 @@ fn write_boot<L: LogStore>(
 ) -> Result<(), RecordsError>
     requires fits { boot < 2 ^ 63 }
     requires works { log.old.sight.failed ≡ false }
-    requires kind { log.old.kind ≡ kind.Manager }
+    requires kind { log.old.sight.form.kind ≡ kind.Manager }
     ensures ok { OnOk result (Writes log.old log.new (opened boot) true) }
     ensures err { IfErr result (NotBegun log.old log.new boot) }
-    ensures kind { log.new.kind ≡ log.old.kind }
+    ensures form { log.new.sight.form ≡ log.old.sight.form }
 {
     let opened = opened(boot, alloc)?;
-    log.reserve(opened.bytes().len())?;
+    log.reserve(opened.size())?;
     match write(log, &opened, true) {
         Ok(()) => Ok(()),
         Err(_) => Err(RecordsError::Device),
@@ -259,11 +259,11 @@ pub(crate) fn started<L: LogStore>(
     alloc: Global,
 ) -> Result<(KeyStore, u64), RecordsError>
     requires works { log.old.sight.failed ≡ false }
-    requires kind { log.old.kind ≡ kind.Manager }
+    requires kind { log.old.sight.form.kind ≡ kind.Manager }
     ensures ok { IfOk result (λ made. StartsOver log.old
         (record { store = made.0; log = log.new; boot = made.1 })) }
     ensures err { IfErr result (LeavesNone log.old log.new) }
-    ensures kind { log.new.kind ≡ log.old.kind }
+    ensures form { log.new.sight.form ≡ log.old.sight.form }
 {
     let records = log.records(alloc)?;
     let (store, boot) = rebuilt(records, alloc)?;

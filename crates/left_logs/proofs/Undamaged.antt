@@ -11,22 +11,23 @@ use Rattle.tree_model.specs.Names.{same_process}
 use Rattle.tree_model.specs.Nodes.{AtLeaf, AtRoot, Below, IsCoordinator, Place, Role, is_listed, kept, role_by, role_of}
 use Rattle.tree_model.specs.Trees.{IsTree, has_wrong_roots, is_manager_kind, is_top}
 use Rattle.tree_model.specs.World.{Made, World}
-use Rattle.log_rules.specs.order.Logs.{Whole, read_log}
+use Rattle.log_text.specs.Forms.{log_form}
+use Rattle.log_rules.specs.order.Logs.{Whole, read_as, read_log}
 use Rattle.log_rules.specs.sound.Sound.{IsSound}
 use Rattle.kv_core.specs.Replays.{seen_of}
 use Rattle.logs_script.specs.declared.line.ProcessLog.{ProcessLog}
 use Rattle.logs_script.specs.Faults.{damage_or, first_damage}
 use Rattle.logs_script.specs.Logs.{bytes_of}
+use Rattle.logs_script.proofs.Formats.{second_form}
 use Rattle.rec_log.specs.Sights.{body, records_of}
 use Rattle.rec_log.specs.Texts.{records_in}
 use Rattle.log_grammar.proofs.Ordered.{ordered_log_is_read}
-use Rattle.core_model.specs.Makes.{kind_of_role}
-use Rattle.core_model.specs.States.{CoreState}
+use Rattle.core_model.specs.States.{CoreState, form_of, kind_of_role}
 use Rattle.core_law.specs.worlds.Ties.{Follows, StandsAt}
 use Rattle.core_law.specs.worlds.Worlds.{WorldState}
 use Rattle.ordered_logs.specs.Orders.{log_of}
 use Rattle.ordered_logs.proofs.LogsRead.{follow_so, ordered_so}
-use Rattle.tree_node.specs.Nodes.{FollowAt, LogStands, SpellsLog, log_kind}
+use Rattle.tree_node.specs.Nodes.{FollowAt, LogStands, SpellsLog}
 use Rattle.tree_world.specs.LogsLeft.{AreLogs, LogStandsBy, LogsStand}
 use Rattle.tree_world.specs.Nodes.{SpellsLogBy}
 use Rattle.tree_audit.proofs.TreePlaces.{Each, IsFound, each_found, listed_if, not_found, role_if}
@@ -34,7 +35,7 @@ use Rattle.left_logs.proofs.Left.{spells_at}
 use Rattle.left_logs.proofs.Unfailed.{NoneFailed, all_up}
 
 kind_again : (k : Kind) (o : Option ProcessId) → (is_none o && is_manager_kind k) ≡ false
-    → log_kind (role_by k o) ≡ k
+    → kind_of_role (role_by k o) ≡ k
 kind_again Coordinator None h = refl
 kind_again Coordinator (Some p) h = refl
 kind_again Manager (Some p) h = refl
@@ -46,10 +47,10 @@ second_false false b h = h
 
 -- the kind of a listed process's log is its entry's
 pub entry_log : (tree : List TreeEntry) → IsTree tree → (q : ProcessId) (e : TreeEntry)
-    → find (λ x. same_process x.id q) tree ≡ Some e → log_kind (role_of tree q) ≡ e.kind
+    → find (λ x. same_process x.id q) tree ≡ Some e → kind_of_role (role_of tree q) ≡ e.kind
 unfolding has_wrong_roots
 entry_log tree t q e found =
-    ap log_kind (role_if tree q e found)
+    ap kind_of_role (role_if tree q e found)
     ∙ kind_again e.kind e.parent
     (not_found (λ x. is_top x && is_manager_kind x.kind) (λ x. same_process x.id q) tree e
     (second_false _ _ t.one_coordinator_on_top) found)
@@ -98,24 +99,27 @@ module _ (end : WorldState) (t : IsTree end.tree) (es : List Made) (w : World) (
     follow = by_role c.place.role (sym role_is) stands.sound stands.follow
 
     -- its bytes are read as its records
-    read_so : (k : Kind) → log_kind c.place.role ≡ k → (bytes : List ℕ) → SpellsLog c bytes
-        → read_log k bytes ≡ Whole (records_in k 0 (body bytes)) 0
+    read_so : (k : Kind) → kind_of_role c.place.role ≡ k → (bytes : List ℕ) → SpellsLog c bytes
+        → read_as q k bytes ≡ Whole (records_in (log_form q k) 0 (body bytes)) 0
     read_so k is bytes spells =
-        subst (λ p. read_log p bytes ≡ Whole (records_in p 0 (body bytes)) 0) is
-        (ordered_log_is_read (log_kind c.place.role) bytes spells.begins
+        let mine : form_of c.place ≡ log_form q k =
+        ap (λ (p : Place). log_form p.me (kind_of_role c.place.role)) at.place ∙ ap (log_form q) is in
+        ap (λ f. read_log f bytes) (second_form bytes q k spells.begins)
+        ∙ subst (λ f. read_log f bytes ≡ Whole (records_in f 0 (body bytes)) 0) mine
+        (ordered_log_is_read (form_of c.place) bytes spells.begins
         (spells.whole (at.stands.failed ∙ all_up end.tree es w follows.is_run whole q))
-        (follow_so (records_in (log_kind c.place.role) 0 (body bytes))
+        (follow_so (records_in (form_of c.place) 0 (body bytes))
         (subst (λ ls. is_some (seen_of ls) ≡ true) (sym spells.read) follow)))
 
   module _ (logs : List ProcessLog) (left : AreLogs end end.tree logs) where
     read_at : (e : TreeEntry) → IsFound end.tree e → LogStandsBy (end.node_at e.id)
-        → read_log e.kind (bytes_of logs e.id)
-        ≡ Whole (records_in e.kind 0 (body (bytes_of logs e.id))) 0
+        → read_as e.id e.kind (bytes_of logs e.id)
+        ≡ Whole (records_in (log_form e.id e.kind) 0 (body (bytes_of logs e.id))) 0
     read_at e found stands =
         let listed = listed_if end.tree e.id e found in
         let node = some_node (end.node_at e.id) (follows.listed e.id ∙ listed) in
         read_so e.id listed node.0 node.1 (subst LogStandsBy node.1 stands) e.kind
-        (ap log_kind (role_is e.id listed node.0 node.1 (subst LogStandsBy node.1 stands))
+        (ap kind_of_role (role_is e.id listed node.0 node.1 (subst LogStandsBy node.1 stands))
         ∙ entry_log end.tree t e.id e found) (bytes_of logs e.id)
         (subst (λ o. SpellsLogBy o (bytes_of logs e.id)) node.1
         (spells_at end end.tree logs e.id e left found))

@@ -1,12 +1,11 @@
 -- What may stand in order is read, and never damaged.
 use Rattle.std.proofs.Common.{◌≡◌, ◌≤◌, ◌∙◌, ℕ, Bool, true, false, List, [], ◌∷◌, ◌++◌, length, drop, Option, Some, None, refl, sym, ap, arith, length-append, take-append-drop, suc, zero, ◌+◌}
-use Rattle.std.specs.Prelude.{is_some, nat_lt}
+use Rattle.std.specs.Prelude.{is_some}
 use Rattle.std.specs.List.{AllByRecursion}
-use Rattle.std.proofs.lemmas.Bool.Decides.{nat_tests}
-use Rattle.tree_model.specs.declared.names.Kind.{Kind}
+use Rattle.log_text.specs.declared.form.LogForm.{LogForm}
 use Rattle.tree_model.specs.declared.records.LogRecord.{LogRecord}
-use Rattle.tree_model.specs.Records.{same_bytes}
-use Rattle.log_text.specs.Frames.{Cut, first_frame, header}
+use Rattle.log_text.specs.Forms.{header, size_bytes}
+use Rattle.log_text.specs.Frames.{Cut, first_frame}
 use Rattle.log_text.specs.Payloads.{records_text}
 use Rattle.log_text.specs.Reading.{read_record}
 use Rattle.log_rules.specs.order.Logs.{Whole, frame_by, read_frames, read_log, record_by, seen_by, with_first}
@@ -15,39 +14,27 @@ use Rattle.log_rules.specs.sound.Sound.{IsSound}
 use Rattle.log_rules.proofs.sound.Records.{records_read_back}
 use Rattle.log_rules.proofs.sound.Sizes.{records_fit_frames}
 use Rattle.rec_log.specs.Texts.{and_records, is_whole, records_by, records_in, whole_by, whole_if}
+use Rattle.rec_log.proofs.Carrying.{behind_header}
 use Rattle.log_grammar.specs.Grammar.{HasFrame, OrderedIsRead, OrderedLogIsRead, admitted, and_then}
 use Rattle.log_grammar.proofs.Framed.{text_reads}
 
 -- each record that can stand in a log stands in a frame of its own
-all_frames : (p : Kind) (ls : List LogRecord) → AllByRecursion (IsSound p) ls → AllByRecursion (HasFrame p) ls
+all_frames : (p : LogForm) (ls : List LogRecord) → AllByRecursion (IsSound p.kind) ls → AllByRecursion (HasFrame p) ls
 all_frames p [] h = tt
 all_frames p (l ∷ ls) h = (
   record { short = (records_fit_frames p l h.0).short; reads = records_read_back p l h.0 },
   all_frames p ls h.1,
 )
 
--- a log that has its header is read from the bytes behind it on
-behind_header : (p : Kind) (xs : List ℕ) → read_log p (header ++ xs) ≡ read_frames p 5 nothing_seen 0 xs
-unfolding read_log same_bytes
-behind_header p xs = by_size (nat_lt (length (header ++ xs)) 5) refl
-  where
-    enough : (n : ℕ) → 5 ≤ n → nat_lt n 5 ≡ true → ⊥
-    enough n h e = grind (arith, nat_tests)
-
-    by_size : (b : Bool) → nat_lt (length (header ++ xs)) 5 ≡ b
-        → read_log p (header ++ xs) ≡ read_frames p 5 nothing_seen 0 xs
-    by_size true e = absurd (enough (length (header ++ xs)) (omega (arith, length-append header xs)) e)
-    by_size false e = rw e refl
-
 pub ordered_is_read : OrderedIsRead
 ordered_is_read p ls sound follow tail torn = by_order (admitted nothing_seen ls) refl follow
   where
     by_order : (o : Option SeenLog) → admitted nothing_seen ls ≡ o → is_some o ≡ true
-        → read_log p (header ++ (records_text ls ++ tail)) ≡ Whole ls (length tail)
+        → read_log p (header p.format ++ (records_text p ls ++ tail)) ≡ Whole ls (length tail)
     by_order None e f = absurd (cc)
     by_order (Some s) e f =
-        behind_header p (records_text ls ++ tail)
-        ∙ text_reads p (records_text ls ++ tail) ls (length tail) (record {
+        behind_header p (records_text p ls ++ tail)
+        ∙ text_reads p (records_text p ls ++ tail) ls (length tail) (record {
           said = s;
           tail = tail;
           begins = record { text = refl; order = e; frames = all_frames p ls sound };
@@ -58,31 +45,31 @@ ordered_is_read p ls sound follow tail torn = by_order (admitted nothing_seen ls
 -- Bytes that are whole frames of records are read from frame to frame, as far as each may follow.
 
 -- these bytes are read as their records, from whatever place and behind whatever is seen
-abbrev AreRead : Kind → List ℕ → Type 0
+abbrev AreRead : LogForm → List ℕ → Type 0
 AreRead p bs = (at : ℕ) (t : SeenLog) (k : ℕ) → is_whole p k bs ≡ true → is_some (admitted t (records_in p k bs)) ≡ true
     → read_frames p at t k bs ≡ Whole (records_in p k bs) 0
 
-frames_read : (p : Kind) (place : ℕ) (s : SeenLog) (k : ℕ) (bytes : List ℕ) → is_whole p k bytes ≡ true
+frames_read : (p : LogForm) (place : ℕ) (s : SeenLog) (k : ℕ) (bytes : List ℕ) → is_whole p k bytes ≡ true
     → is_some (admitted s (records_in p k bytes)) ≡ true
     → read_frames p place s k bytes ≡ Whole (records_in p k bytes) 0
 unfolding read_frames records_in is_whole admitted
 frames_read p place s k [] whole follow = refl
 frames_read p place s (suc k) (b ∷ bs) whole follow = frames_read p place s k bs whole follow
 frames_read p place s zero (b ∷ bs) whole follow =
-    by_frame (first_frame (b ∷ bs)) (λ at t k. frames_read p at t k bs) whole follow
+    by_frame (first_frame p.format (b ∷ bs)) (λ at t k. frames_read p at t k bs) whole follow
   where
-    by_seen : (c : Cut) (l : LogRecord) (o : Option SeenLog) → AreRead p bs → is_whole p (suc (suc (length c.1))) bs ≡ true
-        → is_some (and_then o (λ t. admitted t (records_in p (suc (suc (length c.1))) bs))) ≡ true
-        → seen_by place l o (λ t. read_frames p (place + 3 + length c.1) t (suc (suc (length c.1))) bs)
-        ≡ Whole (l ∷ records_in p (suc (suc (length c.1))) bs) 0
+    by_seen : (c : Cut) (l : LogRecord) (o : Option SeenLog) → AreRead p bs → is_whole p (size_bytes p.format + length c.1) bs ≡ true
+        → is_some (and_then o (λ t. admitted t (records_in p (size_bytes p.format + length c.1) bs))) ≡ true
+        → seen_by place l o (λ t. read_frames p (place + suc (size_bytes p.format) + length c.1) t (size_bytes p.format + length c.1) bs)
+        ≡ Whole (l ∷ records_in p (size_bytes p.format + length c.1) bs) 0
     by_seen c l None more whole follow = absurd (cc)
     by_seen c l (Some t) more whole follow =
-        ap (with_first l) (more (place + 3 + length c.1) t (suc (suc (length c.1))) whole follow)
+        ap (with_first l) (more (place + suc (size_bytes p.format) + length c.1) t (size_bytes p.format + length c.1) whole follow)
 
-    by_record : (c : Cut) (o : Option LogRecord) → AreRead p bs → whole_if o (is_whole p (suc (suc (length c.1))) bs) ≡ true
-        → is_some (admitted s (and_records o (records_in p (suc (suc (length c.1))) bs))) ≡ true
-        → record_by place s o (λ t. read_frames p (place + 3 + length c.1) t (suc (suc (length c.1))) bs)
-        ≡ Whole (and_records o (records_in p (suc (suc (length c.1))) bs)) 0
+    by_record : (c : Cut) (o : Option LogRecord) → AreRead p bs → whole_if o (is_whole p (size_bytes p.format + length c.1) bs) ≡ true
+        → is_some (admitted s (and_records o (records_in p (size_bytes p.format + length c.1) bs))) ≡ true
+        → record_by place s o (λ t. read_frames p (place + suc (size_bytes p.format) + length c.1) t (size_bytes p.format + length c.1) bs)
+        ≡ Whole (and_records o (records_in p (size_bytes p.format + length c.1) bs)) 0
     by_record c None more whole follow = absurd (cc)
     by_record c (Some l) more whole follow = by_seen c l (after s l) more whole follow
 

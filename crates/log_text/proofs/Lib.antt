@@ -1,3 +1,4 @@
 pub mod NameReading
 pub mod Lists
+pub mod Owned
 pub mod Texts

@@ -1,6 +1,9 @@
 -- Texts that are joined.
 use Rattle.std.proofs.Common.{◌≡◌, ◌++◌, List, ℕ, append_assoc, ◌∙◌}
 
+pub joined2 : (a b c : List ℕ) → (a ++ b) ++ c ≡ a ++ (b ++ c)
+joined2 a b c = append_assoc a b c
+
 pub joined3 : (a b c d : List ℕ) → ((a ++ b) ++ c) ++ d ≡ a ++ (b ++ (c ++ d))
 joined3 a b c d = append_assoc (a ++ b) c d ∙ append_assoc a b (c ++ d)
 

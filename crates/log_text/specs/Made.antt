@@ -1,4 +1,4 @@
--- Frames, and the records that they are of.
+-- The record that a frame is of.
 use Rattle.tree_model.specs.declared.records.LogRecord.{LogRecord}
 use Rattle.log_text.specs.declared.encode.Frame.{Frame}
 

@@ -14,6 +14,10 @@ use Rattle.tree_model.specs.declared.records.Record.{Record}
 use Rattle.tree_model.specs.declared.records.Record.TheVariants.{Opened, Collecting, Prepare, Commit, Abort, End, Prepared, Committed, RolledBack, Direct, HeurCommit, HeurRollback, Told, Forgot, Base, Pair, Cleared}
 use Rattle.tree_model.specs.declared.records.Write.{Write}
 use Rattle.tree_model.specs.LogNames.{name_xid}
+use Rattle.log_text.specs.declared.form.LogForm.{LogForm}
+use Rattle.log_text.specs.declared.form.LogFormat.{LogFormat}
+use Rattle.log_text.specs.declared.form.LogFormat.TheVariants.{First, Second}
+use Rattle.log_text.specs.Forms.{kind_number, size_limit, unowned}
 use Rattle.log_text.specs.Frames.{frame_text}
 use Rattle.tree_model.specs.declared.records.Reports.{Reports}
 
@@ -80,34 +84,52 @@ outcome_byte AbortedOutcome = 0
 abbrev pub name_text : Option ProcessId → Branch → List ℕ
 name_text p b = xid_bytes (name_xid p b)
 
+-- whose log it is: the process, and its sort
+abbrev pub owner_text : LogForm → List ℕ
+owner_text f = big_bytes 4 f.process.0 ++ kind_number f.kind ∷ []
+
+-- what Opened carries: its boot, and by the second format whose log it is
+abbrev pub opened_by : LogFormat → LogForm → ℕ → List ℕ
+opened_by First f n = big_bytes 8 n
+opened_by Second f n = big_bytes 8 n ++ owner_text f
+
+-- the same by the format of the log
+abbrev pub opened_text : LogForm → ℕ → List ℕ
+opened_text f n = opened_by f.format f n
+
 -- a record's payload: what it carries, behind its name where it has one
-abbrev pub payload_text : Option ProcessId → Record → List ℕ
-payload_text p (Opened n) = big_bytes 8 n
-payload_text p (Collecting c ts) = name_text p (CaseBranch c) ++ tickets_text ts
-payload_text p (Prepare c ts) = name_text p (CaseBranch c) ++ tickets_text ts
-payload_text p (Commit c ts) = name_text p (CaseBranch c) ++ tickets_text ts
-payload_text p (Abort c ts) = name_text p (CaseBranch c) ++ tickets_text ts
-payload_text p (End c None) = name_text p (CaseBranch c)
-payload_text p (End c (Some r)) = name_text p (CaseBranch c) ++ reports_text r
-payload_text p (Cleared c) = name_text p (CaseBranch c)
-payload_text p (Prepared b ws) = name_text p b ++ writes_text ws
-payload_text p (Committed b) = name_text p b
-payload_text p (RolledBack b) = name_text p b
-payload_text p (Direct b ws) = name_text p b ++ writes_text ws
-payload_text p (HeurCommit b) = name_text p b
-payload_text p (HeurRollback b) = name_text p b
-payload_text p (Told b o) = name_text p b ++ outcome_byte o ∷ []
-payload_text p (Forgot b) = name_text p b
-payload_text p (Base n) = big_bytes 8 n
-payload_text p (Pair k v) = key_text k ++ value_text v
+abbrev pub payload_text : LogForm → Option ProcessId → Record → List ℕ
+payload_text f p (Opened n) = opened_text f n
+payload_text f p (Collecting c ts) = name_text p (CaseBranch c) ++ tickets_text ts
+payload_text f p (Prepare c ts) = name_text p (CaseBranch c) ++ tickets_text ts
+payload_text f p (Commit c ts) = name_text p (CaseBranch c) ++ tickets_text ts
+payload_text f p (Abort c ts) = name_text p (CaseBranch c) ++ tickets_text ts
+payload_text f p (End c None) = name_text p (CaseBranch c)
+payload_text f p (End c (Some r)) = name_text p (CaseBranch c) ++ reports_text r
+payload_text f p (Cleared c) = name_text p (CaseBranch c)
+payload_text f p (Prepared b ws) = name_text p b ++ writes_text ws
+payload_text f p (Committed b) = name_text p b
+payload_text f p (RolledBack b) = name_text p b
+payload_text f p (Direct b ws) = name_text p b ++ writes_text ws
+payload_text f p (HeurCommit b) = name_text p b
+payload_text f p (HeurRollback b) = name_text p b
+payload_text f p (Told b o) = name_text p b ++ outcome_byte o ∷ []
+payload_text f p (Forgot b) = name_text p b
+payload_text f p (Base n) = big_bytes 8 n
+payload_text f p (Pair k v) = key_text k ++ value_text v
+
+-- the boot of an Opened
+abbrev pub boot_in : Record → Option ℕ
+boot_in (Opened n) = Some n
+boot_in _ = None
 
 -- a record as it stands in a log
-unfoldable pub record_text : LogRecord → List ℕ
-record_text l = frame_text (kind_byte l.entry) (payload_text l.parent l.entry)
+unfoldable pub record_text : LogForm → LogRecord → List ℕ
+record_text f l = frame_text f.format (kind_byte l.entry) (payload_text f l.parent l.entry)
 
 -- records, one behind the other
-unfoldable pub records_text : List LogRecord → List ℕ
-records_text ls = flat_map record_text ls
+unfoldable pub records_text : LogForm → List LogRecord → List ℕ
+records_text f ls = flat_map (record_text f) ls
 
 -- Sizes that the bytes before a list, a key and a value can tell.
 
@@ -132,7 +154,15 @@ IsSized (Direct b ws) = (length ws < 256) × All SizedWrite ws
 IsSized (Pair k v) = (length k < 256) × (length v < 65536)
 IsSized _ = ⊤
 
--- a record fits a frame
-pub record FitsFrame (l : LogRecord) : Type 0 where
+-- a record fits a frame of a log of this form
+pub record FitsFrameIn (f : LogForm) (l : LogRecord) : Type 0 where
   pub sized : IsSized l.entry
-  pub short : length (payload_text l.parent l.entry) < 65536
+  pub short : length (payload_text f l.parent l.entry) < size_limit f.format
+
+-- a record fits a frame of the log of a process
+abbrev pub FitsFrame : LogRecord → Type 0
+FitsFrame l = FitsFrameIn unowned l
+
+-- how many bytes a record takes in the log of a process, whosever it is
+abbrev pub record_size : LogRecord → ℕ
+record_size l = length (record_text unowned l)

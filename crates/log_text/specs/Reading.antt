@@ -1,5 +1,5 @@
 -- The record that a payload is exactly, at each sort of process.
-use Rattle.std.specs.Prelude.{ℕ, ◌^◌, ◌&&◌, ◌||◌, ◌==◌, nat_lt, nat_le, if◌then◌else◌, List, [], ◌∷◌, Option, Some, None, length, option_map}
+use Rattle.std.specs.Prelude.{ℕ, ◌^◌, ◌&&◌, ◌||◌, ◌==◌, nat_lt, nat_le, if◌then◌else◌, List, [], ◌∷◌, Option, Some, None, bytes_eq, drop, length, option_map, take}
 use Rattle.byteorder.specs.Endian.{big_number}
 use Rattle.tree_model.specs.declared.names.Case.{Case}
 use Rattle.tree_model.specs.declared.names.Kind.{Kind}
@@ -14,6 +14,10 @@ use Rattle.tree_model.specs.declared.records.Record.{Record}
 use Rattle.tree_model.specs.declared.records.Record.TheVariants.{Opened, Collecting, Prepare, Commit, Abort, End, Prepared, Committed, RolledBack, Direct, HeurCommit, HeurRollback, Told, Forgot, Base, Pair, Cleared}
 use Rattle.tree_model.specs.declared.records.Write.{Write}
 use Rattle.tree_model.specs.LogNames.{unnamed}
+use Rattle.log_text.specs.declared.form.LogForm.{LogForm}
+use Rattle.log_text.specs.declared.form.LogFormat.{LogFormat}
+use Rattle.log_text.specs.declared.form.LogFormat.TheVariants.{First, Second}
+use Rattle.log_text.specs.Payloads.{owner_text}
 use Rattle.log_text.specs.Parts.{Front, Name, name_at, reports_of, tickets_of, writes_of, key_at, value_at}
 
 -- the number in just 8 bytes, below 2^63
@@ -110,11 +114,28 @@ manager_record kind payload =
     else if kind == 26 then pair_by (key_at payload)
     else of_branch kind (name_at payload)
 
--- The record of a frame: none where its kind is unknown or of the other sort of process, or its payload is
--- not exactly that of a record.
-unfoldable pub read_record : Kind → ℕ → List ℕ → Option LogRecord
-read_record Coordinator kind payload =
-    if kind == 1 then option_map (λ n. unnamed (Opened n)) (below payload)
-    else coordinator_record kind payload
-read_record Manager kind payload =
-    if kind == 1 then option_map (λ n. unnamed (Opened n)) (below payload) else manager_record kind payload
+-- The boot of a log's Opened by the second format: none where the payload is not just a boot and whose log it
+-- is.
+abbrev pub owned_boot : LogForm → List ℕ → Option ℕ
+owned_boot f payload = if bytes_eq (drop 8 payload) (owner_text f) then below (take 8 payload) else None
+
+-- the same by either
+abbrev pub boot_by : LogFormat → LogForm → List ℕ → Option ℕ
+boot_by First f payload = below payload
+boot_by Second f payload = owned_boot f payload
+
+-- the boot that an Opened of a log of this form carries; none where its payload is not exactly that
+abbrev pub opened_boot : LogForm → List ℕ → Option ℕ
+opened_boot f payload = boot_by f.format f payload
+
+-- a record of a sort of process that is not Opened
+abbrev pub kind_record : Kind → ℕ → List ℕ → Option LogRecord
+kind_record Coordinator kind payload = coordinator_record kind payload
+kind_record Manager kind payload = manager_record kind payload
+
+-- The record of a frame in a log of this form: none where its kind is unknown or of the other sort of process,
+-- or its payload is not exactly that of a record.
+unfoldable pub read_record : LogForm → ℕ → List ℕ → Option LogRecord
+read_record f kind payload =
+    if kind == 1 then option_map (λ n. unnamed (Opened n)) (opened_boot f payload)
+    else kind_record f.kind kind payload

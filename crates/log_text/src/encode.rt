@@ -1,22 +1,27 @@
 //! Records written as bytes.
 
-ghost use Rattle.std.specs.Prelude.{◌≡◌, ◌<◌, ◌++◌, ◌∷◌, [], OnOk, IfOk, length};
+ghost use Rattle.std.specs.Prelude.{◌≡◌, ◌<◌, ◌≤◌, ◌+◌, ◌-◌, ◌++◌, ◌∷◌, [], None, OnOk, IfOk, drop, length, replicate, take};
 ghost use Rattle.std.specs.List.{All};
 ghost use Rattle.byteorder.specs.Endian.{big_bytes};
 ghost use Rattle.xa_xid.specs.Bytes.{xid_bytes};
 ghost use Rattle.tree_model.specs.LogNames.{name_xid};
 ghost use Rattle.tree_model.specs.declared.records.Branch.TheVariants.{Case as CaseBranch};
+ghost use Rattle.log_text.specs.Forms.{size_bytes, size_limit, unowned};
 ghost use Rattle.log_text.specs.Marks.{mark_of};
 ghost use Rattle.log_text.specs.Payloads.{
   FitsFrame,
+  FitsFrameIn,
   IsSized,
   SizedValue,
   SizedWrite,
+  boot_in,
   key_text,
   kind_byte,
   left_text,
   name_text,
+  opened_text,
   payload_text,
+  record_size,
   record_text,
   reports_text,
   ticket_text,
@@ -26,6 +31,7 @@ ghost use Rattle.log_text.specs.Payloads.{
   writes_text,
 };
 
+use crate::form::{LogForm, LogFormat};
 use crate::mark::Mark;
 use crate::xids::{branch_xid, format_of, ticket_name, txn_name};
 use std::alloc::{AllocError, Global};
@@ -178,18 +184,30 @@ fn push_writes(text: &mut Vec<u8>, writes: &Writes) -> Result<(), AllocError>
     Ok(())
 }
 
+/// What Opened carries.
+#[tactic(auto, using(crate::proofs::Texts::joined2))]
+fn push_opened(text: &mut Vec<u8>, form: LogForm, boot: u64) -> Result<(), AllocError>
+    ensures { OnOk result (text.new.items ≡ text.old.items ++ opened_text form boot) }
+{
+    text.extend_from_slice(&boot.to_be_bytes())?;
+    match form.format {
+        LogFormat::First => Ok(()),
+        LogFormat::Second => text.extend_from_slice(&form.owner()),
+    }
+}
+
 fn push_payload(
     text: &mut Vec<u8>,
+    form: LogForm,
     parent: Option<ProcessId>,
     entry: &Record,
 ) -> Result<(), AllocError>
     requires { IsSized entry.now }
-    ensures { OnOk result (text.new.items ≡ text.old.items ++ payload_text parent entry.now) }
+    ensures { OnOk result (text.new.items ≡ text.old.items ++ payload_text form parent entry.now) }
 {
     match entry {
-        Record::Opened(number) | Record::Base(number) => text.extend_from_slice(
-            &number.to_be_bytes(),
-        ),
+        Record::Opened(boot) => push_opened(text, form, *boot),
+        Record::Base(count) => text.extend_from_slice(&count.to_be_bytes()),
         Record::Collecting(case, tickets)
         | Record::Prepare(case, tickets)
         | Record::Commit(case, tickets)
@@ -249,36 +267,97 @@ fn kind_byte(entry: &Record) -> u8
     }
 }
 
-/// The record as it stands in a log.
+/// A frame's kind, with room for the length of its payload.
+fn push_head(text: &mut Vec<u8>, format: LogFormat, kind: u8) -> Result<(), AllocError>
+    ensures { OnOk result (text.new.items ≡ text.old.items ++ kind ∷ replicate (size_bytes format) 0) }
+{
+    match format {
+        LogFormat::First => text.extend_from_slice(&[kind, 0, 0]),
+        LogFormat::Second => text.extend_from_slice(&[kind, 0, 0, 0, 0]),
+    }
+}
+
+/// Writes the length of a frame's payload where there is room for it.
+fn write_length(text: &mut Vec<u8>, format: LogFormat)
+    requires room { 1 + size_bytes format ≤ length text.old.items }
+    requires short { length text.old.items < 1 + size_bytes format + size_limit format }
+    ensures { text.new.items ≡ take 1 text.old.items
+        ++ (big_bytes (size_bytes format) (length text.old.items - (1 + size_bytes format))
+        ++ drop (1 + size_bytes format) text.old.items) }
+{
+    let length = text.len() - format.frame_head();
+    match format {
+        LogFormat::First => {
+            let length = (length as u16).to_be_bytes();
+            text[1] = length[0];
+            text[2] = length[1];
+        }
+        LogFormat::Second => {
+            let length = (length as u32).to_be_bytes();
+            text[1] = length[0];
+            text[2] = length[1];
+            text[3] = length[2];
+            text[4] = length[3];
+        }
+    }
+}
+
+/// The record as it stands in a log of this form.
 #[tactic(auto, unfolding(crate::specs::Payloads::record_text, crate::specs::Frames::frame_text))]
 fn record_bytes(
+    form: LogForm,
+    entry: &Record,
+    parent: Option<ProcessId>,
+    alloc: Global,
+) -> Result<Vec<u8>, AllocError>
+    requires { FitsFrameIn form (record { entry = entry.now; parent = parent }) }
+    ensures { IfOk result (λ text. text.items
+        ≡ record_text form (record { entry = entry.now; parent = parent })) }
+{
+    let mut text = Vec::with_capacity(alloc, FRAME)?;
+    push_head(&mut text, form.format, kind_byte(entry))?;
+    push_payload(&mut text, form, parent, entry)?;
+    write_length(&mut text, form.format);
+    Ok(text)
+}
+
+/// The frame that a record is in the log of a process, and its mark. It is made before anything is written,
+/// as it takes memory. The record itself is not kept: only clauses read it.
+#[derive(Drop)]
+pub struct Frame {
+    entry: Snapshot<Record>,
+    parent: Snapshot<Option<ProcessId>>,
+    bytes: Vec<u8>,
+    /// The boot of an Opened, which also says whose log it is: that the log knows to which it is written.
+    boot: Option<u64>,
+    mark: Mark,
+    ghost spells: { bytes.items
+        ≡ record_text unowned (record { entry = entry.value; parent = parent.value }) },
+    ghost boots: { boot ≡ boot_in entry.value },
+    ghost marks: { mark ≡ mark_of (record { entry = entry.value; parent = parent.value }) },
+}
+
+/// The record as it stands in the log of a process, whosever it is.
+fn frame_bytes(
     entry: &Record,
     parent: Option<ProcessId>,
     alloc: Global,
 ) -> Result<Vec<u8>, AllocError>
     requires { FitsFrame (record { entry = entry.now; parent = parent }) }
     ensures { IfOk result (λ text. text.items
-        ≡ record_text (record { entry = entry.now; parent = parent })) }
+        ≡ record_text unowned (record { entry = entry.now; parent = parent })) }
 {
-    let mut text = Vec::with_capacity(alloc, FRAME)?;
-    text.extend_from_slice(&[kind_byte(entry), 0, 0])?;
-    push_payload(&mut text, parent, entry)?;
-    let length = ((text.len() - 3) as u16).to_be_bytes();
-    text[1] = length[0];
-    text[2] = length[1];
-    Ok(text)
+    record_bytes(LogForm::unowned(), entry, parent, alloc)
 }
 
-/// The frame that a record is in a log, and its mark. It is made before anything is written, as it takes
-/// memory. The record itself is not kept: only clauses read it.
-#[derive(Drop)]
-pub struct Frame {
-    entry: Snapshot<Record>,
-    parent: Snapshot<Option<ProcessId>>,
-    bytes: Vec<u8>,
-    mark: Mark,
-    ghost spells: { bytes.items ≡ record_text (record { entry = entry.value; parent = parent.value }) },
-    ghost marks: { mark ≡ mark_of (record { entry = entry.value; parent = parent.value }) },
+/// The boot of an Opened.
+fn boot_of(entry: &Record) -> Option<u64>
+    ensures { result ≡ boot_in entry.now }
+{
+    match entry {
+        Record::Opened(boot) => Some(*boot),
+        _ => None,
+    }
 }
 
 impl Frame {
@@ -290,11 +369,12 @@ impl Frame {
         ensures { IfOk result (λ frame. frame_record frame
             ≡ record { entry = entry.now; parent = parent }) }
     {
-        let bytes = record_bytes(entry, parent, alloc)?;
+        let bytes = frame_bytes(entry, parent, alloc)?;
         Ok(Frame {
             entry: Snapshot::of(entry),
             parent: Snapshot::of(&parent),
             bytes,
+            boot: boot_of(entry),
             mark: Mark::of(entry, parent),
         })
     }
@@ -307,11 +387,40 @@ impl Frame {
         Frame::of(&entry.entry, entry.parent, alloc)
     }
 
-    /// The bytes that stand in the log.
+    /// How many bytes it has in the log of a process.
+    pub fn size(&self) -> usize
+        ensures { result ≡ record_size (frame_record self.now) }
+    {
+        self.bytes.len()
+    }
+
+    /// The boot, where it is the frame of an Opened: then the log's form has its bytes (`LogForm::opened`).
+    pub fn boot(&self) -> Option<u64>
+        ensures { result ≡ boot_in (frame_record self.now).entry }
+    {
+        self.boot
+    }
+
+    /// The bytes that stand in the log of any process, where it is no frame of an Opened.
+    #[tactic(auto, using(crate::proofs::Owned::other_is))]
     pub fn bytes(&self) -> &[u8]
-        ensures { result.now ≡ record_text (frame_record self.now) }
+        requires { boot_in (frame_record self.now).entry ≡ None }
+        ensures { (f : LogForm) → f.format ≡ LogFormat.Second
+            → result.now ≡ record_text f (frame_record self.now) }
     {
         &self.bytes
+    }
+
+    /// Adds the bytes that stand in a log of this form, which is that of a process.
+    #[tactic(auto, using(crate::proofs::Owned::opened_whole))]
+    pub fn push(&self, form: LogForm, text: &mut Vec<u8>) -> Result<(), AllocError>
+        requires { form.format ≡ LogFormat.Second }
+        ensures { OnOk result (text.new.items ≡ text.old.items ++ record_text form (frame_record self.now)) }
+    {
+        match self.boot() {
+            Some(boot) => text.extend_from_slice(&form.opened(boot)),
+            None => text.extend_from_slice(self.bytes()),
+        }
     }
 
     /// What a trim must know of its record.

@@ -4,6 +4,7 @@
 #![tactic(auto)]
 
 mod encode;
+mod form;
 mod frames;
 mod mark;
 mod names;
@@ -12,7 +13,8 @@ mod records;
 pub mod xids;
 
 pub use encode::{Frame, name_xid};
-pub use frames::{HEADER, first_frame};
+pub use form::{HEADER_SIZE, LogForm, LogFormat};
+pub use frames::first_frame;
 pub use mark::{Deed, Mark};
 pub use names::name_in;
 pub use records::{ReadFault, read_record};

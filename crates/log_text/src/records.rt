@@ -2,8 +2,9 @@
 
 ghost use Rattle.std.specs.Prelude.{◌≡◌, option_map, IfOk, IfErr, None, Some, OnErr};
 ghost use Rattle.log_text.specs.Parts.{key_at};
-ghost use Rattle.log_text.specs.Reading.{below, branch_record, case_record, pair_by, coordinator_record, manager_record, read_record};
+ghost use Rattle.log_text.specs.Reading.{below, branch_record, case_record, pair_by, coordinator_record, manager_record, opened_boot, owned_boot, read_record};
 
+use crate::form::{LogForm, LogFormat};
 use crate::names::name_at;
 use crate::parts::{LIMIT, bytes_of, key_at, reports_of, tickets_of, value_at, writes_of};
 use byteorder::{BigEndian, ByteOrder};
@@ -149,20 +150,46 @@ fn manager_record(kind: u8, payload: &[u8], alloc: Global) -> Result<LogRecord, 
     Ok(LogRecord { entry, parent })
 }
 
-/// The record of a frame of this kind and payload. Malformed comes exactly where the kind is unknown or of
-/// the other sort of process, or the payload is not exactly that of a record.
+/// The boot that an Opened says, by the second format also of whose log it is.
+fn owned_boot(form: LogForm, payload: &[u8]) -> Option<u64>
+    ensures { result ≡ owned_boot form payload.now }
+{
+    if payload.len() < 8 {
+        return None;
+    }
+    let (boot, owner) = payload.split_at(8);
+    if owner == form.owner().as_slice() {
+        below(boot)
+    } else {
+        None
+    }
+}
+
+/// The boot that an Opened of a log of this form carries.
+fn opened_boot(form: LogForm, payload: &[u8]) -> Option<u64>
+    ensures { result ≡ opened_boot form payload.now }
+{
+    match form.format {
+        LogFormat::First => below(payload),
+        LogFormat::Second => owned_boot(form, payload),
+    }
+}
+
+/// The record of a frame of this kind and payload, in a log of this form. Malformed comes exactly where the
+/// kind is unknown or of the other sort of process, or the payload is not exactly that of a record; by the second
+/// format also where Opened says that the log is another's.
 #[tactic(auto, unfolding(crate::specs::Reading::read_record))]
 pub fn read_record(
-    process: Kind,
+    form: LogForm,
     kind: u8,
     payload: &[u8],
     alloc: Global,
 ) -> Result<LogRecord, ReadFault>
-    ensures ok { IfOk result (λ r. read_record process kind payload.now ≡ Some r) }
-    ensures err { IfErr result (λ e. e ≡ ReadFault.Malformed → read_record process kind payload.now ≡ None) }
+    ensures ok { IfOk result (λ r. read_record form kind payload.now ≡ Some r) }
+    ensures err { IfErr result (λ e. e ≡ ReadFault.Malformed → read_record form kind payload.now ≡ None) }
 {
     if kind == 0x01 {
-        let Some(boot) = below(payload) else {
+        let Some(boot) = opened_boot(form, payload) else {
             return Err(ReadFault::Malformed);
         };
         return Ok(LogRecord {
@@ -170,7 +197,7 @@ pub fn read_record(
             parent: None,
         });
     }
-    match process {
+    match form.kind {
         Kind::Coordinator => coordinator_record(kind, payload, alloc),
         Kind::Manager => manager_record(kind, payload, alloc),
     }

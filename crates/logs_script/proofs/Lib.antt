@@ -1,4 +1,5 @@
 pub mod PlaceLaws
+pub mod Formats
 pub mod LineLaws
 pub mod LogLaws
 pub mod Digits

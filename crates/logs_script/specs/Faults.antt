@@ -8,7 +8,7 @@ use Rattle.link_script.specs.declared.script.ScriptFault.{ScriptFault}
 use Rattle.link_script.specs.declared.script.ScriptFault.TheVariants.{Utf8, TreeText, Tree, TooLong, Line}
 use Rattle.logs_script.specs.declared.line.ProcessLog.{ProcessLog}
 use Rattle.logs_script.specs.Logs.{bytes_of}
-use Rattle.log_rules.specs.order.Logs.{LogReading, Whole, Damaged, read_log}
+use Rattle.log_rules.specs.order.Logs.{LogReading, Whole, Damaged, read_as}
 
 -- a log that is damaged, and where
 abbrev pub Damage : Type 0
@@ -22,7 +22,8 @@ damage_or q (Whole ls torn) more = more
 -- the first log of these processes that is damaged
 unfoldable pub first_damage : List TreeEntry → List ProcessLog → Damage
 first_damage [] logs = None
-first_damage (e ∷ es) logs = damage_or e.id (read_log e.kind (bytes_of logs e.id)) (first_damage es logs)
+first_damage (e ∷ es) logs =
+    damage_or e.id (read_as e.id e.kind (bytes_of logs e.id)) (first_damage es logs)
 
 -- the line of a damaged log
 abbrev pub damage_text : ProcessId → ℕ → List ℕ

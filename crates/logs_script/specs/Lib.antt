@@ -1,4 +1,5 @@
 pub mod Faults
+pub mod Refusals
 pub mod Places
 pub mod Lines
 pub mod Logs

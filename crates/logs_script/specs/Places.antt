@@ -1,7 +1,8 @@
 -- The records of a log, each with the place of its first byte.
 use Rattle.std.specs.Prelude.{◌≡◌, ℕ, zero, suc, ◌+◌, List, [], ◌∷◌, Option, Some, None, length, drop, map}
-use Rattle.tree_model.specs.declared.names.Kind.{Kind}
 use Rattle.tree_model.specs.declared.records.LogRecord.{LogRecord}
+use Rattle.log_text.specs.declared.form.LogForm.{LogForm}
+use Rattle.log_text.specs.Forms.{size_bytes}
 use Rattle.log_text.specs.Frames.{Cut, first_frame}
 use Rattle.log_text.specs.Reading.{read_record}
 use Rattle.log_rules.specs.order.Logs.{Whole, read_log}
@@ -24,22 +25,24 @@ and_placed place None more = []
 and_placed place (Some l) more = placed place l ∷ more
 
 -- the record of the frame that begins there, where there is one, and those behind it
-abbrev pub placed_by : Kind → ℕ → Option Cut → (ℕ → ℕ → List Placed) → List Placed
+abbrev pub placed_by : LogForm → ℕ → Option Cut → (ℕ → ℕ → List Placed) → List Placed
 placed_by p place None more = []
 placed_by p place (Some c) more =
-    and_placed place (read_record p c.0 c.1) (more (place + 3 + length c.1) (suc (suc (length c.1))))
+    and_placed place (read_record p c.0 c.1)
+    (more (place + suc (size_bytes p.format) + length c.1) (size_bytes p.format + length c.1))
 
 -- the records of the whole frames at the front of these bytes, the first of which begins at this place
-unfoldable pub placed_in : Kind → ℕ → ℕ → List ℕ → List Placed
+unfoldable pub placed_in : LogForm → ℕ → ℕ → List ℕ → List Placed
 placed_in p place k [] = []
 placed_in p place (suc k) (b ∷ bs) = placed_in p place k bs
-placed_in p place zero (b ∷ bs) = placed_by p place (first_frame (b ∷ bs)) (λ at k. placed_in p at k bs)
+placed_in p place zero (b ∷ bs) =
+    placed_by p place (first_frame p.format (b ∷ bs)) (λ at k. placed_in p at k bs)
 
 -- the records of a log, behind its header
-abbrev pub placed_records : Kind → List ℕ → List Placed
+abbrev pub placed_records : LogForm → List ℕ → List Placed
 placed_records p bytes = placed_in p 5 0 (drop 5 bytes)
 
 -- where a log is sound, these are the records that it reads as
 abbrev pub PlacesTell : Type 0
-PlacesTell = (p : Kind) (bytes : List ℕ) (ls : List LogRecord) (torn : ℕ) → read_log p bytes ≡ Whole ls torn
+PlacesTell = (p : LogForm) (bytes : List ℕ) (ls : List LogRecord) (torn : ℕ) → read_log p bytes ≡ Whole ls torn
     → map (λ x. x.read) (placed_records p bytes) ≡ ls

@@ -98,7 +98,7 @@ logged_under x ws = map (λ w. record { entry = w.entry; parent = (name_in x).0 
 
 -- a manager's log as `rec_log` sees it; how much room there is does not matter
 abbrev pub state_of : LogSight → LogState
-state_of s = record { kind = Manager; sight = s; room = 0 }
+state_of s = record { sight = s; room = 0 }
 
 -- The calls.
 

@@ -14,4 +14,4 @@ pub record IsNew (m : ManagerSight) : Type 0 where
   pub branches : m.tables.branches.branches ≡ []
   pub writes : (x : Xid) → m.writes x ≡ []
   pub holders : (k : List ℕ) → m.holders k ≡ []
-  pub log : m.log ≡ forced_sight (first_opened ∷ []) m.log.failures
+  pub log : m.log ≡ forced_sight m.log.form (first_opened ∷ []) m.log.failures

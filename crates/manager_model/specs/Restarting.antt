@@ -73,7 +73,7 @@ pub record Restarts (old new : ManagerSight) (keep : ℕ) : Type 0 where
   pub decided : (x : Xid) → state_at new.tables x ≡ S5
       → new.decided x ≡ decided_in (left_by old.log keep) x
   pub boot : new.boot ≡ next_boot (left_by old.log keep)
-  pub log : new.log ≡ forced_sight (with_boot (left_by old.log keep)) old.log.failures
+  pub log : new.log ≡ forced_sight old.log.form (with_boot (left_by old.log keep)) old.log.failures
 
 -- the manager is as a restart left some manager, and is not open: its log has the records that were left, and
 -- behind them that of its boot

@@ -17,7 +17,7 @@ trimmed s = trim_of (records_of s.kept)
 
 -- the log was trimmed, all of it forced, and nothing else moved; so many records remain
 pub record Trims (old new : ManagerSight) (remain : ℕ) : Type 0 where
-  pub log : new.log ≡ forced_sight (trimmed old.log) old.log.failures
+  pub log : new.log ≡ forced_sight old.log.form (trimmed old.log) old.log.failures
   pub counts : remain ≡ length (trimmed old.log)
   pub tables : Same old.tables new.tables
   pub boot : new.boot ≡ old.boot
@@ -29,6 +29,7 @@ pub record Trims (old new : ManagerSight) (remain : ℕ) : Type 0 where
 pub record TrimFails (old new : ManagerSight) : Type 0 where
   pub either : (new.log.kept ≡ old.log.kept)
       ⊎ (new.log.kept ≡ record { forced = trimmed old.log; unforced = [] })
+  pub form : new.log.form ≡ old.log.form
   pub failed : new.log.failed ≡ true
   pub cause : MoreFailures old.log.failures new.log.failures
   pub tables : Same old.tables new.tables

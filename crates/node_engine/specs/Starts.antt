@@ -13,7 +13,7 @@ use Rattle.rec_log.specs.Openings.{Opens}
 use Rattle.rec_log.specs.Sights.{LogState, records_of}
 use Rattle.inquire_core.specs.Readings.{place_below}
 use Rattle.tree_node.specs.Nodes.{core_of, data_of}
-use Rattle.tree_node.specs.Reopenings.{NotReopened, ReopensAs, kind_by}
+use Rattle.tree_node.specs.Reopenings.{NotReopened, ReopensAs, form_by}
 use Rattle.node_engine.specs.declared.serving.Serving.{Serving}
 use Rattle.node_engine.specs.declared.starting.StartError.{StartError}
 use Rattle.node_engine.specs.declared.starting.StartError.TheVariants.{Reopen, Stranger}
@@ -33,7 +33,7 @@ pub record NamesOthers (tree : List TreeEntry) (e : TreeEntry) (bytes : List ℕ
   pub forced : ℕ
   pub failures : ℕ
   pub log : LogState
-  pub opens : Opens (kind_by e.kind e.parent) bytes forced failures log
+  pub opens : Opens (form_by e) bytes forced failures log
   pub others : list_all (is_own_record e.id e.parent tree) (records_of log.sight.kept) ≡ false
 
 -- a node that has told nothing yet, of the process that goes on over these bytes
@@ -47,4 +47,4 @@ abbrev pub NoStart : {L : Type 0} → (L → List ℕ) → (L → ℕ) → (L �
     → StartError → Type 0
 NoStart bytes forced failures tree e store Stranger = NamesOthers tree e (bytes store)
 NoStart bytes forced failures tree e store (Reopen error) =
-    NotReopened bytes forced failures (kind_by e.kind e.parent) store error
+    NotReopened bytes forced failures (form_by e) store error

@@ -77,7 +77,7 @@ fn is_own_log(
     ensures { IfOk result (λ own. own ≡ false → NamesOthers tree.now entry.now bytes.now) }
 {
     let copy = MemoryStore::from_bytes(Vec::from_slice(alloc, bytes)?);
-    match RecLog::open(copy, kind_of(entry.kind, entry.parent), alloc) {
+    match RecLog::open(copy, entry.id, kind_of(entry.kind, entry.parent), alloc) {
         Ok(log) => {
             let records = log.records(alloc)?;
             Ok(name_own(entry.id, entry.parent, tree, &records))

@@ -7,7 +7,7 @@ use Rattle.tree_model.specs.declared.events.Input.{Input}
 use Rattle.tree_model.specs.declared.events.Input.TheVariants.{Act as ActInput, Message as MessageInput}
 use Rattle.tree_model.specs.declared.events.Reaction.{Reaction}
 use Rattle.tree_model.specs.declared.events.StepError.{StepError}
-use Rattle.tree_model.specs.declared.events.StepError.TheVariants.{Memory, Device, UnknownTxn, NotAChild, Closed, Failed, NotInDoubt, NothingToForget, NoSuch}
+use Rattle.tree_model.specs.declared.events.StepError.TheVariants.{Memory, Device, UnknownTxn, NotAChild, Closed, Failed, NotInDoubt, NothingToForget, NoSuch, Exhausted}
 use Rattle.tree_model.specs.Names.{same_process}
 use Rattle.tree_model.specs.NameLaws.{same_process_tells}
 use Rattle.tree_model.specs.Plays.{process_of_act}
@@ -118,6 +118,7 @@ module _ (s t : WorldState) (old new : NodeState) (was : Sits s old) (same : new
     not_made NothingToForget h quiet = unmoved quiet h.not_made.same (h.keeps (λ e. absurd (cc)))
     not_made Failed h quiet = unmoved quiet h.not_made.same (h.keeps (λ e. absurd (cc)))
     not_made NoSuch h quiet = unmoved quiet h.not_made.same (h.keeps (λ e. absurd (cc)))
+    not_made Exhausted h quiet = unmoved quiet h.not_made.same (h.keeps (λ e. absurd (cc)))
 
     took : (r : Result Reaction StepError) → Took old new i r → EntersEnd s t old.me (Handles i) r → LifeStep s t
     took (Ok reaction) h enters = made reaction h enters

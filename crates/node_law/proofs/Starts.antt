@@ -20,7 +20,7 @@ use Rattle.tree_model.specs.Standings.{CoordinatorView, ManagerView, mark_of}
 use Rattle.tree_model.proofs.LogNameLaws.{reads_back}
 use Rattle.log_rules.specs.order.Logs.{Whole}
 use Rattle.rec_log.specs.Sights.{LogSight, left_by, records_of}
-use Rattle.core_model.specs.States.{CoreState, SameCore, forced_sight, logged}
+use Rattle.core_model.specs.States.{CoreState, SameCore, forced_sight, form_of, logged}
 use Rattle.core_model.specs.Opening.{IsOpened as OpensAt, first_opened}
 use Rattle.core_model.specs.Restarting.{ReadOff, Restarts, read_of, recorded_branch_at, recorded_view_at, restarted_log}
 use Rattle.core_law.specs.worlds.Worlds.{RestartsData, SameNode, WorldState}
@@ -73,16 +73,16 @@ counted_others : (q : ProcessId) (n : ℕ) (s : WorldState) (p : ProcessId) → 
     → (counted_at q n s).node_at p ≡ s.node_at p
 counted_others q n s p away = rw away refl
 
-anew_is : (q : ProcessId) (n : ℕ) (said : Case → Option Outcome) (s : WorldState) (c : CoreState)
-    → s.node_at q ≡ Some c → (anew_at q n said s).node_at q ≡ Some (saying (counted c n) said)
-anew_is q n said s c stood = elim (same_process_tells q q) [
+anew_is : (q : ProcessId) (n : ℕ) (said : Case → Option Outcome) (spent : Bool) (s : WorldState) (c : CoreState)
+    → s.node_at q ≡ Some c → (anew_at q n said spent s).node_at q ≡ Some (saying (counted c n) said spent)
+anew_is q n said spent s c stood = elim (same_process_tells q q) [
   | inl t ↦ rw (t.0, stood) refl
   | inr z ↦ absurd (z.1 refl)
 ]
 
-anew_others : (q : ProcessId) (n : ℕ) (said : Case → Option Outcome) (s : WorldState) (p : ProcessId)
-    → same_process q p ≡ false → (anew_at q n said s).node_at p ≡ s.node_at p
-anew_others q n said s p away = rw away refl
+anew_others : (q : ProcessId) (n : ℕ) (said : Case → Option Outcome) (spent : Bool) (s : WorldState) (p : ProcessId)
+    → same_process q p ≡ false → (anew_at q n said spent s).node_at p ≡ s.node_at p
+anew_others q n said spent s p away = rw away refl
 
 one_process : (q p : ProcessId) → same_process q p ≡ true → q ≡ p
 one_process q p there = elim (same_process_tells q p) [
@@ -167,10 +167,10 @@ alike v w u h k = record {
   found = h.found ∙ sym k.found;
 }
 
--- two processes that have opened and heard nothing are the same, but for the counts of failures, and for what
--- is said of branches that no operator decided
+-- two processes that have opened and heard nothing are the same, but for the counts of failures, for what
+-- is said of branches that no operator decided, and for whether they have met a limit of their own
 module _ (c d : CoreState) (m n : ℕ) (place : Place) where
-  same_opened : OpensAt c place m → OpensAt d place n → SameCore (saying (counted c n) d.decided_of) d
+  same_opened : OpensAt c place m → OpensAt d place n → SameCore (saying (counted c n) d.decided_of d.spent) d
   same_opened h k =
       let at : d.place ≡ c.place = k.place_is ∙ sym h.place_is in
       record {
@@ -188,6 +188,7 @@ module _ (c d : CoreState) (m n : ℕ) (place : Place) where
           branches = λ x. k.read.branches x
               ∙ (ap (λ (p : Place). recorded_branch_at p.role (Opened 1 ∷ []) x) at ∙ sym (h.read.branches x));
           decided = λ x. refl;
+          spent = refl;
         };
       }
 
@@ -205,15 +206,16 @@ undecided_at c place n opened x is = none_decided c.place.role x
 
 -- a process that sits there, and left no record
 abbrev nobody : CoreState → ℕ → CoreState
-nobody c n = record c { log = forced_sight [] n }
+nobody c n = record c { log = forced_sight (form_of c.place) [] n }
 
 -- what goes on over a log without a record has opened and heard nothing
 opens_again : (old new : CoreState) (place : Place) (n : ℕ) (reaction : Reaction) → old.place ≡ place
     → old.log.failures ≡ n → left_by old.log 0 ≡ [] → Restarts old 0 new reaction → OpensAt new place n
 opens_again old new place n reaction at count none r = record {
   place_is = r.place ∙ at;
-  log = r.log ∙ (ap (λ (ls : List LogRecord). forced_sight ls old.log.failures) (log_none old new none)
-      ∙ ap (λ (k : ℕ). forced_sight (first_opened ∷ []) k) count);
+  log = r.log ∙ (ap (λ (ls : List LogRecord). forced_sight (form_of old.place) ls old.log.failures) (log_none old new none)
+      ∙ ap (λ (k : ℕ). forced_sight (form_of old.place) (first_opened ∷ []) k) count
+      ∙ ap (λ (t : Place). forced_sight (form_of t) (first_opened ∷ []) n) at);
   read = subst (λ (rs : List Record). ReadOff new rs) (read_none old new none) r.read;
 }
 
@@ -225,16 +227,17 @@ started_first s t h =
     let old = nobody h.before n in
     let at : h.before.place ≡ seat s.tree h.entry =
     h.heard_nothing.place_is ∙ listed_place s.tree h.entry h.listed in
-    let none : left_by old.log 0 ≡ [] = all_left [] n in
+    let none : left_by old.log 0 ≡ [] = all_left (form_of h.before.place) [] n in
     let empty : [] ≡ records_of r.log.sight.kept = same_records _ _ h.torn r.opens.torn (sym h.empty ∙ r.opens.read) in
     let restarts : Restarts old 0 h.new.core h.opening =
     r.restarts old (record { place_is = at; failures_are = refl }) 0 (none ∙ empty) in
     let opened : OpensAt h.new.core (place_of s.tree q) n =
     opens_again old h.new.core (place_of s.tree q) n h.opening h.heard_nothing.place_is refl none restarts in
     let said = h.new.core.decided_of in
-    let same : SameCore (saying (counted h.before n) said) h.new.core =
+    let spent = h.new.core.spent in
+    let same : SameCore (saying (counted h.before n) said spent) h.new.core =
     same_opened h.before h.new.core h.counted n (place_of s.tree q) h.heard_nothing opened in
-    let stood = anew_is q n said s h.before h.was in
+    let stood = anew_is q n said spent s h.before h.was in
     let stands : t.node_at q ≡ Some h.new.core = ap (λ p. t.node_at p) (sym h.same) ∙ h.is.core in
     lives.begins_anew q n (record {
       tree = h.alone.tree;
@@ -244,11 +247,12 @@ started_first s t h =
           subst (λ (b : CoreState). (x : Case) → (b.branch_of x).standing ≢ Heuristic) is
           (undecided_at h.before (place_of s.tree q) h.counted h.heard_nothing);
       said = said;
+      spent = spent;
       nodes = λ p. elim (same_process_tells q p) [
-        | inl y ↦ subst (λ x. SameNode ((anew_at q n said s).node_at x) (t.node_at x)) y.1
+        | inl y ↦ subst (λ x. SameNode ((anew_at q n said spent s).node_at x) (t.node_at x)) y.1
             (subst (λ o. SameNode o (t.node_at q)) (sym stood)
-            (subst (λ o. SameNode (Some (saying (counted h.before n) said)) o) (sym stands) same))
-        | inr z ↦ subst (λ o. SameNode o (t.node_at p)) (sym (anew_others q n said s p z.0))
+            (subst (λ o. SameNode (Some (saying (counted h.before n) said spent)) o) (sym stands) same))
+        | inr z ↦ subst (λ o. SameNode o (t.node_at p)) (sym (anew_others q n said spent s p z.0))
             (subst (λ o. SameNode (s.node_at p) o) (sym (h.alone.others p z.0)) (same_as_it_is (s.node_at p)))
       ];
       net = h.silent.net;

@@ -1,6 +1,5 @@
 -- A tree each process of which is a node, a program of its own over a log in a file.
 use Rattle.std.specs.Prelude.{◌≡◌, ⊤, ℕ, Bool, true, false, Some, Result, Ok, Err, List, [], find, slice_get}
-use Rattle.tree_model.specs.declared.names.Kind.{Kind}
 use Rattle.tree_model.specs.declared.names.ProcessId.{ProcessId}
 use Rattle.tree_model.specs.declared.messages.Envelope.{Envelope}
 use Rattle.tree_model.specs.declared.events.Happening.{Happening}
@@ -24,7 +23,8 @@ use Rattle.core_law.specs.worlds.Worlds.{DeviceFails, Enters, RestartFails, Trim
 use Rattle.core_law.specs.worlds.Runs.{IsOpened}
 use Rattle.core_law.specs.worlds.Ties.{FollowsBehindFaults, GoesOnBehindFaults}
 use Rattle.core_law.specs.worlds.Modelled.{KeepsHeadline}
-use Rattle.tree_node.specs.Reopenings.{ReopensAs, kind_by}
+use Rattle.log_text.specs.declared.form.LogForm.{LogForm}
+use Rattle.tree_node.specs.Reopenings.{ReopensAs, form_by}
 use Rattle.node_lines.specs.declared.asked.Asked.{Asked}
 use Rattle.node_lines.specs.declared.asked.Asked.TheVariants as asked
 use Rattle.node_engine.specs.Answers.{Answers, AnswersIf, AnswersLine, NodeState, Takes, TakesIf, TakesLine}
@@ -134,7 +134,7 @@ pub record Unanswered (s t : WorldState) : Type 0 where
 
 -- The file kept what was forced: what a node left of its log stands in it, the forced records, and of the others
 -- so many as stand whole within some bytes. Behind them may stand a torn tail.
-pub record Keeps (p : Kind) (c : CoreState) (bytes : List ℕ) : Type 0 where
+pub record Keeps (p : LogForm) (c : CoreState) (bytes : List ℕ) : Type 0 where
   pub keep : ℕ
   pub torn : ℕ
   pub read : read_log p bytes ≡ Whole (left_by c.log keep) torn
@@ -150,7 +150,7 @@ pub record Started (s t : WorldState) : Type 0 where
   pub is : Sits t new
   pub alone : MovesAlone s t entry.id
   pub bytes : List ℕ
-  pub keeps : Keeps (kind_by entry.kind entry.parent) before bytes
+  pub keeps : Keeps (form_by entry) before bytes
   pub forced : ℕ
   pub failures : ℕ
   pub opening : Reaction
@@ -171,7 +171,7 @@ pub record StartedFirst (s t : WorldState) : Type 0 where
   pub alone : MovesAlone s t entry.id
   pub bytes : List ℕ
   pub torn : ℕ
-  pub empty : read_log (kind_by entry.kind entry.parent) bytes ≡ Whole [] torn
+  pub empty : read_log (form_by entry) bytes ≡ Whole [] torn
   pub forced : ℕ
   pub failures : ℕ
   pub opening : Reaction

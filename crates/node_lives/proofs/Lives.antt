@@ -46,9 +46,9 @@ stands_counted m c n h = record {
 
 -- Nor does what it says of branches that no operator decided.
 
-stands_saying : (m : Node) (c : CoreState) (said : Case → Option Outcome)
-    → ((d : Case) → (c.branch_of d).standing ≢ Heuristic) → Stands m c → Stands m (saying c said)
-stands_saying m c said undecided h = record {
+stands_saying : (m : Node) (c : CoreState) (said : Case → Option Outcome) (spent : Bool)
+    → ((d : Case) → (c.branch_of d).standing ≢ Heuristic) → Stands m c → Stands m (saying c said spent)
+stands_saying m c said spent undecided h = record {
   forced = h.forced;
   unforced = h.unforced;
   failed = h.failed;
@@ -118,15 +118,15 @@ pub counts_alike : (q : ProcessId) (n : ℕ) (es : List Made) (w : World) (s : W
 counts_alike q n es w s f = changes_alike q (λ c. counted c n) es w s
     (λ p c is there h. record { place = h.place; stands = stands_counted (w.at p) c n h.stands }) f
 
-anew_alike : (q : ProcessId) (n : ℕ) (said : Case → Option Outcome) (es : List Made) (w : World)
+anew_alike : (q : ProcessId) (n : ℕ) (said : Case → Option Outcome) (spent : Bool) (es : List Made) (w : World)
     (s : WorldState)
     → ((p : ProcessId) (c : CoreState) → same_process q p ≡ true → s.node_at p ≡ Some c
     → (d : Case) → (c.branch_of d).standing ≢ Heuristic)
-    → FollowsBehindFaults es w s → FollowsBehindFaults es w (anew_at q n said s)
-anew_alike q n said es w s undecided f = changes_alike q (λ c. saying (counted c n) said) es w s
+    → FollowsBehindFaults es w s → FollowsBehindFaults es w (anew_at q n said spent s)
+anew_alike q n said spent es w s undecided f = changes_alike q (λ c. saying (counted c n) said spent) es w s
     (λ p c is there h. record {
       place = h.place;
-      stands = stands_saying (w.at p) (counted c n) said (undecided p c is there)
+      stands = stands_saying (w.at p) (counted c n) said spent (undecided p c is there)
           (stands_counted (w.at p) c n h.stands);
     }) f
 
@@ -152,8 +152,8 @@ pub anew : (q : ProcessId) (n : ℕ) (es : List Made) (w : World) (s t : WorldSt
     → BeginsAnew s t q n → FollowsBehindFaults es w t
 anew q n es w s t f h =
     held_so es w t s.data_at
-    (same_by entered_of es w (anew_at q n h.said s) (record t { data_at = s.data_at })
-    (anew_alike q n h.said es w s h.undecided f)
+    (same_by entered_of es w (anew_at q n h.said h.spent s) (record t { data_at = s.data_at })
+    (anew_alike q n h.said h.spent es w s h.undecided f)
     (record {
       tree = h.tree;
       nodes = h.nodes;

@@ -31,26 +31,28 @@ counted_at q n s = record s {
   node_at = λ p. if same_process q p then option_map (λ c. counted c n) (s.node_at p) else s.node_at p;
 }
 
--- the process, where this is said of what operators decided: it counts only of a branch that one decided
-abbrev pub saying : CoreState → (Case → Option Outcome) → CoreState
-saying s said = record s { decided_of = said }
+-- the process, where this is said of what operators decided, which counts only of a branch that one decided, and of
+-- whether it has met a limit of its own
+abbrev pub saying : CoreState → (Case → Option Outcome) → Bool → CoreState
+saying s said spent = record s { decided_of = said; spent = spent }
 
--- the tree with this process over such a device, which says this of what operators decided
-abbrev pub anew_at : ProcessId → ℕ → (Case → Option Outcome) → WorldState → WorldState
-anew_at q n said s = record s {
+-- the tree with this process over such a device, which says this of what operators decided and of its limits
+abbrev pub anew_at : ProcessId → ℕ → (Case → Option Outcome) → Bool → WorldState → WorldState
+anew_at q n said spent s = record s {
   node_at = λ p.
-      if same_process q p then option_map (λ c. saying (counted c n) said) (s.node_at p) else s.node_at p;
+      if same_process q p then option_map (λ c. saying (counted c n) said spent) (s.node_at p) else s.node_at p;
 }
 
 -- A program starts over a log that is as it was made, where the process has opened and heard nothing: but for
--- the count of failures, and what is said of branches that no operator decided, nothing is otherwise. Of a
--- manager's data nothing is said.
+-- the count of failures, what is said of branches that no operator decided, and whether it has met a limit of its
+-- own, nothing is otherwise. Of a manager's data nothing is said.
 pub record BeginsAnew (s t : WorldState) (q : ProcessId) (n : ℕ) : Type 0 where
   pub tree : t.tree ≡ s.tree
   pub undecided : (p : ProcessId) (c : CoreState) → same_process q p ≡ true → s.node_at p ≡ Some c
       → (d : Case) → (c.branch_of d).standing ≢ Heuristic
   pub said : Case → Option Outcome
-  pub nodes : (p : ProcessId) → SameNode ((anew_at q n said s).node_at p) (t.node_at p)
+  pub spent : Bool
+  pub nodes : (p : ProcessId) → SameNode ((anew_at q n said spent s).node_at p) (t.node_at p)
   pub net : t.net ≡ s.net
   pub delivered : t.delivered ≡ s.delivered
   pub entries : t.entries ≡ s.entries

@@ -2,9 +2,12 @@
 
 use file_store::{FileStore, HostFile, OpenError, create, open};
 use link_script::read_tree;
-use node_engine::{Nobody, Serving, run_node, start};
+use log_store::LogStore;
+use node_engine::{Nobody, Serving, StartError, run_node, start};
+use rec_log::RecLog;
 use std::fs;
-use tree_model::{ProcessId, Reaction, Tree};
+use tree_model::{Kind, ProcessId, Reaction, Tree};
+use tree_node::ReopenError;
 
 const LOG: &str = "node_rows.log";
 
@@ -66,9 +69,20 @@ trim 1 1
 ok
 ";
 
+/// The log that such a node left in the first format: Opened, Collecting and Commit.
+const OLD: &[u8; 96] = b"\
+RLOG\x01\
+\x01\x00\x08\x00\x00\x00\x00\x00\x00\x00\x01\
+\x02\x00\x2f\x00\x00\x0f\xa2\x14\x00\x00\x00\x00\x01\x00\x00\x00\x00\x00\x00\x00\x01\
+\x00\x00\x00\x00\x00\x00\x00\x01\x01\x00\x00\x00\x04\x00\x00\x00\x00\x00\x00\x00\x01\
+\x00\x00\x00\x00\x00\x00\x00\x01\
+\x04\x00\x1b\x00\x00\x0f\xa2\x14\x00\x00\x00\x00\x01\x00\x00\x00\x00\x00\x00\x00\x01\
+\x00\x00\x00\x00\x00\x00\x00\x01\x00";
+
 type Node = Serving<FileStore<HostFile>>;
 
-/// Lets a node go. One function does it: what letting go of one means is proved once, and not at each way out.
+/// Lets a node go. One function does it: what letting go of one means is proved once, and not at each way
+/// out.
 fn let_go(_node: Node) {}
 
 /// Whether a node writes just this as it opened and answers these lines.
@@ -128,6 +142,57 @@ fn opened(rt: &HostRuntime) -> Result<FileStore<HostFile>, OpenError> {
     open(rt, rt.alloc(), LOG)
 }
 
+/// Makes the log of the first format, in place of the one that stands.
+fn makes_old(rt: &HostRuntime) -> bool {
+    let _ = fs::remove_file(rt, LOG);
+    match made(rt) {
+        Ok(mut store) => store.append(OLD).is_ok() && store.force().is_ok(),
+        Err(_) => false,
+    }
+}
+
+/// Whether no node starts over a log of the first format.
+fn is_old(rt: &HostRuntime, tree: &Tree, store: FileStore<HostFile>) -> bool {
+    let Some(entry) = tree.entry(ProcessId(1)) else {
+        return false;
+    };
+    match start(rt.alloc(), tree, entry, store) {
+        Err(StartError::Reopen(ReopenError::OldFormat)) => true,
+        Err(_) => false,
+        Ok((node, _)) => {
+            let_go(node);
+            false
+        }
+    }
+}
+
+/// Says what does not hold of a log of the first format in a file, and of its migration; nothing, where all
+/// does.
+fn migrate(rt: &HostRuntime, tree: &Tree) -> Option<&'static str> {
+    if !makes_old(rt) {
+        return Some("a log of the first format is not made");
+    }
+    let Ok(store) = opened(rt) else {
+        return Some("a log of the first format is not opened");
+    };
+    if !is_old(rt, tree, store) {
+        return Some("a node starts over a log of the first format");
+    }
+    let Ok(store) = opened(rt) else {
+        return Some("a log of the first format is not opened again");
+    };
+    if RecLog::migrate(store, ProcessId(1), Kind::Coordinator, rt.alloc()).is_err() {
+        return Some("a log of the first format is not migrated");
+    }
+    let Ok(store) = opened(rt) else {
+        return Some("the migrated log is not opened");
+    };
+    if !serves(rt, tree, store, SECOND, SECOND_SAID) {
+        return Some("a node over the migrated log says otherwise");
+    }
+    None
+}
+
 /// Says what does not hold of a node over a file, or that all does.
 pub fn run(rt: &HostRuntime) -> &'static str {
     let _ = fs::remove_file(rt, LOG);
@@ -152,5 +217,8 @@ pub fn run(rt: &HostRuntime) -> &'static str {
     if !serves(rt, &tree, store, SECOND, SECOND_SAID) {
         return "the second node says otherwise";
     }
-    "as it must"
+    match migrate(rt, &tree) {
+        Some(fault) => fault,
+        None => "as it must",
+    }
 }

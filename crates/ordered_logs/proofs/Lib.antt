@@ -2,3 +2,4 @@ pub mod Follows
 pub mod Names
 pub mod Ranks
 pub mod LogsRead
+pub mod Reopens

@@ -17,6 +17,7 @@ use Rattle.tree_model.specs.Records.{record_case}
 use Rattle.tree_model.specs.Trees.{IsTree}
 use Rattle.tree_model.specs.World.{IsRun, Made, World}
 use Rattle.tree_nodes.proofs.CoordinatorLogs.{all_fit}
+use Rattle.log_text.specs.Forms.{log_form}
 use Rattle.log_rules.specs.order.Orders.{SeenLog, after, nothing_seen}
 use Rattle.log_rules.specs.sound.Sound.{IsSound, IsSoundName}
 use Rattle.kv_core.specs.Replays.{seen_after, seen_of}
@@ -88,5 +89,5 @@ pub reads_so : (tree : List TreeEntry) (es : List Made) (w : World) → IsTree t
     → (q : ProcessId) → is_listed tree q ≡ true → IsCoordinator (role_of tree q) → CanStand (log_of tree w q)
     → IsReadWhole (log_of tree w q)
 reads_so tree es w is_tree run q listed i sound =
-    ordered_is_read Coordinator (log_of tree w q) sound
+    λ p. ordered_is_read (log_form p Coordinator) (log_of tree w q) sound
     (follow_so (log_of tree w q) (ordered_so tree es w is_tree run q listed i sound))

@@ -11,8 +11,11 @@ use Rattle.tree_model.specs.Branches.{FitsBelow, FitsTxn}
 use Rattle.tree_model.specs.LogNames.{below_of, in_log, parent_of}
 use Rattle.tree_model.specs.Nodes.{kept, role_of}
 use Rattle.tree_model.specs.Records.{record_case}
+use Rattle.tree_model.specs.Restarts.{left_of, reopens}
 use Rattle.tree_model.specs.World.{World}
-use Rattle.log_text.specs.Frames.{first_frame, header}
+use Rattle.log_text.specs.Forms.{header, log_form}
+use Rattle.log_text.specs.Frames.{first_frame}
+use Rattle.log_text.specs.declared.form.LogFormat.TheVariants.{Second}
 use Rattle.log_text.specs.Payloads.{records_text}
 use Rattle.log_rules.specs.order.Logs.{Whole, read_log}
 use Rattle.log_rules.specs.sound.Sound.{IsSound}
@@ -36,12 +39,17 @@ AreOrdered p rs = is_some (seen_of (map (in_log p) rs)) ≡ true
 abbrev pub log_of : List TreeEntry → World → ProcessId → List LogRecord
 log_of tree w q = map (in_log (parent_of (role_of tree q))) (kept (w.at q))
 
--- as bytes behind a header it reads as these records, with any torn tail behind them
+-- as bytes behind a header it reads as these records in the log of each coordinator, with any torn tail behind them
 abbrev pub IsReadWhole : List LogRecord → Type 0
-IsReadWhole ls = (tail : List ℕ) → first_frame tail ≡ None
-    → read_log Coordinator (header ++ (records_text ls ++ tail)) ≡ Whole ls (length tail)
+IsReadWhole ls = (q : ProcessId) (tail : List ℕ) → first_frame Second tail ≡ None
+    → read_log (log_form q Coordinator) (header Second ++ (records_text (log_form q Coordinator) ls ++ tail))
+    ≡ Whole ls (length tail)
 
 -- each record can stand in the log of a coordinator: its numbers are within their bounds, and it names 255 tickets at most,
 -- an End that reports in each of its two lists
 abbrev pub CanStand : List LogRecord → Type 0
 CanStand ls = AllByRecursion (IsSound Coordinator) ls
+
+-- what a restart of a process appends to its log, where a crash leaves so many of its unforced records
+abbrev pub appended : List TreeEntry → World → ProcessId → ℕ → List LogRecord
+appended tree w q k = map (in_log (parent_of (role_of tree q))) (reopens (role_of tree q) (left_of (w.at q) k))

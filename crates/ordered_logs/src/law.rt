@@ -1,13 +1,15 @@
 //! The order of the logs that runs leave.
-ghost use Rattle.std.specs.Prelude.{◌≡◌, true, List};
+ghost use Rattle.std.specs.Prelude.{◌≡◌, ◌<◌, ◌+◌, ◌^◌, ℕ, true, List};
 ghost use Rattle.std.specs.List.{list_all};
 ghost use Rattle.tree_model.specs.declared.names.ProcessId.{ProcessId};
 ghost use Rattle.tree_model.specs.declared.trees.TreeEntry.{TreeEntry};
 ghost use Rattle.tree_model.specs.LogNames.{is_own_record, parent_of};
 ghost use Rattle.tree_model.specs.Nodes.{IsCoordinator, is_listed, kept, place_of, role_of};
+ghost use Rattle.tree_model.specs.Records.{boot_of};
+ghost use Rattle.tree_model.specs.Restarts.{left_of};
 ghost use Rattle.tree_model.specs.Trees.{IsTree};
 ghost use Rattle.tree_model.specs.World.{IsRun, Made, World};
-ghost use Rattle.ordered_logs.specs.Orders.{AreOrdered, CanStand, IsReadWhole, NamesFit, log_of};
+ghost use Rattle.ordered_logs.specs.Orders.{AreOrdered, CanStand, IsReadWhole, NamesFit, appended, log_of};
 
 /// In every run the records of a coordinator's log may follow one another: an Opened of a higher boot, and of each case
 /// Collecting, Prepare, a decision and End in this order, each at most once, and Cleared at most once, behind an End that
@@ -25,4 +27,12 @@ pub fn coordinators_logs_are_read()
     ensures { (tree : List TreeEntry) (es : List Made) (w : World) → IsTree tree → IsRun tree es w
         → (q : ProcessId) → is_listed tree q ≡ true → IsCoordinator (role_of tree q)
         → CanStand (log_of tree w q) → IsReadWhole (log_of tree w q) }
+{}
+
+/// In every run what a coordinator appends at a restart can stand in its log, wherever a crash cuts it, while a boot below
+/// 2^63 is left: no Abort of it names more than 255 tickets. It asks that each record of the log can stand in it.
+pub fn coordinators_can_restart()
+    ensures { (tree : List TreeEntry) (es : List Made) (w : World) → IsRun tree es w → (q : ProcessId)
+        → IsCoordinator (role_of tree q) → CanStand (log_of tree w q) → (k : ℕ)
+        → boot_of (left_of (w.at q) k) + 1 < 2 ^ 63 → CanStand (appended tree w q k) }
 {}

@@ -441,6 +441,7 @@ pub fn refusal_words(refusal: StepError) -> &'static str {
         StepError::NotInDoubt => "not in doubt",
         StepError::NothingToForget => "nothing to forget",
         StepError::NoSuch => "no such process or message",
+        StepError::Exhausted => "numbers used up",
     }
 }
 

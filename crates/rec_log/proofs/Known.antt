@@ -1,52 +1,23 @@
 -- The bytes that are known to be whole records.
-use Rattle.std.proofs.Common.{◌≡◌, ◌≤◌, ◌+◌, ◌-◌, ℕ, Bool, true, List, ◌++◌, length, take, drop, sym, ap, subst, ◌∙◌, arith, append_assoc, drop-drop, length-append, length-drop, length-take, take-append-drop}
-use Rattle.std.proofs.lemmas.List.{length-take-le, take-append-le, take_all}
-use Rattle.tree_model.specs.declared.names.Kind.{Kind}
+use Rattle.std.proofs.Common.{◌≡◌, ◌≤◌, ◌+◌, ◌-◌, ℕ, Bool, List, ◌++◌, length, take, drop, sym, ap, subst, ◌∙◌, arith, append_assoc, drop-drop, length-append, length-drop, length-take, take-append-drop}
+use Rattle.std.proofs.lemmas.List.{length-take-le}
+use Rattle.log_text.specs.declared.form.LogForm.{LogForm}
 use Rattle.tree_model.specs.declared.records.LogRecord.{LogRecord}
 use Rattle.rec_log.specs.Texts.{is_whole, records_in}
 use Rattle.rec_log.specs.Sights.{EndsSound, IsKnown, IsLogText, LogState, Sounds, body, log_state, whole_within}
-use Rattle.rec_log.proofs.Frames.{more_records, more_whole, nothing_whole}
-use Rattle.rec_log.proofs.Turns.{body_more, take_within}
+use Rattle.rec_log.proofs.Frames.{more_records, more_whole}
+use Rattle.rec_log.proofs.Turns.{take_within}
 use Rattle.rec_log.proofs.Within.{left_records}
 use Rattle.rec_log.proofs.Written.{body_taken}
 
--- What is known of a text.
-
--- of any text the header alone
-pub known_header : (p : Kind) (text : List ℕ) (forced : ℕ) → 5 ≤ forced → IsKnown p text forced 5
-known_header p text forced h = record { header = omega arith; within = h; whole = nothing_whole p }
-
--- of a text that goes on, what was known before
-pub known_more : (p : Kind) (text text' more : List ℕ) (forced forced' known : ℕ)
-    → IsKnown p text forced known → forced ≤ length text → text' ≡ text ++ more → forced ≤ forced'
-    → IsKnown p text' forced' known
-known_more p text text' more forced forced' known k le e f = record {
-  header = k.header;
-  within = omega (arith, k.within, f);
-  whole = ap (λ t. is_whole p 0 (take (known - 5) (body t))) e
-      ∙ ap (λ t. is_whole p 0 (take (known - 5) t))
-      (body_more text more (omega (arith, k.header, k.within, le)))
-      ∙ ap (is_whole p 0) (take-append-le (known - 5) (drop 5 text) more
-      (omega (arith, k.header, k.within, le, length-drop 5 text)))
-      ∙ k.whole;
-}
-
--- of whole records that are forced, all
-pub known_all : (p : Kind) (text : List ℕ) (forced known : ℕ) → is_whole p 0 (body text) ≡ true
-    → 5 ≤ forced → forced ≡ length text → known ≡ length text → IsKnown p text forced known
-known_all p text forced known w h f e = record {
-  header = omega (arith, h, f, e);
-  within = omega (arith, f, e);
-  whole = ap (is_whole p 0) (take_all (known - 5) (drop 5 text) (omega (arith, e, length-drop 5 text))) ∙ w;
-}
-
-known_same : (text : List ℕ) (known n : ℕ) → 5 ≤ known → known ≤ n
+-- of what a crash leaves at the front, what is there of the whole
+pub known_same : (text : List ℕ) (known n : ℕ) → 5 ≤ known → known ≤ n
     → take (known - 5) (body (take n text)) ≡ take (known - 5) (body text)
 known_same text known n h le = ap (take (known - 5)) (body_taken n text (omega (arith, h, le)))
     ∙ take_within (known - 5) (n - 5) (body text) (omega (arith, h, le))
 
 -- of what a crash leaves, what is known of the whole
-pub known_left : (p : Kind) (text : List ℕ) (forced known n : ℕ) → IsKnown p text forced known
+pub known_left : (p : LogForm) (text : List ℕ) (forced known n : ℕ) → IsKnown p text forced known
     → forced ≤ length text → forced ≤ n → IsKnown p (take n text) (length (take n text)) known
 known_left p text forced known n k le m = record {
   header = k.header;
@@ -64,14 +35,14 @@ split_known left known h =
     ∙ ap (λ t. take (known - 5) (drop 5 left) ++ t)
     (drop-drop (known - 5) 5 left ∙ ap (λ n. drop n left) sum)
 
-known_records : (p : Kind) (left : List ℕ) (known : ℕ) → IsKnown p left (length left) known
+known_records : (p : LogForm) (left : List ℕ) (known : ℕ) → IsKnown p left (length left) known
     → records_in p 0 (body left)
     ≡ records_in p 0 (take (known - 5) (body left)) ++ records_in p 0 (drop known left)
 known_records p left known k = ap (records_in p 0) (split_known left known k.header)
     ∙ more_records p 0 (take (known - 5) (body left)) (drop known left) k.whole
 
 -- where the whole frames end behind the known bytes, they end in all
-pub sound_behind : (p : Kind) (left : List ℕ) (known size end : ℕ) → IsKnown p left (length left) known
+pub sound_behind : (p : LogForm) (left : List ℕ) (known size end : ℕ) → IsKnown p left (length left) known
     → Sounds p (drop known left) size → end ≡ known + size → EndsSound p left end
 sound_behind p left known size end k s e =
     let first = take (known - 5) (body left) in
@@ -101,7 +72,7 @@ sound_behind p left known size end k s e =
     }
 
 -- how many records a crash leaves behind the forced ones
-pub counted : (p : Kind) (text : List ℕ) (forced known keep failures room : ℕ) (failed : Bool) (s : LogState)
+pub counted : (p : LogForm) (text : List ℕ) (forced known keep failures room : ℕ) (failed : Bool) (s : LogState)
     (behind before : List LogRecord)
     → log_state p text forced failures room failed ≡ s → IsLogText p text forced failed
     → IsKnown p text forced known → forced ≤ length text
@@ -119,7 +90,7 @@ counted p text forced known keep failures room failed s behind before view is k 
     ∙ ap (λ t. records_in p 0 t ++ records_in p 0 (drop known (take n text)))
     (known_same text known n k.header (omega (arith, k.within, m))) in
     let all : F ++ W ≡ first ++ behind =
-    sym (left_records p text forced keep failures room failed is.header_forced le)
+    sym (left_records p text forced keep failures room failed is.second is.header_forced le)
     ∙ cut (forced + keep) (omega arith) ∙ ap (λ t. first ++ t) (sym b) in
     let none : forced + 0 ≡ forced = omega arith in
     let now : F ≡ first ++ before =

@@ -3,6 +3,7 @@ pub mod Turns
 pub mod Openings
 pub mod Keys
 pub mod Settling
+pub mod Carrying
 pub mod Written
 pub mod Sizes
 pub mod RecordSizes

@@ -1,15 +1,20 @@
 -- Reading a log from its first frame on.
-use Rattle.std.proofs.Common.{◌≡◌, ◌≤◌, ◌+◌, ◌*◌, ◌-◌, ℕ, zero, suc, true, List, [], ◌∷◌, ◌++◌, length, take, drop, Option, Some, None, refl, sym, ap, ◌∙◌, arith, append_assoc, take-append-drop, length-append}
-use Rattle.std.proofs.lemmas.List.{take_all}
-use Rattle.tree_model.specs.declared.names.Kind.{Kind}
+use Rattle.std.proofs.Common.{◌≡◌, ◌≤◌, ◌+◌, ◌*◌, ◌-◌, ℕ, zero, suc, true, List, [], ◌∷◌, ◌++◌, length, map, option_map, take, drop, Option, Some, None, refl, sym, ap, ◌∙◌, arith, append_assoc, take-append-drop, length-append}
+use Rattle.std.proofs.lemmas.List.{map-append, take_all}
 use Rattle.tree_model.specs.declared.records.LogRecord.{LogRecord}
-use Rattle.log_text.specs.Frames.{Cut, first_frame}
+use Rattle.log_text.specs.declared.form.LogForm.{LogForm}
+use Rattle.log_text.specs.declared.form.LogFormat.{LogFormat}
+use Rattle.log_text.specs.declared.form.LogFormat.TheVariants.{First, Second}
+use Rattle.log_text.specs.Forms.{size_bytes}
+use Rattle.log_text.specs.Frames.{Cut, cut_at, first_frame}
 use Rattle.log_text.specs.Reading.{read_record}
 use Rattle.log_rules.specs.order.Orders.{SeenLog, after, nothing_seen}
 use Rattle.log_rules.specs.order.Logs.{LogReading, Whole, Damaged, frame_by, read_frames, record_by, seen_by, with_first}
 use Rattle.rec_log.specs.Texts.{and_records, is_whole, records_in, whole_if}
-use Rattle.rec_log.specs.Openings.{Ends, after_frame}
-use Rattle.rec_log.proofs.Frames.{Cuts, cut_there, cuts, more_records, more_whole, nothing_whole, no_records, step, step_whole, taken}
+use Rattle.rec_log.specs.Openings.{Ends, after_frame, marks_read}
+use Rattle.log_text.specs.declared.mark.Mark.{Mark}
+use Rattle.log_text.specs.Marks.{mark_of}
+use Rattle.rec_log.proofs.Frames.{Cuts, cut_there, cuts, is_behind, more_records, more_whole, no_bytes, nothing_whole, no_records, step, step_whole, taken}
 
 abbrev pub with_all : List LogRecord → LogReading → LogReading
 with_all [] r = r
@@ -30,7 +35,7 @@ with_all_damaged (x ∷ xs) place = ap (with_first x) (with_all_damaged xs place
 
 -- One frame.
 
-passed_read : (p : Kind) (place : ℕ) (s : SeenLog) (k : ℕ) (xs : List ℕ)
+passed_read : (p : LogForm) (place : ℕ) (s : SeenLog) (k : ℕ) (xs : List ℕ)
     → read_frames p place s k xs ≡ read_frames p place s 0 (drop k xs)
 unfolding read_frames
 passed_read p place s zero xs = refl
@@ -38,9 +43,9 @@ passed_read p place s (suc k) [] = refl
 passed_read p place s (suc k) (b ∷ bs) = passed_read p place s k bs
 
 -- what one frame makes of the reading
-abbrev pub reads_one : Kind → ℕ → SeenLog → Cut → LogReading
+abbrev pub reads_one : LogForm → ℕ → SeenLog → Cut → LogReading
 reads_one p place s c = record_by place s (read_record p c.0 c.1)
-    (λ t. read_frames p (place + 3 + length c.1) t 0 c.2)
+    (λ t. read_frames p (place + suc (size_bytes p.format) + length c.1) t 0 c.2)
 
 seen_by_same : (place : ℕ) (l : LogRecord) (o : Option SeenLog) (f g : SeenLog → LogReading)
     → ((t : SeenLog) → f t ≡ g t) → seen_by place l o f ≡ seen_by place l o g
@@ -52,28 +57,18 @@ record_by_same : (place : ℕ) (s : SeenLog) (o : Option LogRecord) (f g : SeenL
 record_by_same place s None f g h = refl
 record_by_same place s (Some l) f g h = seen_by_same place l (after s l) f g h
 
-step_read_by : (p : Kind) (place : ℕ) (s : SeenLog) (a b d : ℕ) (rest : List ℕ) (c : Cut)
-    → Cuts a (b * 256 + d) rest c → first_frame (a ∷ b ∷ d ∷ rest) ≡ Some c
-    → read_frames p place s 0 (a ∷ b ∷ d ∷ rest) ≡ reads_one p place s c
-unfolding read_frames
-step_read_by p place s a b d rest c k e =
-    ap (λ o. frame_by p place s (length (a ∷ b ∷ d ∷ rest)) o (λ at t n. read_frames p at t n (b ∷ d ∷ rest)))
-    e
-    ∙ record_by_same place s (read_record p c.0 c.1)
-    (λ t. read_frames p (place + 3 + length c.1) t (length c.1) rest)
-    (λ t. read_frames p (place + 3 + length c.1) t 0 c.2)
-    (λ t. passed_read p (place + 3 + length c.1) t (length c.1) rest
-    ∙ ap (read_frames p (place + 3 + length c.1) t 0)
-    (ap (λ n. drop n rest) (ap (λ z. length z.1) k.is ∙ taken (b * 256 + d) rest k.fits)
-    ∙ ap (λ z. z.2) (sym k.is)))
-
-pub step_read : (p : Kind) (place : ℕ) (s : SeenLog) (xs : List ℕ) (c : Cut) → first_frame xs ≡ Some c
+pub step_read : (p : LogForm) (place : ℕ) (s : SeenLog) (xs : List ℕ) (c : Cut) → first_frame p.format xs ≡ Some c
     → read_frames p place s 0 xs ≡ reads_one p place s c
-step_read p place s [] c e = absurd (cc)
-step_read p place s (a ∷ []) c e = absurd (cc)
-step_read p place s (a ∷ b ∷ []) c e = absurd (cc)
-step_read p place s (a ∷ b ∷ d ∷ rest) c e = step_read_by p place s a b d rest c
-    (cuts a (b * 256 + d) rest c e) e
+unfolding read_frames
+step_read p place s [] c e = let never = sym (no_bytes p.format) ∙ e in absurd (cc)
+step_read p place s (b ∷ bs) c e =
+    let k = is_behind p.format b bs c e in
+    ap (λ o. frame_by p place s (length (b ∷ bs)) o (λ at t n. read_frames p at t n bs)) e
+    ∙ record_by_same place s (read_record p c.0 c.1)
+    (λ t. read_frames p (place + suc (size_bytes p.format) + length c.1) t (size_bytes p.format + length c.1) bs)
+    (λ t. read_frames p (place + suc (size_bytes p.format) + length c.1) t 0 c.2)
+    (λ t. passed_read p (place + suc (size_bytes p.format) + length c.1) t (size_bytes p.format + length c.1) bs
+    ∙ ap (read_frames p (place + suc (size_bytes p.format) + length c.1) t 0) k.left)
 
 drop_nil : (n : ℕ) → ◌≡◌ {A = List ℕ} (drop n []) []
 drop_nil zero = refl
@@ -85,78 +80,105 @@ drop_all zero (x ∷ xs) h = absurd (omega arith)
 drop_all (suc n) (x ∷ xs) h = drop_all n xs (omega arith)
 
 -- a frame and what is behind it
-pub record Frame (xs : List ℕ) (c : Cut) : Type 0 where
+pub record Frame (f : LogFormat) (xs : List ℕ) (c : Cut) : Type 0 where
   pub frame : List ℕ
   pub split : xs ≡ frame ++ c.2
-  pub alone : first_frame frame ≡ Some (c.0, c.1, [])
-  pub size : length frame ≡ 3 + length c.1
+  pub alone : first_frame f frame ≡ Some (c.0, c.1, [])
+  pub size : length frame ≡ suc (size_bytes f) + length c.1
 
-frame_by_cut : (a b d : ℕ) (rest : List ℕ) (c : Cut) → Cuts a (b * 256 + d) rest c
-    → Frame (a ∷ b ∷ d ∷ rest) c
-frame_by_cut a b d rest c k =
-    let n = taken (b * 256 + d) rest k.fits in
+-- a payload that is cut off alone
+cut_alone : (kind n : ℕ) (rest : List ℕ) (c : Cut) → Cuts kind n rest c
+    → cut_at kind n (take n rest) ≡ Some (c.0, c.1, [])
+cut_alone kind n rest c k =
+    let long = taken n rest k.fits in
+    cut_there kind n (take n rest) (omega (arith, long))
+    ∙ ap Some (ap (λ t. (kind, t, drop n (take n rest))) (take_all n (take n rest) (omega (arith, long)))
+    ∙ ap (λ t. (kind, take n rest, t)) (drop_all n (take n rest) (omega (arith, long)))
+    ∙ ap (λ z. (z.0, z.1, [])) (sym k.is))
+
+-- so many bytes are those that are cut off, and the others
+cut_split : (kind n : ℕ) (rest : List ℕ) (c : Cut) → Cuts kind n rest c → rest ≡ take n rest ++ c.2
+cut_split kind n rest c k = sym (take-append-drop n rest) ∙ ap (λ z. take n rest ++ z.2) (sym k.is)
+
+cut_size : (kind n : ℕ) (rest : List ℕ) (c : Cut) → Cuts kind n rest c → length (take n rest) ≡ length c.1
+cut_size kind n rest c k = ap (λ z. length z.1) (sym k.is)
+
+pub frame_at : (f : LogFormat) (xs : List ℕ) (c : Cut) → first_frame f xs ≡ Some c → Frame f xs c
+frame_at First [] c e = absurd (cc)
+frame_at First (a ∷ []) c e = absurd (cc)
+frame_at First (a ∷ b ∷ []) c e = absurd (cc)
+frame_at First (a ∷ b ∷ d ∷ rest) c e =
+    let n = b * 256 + d in
+    let k = cuts a n rest c e in
     record {
-      frame = a ∷ b ∷ d ∷ take (b * 256 + d) rest;
-      split = ap (λ t. a ∷ b ∷ d ∷ t) (sym (take-append-drop (b * 256 + d) rest))
-          ∙ ap (λ z. a ∷ b ∷ d ∷ (take (b * 256 + d) rest ++ z.2)) (sym k.is);
-      alone = cut_there a (b * 256 + d) (take (b * 256 + d) rest) (omega (arith, n))
-          ∙ ap Some (ap (λ t. (a, t, drop (b * 256 + d) (take (b * 256 + d) rest)))
-          (take_all (b * 256 + d) (take (b * 256 + d) rest) (omega (arith, n)))
-          ∙ ap (λ t. (a, take (b * 256 + d) rest, t))
-          (drop_all (b * 256 + d) (take (b * 256 + d) rest) (omega (arith, n)))
-          ∙ ap (λ z. (z.0, z.1, [])) (sym k.is));
-      size = omega (arith, n, ap (λ z. length z.1) k.is);
+      frame = a ∷ b ∷ d ∷ take n rest;
+      split = ap (λ t. a ∷ b ∷ d ∷ t) (cut_split a n rest c k);
+      alone = cut_alone a n rest c k;
+      size = omega (arith, cut_size a n rest c k);
     }
-
-pub frame_at : (xs : List ℕ) (c : Cut) → first_frame xs ≡ Some c → Frame xs c
-frame_at [] c e = absurd (cc)
-frame_at (a ∷ []) c e = absurd (cc)
-frame_at (a ∷ b ∷ []) c e = absurd (cc)
-frame_at (a ∷ b ∷ d ∷ rest) c e = frame_by_cut a b d rest c (cuts a (b * 256 + d) rest c e)
+frame_at Second [] c e = absurd (cc)
+frame_at Second (a ∷ []) c e = absurd (cc)
+frame_at Second (a ∷ b ∷ []) c e = absurd (cc)
+frame_at Second (a ∷ b ∷ d ∷ []) c e = absurd (cc)
+frame_at Second (a ∷ b ∷ d ∷ g ∷ []) c e = absurd (cc)
+frame_at Second (a ∷ b ∷ d ∷ g ∷ h ∷ rest) c e =
+    let n = ((b * 256 + d) * 256 + g) * 256 + h in
+    let k = cuts a n rest c e in
+    record {
+      frame = a ∷ b ∷ d ∷ g ∷ h ∷ take n rest;
+      split = ap (λ t. a ∷ b ∷ d ∷ g ∷ h ∷ t) (cut_split a n rest c k);
+      alone = cut_alone a n rest c k;
+      size = omega (arith, cut_size a n rest c k);
+    }
 
 -- The loop.
 
--- so much was read, and the rest is to be read
-pub record Reads (p : Kind) (bytes : List ℕ) (s : SeenLog) (rest : List ℕ) : Type 0 where
+-- so much was read, and the rest is to be read; these are the marks of what was read
+pub record Reads (p : LogForm) (bytes : List ℕ) (s : SeenLog) (rest : List ℕ) (marks : List Mark) : Type 0 where
   pub sound : List ℕ
   pub split : bytes ≡ sound ++ rest
   pub whole : is_whole p 0 sound ≡ true
+  pub marked : map mark_of (records_in p 0 sound) ≡ marks
   pub read : read_frames p 5 nothing_seen 0 bytes
       ≡ with_all (records_in p 0 sound) (read_frames p (5 + length sound) s 0 rest)
 
-pub reads_first : (p : Kind) (bytes : List ℕ) (s : SeenLog) → s ≡ nothing_seen → Reads p bytes s bytes
-reads_first p bytes s e = record {
+pub reads_first : (p : LogForm) (bytes : List ℕ) (s : SeenLog) (marks : List Mark) → s ≡ nothing_seen → marks ≡ []
+    → Reads p bytes s bytes marks
+reads_first p bytes s marks e f = record {
   sound = [];
   split = refl;
   whole = nothing_whole p;
+  marked = ap (map mark_of) (no_records p) ∙ sym f;
   read = ap (λ t. read_frames p 5 t 0 bytes) (sym e)
       ∙ ap (λ ls. with_all ls (read_frames p 5 s 0 bytes)) (sym (no_records p));
 }
 
-reads_record : (p : Kind) (place : ℕ) (s t : SeenLog) (c : Cut) (l : LogRecord)
+reads_record : (p : LogForm) (place : ℕ) (s t : SeenLog) (c : Cut) (l : LogRecord)
     → read_record p c.0 c.1 ≡ Some l → after s l ≡ Some t
-    → reads_one p place s c ≡ with_first l (read_frames p (place + 3 + length c.1) t 0 c.2)
+    → reads_one p place s c ≡ with_first l (read_frames p (place + suc (size_bytes p.format) + length c.1) t 0 c.2)
 reads_record p place s t c l r f =
-    ap (λ o. record_by place s o (λ u. read_frames p (place + 3 + length c.1) u 0 c.2)) r
-    ∙ ap (λ o. seen_by place l o (λ u. read_frames p (place + 3 + length c.1) u 0 c.2)) f
+    ap (λ o. record_by place s o (λ u. read_frames p (place + suc (size_bytes p.format) + length c.1) u 0 c.2)) r
+    ∙ ap (λ o. seen_by place l o (λ u. read_frames p (place + suc (size_bytes p.format) + length c.1) u 0 c.2)) f
 
-reads_on : (p : Kind) (bytes rest : List ℕ) (s t : SeenLog) (c : Cut) (l : LogRecord)
-    → Reads p bytes s rest → first_frame rest ≡ Some c
-    → read_record p c.0 c.1 ≡ Some l → after s l ≡ Some t → Reads p bytes t c.2
-reads_on p bytes rest s t c l h e r f =
-    let a = frame_at rest c e in
+reads_on : (p : LogForm) (bytes rest : List ℕ) (s t : SeenLog) (c : Cut) (l : LogRecord) (marks next : List Mark)
+    → Reads p bytes s rest marks → first_frame p.format rest ≡ Some c
+    → read_record p c.0 c.1 ≡ Some l → after s l ≡ Some t → next ≡ marks ++ mark_of l ∷ [] → Reads p bytes t c.2 next
+reads_on p bytes rest s t c l marks next h e r f n =
+    let a = frame_at p.format rest c e in
     let own : records_in p 0 a.frame ≡ l ∷ [] = step p a.frame (c.0, c.1, []) a.alone
     ∙ ap (λ o. and_records o (records_in p 0 [])) r ∙ ap (λ ls. l ∷ ls) (no_records p) in
     let own_whole : is_whole p 0 a.frame ≡ true = step_whole p a.frame (c.0, c.1, []) a.alone
     ∙ ap (λ o. whole_if o (is_whole p 0 [])) r ∙ nothing_whole p in
     let all : records_in p 0 (h.sound ++ a.frame) ≡ records_in p 0 h.sound ++ l ∷ [] =
     more_records p 0 h.sound a.frame h.whole ∙ ap (λ ls. records_in p 0 h.sound ++ ls) own in
-    let place : 5 + length h.sound + 3 + length c.1 ≡ 5 + length (h.sound ++ a.frame) =
+    let place : 5 + length h.sound + suc (size_bytes p.format) + length c.1 ≡ 5 + length (h.sound ++ a.frame) =
     omega (arith, length-append h.sound a.frame, a.size) in
     record {
       sound = h.sound ++ a.frame;
       split = h.split ∙ ap (λ z. h.sound ++ z) a.split ∙ sym (append_assoc h.sound a.frame c.2);
       whole = more_whole p 0 h.sound a.frame h.whole own_whole;
+      marked = ap (map mark_of) all ∙ map-append mark_of (records_in p 0 h.sound) (l ∷ [])
+          ∙ ap (λ ms. ms ++ mark_of l ∷ []) h.marked ∙ sym n;
       read = h.read ∙ ap (with_all (records_in p 0 h.sound))
           (step_read p (5 + length h.sound) s rest c e ∙ reads_record p (5 + length h.sound) s t c l r f
           ∙ ap (λ n. with_first l (read_frames p n t 0 c.2)) place)
@@ -166,80 +188,95 @@ reads_on p bytes rest s t c l h e r f =
     }
 
 -- the record of the frame may follow
-pub reads_next : (p : Kind) (bytes rest : List ℕ) (s t : SeenLog) (c : Cut) → Reads p bytes s rest
-    → first_frame rest ≡ Some c → after_frame s (read_record p c.0 c.1) ≡ Some t → Reads p bytes t c.2
-reads_next p bytes rest s t c h e f = by_record (read_record p c.0 c.1) refl f
+pub reads_next : (p : LogForm) (bytes rest : List ℕ) (s t : SeenLog) (c : Cut) (m : Mark) (marks next : List Mark)
+    → Reads p bytes s rest marks → first_frame p.format rest ≡ Some c
+    → after_frame s (read_record p c.0 c.1) ≡ Some t → option_map mark_of (read_record p c.0 c.1) ≡ Some m
+    → next ≡ marks ++ m ∷ [] → Reads p bytes t c.2 next
+reads_next p bytes rest s t c m marks next h e f g n = by_record (read_record p c.0 c.1) refl f g
   where
     by_record : (o : Option LogRecord) → read_record p c.0 c.1 ≡ o → after_frame s o ≡ Some t
-        → Reads p bytes t c.2
-    by_record None r k = absurd (cc)
-    by_record (Some l) r k = reads_on p bytes rest s t c l h e r k
+        → option_map mark_of o ≡ Some m → Reads p bytes t c.2 next
+    by_record None r k q = absurd (cc)
+    by_record (Some l) r k q =
+        let same : mark_of l ≡ m = cc in
+        reads_on p bytes rest s t c l marks next h e r k (n ∙ ap (λ x. marks ++ x ∷ []) (sym same))
 
-pub torn_read : (p : Kind) (place : ℕ) (s : SeenLog) (rest : List ℕ) → first_frame rest ≡ None
+pub torn_read : (p : LogForm) (place : ℕ) (s : SeenLog) (rest : List ℕ) → first_frame p.format rest ≡ None
     → read_frames p place s 0 rest ≡ Whole [] (length rest)
 unfolding read_frames
 torn_read p place s [] e = refl
 torn_read p place s (b ∷ bs) e = ap (λ o. frame_by p place s (suc (length bs)) o
     (λ at t k. read_frames p at t k bs)) e
 
-pub reads_all : (p : Kind) (bytes rest : List ℕ) (s : SeenLog) → Reads p bytes s rest
-    → first_frame rest ≡ None → Ends p bytes (length rest)
-reads_all p bytes rest s h e = record {
+read_all : (p : LogForm) (bytes rest : List ℕ) (s : SeenLog) (marks : List Mark) (h : Reads p bytes s rest marks)
+    → first_frame p.format rest ≡ None
+    → read_frames p 5 nothing_seen 0 bytes ≡ Whole (records_in p 0 h.sound) (length rest)
+read_all p bytes rest s marks h e =
+    h.read ∙ ap (with_all (records_in p 0 h.sound)) (torn_read p (5 + length h.sound) s rest e)
+    ∙ with_all_whole (records_in p 0 h.sound) (length rest)
+
+pub reads_all : (p : LogForm) (bytes rest : List ℕ) (s : SeenLog) (marks : List Mark) → Reads p bytes s rest marks
+    → first_frame p.format rest ≡ None → Ends p bytes (length rest)
+reads_all p bytes rest s marks h e = record {
   sound = h.sound;
   tail = rest;
   split = h.split;
   size = refl;
   whole = h.whole;
-  read = h.read ∙ ap (with_all (records_in p 0 h.sound)) (torn_read p (5 + length h.sound) s rest e)
-      ∙ with_all_whole (records_in p 0 h.sound) (length rest);
+  read = read_all p bytes rest s marks h e;
 }
+
+pub marks_all : (p : LogForm) (bytes rest : List ℕ) (s : SeenLog) (marks : List Mark) → Reads p bytes s rest marks
+    → first_frame p.format rest ≡ None → marks ≡ marks_read (read_frames p 5 nothing_seen 0 bytes)
+marks_all p bytes rest s marks h e = sym (ap marks_read (read_all p bytes rest s marks h e) ∙ h.marked)
 
 place_of : (bytes sound rest : List ℕ) → bytes ≡ sound ++ rest
     → 5 + length sound ≡ 5 + (length bytes - length rest)
 place_of bytes sound rest e = omega (arith, ap length e, length-append sound rest)
 
-damaged_at : (p : Kind) (bytes rest : List ℕ) (s : SeenLog) (h : Reads p bytes s rest) (place : ℕ)
+damaged_at : (p : LogForm) (bytes rest : List ℕ) (s : SeenLog) (marks : List Mark) (h : Reads p bytes s rest marks)
+    (place : ℕ)
     → place ≡ 5 + (length bytes - length rest)
     → read_frames p (5 + length h.sound) s 0 rest ≡ Damaged (5 + length h.sound)
     → read_frames p 5 nothing_seen 0 bytes ≡ Damaged place
-damaged_at p bytes rest s h place e d =
+damaged_at p bytes rest s marks h place e d =
     h.read ∙ ap (with_all (records_in p 0 h.sound)) d
     ∙ with_all_damaged (records_in p 0 h.sound) (5 + length h.sound)
     ∙ ap Damaged (place_of bytes h.sound rest h.split ∙ sym e)
 
 -- no record is read there
-damaged_record : (p : Kind) (bytes rest : List ℕ) (s : SeenLog) (c : Cut) (place : ℕ)
-    → Reads p bytes s rest → first_frame rest ≡ Some c
+damaged_record : (p : LogForm) (bytes rest : List ℕ) (s : SeenLog) (c : Cut) (marks : List Mark) (place : ℕ)
+    → Reads p bytes s rest marks → first_frame p.format rest ≡ Some c
     → read_record p c.0 c.1 ≡ None → place ≡ 5 + (length bytes - length rest)
     → read_frames p 5 nothing_seen 0 bytes ≡ Damaged place
-damaged_record p bytes rest s c place h e r is =
-    damaged_at p bytes rest s h place is (step_read p (5 + length h.sound) s rest c e
+damaged_record p bytes rest s c marks place h e r is =
+    damaged_at p bytes rest s marks h place is (step_read p (5 + length h.sound) s rest c e
     ∙ ap (λ o. record_by (5 + length h.sound) s o
-    (λ u. read_frames p (5 + length h.sound + 3 + length c.1) u 0 c.2)) r)
+    (λ u. read_frames p (5 + length h.sound + suc (size_bytes p.format) + length c.1) u 0 c.2)) r)
 
 -- the record may not follow
-damaged_order : (p : Kind) (bytes rest : List ℕ) (s : SeenLog) (c : Cut) (l : LogRecord) (place : ℕ)
-    → Reads p bytes s rest → first_frame rest ≡ Some c
+damaged_order : (p : LogForm) (bytes rest : List ℕ) (s : SeenLog) (c : Cut) (l : LogRecord) (marks : List Mark)
+    (place : ℕ) → Reads p bytes s rest marks → first_frame p.format rest ≡ Some c
     → read_record p c.0 c.1 ≡ Some l → after s l ≡ None → place ≡ 5 + (length bytes - length rest)
     → read_frames p 5 nothing_seen 0 bytes ≡ Damaged place
-damaged_order p bytes rest s c l place h e r f is =
-    damaged_at p bytes rest s h place is (step_read p (5 + length h.sound) s rest c e
+damaged_order p bytes rest s c l marks place h e r f is =
+    damaged_at p bytes rest s marks h place is (step_read p (5 + length h.sound) s rest c e
     ∙ ap (λ o. record_by (5 + length h.sound) s o
-    (λ u. read_frames p (5 + length h.sound + 3 + length c.1) u 0 c.2)) r
+    (λ u. read_frames p (5 + length h.sound + suc (size_bytes p.format) + length c.1) u 0 c.2)) r
     ∙ ap (λ o. seen_by (5 + length h.sound) l o
-    (λ u. read_frames p (5 + length h.sound + 3 + length c.1) u 0 c.2)) f)
+    (λ u. read_frames p (5 + length h.sound + suc (size_bytes p.format) + length c.1) u 0 c.2)) f)
 
 -- there is no record, or it may not follow
-pub damaged_next : (p : Kind) (bytes rest : List ℕ) (s : SeenLog) (c : Cut) (place : ℕ)
-    → Reads p bytes s rest → first_frame rest ≡ Some c → after_frame s (read_record p c.0 c.1) ≡ None
+pub damaged_next : (p : LogForm) (bytes rest : List ℕ) (s : SeenLog) (c : Cut) (marks : List Mark) (place : ℕ)
+    → Reads p bytes s rest marks → first_frame p.format rest ≡ Some c → after_frame s (read_record p c.0 c.1) ≡ None
     → place ≡ 5 + (length bytes - length rest) → read_frames p 5 nothing_seen 0 bytes ≡ Damaged place
-damaged_next p bytes rest s c place h e f is = by_record (read_record p c.0 c.1) refl f
+damaged_next p bytes rest s c marks place h e f is = by_record (read_record p c.0 c.1) refl f
   where
     by_record : (o : Option LogRecord) → read_record p c.0 c.1 ≡ o → after_frame s o ≡ None
         → read_frames p 5 nothing_seen 0 bytes ≡ Damaged place
-    by_record None r k = damaged_record p bytes rest s c place h e r is
-    by_record (Some l) r k = damaged_order p bytes rest s c l place h e r k is
+    by_record None r k = damaged_record p bytes rest s c marks place h e r is
+    by_record (Some l) r k = damaged_order p bytes rest s c l marks place h e r k is
 
-pub shorter_rest : (p : Kind) (bytes rest : List ℕ) (s : SeenLog) → Reads p bytes s rest
+pub shorter_rest : (p : LogForm) (bytes rest : List ℕ) (s : SeenLog) (marks : List Mark) → Reads p bytes s rest marks
     → length rest ≤ length bytes
-shorter_rest p bytes rest s h = omega (arith, ap length h.split, length-append h.sound rest)
+shorter_rest p bytes rest s marks h = omega (arith, ap length h.split, length-append h.sound rest)

@@ -1,17 +1,23 @@
 -- Restarts.
-use Rattle.std.proofs.Common.{◌≡◌, ◌≤◌, ◌+◌, ◌-◌, inl, inr, ℕ, Bool, true, false, List, [], ◌++◌, length, take, drop, Option, Some, None, refl, sym, ap, subst, ◌∙◌, arith, append_assoc, append-nil, take-append-drop, length-append, is_some, ◌∷◌, length-drop, length-take, if◌then◌else◌}
-use Rattle.std.proofs.lemmas.List.{take-append-le}
+use Rattle.std.proofs.Common.{◌≡◌, ◌≤◌, ◌+◌, ◌-◌, inl, inr, ℕ, Bool, true, false, List, [], ◌++◌, length, map, take, drop, Some, None, refl, sym, ap, subst, ◌∙◌, arith, append_assoc, append-nil, take-append-drop, length-append, ◌∷◌, length-drop, length-take, if◌then◌else◌}
+use Rattle.std.proofs.lemmas.List.{map-append, take-append-le}
 use Rattle.std.proofs.Math.Seq.{take-append_seam}
-use Rattle.tree_model.specs.declared.names.Kind.{Kind}
+use Rattle.log_text.specs.declared.form.LogForm.{LogForm}
 use Rattle.tree_model.specs.declared.records.LogRecord.{LogRecord}
 use Rattle.log_store.specs.Stores.{Appends, ForceBreaks, MoreFailures}
-use Rattle.log_text.specs.Frames.{Cut, first_frame, header}
+use Rattle.log_text.specs.Frames.{Cut, first_frame}
+use Rattle.log_text.specs.declared.form.LogFormat.TheVariants.{Second}
+use Rattle.log_text.specs.Forms.{header}
 use Rattle.log_text.specs.Payloads.{records_text}
 use Rattle.log_text.specs.Reading.{read_record}
+use Rattle.log_text.specs.declared.mark.Mark.{Mark}
+use Rattle.log_text.specs.Marks.{mark_of}
 use Rattle.rec_log.specs.Texts.{and_records, is_whole, records_in, whole_if, whole_size}
 use Rattle.rec_log.specs.Sights.{AreRecords, EndsSound, IsLogText, LogState, RestartBreaks, Restarts, Sounds, body, front, left_by, log_state, whole_within}
 use Rattle.rec_log.specs.Restarting.{BreaksLeft, LeavesText, StandsLeft, WritesLeft}
-use Rattle.rec_log.proofs.Frames.{front_of, more_records, more_whole, no_frame, nothing_whole, step, step_whole}
+use Rattle.rec_log.proofs.Frames.{front_of, header_dropped, header_long, header_taken, more_records, more_whole, no_frame, nothing_whole, step, step_whole}
+use Rattle.rec_log.specs.Trimming.{IsIndex}
+use Rattle.rec_log.proofs.Indexes.{marks_behind}
 use Rattle.rec_log.proofs.Openings.{frame_at}
 use Rattle.rec_log.proofs.Turns.{all_front, body_more, front_grows, front_more, drop_all, records_stand, take_within}
 use Rattle.rec_log.proofs.Within.{left_records, whole_is_full}
@@ -19,18 +25,18 @@ use Rattle.rec_log.proofs.Written.{body_taken, whole_text, written}
 
 -- The whole frames at the front.
 
-pub record Passes (p : Kind) (bytes rest : List ℕ) : Type 0 where
+pub record Passes (p : LogForm) (bytes rest : List ℕ) : Type 0 where
   pub sound : List ℕ
   pub split : bytes ≡ sound ++ rest
   pub whole : is_whole p 0 sound ≡ true
 
-pub passes_first : (p : Kind) (bytes : List ℕ) → Passes p bytes bytes
+pub passes_first : (p : LogForm) (bytes : List ℕ) → Passes p bytes bytes
 passes_first p bytes = record { sound = []; split = refl; whole = nothing_whole p }
 
-pub passes_on : (p : Kind) (bytes rest : List ℕ) (c : Cut) (l : LogRecord) → Passes p bytes rest
-    → first_frame rest ≡ Some c → read_record p c.0 c.1 ≡ Some l → Passes p bytes c.2
+pub passes_on : (p : LogForm) (bytes rest : List ℕ) (c : Cut) (l : LogRecord) → Passes p bytes rest
+    → first_frame p.format rest ≡ Some c → read_record p c.0 c.1 ≡ Some l → Passes p bytes c.2
 passes_on p bytes rest c l h e r =
-    let a = frame_at rest c e in
+    let a = frame_at p.format rest c e in
     let own : is_whole p 0 a.frame ≡ true = step_whole p a.frame (c.0, c.1, []) a.alone
     ∙ ap (λ o. whole_if o (is_whole p 0 [])) r ∙ nothing_whole p in
     record {
@@ -39,7 +45,7 @@ passes_on p bytes rest c l h e r =
       whole = more_whole p 0 h.sound a.frame h.whole own;
     }
 
-sounds_of : (p : Kind) (bytes rest : List ℕ) → Passes p bytes rest → records_in p 0 rest ≡ []
+sounds_of : (p : LogForm) (bytes rest : List ℕ) → Passes p bytes rest → records_in p 0 rest ≡ []
     → Sounds p bytes (length bytes - length rest)
 sounds_of p bytes rest h e = record {
   sound = h.sound;
@@ -51,80 +57,130 @@ sounds_of p bytes rest h e = record {
       ∙ ap (λ t. records_in p 0 h.sound ++ t) e ∙ append-nil (records_in p 0 h.sound);
 }
 
-pub sounds_torn : (p : Kind) (bytes rest : List ℕ) → Passes p bytes rest → first_frame rest ≡ None
+pub sounds_torn : (p : LogForm) (bytes rest : List ℕ) → Passes p bytes rest → first_frame p.format rest ≡ None
     → Sounds p bytes (length bytes - length rest)
 sounds_torn p bytes rest h e = sounds_of p bytes rest h (no_frame p rest e)
 
-pub sounds_strange : (p : Kind) (bytes rest : List ℕ) (c : Cut) → Passes p bytes rest
-    → first_frame rest ≡ Some c → read_record p c.0 c.1 ≡ None → Sounds p bytes (length bytes - length rest)
+pub sounds_strange : (p : LogForm) (bytes rest : List ℕ) (c : Cut) → Passes p bytes rest
+    → first_frame p.format rest ≡ Some c → read_record p c.0 c.1 ≡ None → Sounds p bytes (length bytes - length rest)
 sounds_strange p bytes rest c h e r = sounds_of p bytes rest h
+    (step p rest c e ∙ ap (λ o. and_records o (records_in p 0 c.2)) r)
+
+-- The marks of the whole frames at the front.
+
+pub marks_on : (p : LogForm) (bytes rest : List ℕ) (c : Cut) (l : LogRecord) (marks next : List Mark)
+    → map mark_of (records_in p 0 bytes) ≡ marks ++ map mark_of (records_in p 0 rest)
+    → first_frame p.format rest ≡ Some c → read_record p c.0 c.1 ≡ Some l → next ≡ marks ++ mark_of l ∷ []
+    → map mark_of (records_in p 0 bytes) ≡ next ++ map mark_of (records_in p 0 c.2)
+marks_on p bytes rest c l marks next h e r n =
+    h ∙ ap (λ ls. marks ++ map mark_of ls) (step p rest c e ∙ ap (λ o. and_records o (records_in p 0 c.2)) r)
+    ∙ sym (append_assoc marks (mark_of l ∷ []) (map mark_of (records_in p 0 c.2)))
+    ∙ ap (λ ms. ms ++ map mark_of (records_in p 0 c.2)) (sym n)
+
+marks_end : (p : LogForm) (bytes rest : List ℕ) (marks : List Mark)
+    → map mark_of (records_in p 0 bytes) ≡ marks ++ map mark_of (records_in p 0 rest)
+    → records_in p 0 rest ≡ [] → map mark_of (records_in p 0 bytes) ≡ marks
+marks_end p bytes rest marks h e = h ∙ ap (λ ls. marks ++ map mark_of ls) e ∙ append-nil marks
+
+pub marks_torn : (p : LogForm) (bytes rest : List ℕ) (marks : List Mark)
+    → map mark_of (records_in p 0 bytes) ≡ marks ++ map mark_of (records_in p 0 rest)
+    → first_frame p.format rest ≡ None → map mark_of (records_in p 0 bytes) ≡ marks
+marks_torn p bytes rest marks h e = marks_end p bytes rest marks h (no_frame p rest e)
+
+pub marks_strange : (p : LogForm) (bytes rest : List ℕ) (c : Cut) (marks : List Mark)
+    → map mark_of (records_in p 0 bytes) ≡ marks ++ map mark_of (records_in p 0 rest)
+    → first_frame p.format rest ≡ Some c → read_record p c.0 c.1 ≡ None → map mark_of (records_in p 0 bytes) ≡ marks
+marks_strange p bytes rest c marks h e r = marks_end p bytes rest marks h
     (step p rest c e ∙ ap (λ o. and_records o (records_in p 0 c.2)) r)
 
 -- The text that a restart writes.
 
-record Parts (p : Kind) (left : List ℕ) (rs : List LogRecord) (text : List ℕ) : Type 0 where
+record Parts (p : LogForm) (left : List ℕ) (rs : List LogRecord) (text : List ℕ) : Type 0 where
   sound : List ℕ
-  is : text ≡ header ++ (sound ++ records_text rs)
+  is : text ≡ header p.format ++ (sound ++ records_text p rs)
   whole : is_whole p 0 sound ≡ true
   all : records_in p 0 (body left) ≡ records_in p 0 sound
 
-parts_of : (p : Kind) (left text : List ℕ) (rs : List LogRecord) → take 5 left ≡ header
+parts_of : (p : LogForm) (left text : List ℕ) (rs : List LogRecord) → take 5 left ≡ header p.format
     → LeavesText p left rs text → Parts p left rs text
 parts_of p left text rs h l =
     let s = l.ends.sounds in
-    let whole : left ≡ (header ++ s.sound) ++ s.tail = sym (take-append-drop 5 left)
-    ∙ ap (λ t. t ++ drop 5 left) h ∙ ap (λ t. header ++ t) s.split
-    ∙ sym (append_assoc header s.sound s.tail) in
-    let size : l.end ≡ length (header ++ s.sound) =
-    omega (arith, l.ends.header, s.sound_size, length-append header s.sound) in
-    let cut : take l.end left ≡ header ++ s.sound = ap (λ n. take n left) size
-    ∙ ap (take (length (header ++ s.sound))) whole ∙ take-append_seam (header ++ s.sound) s.tail in
+    let whole : left ≡ (header p.format ++ s.sound) ++ s.tail = sym (take-append-drop 5 left)
+    ∙ ap (λ t. t ++ drop 5 left) h ∙ ap (λ t. header p.format ++ t) s.split
+    ∙ sym (append_assoc (header p.format) s.sound s.tail) in
+    let size : l.end ≡ length (header p.format ++ s.sound) =
+    omega (arith, l.ends.header, s.sound_size, header_long p.format, length-append (header p.format) s.sound) in
+    let cut : take l.end left ≡ header p.format ++ s.sound = ap (λ n. take n left) size
+    ∙ ap (take (length (header p.format ++ s.sound))) whole ∙ take-append_seam (header p.format ++ s.sound) s.tail in
     record {
       sound = s.sound;
-      is = l.is ∙ ap (λ t. t ++ records_text rs) cut
-          ∙ append_assoc header s.sound (records_text rs);
+      is = l.is ∙ ap (λ t. t ++ records_text p rs) cut
+          ∙ append_assoc (header p.format) s.sound (records_text p rs);
       whole = s.whole;
       all = s.all;
     }
 
-text_records : (p : Kind) (left text : List ℕ) (rs : List LogRecord) → AreRecords p rs → Parts p left rs text
+text_records : (p : LogForm) (left text : List ℕ) (rs : List LogRecord) → AreRecords p.kind rs → Parts p left rs text
     → records_in p 0 (body text) ≡ records_in p 0 (body left) ++ rs
 text_records p left text rs are q =
-    ap (λ t. records_in p 0 (drop 5 t)) q.is ∙ more_records p 0 q.sound (records_text rs) q.whole
+    ap (λ t. records_in p 0 (drop 5 t)) q.is
+    ∙ ap (records_in p 0) (header_dropped p.format (q.sound ++ records_text p rs)) ∙ more_records p 0 q.sound (records_text p rs) q.whole
     ∙ ap (λ t. records_in p 0 q.sound ++ t) (written p rs are)
     ∙ ap (λ t. t ++ rs) (sym q.all)
 
-pub text_settled : (p : Kind) (left text : List ℕ) (rs : List LogRecord) (forced : ℕ) → AreRecords p rs
-    → take 5 left ≡ header → LeavesText p left rs text → forced ≡ length text
+-- what is left and new records, by their marks: those that were known, and those behind them
+pub text_marks : (p : LogForm) (left text : List ℕ) (size : ℕ) (marks behind : List Mark) (rs : List LogRecord)
+    → AreRecords p.kind rs → take 5 left ≡ header p.format → LeavesText p left rs text
+    → IsIndex p left size marks → map mark_of (records_in p 0 (drop size left) ++ rs) ≡ behind
+    → map mark_of (records_in p 0 (body text)) ≡ marks ++ behind
+text_marks p left text size marks behind rs are h l i e =
+    let more = map mark_of (records_in p 0 (drop size left)) in
+    ap (map mark_of) (text_records p left text rs are (parts_of p left text rs h l))
+    ∙ map-append mark_of (records_in p 0 (body left)) rs
+    ∙ ap (λ ms. ms ++ map mark_of rs) (marks_behind p left size marks more i refl)
+    ∙ append_assoc marks more (map mark_of rs)
+    ∙ ap (λ ms. marks ++ ms) (sym (map-append mark_of (records_in p 0 (drop size left)) rs) ∙ e)
+
+pub text_settled : (p : LogForm) (left text : List ℕ) (rs : List LogRecord) (forced : ℕ) → p.format ≡ Second
+    → AreRecords p.kind rs
+    → take 5 left ≡ header p.format → LeavesText p left rs text → forced ≡ length text
     → IsLogText p text forced false
-text_settled p left text rs forced are h l f =
+text_settled p left text rs forced second are h l f =
     let q = parts_of p left text rs h l in
     record {
-      begins = ap (take 5) q.is;
-      header_forced = omega (arith, f, ap length q.is, length-append header (q.sound ++ records_text rs));
+      second = second;
+      begins = ap (take 5) q.is ∙ header_taken p.format (q.sound ++ records_text p rs);
+      header_forced = omega (
+        arith,
+        f,
+        ap length q.is,
+        header_long p.format,
+        length-append (header p.format) (q.sound ++ records_text p rs),
+      );
       whole = λ _. ap (λ t. is_whole p 0 (drop 5 t)) q.is
-          ∙ more_whole p 0 q.sound (records_text rs) q.whole (whole_text p rs are);
+          ∙ ap (is_whole p 0) (header_dropped p.format (q.sound ++ records_text p rs))
+          ∙ more_whole p 0 q.sound (records_text p rs) q.whole (whole_text p rs are);
     }
 
-pub front_begins : (n : ℕ) (text : List ℕ) → 5 ≤ n → take 5 text ≡ header → take 5 (take n text) ≡ header
-front_begins n text h b = take_within 5 n text h ∙ b
+pub front_begins : (n : ℕ) (text front : List ℕ) → 5 ≤ n → take 5 text ≡ front → take 5 (take n text) ≡ front
+front_begins n text front h b = take_within 5 n text h ∙ b
 
-pub restarted : (p : Kind) (text new : List ℕ) (forced forced' keep failures failures' room room' : ℕ)
+pub restarted : (p : LogForm) (text new : List ℕ) (forced forced' keep failures failures' room room' : ℕ)
     (rs : List LogRecord) (failed : Bool) (s : LogState)
-    → log_state p text forced failures room failed ≡ s → AreRecords p rs → IsLogText p text forced failed
+    → log_state p text forced failures room failed ≡ s → AreRecords p.kind rs → IsLogText p text forced failed
     → forced ≤ length text → LeavesText p (take (forced + keep) text) rs new → forced' ≡ length new
     → failures' ≡ failures
     → Restarts s (log_state p new forced' failures' room' false) keep rs
 restarted p text new forced forced' keep failures failures' room room' rs failed s view are is le l f g =
-    let left = left_records p text forced keep failures room failed is.header_forced le in
-    let whole = (text_settled p (take (forced + keep) text) new rs forced' are
-    (front_begins (forced + keep) text (omega (arith, is.header_forced)) is.begins) l f).whole refl in
-    let h = front_begins (forced + keep) text (omega (arith, is.header_forced)) is.begins in
+    let left = left_records p text forced keep failures room failed is.second is.header_forced le in
+    let whole = (text_settled p (take (forced + keep) text) new rs forced' is.second are
+    (front_begins (forced + keep) text (header p.format) (omega (arith, is.header_forced)) is.begins) l f).whole refl in
+    let h = front_begins (forced + keep) text (header p.format) (omega (arith, is.header_forced)) is.begins in
     let q = parts_of p (take (forced + keep) text) new rs h l in
     let all : front new forced' ≡ body new = all_front new forced' f in
     subst (λ z. Restarts z (log_state p new forced' failures' room' false) keep rs) view
     (record {
-      kind = refl;
+      form = refl;
       forced = ap (records_in p 0) all ∙ text_records p (take (forced + keep) text) new rs are q
           ∙ ap (λ t. t ++ rs) left;
       unforced = ap (λ t. drop (length (records_in p 0 t)) (records_in p 0 (body new))) all
@@ -152,7 +208,7 @@ all_of [] = refl
 all_of (x ∷ xs) = ap (λ t. x ∷ t) (all_of xs)
 
 -- what is left is whole where its whole frames end at its end
-whole_left : (p : Kind) (left : List ℕ) → EndsSound p left (length left) → is_whole p 0 (body left) ≡ true
+whole_left : (p : LogForm) (left : List ℕ) → EndsSound p left (length left) → is_whole p 0 (body left) ≡ true
 whole_left p left e =
     let s = e.sounds in
     let none : s.tail ≡ [] =
@@ -166,13 +222,13 @@ whole_left p left e =
     )) in
     ap (is_whole p 0) (s.split ∙ ap (λ t. s.sound ++ t) none ∙ append-nil s.sound) ∙ s.whole
 
-pub leaves_text : (p : Kind) (left text new : List ℕ) (rs : List LogRecord) (anew : Bool)
+pub leaves_text : (p : LogForm) (left text new : List ℕ) (rs : List LogRecord) (anew : Bool)
     → WritesLeft p left rs anew text → new ≡ (if anew then text else left ++ text) → LeavesText p left rs new
 leaves_text p left text new rs true w e = subst (λ t. LeavesText p left rs t) (sym e) w
 leaves_text p left text new rs false w e = record {
   end = length left;
   ends = w.0;
-  is = e ∙ ap (λ t. left ++ t) w.1 ∙ ap (λ t. t ++ records_text rs) (sym (all_of left));
+  is = e ∙ ap (λ t. left ++ t) w.1 ∙ ap (λ t. t ++ records_text p rs) (sym (all_of left));
 }
 
 -- the text came behind what is left, and the device failed in its force
@@ -189,14 +245,14 @@ force_left bytes forced failures old mid new text a f = record {
 }
 
 -- what stands where the device failed
-pub data Broken (p : Kind) (left : List ℕ) (rs : List LogRecord) (forced : ℕ) (bytes : List ℕ)
+pub data Broken (p : LogForm) (left : List ℕ) (rs : List LogRecord) (forced : ℕ) (bytes : List ℕ)
     (forced' : ℕ) : Type 0 where
   AsLeft : bytes ≡ left → forced' ≡ forced → Broken p left rs forced bytes forced'
   Anew : LeavesText p left rs bytes → forced' ≡ length bytes → Broken p left rs forced bytes forced'
-  GoesOn : (came : ℕ) → is_whole p 0 (body left) ≡ true → bytes ≡ left ++ take came (records_text rs)
+  GoesOn : (came : ℕ) → is_whole p 0 (body left) ≡ true → bytes ≡ left ++ take came (records_text p rs)
       → forced ≤ forced' → Broken p left rs forced bytes forced'
 
-pub broken : (p : Kind) (left text old bytes : List ℕ) (rs : List LogRecord) (forced before forced' : ℕ)
+pub broken : (p : LogForm) (left text old bytes : List ℕ) (rs : List LogRecord) (forced before forced' : ℕ)
     (anew : Bool) → WritesLeft p left rs anew text → old ≡ left → before ≡ forced
     → StandsLeft anew old before bytes forced' text → Broken p left rs forced bytes forced'
 broken p left text old bytes rs forced before forced' true w o b (inl e) = AsLeft (e.0 ∙ o) (e.1 ∙ b)
@@ -207,7 +263,7 @@ broken p left text old bytes rs forced before forced' false w o b e =
     (omega (arith, e.2, b))
 
 -- the forced records do not become fewer
-module _ (p : Kind) (text : List ℕ) (forced keep failures room : ℕ) (failed : Bool)
+module _ (p : LogForm) (text : List ℕ) (forced keep failures room : ℕ) (failed : Bool)
     (is : IsLogText p text forced failed) (le : forced ≤ length text) where
   abbrev left : List ℕ
   left = take (forced + keep) text
@@ -216,36 +272,38 @@ module _ (p : Kind) (text : List ℕ) (forced keep failures room : ℕ) (failed 
   before = log_state p text forced failures room failed
 
   left_is : records_in p 0 (body left) ≡ left_by before.sight keep
-  left_is = left_records p text forced keep failures room failed is.header_forced le
+  left_is = left_records p text forced keep failures room failed is.second is.header_forced le
 
-  begins : take 5 left ≡ header
-  begins = front_begins (forced + keep) text (omega (arith, is.header_forced)) is.begins
+  begins : take 5 left ≡ header p.format
+  begins = front_begins (forced + keep) text (header p.format) (omega (arith, is.header_forced)) is.begins
 
   long : forced ≤ length left
   long = omega (arith, le, length-take (forced + keep) text)
 
-  pub text_broken : (rs : List LogRecord) (bytes : List ℕ) (forced' : ℕ) → AreRecords p rs
+  pub text_broken : (rs : List LogRecord) (bytes : List ℕ) (forced' : ℕ) → AreRecords p.kind rs
       → Broken p left rs forced bytes forced' → IsLogText p bytes forced' true
   text_broken rs bytes forced' are (AsLeft e f) = record {
+    second = is.second;
     begins = ap (take 5) e ∙ begins;
     header_forced = omega (arith, f, is.header_forced);
     whole = λ h. absurd (cc);
   }
   text_broken rs bytes forced' are (Anew l f) =
-      let t = text_settled p left bytes rs forced' are begins l f in
-      record { begins = t.begins; header_forced = t.header_forced; whole = λ h. absurd (cc) }
+      let t = text_settled p left bytes rs forced' is.second are begins l f in
+      record { second = is.second; begins = t.begins; header_forced = t.header_forced; whole = λ h. absurd (cc) }
   text_broken rs bytes forced' are (GoesOn came whole e f) = record {
-    begins = ap (take 5) e ∙ take-append-le 5 left (take came (records_text rs))
+    second = is.second;
+    begins = ap (take 5) e ∙ take-append-le 5 left (take came (records_text p rs))
         (omega (arith, long, is.header_forced)) ∙ begins;
     header_forced = omega (arith, f, is.header_forced);
     whole = λ h. absurd (cc);
   }
 
-  pub breaks_restart : (rs : List LogRecord) (bytes : List ℕ) (forced' failures' room' : ℕ) → AreRecords p rs
+  pub breaks_restart : (rs : List LogRecord) (bytes : List ℕ) (forced' failures' room' : ℕ) → AreRecords p.kind rs
       → Broken p left rs forced bytes forced' → MoreFailures failures failures'
       → RestartBreaks before (log_state p bytes forced' failures' room' true) keep rs
   breaks_restart rs bytes forced' failures' room' are (AsLeft e f) cause = record {
-    kind = refl;
+    form = refl;
     appended = 0;
     stand = records_stand p bytes forced' ∙ ap (λ t. records_in p 0 (body t)) e ∙ left_is
         ∙ sym (append-nil (left_by before.sight keep));
@@ -263,7 +321,7 @@ module _ (p : Kind) (text : List ℕ) (forced keep failures room : ℕ) (failed 
       let stand : records_in p 0 (body bytes) ≡ left_by before.sight keep ++ rs =
       text_records p left bytes rs are q ∙ ap (λ t. t ++ rs) left_is in
       record {
-        kind = refl;
+        form = refl;
         appended = length rs;
         stand = records_stand p bytes forced' ∙ stand
             ∙ ap (λ t. left_by before.sight keep ++ t) (sym (all_of rs));
@@ -279,13 +337,13 @@ module _ (p : Kind) (text : List ℕ) (forced keep failures room : ℕ) (failed 
         cause = cause;
       }
   breaks_restart rs bytes forced' failures' room' are (GoesOn came whole e f) cause =
-      let more = take came (records_text rs) in
+      let more = take came (records_text p rs) in
       let xs = records_in p 0 more in
-      let s = front_of p 0 came (records_text rs) in
+      let s = front_of p 0 came (records_text p rs) in
       let xs_are : xs ≡ take (length xs) rs =
       sym (ap (take (length xs)) (sym (written p rs are) ∙ s.1) ∙ take-append_seam xs s.0) in
       record {
-        kind = refl;
+        form = refl;
         appended = length xs;
         stand = records_stand p bytes forced' ∙ ap (λ t. records_in p 0 (body t)) e
             ∙ ap (records_in p 0) (body_more left more (omega (arith, long, is.header_forced)))
@@ -305,24 +363,3 @@ module _ (p : Kind) (text : List ℕ) (forced keep failures room : ℕ) (failed 
 pub restart_breaks : (seen old new : LogState) (keep : ℕ) (rs : List LogRecord) → seen ≡ old
     → RestartBreaks seen new keep rs → RestartBreaks old new keep rs
 restart_breaks seen old new keep rs e b = subst (λ z. RestartBreaks z new keep rs) e b
-
-from_test : (p : Kind) (bytes rest : List ℕ) (c : Cut) (o : Option LogRecord) → read_record p c.0 c.1 ≡ o
-    → is_some o ≡ true → Passes p bytes rest → first_frame rest ≡ Some c → Passes p bytes c.2
-from_test p bytes rest c None r t h e = absurd (cc)
-from_test p bytes rest c (Some l) r t h e = passes_on p bytes rest c l h e r
-
-pub passes_test : (p : Kind) (bytes rest : List ℕ) (c : Cut) (b : Bool) → b ≡ is_some (read_record p c.0 c.1)
-    → b ≡ true → Passes p bytes rest → first_frame rest ≡ Some c → Passes p bytes c.2
-passes_test p bytes rest c b i t h e = from_test p bytes rest c (read_record p c.0 c.1) refl (sym i ∙ t) h e
-
-strange_test : (p : Kind) (bytes rest : List ℕ) (c : Cut) (o : Option LogRecord) → read_record p c.0 c.1 ≡ o
-    → is_some o ≡ false → Passes p bytes rest → first_frame rest ≡ Some c
-    → Sounds p bytes (length bytes - length rest)
-strange_test p bytes rest c None r t h e = sounds_strange p bytes rest c h e r
-strange_test p bytes rest c (Some l) r t h e = absurd (cc)
-
-pub sounds_test : (p : Kind) (bytes rest : List ℕ) (c : Cut) (b : Bool) → b ≡ is_some (read_record p c.0 c.1)
-    → b ≡ false → Passes p bytes rest → first_frame rest ≡ Some c
-    → Sounds p bytes (length bytes - length rest)
-sounds_test p bytes rest c b i t h e = strange_test p bytes rest c (read_record p c.0 c.1) refl
-    (sym i ∙ t) h e

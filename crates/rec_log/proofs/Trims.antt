@@ -1,9 +1,12 @@
 -- The frames of the records that stay in a trim.
 use Rattle.std.proofs.Common.{◌≡◌, ◌≤◌, ◌+◌, ◌-◌, ◌*◌, ℕ, suc, Bool, true, false, if◌then◌else◌, List, [], ◌∷◌, ◌++◌, length, map, take, drop, Option, Some, None, fold, refl, sym, ap, subst, ◌∙◌, arith, append-nil, append_assoc, length-append, get_or, ◌<◌}
+use Rattle.std.proofs.Math.Seq.{drop-append_seam, take-append_seam}
 use Rattle.std.proofs.lemmas.List.{length-map, map-append, take_all, length-drop}
-use Rattle.tree_model.specs.declared.names.Kind.{Kind}
+use Rattle.log_text.specs.declared.form.LogForm.{LogForm}
+use Rattle.log_text.specs.declared.form.LogFormat.{LogFormat}
 use Rattle.tree_model.specs.declared.records.LogRecord.{LogRecord}
-use Rattle.log_text.specs.Frames.{Cut, cut_at, first_frame, header}
+use Rattle.log_text.specs.Frames.{Cut, first_frame}
+use Rattle.log_text.specs.Forms.{header}
 use Rattle.log_text.specs.Payloads.{records_text}
 use Rattle.log_text.specs.Reading.{read_record}
 use Rattle.tree_model.specs.Records.{is_opened}
@@ -18,7 +21,8 @@ use Rattle.rec_log.specs.Sights.{AreRecords, LogState, NotRewritten, Rewritten, 
 use Rattle.rec_log.specs.Trimming.{Fronts, Holds, Spells, Stays, Trimmed, marks_in, trim_of}
 use Rattle.rec_log.specs.declared.log.LogError.{LogError}
 use Rattle.rec_log.proofs.Turns.{records_stand}
-use Rattle.rec_log.proofs.Frames.{Cuts, cut_there, cuts, no_frame, no_records, nothing_whole, step, step_whole, taken}
+use Rattle.rec_log.proofs.Frames.{no_frame, no_records, nothing_whole, step, step_whole}
+use Rattle.rec_log.proofs.Openings.{frame_at}
 use Rattle.rec_log.proofs.Rewriting.{held, held_text, spelled}
 
 -- The first frame of bytes that begin with a record.
@@ -33,21 +37,8 @@ first_of : (o : Option LogRecord) (xs : List LogRecord) (l : LogRecord) (ls : Li
 first_of None xs l ls e = absurd (cc)
 first_of (Some k) xs l ls e = record { is = cc; rest = cc }
 
-drop_all : (xs : List ℕ) → drop (length xs) xs ≡ []
-drop_all [] = refl
-drop_all (x ∷ xs) = drop_all xs
-
-alone_cut : (kind size : ℕ) (rest : List ℕ) → size ≤ length rest
-    → cut_at kind size (take size rest) ≡ Some (kind, take size rest, [])
-alone_cut kind size rest h =
-    let n : length (take size rest) ≡ size = taken size rest h in
-    cut_there kind size (take size rest) (omega (arith, n))
-    ∙ ap (λ t. Some (kind, t, drop size (take size rest))) (take_all size (take size rest) (omega (arith, n)))
-    ∙ ap (λ k. Some (kind, take size rest, drop k (take size rest))) (sym n)
-    ∙ ap (λ t. Some (kind, take size rest, t)) (drop_all (take size rest))
-
-fronts_by : (p : Kind) (bytes frame : List ℕ) (c : Cut) (l : LogRecord) (ls : List LogRecord)
-    → first_frame bytes ≡ Some c → first_frame frame ≡ Some (c.0, c.1, [])
+fronts_by : (p : LogForm) (bytes frame : List ℕ) (c : Cut) (l : LogRecord) (ls : List LogRecord)
+    → first_frame p.format bytes ≡ Some c → first_frame p.format frame ≡ Some (c.0, c.1, [])
     → records_in p 0 bytes ≡ l ∷ ls → Holds p frame (l ∷ []) × (records_in p 0 c.2 ≡ ls)
 fronts_by p bytes frame c l ls e f h =
     let first = first_of (read_record p c.0 c.1) (records_in p 0 c.2) l ls (sym (step p bytes c e) ∙ h) in (
@@ -59,44 +50,31 @@ fronts_by p bytes frame c l ls e f h =
       first.rest,
     )
 
-fronts_at : (a b d n : ℕ) (rest : List ℕ) (c : Cut) → Cuts a (b * 256 + d) rest c
-    → first_frame (a ∷ b ∷ d ∷ rest) ≡ Some c → n ≡ suc (suc (suc (b * 256 + d)))
-    → Fronts (a ∷ b ∷ d ∷ rest) (take n (a ∷ b ∷ d ∷ rest)) (drop n (a ∷ b ∷ d ∷ rest))
-fronts_at a b d n rest c k e s = λ p l ls h.
-    let frame : first_frame (take n (a ∷ b ∷ d ∷ rest)) ≡ Some (c.0, c.1, []) =
-    ap (λ m. first_frame (take m (a ∷ b ∷ d ∷ rest))) s ∙ alone_cut a (b * 256 + d) rest k.fits
-    ∙ ap (λ z. Some (z.0, z.1, [])) (sym k.is) in
-    let f = fronts_by p (a ∷ b ∷ d ∷ rest) (take n (a ∷ b ∷ d ∷ rest)) c l ls e frame h in (
-      f.0,
-      ap (λ m. records_in p 0 (drop m (a ∷ b ∷ d ∷ rest))) s ∙ ap (λ z. records_in p 0 z.2) (sym k.is)
-          ∙ f.1,
+-- so many bytes in front are the frame
+cut_front : (frame back bytes : List ℕ) → bytes ≡ frame ++ back → length bytes - length back ≡ length frame
+cut_front frame back bytes e = omega (arith, ap length e, length-append frame back)
+
+pub fronts_cut : (f : LogFormat) (bytes front back : List ℕ) (n : ℕ) (c : Cut) → first_frame f bytes ≡ Some c
+    → n ≡ length bytes - length c.2 → front ≡ take n bytes → back ≡ drop n bytes
+    → Fronts f bytes front back
+fronts_cut f bytes front back n c e s g b =
+    let a = frame_at f bytes c e in
+    let count : n ≡ length a.frame = s ∙ cut_front a.frame c.2 bytes a.split in
+    let front_is : front ≡ a.frame = g ∙ (λ i. take (count i) (a.split i)) ∙ take-append_seam a.frame c.2 in
+    let back_is : back ≡ c.2 = b ∙ (λ i. drop (count i) (a.split i)) ∙ drop-append_seam a.frame c.2 in
+    λ p same l ls h.
+    let there : first_frame p.format bytes ≡ Some c = ap (λ k. first_frame k bytes) same ∙ e in
+    let alone : first_frame p.format front ≡ Some (c.0, c.1, []) =
+    (λ i. first_frame (same i) (front_is i)) ∙ a.alone in
+    let both = fronts_by p bytes front c l ls there alone h in (
+      both.0,
+      ap (records_in p 0) back_is ∙ both.1,
     )
 
-fronts : (bytes : List ℕ) (c : Cut) → first_frame bytes ≡ Some c
-    → Fronts bytes (take (length bytes - length c.2) bytes) (drop (length bytes - length c.2) bytes)
-fronts [] c e = absurd (cc)
-fronts (a ∷ []) c e = absurd (cc)
-fronts (a ∷ b ∷ []) c e = absurd (cc)
-fronts (a ∷ b ∷ d ∷ rest) c e =
-    let k = cuts a (b * 256 + d) rest c e in
-    fronts_at a b d _ rest c k e (omega (
-      arith,
-      k.fits,
-      ap (λ z. length z.2) k.is,
-      length-drop (b * 256 + d) rest,
-    ))
-
-pub fronts_cut : (bytes front back : List ℕ) (n : ℕ) (c : Cut) → first_frame bytes ≡ Some c
-    → n ≡ length bytes - length c.2 → front ≡ take n bytes → back ≡ drop n bytes
-    → Fronts bytes front back
-fronts_cut bytes front back n c e s f b =
-    let f' : front ≡ take (length bytes - length c.2) bytes = f ∙ ap (λ k. take k bytes) s in
-    let b' : back ≡ drop (length bytes - length c.2) bytes = b ∙ ap (λ k. drop k bytes) s in
-    subst (λ x. Fronts bytes x back) (sym f')
-    (subst (λ y. Fronts bytes (take (length bytes - length c.2) bytes) y) (sym b') (fronts bytes c e))
-
-pub no_fronts : (bytes frame behind : List ℕ) → first_frame bytes ≡ None → Fronts bytes frame behind
-no_fronts bytes frame behind e = λ p l ls h. absurd (nothing l ls (sym (no_frame p bytes e) ∙ h))
+pub no_fronts : (f : LogFormat) (bytes frame behind : List ℕ) → first_frame f bytes ≡ None
+    → Fronts f bytes frame behind
+no_fronts f bytes frame behind e = λ p same l ls h.
+    absurd (nothing l ls (sym (no_frame p bytes (ap (λ k. first_frame k bytes) same ∙ e)) ∙ h))
   where
     nothing : (l : LogRecord) (ls : List LogRecord) → ◌≡◌ {A = List LogRecord} [] (l ∷ ls) → ⊥
     nothing l ls q = absurd (cc)
@@ -119,24 +97,24 @@ none_marked : (ls : List LogRecord) (left : List Mark) → map mark_of ls ≡ le
 none_marked [] left e h = refl
 none_marked (l ∷ ls) left e h = absurd (omega (arith, ap length e, h))
 
-pub no_bytes : (p : Kind) → Holds p [] []
+pub no_bytes : (p : LogForm) → Holds p [] []
 no_bytes p = record { whole = nothing_whole p; read = no_records p }
 
-pub nothing_stays : (p : Kind) (frames : List ℕ) (marks : List Mark) → frames ≡ [] → marks ≡ []
+pub nothing_stays : (p : LogForm) (frames : List ℕ) (marks : List Mark) → frames ≡ [] → marks ≡ []
     → Stays p [] frames marks
 nothing_stays p frames marks e f =
     record { held = subst (λ xs. Holds p xs []) (sym e) (no_bytes p); marked = sym f }
 
 -- The last Opened.
 
-pub record OpenedSoFar (p : Kind) (all : List LogRecord) (left : List Mark) (rest opened : List ℕ)
+pub record OpenedSoFar (p : LogForm) (all : List LogRecord) (left : List Mark) (rest opened : List ℕ)
     (found : Option Mark) : Type 0 where
   pub to_come : map mark_of (records_in p 0 rest) ≡ left
   pub last : List LogRecord
   pub stays : Stays p last opened (marks_in found)
   pub folds : last_opened all ≡ fold opened_after last (records_in p 0 rest)
 
-pub opened_none : (p : Kind) (bytes opened : List ℕ) (left : List Mark)
+pub opened_none : (p : LogForm) (bytes opened : List ℕ) (left : List Mark)
     → map mark_of (records_in p 0 bytes) ≡ left → opened ≡ []
     → OpenedSoFar p (records_in p 0 bytes) left bytes opened None
 unfolding last_opened
@@ -147,7 +125,7 @@ opened_none p bytes opened left e f = record {
   folds = refl;
 }
 
-opened_if : (p : Kind) (b : Bool) (l : LogRecord) (last : List LogRecord) (frame opened new : List ℕ) (m : Mark)
+opened_if : (p : LogForm) (b : Bool) (l : LogRecord) (last : List LogRecord) (frame opened new : List ℕ) (m : Mark)
     (found next : Option Mark) → Stays p (l ∷ []) frame (m ∷ []) → Stays p last opened (marks_in found)
     → new ≡ (if b then frame else opened) → next ≡ (if b then Some m else found)
     → Stays p (if b then l ∷ [] else last) new (marks_in next)
@@ -158,14 +136,14 @@ opened_if p false l last frame opened new m found next one before e f =
     subst (λ o. Stays p last new (marks_in o)) (sym f)
     (subst (λ xs. Stays p last xs (marks_in found)) (sym e) before)
 
-pub opened_on : (p : Kind) (all : List LogRecord) (left later : List Mark) (m : Mark)
+pub opened_on : (p : LogForm) (all : List LogRecord) (left later : List Mark) (m : Mark)
     (rest frame behind opened new : List ℕ) (found next : Option Mark) (b : Bool)
-    → OpenedSoFar p all left rest opened found → left ≡ m ∷ later → Fronts rest frame behind
+    → OpenedSoFar p all left rest opened found → left ≡ m ∷ later → Fronts p.format rest frame behind
     → b ≡ opens m.deed → new ≡ (if b then frame else opened) → next ≡ (if b then Some m else found)
     → OpenedSoFar p all later behind new next
 opened_on p all left later m rest frame behind opened new found next b s e f is o n =
     let g = begins (records_in p 0 rest) m later (s.to_come ∙ e) in
-    let front = f p g.first g.rest g.is in
+    let front = f p refl g.first g.rest g.is in
     let test : is_opened g.first.entry ≡ b =
     sym (opens_is g.first.entry) ∙ ap (λ (k : Mark). opens k.deed) g.mark ∙ sym is in
     record {
@@ -178,7 +156,7 @@ opened_on p all left later m rest frame behind opened new found next b s e f is 
           ∙ ap (fold opened_after (if b then g.first ∷ [] else s.last)) (sym front.1);
     }
 
-pub opened_all : (p : Kind) (all : List LogRecord) (left : List Mark) (rest opened : List ℕ) (found : Option Mark)
+pub opened_all : (p : LogForm) (all : List LogRecord) (left : List Mark) (rest opened : List ℕ) (found : Option Mark)
     → OpenedSoFar p all left rest opened found → length left < 1
     → Stays p (last_opened all) opened (marks_in found)
 opened_all p all left rest opened found s h =
@@ -187,14 +165,14 @@ opened_all p all left rest opened found s h =
 
 -- The frames that are kept.
 
-pub record KeepsSoFar (p : Kind) (t : Table) (all : List LogRecord) (i : ℕ) (left : List Mark)
+pub record KeepsSoFar (p : LogForm) (t : Table) (all : List LogRecord) (i : ℕ) (left : List Mark)
     (rest frames : List ℕ) (marks : List Mark) : Type 0 where
   pub to_come : map mark_of (records_in p 0 rest) ≡ left
   pub stay : List LogRecord
   pub stays : Stays p stay frames marks
   pub picks : picked t 0 all ≡ stay ++ picked t i (records_in p 0 rest)
 
-pub keeps_none : (p : Kind) (t : Table) (bytes frames : List ℕ) (left marks : List Mark)
+pub keeps_none : (p : LogForm) (t : Table) (bytes frames : List ℕ) (left marks : List Mark)
     → map mark_of (records_in p 0 bytes) ≡ left → frames ≡ [] → marks ≡ []
     → KeepsSoFar p t (records_in p 0 bytes) 0 left bytes frames marks
 keeps_none p t bytes frames left marks e f g = record {
@@ -204,7 +182,7 @@ keeps_none p t bytes frames left marks e f g = record {
   picks = refl;
 }
 
-one_held : (p : Kind) (b : Bool) (frame : List ℕ) (l : LogRecord) → Holds p frame (l ∷ [])
+one_held : (p : LogForm) (b : Bool) (frame : List ℕ) (l : LogRecord) → Holds p frame (l ∷ [])
     → Holds p (if b then frame else []) (if b then l ∷ [] else [])
 one_held p true frame l h = h
 one_held p false frame l h = no_bytes p
@@ -225,7 +203,7 @@ unfolding picked
 picked_next t i l later = one_picked (keeps t i l) l (picked t (suc i) later)
 
 -- more that stays
-both_stay : (p : Kind) (xs ys new : List ℕ) (ls ms : List LogRecord) (marks more next : List Mark)
+both_stay : (p : LogForm) (xs ys new : List ℕ) (ls ms : List LogRecord) (marks more next : List Mark)
     → Stays p ls xs marks → Stays p ms ys more → new ≡ xs ++ ys → next ≡ marks ++ more
     → Stays p (ls ++ ms) new next
 both_stay p xs ys new ls ms marks more next s h e f = record {
@@ -234,15 +212,15 @@ both_stay p xs ys new ls ms marks more next s h e f = record {
       ∙ ap (λ ks. marks ++ ks) h.marked ∙ sym f;
 }
 
-pub keeps_on : (p : Kind) (t : Table) (all : List LogRecord) (i next : ℕ) (left later : List Mark) (m : Mark)
+pub keeps_on : (p : LogForm) (t : Table) (all : List LogRecord) (i next : ℕ) (left later : List Mark) (m : Mark)
     (rest frame behind frames new : List ℕ) (marks more : List Mark) (b : Bool)
     → KeepsSoFar p t all i left rest frames marks
-    → left ≡ m ∷ later → next ≡ suc i → Fronts rest frame behind → b ≡ keeps_by t i m.name
+    → left ≡ m ∷ later → next ≡ suc i → Fronts p.format rest frame behind → b ≡ keeps_by t i m.name
     → new ≡ frames ++ (if b then frame else []) → more ≡ marks ++ (if b then m ∷ [] else [])
     → KeepsSoFar p t all next later behind new more
 keeps_on p t all i next left later m rest frame behind frames new marks more b s e next_is f is n k =
     let g = begins (records_in p 0 rest) m later (s.to_come ∙ e) in
-    let front = f p g.first g.rest g.is in
+    let front = f p refl g.first g.rest g.is in
     let test : keeps t i g.first ≡ b = ap (λ (z : Mark). keeps_by t i z.name) g.mark ∙ sym is in
     let one : List LogRecord = if b then g.first ∷ [] else [] in
     record {
@@ -269,7 +247,7 @@ behind_first (k ∷ ms) m h e =
     let all : take (length (k ∷ ms) - 1) ms ≡ ms = take_all (length (k ∷ ms) - 1) ms (omega arith) in
     ap (λ t. k ∷ t) (sym all) ∙ ap (λ z. z ∷ take (length (k ∷ ms) - 1) ms) (sym e)
 
-pub keeps_all : (p : Kind) (t : Table) (all : List LogRecord) (i : ℕ) (left : List Mark)
+pub keeps_all : (p : LogForm) (t : Table) (all : List LogRecord) (i : ℕ) (left : List Mark)
     (rest frames : List ℕ) (marks : List Mark)
     → KeepsSoFar p t all i left rest frames marks → length left < 1 → Stays p (picked t 0 all) frames marks
 unfolding picked
@@ -285,7 +263,7 @@ unfolding front_of_trim
 front_is ls = ap (λ ms. last_opened ls ++ ms) (picks_what_stays ls)
 
 -- what stays in front
-pub front_stays : (p : Kind) (ls : List LogRecord) (opened frames : List ℕ) (found : Option Mark)
+pub front_stays : (p : LogForm) (ls : List LogRecord) (opened frames : List ℕ) (found : Option Mark)
     (kept marks : List Mark) → Stays p (last_opened ls) opened (marks_in found)
     → Stays p (picked (lives_of ls) 0 ls) frames kept → marks ≡ marks_in found ++ kept
     → Stays p (front_of_trim ls) (opened ++ frames) marks
@@ -294,28 +272,28 @@ front_stays p ls opened frames found kept marks o f e =
     (both_stay p opened frames (opened ++ frames) _ _ (marks_in found) kept marks o f refl e)
 
 -- the text, of the bytes of its front
-pub front_text : (text front opened frames : List ℕ) (rs : List LogRecord) → front ≡ (header ++ opened) ++ frames
-    → text ≡ front ++ records_text rs → text ≡ (header ++ (opened ++ frames)) ++ records_text rs
-front_text text front opened frames rs e f =
-    f ∙ ap (λ z. z ++ records_text rs) (e ∙ append_assoc header opened frames)
+pub front_text : (p : LogForm) (text front opened frames : List ℕ) (rs : List LogRecord) → front ≡ (header p.format ++ opened) ++ frames
+    → text ≡ front ++ records_text p rs → text ≡ (header p.format ++ (opened ++ frames)) ++ records_text p rs
+front_text p text front opened frames rs e f =
+    f ∙ ap (λ z. z ++ records_text p rs) (e ∙ append_assoc (header p.format) opened frames)
 
-pub text_of_trim : (p : Kind) (text kept : List ℕ) (marks : List Mark) (ls rs : List LogRecord)
-    → text ≡ (header ++ kept) ++ records_text rs → Stays p (front_of_trim ls) kept marks → AreRecords p rs
+pub text_of_trim : (p : LogForm) (text kept : List ℕ) (marks : List Mark) (ls rs : List LogRecord)
+    → text ≡ (header p.format ++ kept) ++ records_text p rs → Stays p (front_of_trim ls) kept marks → AreRecords p.kind rs
     → Spells p text (front_of_trim ls ++ rs)
 text_of_trim p text kept marks ls rs e s are =
-    spelled p text (kept ++ records_text rs) (front_of_trim ls ++ rs)
-    (e ∙ append_assoc header kept (records_text rs))
-    (held p kept (records_text rs) (front_of_trim ls) rs s.held (held_text p rs are))
+    spelled p text (kept ++ records_text p rs) (front_of_trim ls ++ rs)
+    (e ∙ append_assoc (header p.format) kept (records_text p rs))
+    (held p kept (records_text p rs) (front_of_trim ls) rs s.held (held_text p rs are))
 
 -- A log that was trimmed.
 
-kept_is : (p : Kind) (text bytes : List ℕ) (forced failures room : ℕ) (failed : Bool) (s : LogState)
+kept_is : (p : LogForm) (text bytes : List ℕ) (forced failures room : ℕ) (failed : Bool) (s : LogState)
     → log_state p text forced failures room failed ≡ s → bytes ≡ body text
     → records_in p 0 bytes ≡ records_of s.sight.kept
 kept_is p text bytes forced failures room failed s view e =
     ap (records_in p 0) e ∙ sym (records_stand p text forced) ∙ ap (λ z. records_of z.sight.kept) view
 
-pub trim_read : (p : Kind) (text bytes made asked : List ℕ) (forced failures room : ℕ) (failed : Bool)
+pub trim_read : (p : LogForm) (text bytes made asked : List ℕ) (forced failures room : ℕ) (failed : Bool)
     (s : LogState) (rs : List LogRecord)
     → log_state p text forced failures room failed ≡ s → bytes ≡ body text → asked ≡ made
     → Spells p made (front_of_trim (records_in p 0 bytes) ++ rs)
@@ -325,16 +303,14 @@ trim_read p text bytes made asked forced failures room failed s rs view e a spel
     ∙ spells.holds.read
     ∙ ap (λ ls. front_of_trim ls ++ rs) (kept_is p text bytes forced failures room failed s view e)
 
-pub trim_counted : (p : Kind) (text bytes : List ℕ) (marks : List Mark)
+pub trim_counted : (p : LogForm) (text bytes : List ℕ) (marks : List Mark)
     (count forced failures room : ℕ) (failed : Bool) (s : LogState) (rs : List LogRecord)
     → log_state p text forced failures room failed ≡ s → bytes ≡ body text
-    → marks ≡ map mark_of (front_of_trim (records_in p 0 bytes)) → count ≡ length marks + length rs
+    → map mark_of (front_of_trim (records_in p 0 bytes) ++ rs) ≡ marks → count ≡ length marks
     → count ≡ length (trim_of s rs)
 trim_counted p text bytes marks count forced failures room failed s rs view e m c =
-    let front : List LogRecord = front_of_trim (records_in p 0 bytes) in
-    let all : count ≡ length (front ++ rs) =
-    omega (arith, c, ap length m, length-map front mark_of, length-append front rs) in
-    all ∙ ap (λ ls. length (front_of_trim ls ++ rs)) (kept_is p text bytes forced failures room failed s view e)
+    let all : List LogRecord = front_of_trim (records_in p 0 bytes) ++ rs in
+    c ∙ sym (ap length m) ∙ length-map all mark_of ∙ ap (λ ls. length (front_of_trim ls ++ rs)) (kept_is p text bytes forced failures room failed s view e)
 
 pub trimmed : (seen old new : LogState) (ls rs : List LogRecord) (count : ℕ) → seen ≡ old → ls ≡ trim_of old rs
     → Rewritten seen new ls → count ≡ length (trim_of old rs) → Trimmed old new rs count

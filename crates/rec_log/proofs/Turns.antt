@@ -2,20 +2,21 @@
 use Rattle.std.proofs.Common.{◌≡◌, ◌≤◌, ◌+◌, ◌-◌, ℕ, zero, suc, Bool, true, false, List, [], ◌∷◌, ◌++◌, length, take, drop, refl, sym, ap, subst, ◌∙◌, append-nil, arith, length-append}
 use Rattle.std.proofs.lemmas.List.{take-append-le, drop-append-le, length-drop, take_all}
 use Rattle.std.proofs.Math.Seq.{drop-append_seam}
-use Rattle.tree_model.specs.declared.names.Kind.{Kind}
+use Rattle.log_text.specs.declared.form.LogForm.{LogForm}
 use Rattle.tree_model.specs.declared.records.LogRecord.{LogRecord}
 use Rattle.log_store.specs.declared.store.StoreError.{StoreError}
 use Rattle.log_store.specs.declared.store.StoreError.TheVariants.{Memory, Device}
 use Rattle.log_store.specs.Stores.{MoreFailures}
+use Rattle.log_text.specs.declared.form.LogFormat.TheVariants.{Second}
 use Rattle.log_text.specs.Frames.{frame_text}
 use Rattle.log_text.specs.Payloads.{record_text}
 use Rattle.rec_log.specs.Texts.{is_whole, records_in, whole_size}
-use Rattle.rec_log.specs.Sights.{Appended, Breaks, Forced, IsLogText, IsRecord, LogState, body, bytes_behind, front, kept_of, log_state, records_of, whole_within}
+use Rattle.rec_log.specs.Sights.{Appended, Breaks, Forced, IsLogText, Stands, LogState, body, bytes_behind, front, kept_of, log_state, records_of, whole_within}
 use Rattle.rec_log.proofs.Frames.{front_of, front_of_frame, more_records, more_whole, one_record, one_whole}
-use Rattle.rec_log.proofs.Within.{left_records, whole_is_full}
+use Rattle.rec_log.proofs.Within.{frame_size, left_records, whole_is_full}
 
 -- all the records that stand are those of the text
-pub records_stand : (p : Kind) (text : List ℕ) (forced : ℕ)
+pub records_stand : (p : LogForm) (text : List ℕ) (forced : ℕ)
     → records_of (kept_of p text forced) ≡ records_in p 0 (body text)
 records_stand p text forced =
     let e = front_of p 0 (forced - 5) (body text) in
@@ -40,14 +41,14 @@ front_more text more forced h le =
     ap (take (forced - 5)) (body_more text more (omega arith))
     ∙ take-append-le (forced - 5) (drop 5 text) more fits
 
-short_front : (p : Kind) (text : List ℕ) (forced : ℕ)
+short_front : (p : LogForm) (text : List ℕ) (forced : ℕ)
     → length (records_in p 0 (front text forced)) ≤ length (records_in p 0 (body text))
 short_front p text forced =
     let e = front_of p 0 (forced - 5) (body text) in
     omega (arith, ap length e.1, length-append (records_in p 0 (front text forced)) e.0)
 
 -- a record of which this much came
-pub text_came : (p : Kind) (text text' more : List ℕ) (forced forced' : ℕ) (failed : Bool) → failed ≡ false
+pub text_came : (p : LogForm) (text text' more : List ℕ) (forced forced' : ℕ) (failed : Bool) → failed ≡ false
     → IsLogText p text forced failed → forced ≤ length text
     → text' ≡ text ++ more → records_in p 0 (body text') ≡ records_in p 0 (body text) ++ records_in p 0 more
 text_came p text text' more forced forced' failed ok is le e =
@@ -60,18 +61,18 @@ front_same : (text text' more : List ℕ) (forced forced' : ℕ) → 5 ≤ force
 front_same text text' more forced forced' h le e f = ap (λ k. front text' k) f ∙ ap (λ t. front t forced) e
     ∙ front_more text more forced h le
 
-pub appended : (p : Kind) (text text' : List ℕ) (forced forced' failures failures' room room' : ℕ)
-    (l : LogRecord) (failed : Bool) → failed ≡ false → IsRecord p l
+pub appended : (p : LogForm) (text text' : List ℕ) (forced forced' failures failures' room room' : ℕ)
+    (l : LogRecord) (failed : Bool) → failed ≡ false → Stands p l
     → IsLogText p text forced failed → forced ≤ length text
-    → text' ≡ text ++ record_text l → forced' ≡ forced → failures' ≡ failures → room ≤ room'
+    → text' ≡ text ++ record_text p l → forced' ≡ forced → failures' ≡ failures → room ≤ room'
     → Appended (log_state p text forced failures room failed)
     (log_state p text' forced' failures' room' failed) l
 appended p text text' forced forced' failures failures' room room' l failed ok record_is is le e f g r =
-    let same = front_same text text' (record_text l) forced forced' is.header_forced le e f in
-    let all = text_came p text text' (record_text l) forced forced' failed ok is le e
+    let same = front_same text text' (record_text p l) forced forced' is.header_forced le e f in
+    let all = text_came p text text' (record_text p l) forced forced' failed ok is le e
     ∙ ap (λ t. records_in p 0 (body text) ++ t) (one_record p l record_is) in
     record {
-      kind = refl;
+      form = refl;
       forced = ap (records_in p 0) same;
       unforced = ap (λ t. drop (length (records_in p 0 t)) (records_in p 0 (body text'))) same
           ∙ ap (drop (length (records_in p 0 (front text forced)))) all
@@ -80,49 +81,51 @@ appended p text text' forced forced' failures failures' room room' l failed ok r
       behind = ap (λ t. length t - whole_size p 0 t) same;
       works = ok;
       failures = g;
-      room = omega (arith, r, ap length e, length-append text (record_text l));
+      room = omega (arith, r, ap length e, length-append text (record_text p l), frame_size p is.second l);
     }
 
-pub text_goes_on : (p : Kind) (text text' : List ℕ) (forced forced' : ℕ) (l : LogRecord) (failed : Bool)
-    → failed ≡ false → IsRecord p l → IsLogText p text forced failed
-    → forced ≤ length text → text' ≡ text ++ record_text l → forced' ≡ forced
+pub text_goes_on : (p : LogForm) (text text' : List ℕ) (forced forced' : ℕ) (l : LogRecord) (failed : Bool)
+    → failed ≡ false → Stands p l → IsLogText p text forced failed
+    → forced ≤ length text → text' ≡ text ++ record_text p l → forced' ≡ forced
     → IsLogText p text' forced' failed
 text_goes_on p text text' forced forced' l failed ok record_is is le e f =
-    let same = front_same text text' (record_text l) forced forced' is.header_forced le e f in
+    let same = front_same text text' (record_text p l) forced forced' is.header_forced le e f in
     record {
-      begins = ap (take 5) e ∙ take-append-le 5 text (record_text l) (omega (arith, is.header_forced))
+      second = is.second;
+      begins = ap (take 5) e ∙ take-append-le 5 text (record_text p l) (omega (arith, is.header_forced))
           ∙ is.begins;
       header_forced = omega (arith, f, is.header_forced);
       whole = λ _. ap (λ t. is_whole p 0 (body t)) e
-          ∙ ap (is_whole p 0) (body_more text (record_text l) (omega (arith, is.header_forced)))
-          ∙ more_whole p 0 (body text) (record_text l) (is.whole ok) (one_whole p l record_is);
+          ∙ ap (is_whole p 0) (body_more text (record_text p l) (omega (arith, is.header_forced)))
+          ∙ more_whole p 0 (body text) (record_text p l) (is.whole ok) (one_whole p l record_is);
     }
 
 -- a text whose header is forced, whatever else came of a fault
-pub text_failed : (p : Kind) (text text' more : List ℕ) (forced forced' : ℕ) (failed : Bool)
+pub text_failed : (p : LogForm) (text text' more : List ℕ) (forced forced' : ℕ) (failed : Bool)
     → IsLogText p text forced failed → forced ≤ length text
     → text' ≡ text ++ more → forced ≤ forced' → IsLogText p text' forced' true
 text_failed p text text' more forced forced' failed is le e f = record {
+  second = is.second;
   begins = ap (take 5) e ∙ take-append-le 5 text more (omega (arith, is.header_forced)) ∙ is.begins;
   header_forced = omega (arith, f, is.header_forced);
   whole = λ h. absurd (cc);
 }
 
-pub append_breaks : (p : Kind) (text text' : List ℕ) (forced forced' failures failures' room room' came : ℕ)
-    (l : LogRecord) (failed : Bool) → failed ≡ false → IsRecord p l
+pub append_breaks : (p : LogForm) (text text' : List ℕ) (forced forced' failures failures' room room' came : ℕ)
+    (l : LogRecord) (failed : Bool) → failed ≡ false → Stands p l
     → IsLogText p text forced failed → forced ≤ length text
-    → text' ≡ text ++ take came (record_text l) → forced' ≡ forced → MoreFailures failures failures'
+    → text' ≡ text ++ take came (record_text p l) → forced' ≡ forced → MoreFailures failures failures'
     → Breaks (log_state p text forced failures room failed) (log_state p text' forced' failures' room' true)
     (l ∷ [])
 append_breaks p text text' forced forced' failures failures' room room' came l failed ok record_is is le e f
     cause =
     let n = front_of_frame p l came record_is in
-    let same = front_same text text' (take came (record_text l)) forced forced' is.header_forced le e f in
+    let same = front_same text text' (take came (record_text p l)) forced forced' is.header_forced le e f in
     let front_is = records_in p 0 (front text forced) in
     let behind = bytes_behind p text forced in
     let rest = drop (length front_is) (records_in p 0 (body text)) in
     let all : records_in p 0 (body text') ≡ records_in p 0 (body text) ++ take n.0 (l ∷ []) =
-    text_came p text text' (take came (record_text l)) forced forced' failed ok is le e
+    text_came p text text' (take came (record_text p l)) forced forced' failed ok is le e
     ∙ ap (λ t. records_in p 0 (body text) ++ t) n.1 in
     let rest_is : drop (length (records_in p 0 (front text' forced'))) (records_in p 0 (body text')) ≡ rest
     ++ take n.0 (l ∷ []) =
@@ -132,10 +135,10 @@ append_breaks p text text' forced forced' failures failures' room room' came l f
     (short_front p text forced) in
     let behind_is : bytes_behind p text' forced' ≡ behind = ap (λ t. length t - whole_size p 0 t) same in
     record {
-      kind = refl;
+      form = refl;
       appended = n.0;
       stand = records_stand p text' forced' ∙ text_came p text text'
-          (take came (record_text l)) forced forced' failed ok is le e
+          (take came (record_text p l)) forced forced' failed ok is le e
           ∙ ap (λ t. records_in p 0 (body text) ++ t) n.1
           ∙ ap (λ t. t ++ take n.0 (l ∷ [])) (sym (records_stand p text forced));
       no_less = omega (arith, ap (λ t. length (records_in p 0 t)) same);
@@ -158,14 +161,14 @@ pub drop_all : (xs : List LogRecord) → drop (length xs) xs ≡ []
 drop_all [] = refl
 drop_all (x ∷ xs) = drop_all xs
 
-pub forced_all : (p : Kind) (text text' : List ℕ) (forced forced' failures failures' room room' : ℕ)
+pub forced_all : (p : LogForm) (text text' : List ℕ) (forced forced' failures failures' room room' : ℕ)
     (failed : Bool) → failed ≡ false → is_whole p 0 (body text) ≡ true
     → text' ≡ text → forced' ≡ length text → failures' ≡ failures → room ≤ room'
     → Forced (log_state p text forced failures room failed) (log_state p text' forced' failures' room' failed)
 forced_all p text text' forced forced' failures failures' room room' failed ok whole e f g r =
     let all : front text' forced' ≡ body text' = all_front text' forced' (f ∙ ap length (sym e)) in
     record {
-      kind = refl;
+      form = refl;
       forced = ap (records_in p 0) all ∙ ap (λ t. records_in p 0 (body t)) e
           ∙ sym (records_stand p text forced);
       unforced = ap (λ t. drop (length (records_in p 0 t)) (records_in p 0 (body text'))) all
@@ -176,19 +179,20 @@ forced_all p text text' forced forced' failures failures' room room' failed ok w
       room = omega (arith, r, ap length e);
     }
 
-pub text_forced : (p : Kind) (text text' : List ℕ) (forced forced' : ℕ) (failed : Bool) → failed ≡ false
+pub text_forced : (p : LogForm) (text text' : List ℕ) (forced forced' : ℕ) (failed : Bool) → failed ≡ false
     → IsLogText p text forced failed → forced ≤ length text
     → text' ≡ text → forced' ≡ length text → IsLogText p text' forced' failed
 text_forced p text text' forced forced' failed ok is le e f =
     let all : front text' forced' ≡ body text' = all_front text' forced' (f ∙ ap length (sym e)) in
     let whole : is_whole p 0 (body text') ≡ true = ap (λ t. is_whole p 0 (body t)) e ∙ is.whole ok in
     record {
+      second = is.second;
       begins = ap (take 5) e ∙ is.begins;
       header_forced = omega (arith, f, le, is.header_forced);
       whole = λ _. whole;
     }
 
-pub front_grows : (p : Kind) (text : List ℕ) (n m : ℕ) → n ≤ m
+pub front_grows : (p : LogForm) (text : List ℕ) (n m : ℕ) → n ≤ m
     → length (records_in p 0 (front text n)) ≤ length (records_in p 0 (front text m))
 front_grows p text n m h =
     let e = front_of p 0 (n - 5) (front text m) in
@@ -201,15 +205,15 @@ front_grows p text n m h =
       length-append (records_in p 0 (take (n - 5) (front text m))) e.0,
     )
 
-pub force_breaks : (p : Kind) (text text' : List ℕ) (forced forced' failures failures' room room' : ℕ)
-    (failed : Bool)
+pub force_breaks : (p : LogForm) (text text' : List ℕ) (forced forced' failures failures' room room' : ℕ)
+    (failed : Bool) → p.format ≡ Second
     → 5 ≤ forced → forced ≤ length text → forced' ≤ length text' → text' ≡ text → forced ≤ forced'
     → MoreFailures failures failures'
     → Breaks (log_state p text forced failures room failed)
     (log_state p text' forced' failures' room' true) []
-force_breaks p text text' forced forced' failures failures' room room' failed header within within' e f
+force_breaks p text text' forced forced' failures failures' room room' failed second header within within' e f
     cause = record {
-      kind = refl;
+      form = refl;
       appended = 0;
       stand = records_stand p text' forced' ∙ ap (λ t. records_in p 0 (body t)) e
           ∙ sym (records_stand p text forced) ∙ sym (append-nil (records_of (kept_of p text forced)));
@@ -221,10 +225,10 @@ force_breaks p text text' forced forced' failures failures' room room' failed he
       more = forced' - forced;
       leaves = λ keep.
           let sum : forced' + keep ≡ forced + (forced' - forced + keep) = omega (arith, f) in
-          sym (left_records p text' forced' keep failures' room' true (omega (arith, header, f)) within')
+          sym (left_records p text' forced' keep failures' room' true second (omega (arith, header, f)) within')
           ∙ ap (λ t. records_in p 0 (body (take (forced' + keep) t))) e
           ∙ ap (λ n. records_in p 0 (body (take n text))) sum
-          ∙ left_records p text forced (forced' - forced + keep) failures room failed header within
+          ∙ left_records p text forced (forced' - forced + keep) failures room failed second header within
           ∙ ap (λ t. records_in p 0 (front text forced)
           ++ whole_within (bytes_behind p text forced + (forced' - forced + keep)) t)
           (sym
@@ -233,9 +237,9 @@ force_breaks p text text' forced forced' failures failures' room room' failed he
       cause = cause;
     }
 
-pub record_long : (l : LogRecord) → 1 ≤ length (record_text l)
+pub record_long : (p : LogForm) (l : LogRecord) → 1 ≤ length (record_text p l)
 unfolding record_text frame_text
-record_long l = omega arith
+record_long p l = omega arith
 
 -- where memory cannot be the cause
 pub by_device : (e : StoreError) (P Q : Type 0) → (e ≡ Memory → P) → (P → ⊥) → (e ≡ Device → Q) → Q

@@ -3,14 +3,19 @@ use Rattle.std.proofs.Common.{◌≡◌, ◌≤◌, ◌<◌, ◌+◌, ◌*◌, �
 use Rattle.std.proofs.lemmas.Bool.Decides.{nat_tests}
 use Rattle.std.proofs.lemmas.List.{length-take-le, take-append-le}
 use Rattle.std.proofs.Math.Seq.{take-append-add}
-use Rattle.tree_model.specs.declared.names.Kind.{Kind}
+use Rattle.log_text.specs.declared.form.LogForm.{LogForm}
 use Rattle.tree_model.specs.declared.records.LogRecord.{LogRecord}
+use Rattle.byteorder.specs.Endian.{big_bytes}
+use Rattle.log_text.specs.declared.form.LogFormat.{LogFormat}
+use Rattle.log_text.specs.declared.form.LogFormat.TheVariants.{First, Second}
+use Rattle.log_text.specs.Forms.{size_bytes, unowned}
 use Rattle.log_text.specs.Frames.{Cut, first_frame, frame_text}
 use Rattle.log_text.specs.Payloads.{payload_text, record_text}
+use Rattle.log_text.proofs.Owned.{same_size}
 use Rattle.log_text.specs.Reading.{read_record}
 use Rattle.rec_log.specs.Texts.{and_records, is_whole, records_in, size_by, size_if, whole_by, whole_if, whole_size}
 use Rattle.rec_log.specs.Sights.{LogState, body, front, left_by, log_state, record_size, whole_within}
-use Rattle.rec_log.proofs.Frames.{Cuts, cuts, frame_more, front_of, no_frame, shorter, step, step_whole, taken}
+use Rattle.rec_log.proofs.Frames.{frame_more, front_of, is_behind, no_bytes, no_frame, shorter, step, step_whole}
 use Rattle.rec_log.proofs.Openings.{Frame, frame_at}
 use Rattle.rec_log.proofs.RecordSizes.{read_long}
 use Rattle.rec_log.proofs.Written.{body_taken}
@@ -35,13 +40,34 @@ within_no n l ls h = within_by n l ls false (grind (arith, nat_tests))
 
 -- A frame and its record are as long.
 
-size_is : (l : LogRecord) → record_size l ≡ 3 + length (payload_text l.parent l.entry)
+pub own_size : (p : LogForm) (l : LogRecord)
+    → length (record_text p l) ≡ suc (size_bytes p.format) + length (payload_text p l.parent l.entry)
 unfolding record_text frame_text
-size_is l = omega arith
+own_size p l = omega (
+  arith,
+  length-append (big_bytes (size_bytes p.format) (length (payload_text p l.parent l.entry)))
+      (payload_text p l.parent l.entry),
+  head_size p.format (length (payload_text p l.parent l.entry)),
+)
+  where
+    head_size : (f : LogFormat) (n : ℕ) → length (big_bytes (size_bytes f) n) ≡ size_bytes f
+    head_size First n = refl
+    head_size Second n = refl
 
-frame_long : (p : Kind) (xs : List ℕ) (c : Cut) (l : LogRecord) (a : Frame xs c)
+-- by the second format a record's size hangs on neither process nor sort
+pub frame_size : (p : LogForm) → p.format ≡ Second → (l : LogRecord) → length (record_text p l) ≡ record_size l
+frame_size p second l = omega (
+  arith,
+  own_size p l,
+  own_size unowned l,
+  ap size_bytes second,
+  same_size p l.parent l.entry second,
+)
+
+frame_long : (p : LogForm) → p.format ≡ Second → (xs : List ℕ) (c : Cut) (l : LogRecord) (a : Frame p.format xs c)
     → read_record p c.0 c.1 ≡ Some l → record_size l ≡ length a.frame
-frame_long p xs c l a r = omega (arith, size_is l, read_long p c.0 c.1 l r, a.size)
+frame_long p second xs c l a r =
+    omega (arith, own_size p l, frame_size p second l, read_long p c.0 c.1 l r, a.size)
 
 -- The front of a frame is no frame.
 
@@ -51,12 +77,12 @@ some_is x y e = cc
 nothing_behind : (xs ys : List ℕ) → xs ++ ys ≡ [] → length ys ≡ 0
 nothing_behind xs ys e = omega (arith, length-append xs ys, ap length e)
 
-cut_frame : (frame : List ℕ) (n : ℕ) (c : Cut) (o : Option Cut) → first_frame frame ≡ Some (c.0, c.1, [])
-    → n < length frame → first_frame (take n frame) ≡ o → o ≡ None
-cut_frame frame n c None e h f = refl
-cut_frame frame n c (Some d) e h f =
-    let more : first_frame frame ≡ Some (d.0, d.1, d.2 ++ drop n frame) =
-    ap first_frame (sym (take-append-drop n frame)) ∙ frame_more (take n frame) (drop n frame) d f in
+cut_frame : (f : LogFormat) (frame : List ℕ) (n : ℕ) (c : Cut) (o : Option Cut) → first_frame f frame ≡ Some (c.0, c.1, [])
+    → n < length frame → first_frame f (take n frame) ≡ o → o ≡ None
+cut_frame f frame n c None e h g = refl
+cut_frame f frame n c (Some d) e h g =
+    let more : first_frame f frame ≡ Some (d.0, d.1, d.2 ++ drop n frame) =
+    ap (first_frame f) (sym (take-append-drop n frame)) ∙ frame_more f (take n frame) (drop n frame) d g in
     let both : ◌≡◌ {A = Option Cut} (Some (d.0, d.1, d.2 ++ drop n frame)) (Some (c.0, c.1, [])) = sym more
     ∙ e in
     let none : d.2 ++ drop n frame ≡ [] = ap (λ z. z.2) (some_is _ _ both) in
@@ -68,69 +94,70 @@ front_none (x ∷ xs) ys e = absurd (cc)
 
 -- Records of a front.
 
-abbrev Taken : Kind → ℕ → List ℕ → Type 0
+abbrev Taken : LogForm → ℕ → List ℕ → Type 0
 Taken p n xs = records_in p 0 (take n xs) ≡ whole_within n (records_in p 0 xs)
 
-taken_none : (p : Kind) (n : ℕ) (xs : List ℕ) → records_in p 0 xs ≡ [] → Taken p n xs
+taken_none : (p : LogForm) (n : ℕ) (xs : List ℕ) → records_in p 0 xs ≡ [] → Taken p n xs
 taken_none p n xs e =
     let f = front_of p 0 n xs in
     front_none (records_in p 0 (take n xs)) f.0 (sym e ∙ f.1) ∙ sym (ap (whole_within n) e ∙ within_none n)
 
-taken_whole : (p : Kind) (n : ℕ) (xs : List ℕ) (c : Cut) (l : LogRecord) → first_frame xs ≡ Some c
+taken_whole : (p : LogForm) → p.format ≡ Second → (n : ℕ) (xs : List ℕ) (c : Cut) (l : LogRecord) → first_frame p.format xs ≡ Some c
     → read_record p c.0 c.1 ≡ Some l → record_size l ≤ n
     → Taken p (n - record_size l) c.2 → Taken p n xs
-taken_whole p n xs c l e r h more =
-    let a = frame_at xs c e in
+taken_whole p second n xs c l e r h more =
+    let a = frame_at p.format xs c e in
     let m = n - record_size l in
-    let sum : n ≡ length a.frame + m = omega (arith, frame_long p xs c l a r) in
+    let sum : n ≡ length a.frame + m = omega (arith, frame_long p second xs c l a r) in
     let cut : take n xs ≡ a.frame ++ take m c.2 = ap (take n) a.split ∙ ap (λ k. take k (a.frame ++ c.2)) sum
     ∙ take-append-add a.frame c.2 m in
-    let first : first_frame (take n xs) ≡ Some (c.0, c.1, take m c.2) = ap first_frame cut
-    ∙ frame_more a.frame (take m c.2) (c.0, c.1, []) a.alone in
+    let first : first_frame p.format (take n xs) ≡ Some (c.0, c.1, take m c.2) = ap (first_frame p.format) cut
+    ∙ frame_more p.format a.frame (take m c.2) (c.0, c.1, []) a.alone in
     step p (take n xs) (c.0, c.1, take m c.2) first ∙ ap (λ o. and_records o (records_in p 0 (take m c.2))) r
     ∙ ap (λ t. l ∷ t) more
     ∙ sym (ap (whole_within n) (step p xs c e ∙ ap (λ o. and_records o (records_in p 0 c.2)) r)
     ∙ within_one n l (records_in p 0 c.2) h)
 
-taken_cut : (p : Kind) (n : ℕ) (xs : List ℕ) (c : Cut) (l : LogRecord) → first_frame xs ≡ Some c
+taken_cut : (p : LogForm) → p.format ≡ Second → (n : ℕ) (xs : List ℕ) (c : Cut) (l : LogRecord) → first_frame p.format xs ≡ Some c
     → read_record p c.0 c.1 ≡ Some l → n < record_size l → Taken p n xs
-taken_cut p n xs c l e r h =
-    let a = frame_at xs c e in
-    let less : n < length a.frame = omega (arith, frame_long p xs c l a r) in
+taken_cut p second n xs c l e r h =
+    let a = frame_at p.format xs c e in
+    let less : n < length a.frame = omega (arith, frame_long p second xs c l a r) in
     let cut : take n xs ≡ take n a.frame = ap (take n) a.split ∙ take-append-le n a.frame c.2 (omega arith) in
-    let none : first_frame (take n xs) ≡ None = ap first_frame cut
-    ∙ cut_frame a.frame n c (first_frame (take n a.frame)) a.alone less refl in
+    let none : first_frame p.format (take n xs) ≡ None = ap (first_frame p.format) cut
+    ∙ cut_frame p.format a.frame n c (first_frame p.format (take n a.frame)) a.alone less refl in
     no_frame p (take n xs) none
     ∙ sym (ap (whole_within n) (step p xs c e ∙ ap (λ o. and_records o (records_in p 0 c.2)) r)
     ∙ within_no n l (records_in p 0 c.2) h)
 
-taken_record : (p : Kind) (n : ℕ) (xs : List ℕ) (c : Cut) (l : LogRecord) (b : Bool) → first_frame xs ≡ Some c
+taken_record : (p : LogForm) → p.format ≡ Second → (n : ℕ) (xs : List ℕ) (c : Cut) (l : LogRecord) (b : Bool) → first_frame p.format xs ≡ Some c
     → read_record p c.0 c.1 ≡ Some l
     → nat_le (record_size l) n ≡ b → ((m : ℕ) → Taken p m c.2) → Taken p n xs
-taken_record p n xs c l true e r t f = taken_whole p n xs c l e r (grind (arith, nat_tests))
+taken_record p second n xs c l true e r t f = taken_whole p second n xs c l e r (grind (arith, nat_tests))
     (f (n - record_size l))
-taken_record p n xs c l false e r t f = taken_cut p n xs c l e r (grind (arith, nat_tests))
+taken_record p second n xs c l false e r t f = taken_cut p second n xs c l e r (grind (arith, nat_tests))
 
-taken_frame : (p : Kind) (n : ℕ) (xs : List ℕ) (c : Cut) (o : Option LogRecord) → first_frame xs ≡ Some c
+taken_frame : (p : LogForm) → p.format ≡ Second → (n : ℕ) (xs : List ℕ) (c : Cut) (o : Option LogRecord) → first_frame p.format xs ≡ Some c
     → read_record p c.0 c.1 ≡ o
     → ((m : ℕ) → Taken p m c.2) → Taken p n xs
-taken_frame p n xs c None e r f = taken_none p n xs
+taken_frame p second n xs c None e r f = taken_none p n xs
     (step p xs c e ∙ ap (λ o. and_records o (records_in p 0 c.2)) r)
-taken_frame p n xs c (Some l) e r f = taken_record p n xs c l (nat_le (record_size l) n) e r refl f
+taken_frame p second n xs c (Some l) e r f = taken_record p second n xs c l (nat_le (record_size l) n) e r refl f
 
-taken_by : (p : Kind) (n : ℕ) (xs : List ℕ) (o : Option Cut) → first_frame xs ≡ o
+taken_by : (p : LogForm) → p.format ≡ Second → (n : ℕ) (xs : List ℕ) (o : Option Cut) → first_frame p.format xs ≡ o
     → ((c : Cut) → length c.2 < length xs → (m : ℕ) → Taken p m c.2) → Taken p n xs
-taken_by p n xs None e f = taken_none p n xs (no_frame p xs e)
-taken_by p n xs (Some c) e f = taken_frame p n xs c (read_record p c.0 c.1) e refl (f c (shorter xs c e))
+taken_by p second n xs None e f = taken_none p n xs (no_frame p xs e)
+taken_by p second n xs (Some c) e f =
+    taken_frame p second n xs c (read_record p c.0 c.1) e refl (f c (shorter p.format xs c e))
 
-records_taken_in : (p : Kind) (most n : ℕ) (xs : List ℕ) → length xs < most → Taken p n xs
-records_taken_in p zero n xs h = absurd (omega arith)
-records_taken_in p (suc most) n xs h = taken_by p n xs (first_frame xs) refl
-    (λ c less m. records_taken_in p most m c.2 (omega arith))
+records_taken_in : (p : LogForm) → p.format ≡ Second → (most n : ℕ) (xs : List ℕ) → length xs < most → Taken p n xs
+records_taken_in p second zero n xs h = absurd (omega arith)
+records_taken_in p second (suc most) n xs h = taken_by p second n xs (first_frame p.format xs) refl
+    (λ c less m. records_taken_in p second most m c.2 (omega arith))
 
-pub records_taken : (p : Kind) (n : ℕ) (xs : List ℕ)
+pub records_taken : (p : LogForm) → p.format ≡ Second → (n : ℕ) (xs : List ℕ)
     → records_in p 0 (take n xs) ≡ whole_within n (records_in p 0 xs)
-records_taken p n xs = records_taken_in p (suc (length xs)) n xs (omega arith)
+records_taken p second n xs = records_taken_in p second (suc (length xs)) n xs (omega arith)
 
 -- The whole frames of records are as long as these records.
 
@@ -138,97 +165,89 @@ unfoldable total : List LogRecord → ℕ
 total [] = 0
 total (l ∷ ls) = record_size l + total ls
 
-passed_size : (p : Kind) (k : ℕ) (xs : List ℕ) → whole_size p k xs ≡ whole_size p 0 (drop k xs)
+passed_size : (p : LogForm) (k : ℕ) (xs : List ℕ) → whole_size p k xs ≡ whole_size p 0 (drop k xs)
 unfolding whole_size
 passed_size p zero xs = refl
 passed_size p (suc k) [] = refl
 passed_size p (suc k) (b ∷ bs) = passed_size p k bs
 
-step_size_by : (p : Kind) (a b d : ℕ) (rest : List ℕ) (c : Cut) → Cuts a (b * 256 + d) rest c
-    → first_frame (a ∷ b ∷ d ∷ rest) ≡ Some c
-    → whole_size p 0 (a ∷ b ∷ d ∷ rest) ≡ size_if (read_record p c.0 c.1)
-    (3 + length c.1 + whole_size p 0 c.2)
+step_size : (p : LogForm) (xs : List ℕ) (c : Cut) → first_frame p.format xs ≡ Some c
+    → whole_size p 0 xs ≡ size_if (read_record p c.0 c.1) (suc (size_bytes p.format) + length c.1 + whole_size p 0 c.2)
 unfolding whole_size
-step_size_by p a b d rest c k e =
-    ap (λ o. size_by p o (λ n. whole_size p n (b ∷ d ∷ rest))) e
-    ∙ ap (λ n. size_if (read_record p c.0 c.1) (3 + length c.1 + whole_size p n rest))
-    (ap (λ z. length z.1) k.is ∙ taken (b * 256 + d) rest k.fits)
-    ∙ ap (λ n. size_if (read_record p c.0 c.1) (3 + length c.1 + n))
-    (passed_size p (b * 256 + d) rest ∙ ap (λ z. whole_size p 0 z.2) (sym k.is))
+step_size p [] c e = let never = sym (no_bytes p.format) ∙ e in absurd (cc)
+step_size p (b ∷ bs) c e =
+    let k = is_behind p.format b bs c e in
+    ap (λ o. size_by p o (λ n. whole_size p n bs)) e
+    ∙ ap (λ n. size_if (read_record p c.0 c.1) (suc (size_bytes p.format) + length c.1 + n))
+    (passed_size p (size_bytes p.format + length c.1) bs ∙ ap (whole_size p 0) k.left)
 
-step_size : (p : Kind) (xs : List ℕ) (c : Cut) → first_frame xs ≡ Some c
-    → whole_size p 0 xs ≡ size_if (read_record p c.0 c.1) (3 + length c.1 + whole_size p 0 c.2)
-step_size p [] c e = absurd (cc)
-step_size p (a ∷ []) c e = absurd (cc)
-step_size p (a ∷ b ∷ []) c e = absurd (cc)
-step_size p (a ∷ b ∷ d ∷ rest) c e = step_size_by p a b d rest c (cuts a (b * 256 + d) rest c e) e
-
-no_size : (p : Kind) (xs : List ℕ) → first_frame xs ≡ None → whole_size p 0 xs ≡ 0
+no_size : (p : LogForm) (xs : List ℕ) → first_frame p.format xs ≡ None → whole_size p 0 xs ≡ 0
 unfolding whole_size
 no_size p [] e = refl
 no_size p (b ∷ bs) e = ap (λ o. size_by p o (λ n. whole_size p n bs)) e
 
-abbrev Sized : Kind → List ℕ → Type 0
+abbrev Sized : LogForm → List ℕ → Type 0
 Sized p xs = whole_size p 0 xs ≡ total (records_in p 0 xs)
 
-sized_frame : (p : Kind) (xs : List ℕ) (c : Cut) (o : Option LogRecord) → first_frame xs ≡ Some c
+sized_frame : (p : LogForm) → p.format ≡ Second → (xs : List ℕ) (c : Cut) (o : Option LogRecord) → first_frame p.format xs ≡ Some c
     → read_record p c.0 c.1 ≡ o → Sized p c.2 → Sized p xs
 unfolding total
-sized_frame p xs c None e r f =
-    step_size p xs c e ∙ ap (λ o. size_if o (3 + length c.1 + whole_size p 0 c.2)) r
+sized_frame p second xs c None e r f =
+    step_size p xs c e ∙ ap (λ o. size_if o (suc (size_bytes p.format) + length c.1 + whole_size p 0 c.2)) r
     ∙ sym (ap total (step p xs c e ∙ ap (λ o. and_records o (records_in p 0 c.2)) r))
-sized_frame p xs c (Some l) e r f =
-    let size : 3 + length c.1 + whole_size p 0 c.2 ≡ record_size l + total (records_in p 0 c.2) =
-    omega (arith, f, size_is l, read_long p c.0 c.1 l r) in
-    step_size p xs c e ∙ ap (λ o. size_if o (3 + length c.1 + whole_size p 0 c.2)) r ∙ size
+sized_frame p second xs c (Some l) e r f =
+    let size : suc (size_bytes p.format) + length c.1 + whole_size p 0 c.2 ≡ record_size l + total (records_in p 0 c.2) =
+    omega (arith, f, own_size p l, frame_size p second l, read_long p c.0 c.1 l r) in
+    step_size p xs c e ∙ ap (λ o. size_if o (suc (size_bytes p.format) + length c.1 + whole_size p 0 c.2)) r ∙ size
     ∙ sym (ap total (step p xs c e ∙ ap (λ o. and_records o (records_in p 0 c.2)) r))
 
-sized_by : (p : Kind) (xs : List ℕ) (o : Option Cut) → first_frame xs ≡ o
+sized_by : (p : LogForm) → p.format ≡ Second → (xs : List ℕ) (o : Option Cut) → first_frame p.format xs ≡ o
     → ((c : Cut) → length c.2 < length xs → Sized p c.2) → Sized p xs
 unfolding total
-sized_by p xs None e f = no_size p xs e ∙ sym (ap total (no_frame p xs e))
-sized_by p xs (Some c) e f = sized_frame p xs c (read_record p c.0 c.1) e refl (f c (shorter xs c e))
+sized_by p second xs None e f = no_size p xs e ∙ sym (ap total (no_frame p xs e))
+sized_by p second xs (Some c) e f =
+    sized_frame p second xs c (read_record p c.0 c.1) e refl (f c (shorter p.format xs c e))
 
-sized_in : (p : Kind) (most : ℕ) (xs : List ℕ) → length xs < most → Sized p xs
-sized_in p zero xs h = absurd (omega arith)
-sized_in p (suc most) xs h = sized_by p xs (first_frame xs) refl (λ c less. sized_in p most c.2 (omega arith))
+sized_in : (p : LogForm) → p.format ≡ Second → (most : ℕ) (xs : List ℕ) → length xs < most → Sized p xs
+sized_in p second zero xs h = absurd (omega arith)
+sized_in p second (suc most) xs h = sized_by p second xs (first_frame p.format xs) refl (λ c less. sized_in p second most c.2 (omega arith))
 
-sized : (p : Kind) (xs : List ℕ) → Sized p xs
-sized p xs = sized_in p (suc (length xs)) xs (omega arith)
+sized : (p : LogForm) → p.format ≡ Second → (xs : List ℕ) → Sized p xs
+sized p second xs = sized_in p second (suc (length xs)) xs (omega arith)
 
 -- Whole frames are as long as all their bytes.
 
-abbrev Full : Kind → List ℕ → Type 0
+abbrev Full : LogForm → List ℕ → Type 0
 Full p xs = is_whole p 0 xs ≡ true → whole_size p 0 xs ≡ length xs
 
-full_frame : (p : Kind) (xs : List ℕ) (c : Cut) (o : Option LogRecord) → first_frame xs ≡ Some c
+full_frame : (p : LogForm) (xs : List ℕ) (c : Cut) (o : Option LogRecord) → first_frame p.format xs ≡ Some c
     → read_record p c.0 c.1 ≡ o → Full p c.2 → Full p xs
 full_frame p xs c None e r f w =
     let never : false ≡ true = sym (step_whole p xs c e ∙ ap (λ o. whole_if o (is_whole p 0 c.2)) r) ∙ w in
     absurd (cc)
 full_frame p xs c (Some l) e r f w =
-    let a = frame_at xs c e in
+    let a = frame_at p.format xs c e in
     let rest : is_whole p 0 c.2 ≡ true = sym (step_whole p xs c e ∙ ap (λ o. whole_if o (is_whole p 0 c.2)) r)
     ∙ w in
-    step_size p xs c e ∙ ap (λ o. size_if o (3 + length c.1 + whole_size p 0 c.2)) r
+    step_size p xs c e ∙ ap (λ o. size_if o (suc (size_bytes p.format) + length c.1 + whole_size p 0 c.2)) r
     ∙ omega (arith, f rest, a.size, ap length a.split, length-append a.frame c.2)
 
-no_whole : (p : Kind) (xs : List ℕ) → first_frame xs ≡ None → is_whole p 0 xs ≡ true → length xs ≡ 0
+no_whole : (p : LogForm) (xs : List ℕ) → first_frame p.format xs ≡ None → is_whole p 0 xs ≡ true → length xs ≡ 0
 unfolding is_whole
 no_whole p [] e w = refl
 no_whole p (b ∷ bs) e w = let never : false ≡ true = sym (ap (λ o. whole_by p o (λ n. is_whole p n bs)) e)
     ∙ w in absurd (cc)
 
-full_by : (p : Kind) (xs : List ℕ) (o : Option Cut) → first_frame xs ≡ o
+full_by : (p : LogForm) (xs : List ℕ) (o : Option Cut) → first_frame p.format xs ≡ o
     → ((c : Cut) → length c.2 < length xs → Full p c.2) → Full p xs
 full_by p xs None e f w = omega (arith, no_size p xs e, no_whole p xs e w)
-full_by p xs (Some c) e f w = full_frame p xs c (read_record p c.0 c.1) e refl (f c (shorter xs c e)) w
+full_by p xs (Some c) e f w = full_frame p xs c (read_record p c.0 c.1) e refl (f c (shorter p.format xs c e)) w
 
-full_in : (p : Kind) (most : ℕ) (xs : List ℕ) → length xs < most → Full p xs
+full_in : (p : LogForm) (most : ℕ) (xs : List ℕ) → length xs < most → Full p xs
 full_in p zero xs h = absurd (omega arith)
-full_in p (suc most) xs h = full_by p xs (first_frame xs) refl (λ c less. full_in p most c.2 (omega arith))
+full_in p (suc most) xs h = full_by p xs (first_frame p.format xs) refl (λ c less. full_in p most c.2 (omega arith))
 
-pub whole_is_full : (p : Kind) (xs : List ℕ) → is_whole p 0 xs ≡ true → length xs - whole_size p 0 xs ≡ 0
+pub whole_is_full : (p : LogForm) (xs : List ℕ) → is_whole p 0 xs ≡ true → length xs - whole_size p 0 xs ≡ 0
 whole_is_full p xs w = omega (arith, full_in p (suc (length xs)) xs (omega arith) w)
 
 -- A longer front has the records of the shorter one, and then those within what is left of it.
@@ -268,29 +287,30 @@ within_more n k (l ∷ ls) = more_by n k l ls (nat_le (record_size l) n) refl
 
 -- What a crash leaves.
 
-pub left_records : (p : Kind) (text : List ℕ) (forced keep failures room : ℕ) (failed : Bool) → 5 ≤ forced
+pub left_records : (p : LogForm) (text : List ℕ) (forced keep failures room : ℕ) (failed : Bool)
+    → p.format ≡ Second → 5 ≤ forced
     → forced ≤ length text
     → records_in p 0 (body (take (forced + keep) text))
     ≡ left_by (log_state p text forced failures room failed).sight keep
-left_records p text forced keep failures room failed h le =
+left_records p text forced keep failures room failed second h le =
     let all = records_in p 0 (body text) in
     let n = forced - 5 in
     let sum : forced + keep - 5 ≡ n + keep = omega arith in
-    let now : records_in p 0 (front text forced) ≡ whole_within n all = records_taken p n (body text) in
+    let now : records_in p 0 (front text forced) ≡ whole_within n all = records_taken p second n (body text) in
     let long : length (front text forced) ≡ n =
     length-take-le n (body text) (omega (arith, length-drop 5 text)) in
     let F = records_in p 0 (front text forced) in
     let behind : n - total F ≡ length (front text forced) - whole_size p 0 (front text forced) =
-    omega (arith, long, sized p (front text forced)) in
+    omega (arith, long, sized p second (front text forced)) in
     ap (records_in p 0) (body_taken (forced + keep) text (omega arith) ∙ ap (λ k. take k (body text)) sum)
-    ∙ records_taken p (n + keep) (body text)
+    ∙ records_taken p second (n + keep) (body text)
     ∙ within_more n keep all ∙ ap (λ t. t ++ whole_within (n - total t + keep) (drop (length t) all))
     (sym now)
     ∙ ap (λ t. F ++ whole_within (t + keep) (drop (length F) all)) behind
 
-pub left_of_view : (p : Kind) (text : List ℕ) (forced keep failures room : ℕ) (failed : Bool) (s : LogState)
+pub left_of_view : (p : LogForm) (text : List ℕ) (forced keep failures room : ℕ) (failed : Bool) (s : LogState)
     (ls : List LogRecord)
-    → log_state p text forced failures room failed ≡ s → 5 ≤ forced → forced ≤ length text
+    → log_state p text forced failures room failed ≡ s → p.format ≡ Second → 5 ≤ forced → forced ≤ length text
     → ls ≡ records_in p 0 (body (take (forced + keep) text)) → ls ≡ left_by s.sight keep
-left_of_view p text forced keep failures room failed s ls view h le e =
-    e ∙ left_records p text forced keep failures room failed h le ∙ ap (λ z. left_by z.sight keep) view
+left_of_view p text forced keep failures room failed s ls view second h le e =
+    e ∙ left_records p text forced keep failures room failed second h le ∙ ap (λ z. left_by z.sight keep) view

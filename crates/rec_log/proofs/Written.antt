@@ -1,22 +1,22 @@
 -- Records that are written are read.
-use Rattle.std.proofs.Common.{◌≡◌, ◌≤◌, ◌+◌, ◌-◌, ℕ, true, List, [], ◌∷◌, take, drop, ap, ◌∙◌, arith}
+use Rattle.std.proofs.Common.{◌≡◌, ◌≤◌, ◌+◌, ◌-◌, ℕ, true, List, [], ◌∷◌, take, drop, refl, ap, ◌∙◌, arith}
 use Rattle.std.proofs.lemmas.List.{drop-take}
-use Rattle.tree_model.specs.declared.names.Kind.{Kind}
+use Rattle.log_text.specs.declared.form.LogForm.{LogForm}
 use Rattle.tree_model.specs.declared.records.LogRecord.{LogRecord}
 use Rattle.log_text.specs.Payloads.{records_text}
 use Rattle.rec_log.specs.Texts.{is_whole, records_in}
 use Rattle.rec_log.specs.Sights.{AreRecords, body}
 use Rattle.rec_log.proofs.Frames.{no_records, nothing_whole, own_record, own_whole}
 
-pub written : (p : Kind) (ls : List LogRecord) → AreRecords p ls → records_in p 0 (records_text ls) ≡ ls
+pub written : (p : LogForm) (ls : List LogRecord) → AreRecords p.kind ls → records_in p 0 (records_text p ls) ≡ ls
 unfolding records_text
 written p [] are = no_records p
-written p (l ∷ ls) are = own_record p l (records_text ls) are.0 ∙ ap (λ t. l ∷ t) (written p ls are.1)
+written p (l ∷ ls) are = own_record p l (records_text p ls) (are.0 p refl) ∙ ap (λ t. l ∷ t) (written p ls are.1)
 
-pub whole_text : (p : Kind) (ls : List LogRecord) → AreRecords p ls → is_whole p 0 (records_text ls) ≡ true
+pub whole_text : (p : LogForm) (ls : List LogRecord) → AreRecords p.kind ls → is_whole p 0 (records_text p ls) ≡ true
 unfolding records_text
 whole_text p [] are = nothing_whole p
-whole_text p (l ∷ ls) are = own_whole p l (records_text ls) are.0 ∙ whole_text p ls are.1
+whole_text p (l ∷ ls) are = own_whole p l (records_text p ls) (are.0 p refl) ∙ whole_text p ls are.1
 
 pub body_taken : (n : ℕ) (text : List ℕ) → 5 ≤ n → body (take n text) ≡ take (n - 5) (body text)
 body_taken n text h =

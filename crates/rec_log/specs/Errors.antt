@@ -15,3 +15,4 @@ abbrev pub open_error_number : OpenError → ℕ
 open_error_number opening.Memory = 1
 open_error_number opening.Device = 2
 open_error_number (opening.Damaged place) = 3
+open_error_number opening.OldFormat = 4

@@ -1,25 +1,38 @@
 -- Opening a log over a store.
-use Rattle.std.specs.Prelude.{◌≡◌, ◌<◌, ◌≤◌, ◌⊎◌, ⊤, ℕ, true, false, Option, Some, None, List, [], ◌++◌, length, take, drop}
-use Rattle.tree_model.specs.declared.names.Kind.{Kind}
+use Rattle.std.specs.Prelude.{◌≡◌, ◌<◌, ◌≤◌, ◌⊎◌, ⊤, ℕ, Bool, true, false, Option, Some, None, List, [], ◌++◌, length, map, take, drop}
+use Rattle.log_text.specs.declared.form.LogForm.{LogForm}
 use Rattle.tree_model.specs.declared.records.LogRecord.{LogRecord}
 use Rattle.log_store.specs.Stores.{ReplaceBreaks, SameStore}
-use Rattle.log_rules.specs.order.Logs.{Whole, Damaged, read_frames, read_log}
+use Rattle.log_rules.specs.order.Logs.{LogReading, Whole, Damaged, read_frames, read_log}
 use Rattle.log_rules.specs.order.Orders.{SeenLog, after, nothing_seen}
+use Rattle.log_text.specs.Marks.{mark_of}
+use Rattle.log_text.specs.declared.mark.Mark.{Mark}
 use Rattle.rec_log.specs.Texts.{is_whole, records_in}
 use Rattle.rec_log.specs.Sights.{LogSight, LogState, bytes_behind, kept_of, records_of}
-use Rattle.log_text.specs.Frames.{header}
+use Rattle.tree_model.specs.Records.{same_bytes}
+use Rattle.log_text.specs.Forms.{header}
+use Rattle.log_text.specs.declared.form.LogFormat.TheVariants.{First}
 use Rattle.rec_log.specs.declared.opening.Found.{Found}
 use Rattle.rec_log.specs.declared.opening.Found.TheVariants.{Empty, Sound}
 use Rattle.rec_log.specs.declared.opening.OpenError.{OpenError}
-use Rattle.rec_log.specs.declared.opening.OpenError.TheVariants.{Memory, Device, Damaged as DamagedError}
+use Rattle.rec_log.specs.declared.opening.OpenError.TheVariants.{Memory, Device, Damaged as DamagedError, OldFormat}
+
+-- the bytes begin as a log of the first format
+abbrev pub is_old : List ℕ → Bool
+is_old bytes = same_bytes (take 5 bytes) (header First)
 
 -- what was seen once the record of a frame is taken; none, where there is no record or it may not follow
 abbrev pub after_frame : SeenLog → Option LogRecord → Option SeenLog
 after_frame s None = None
 after_frame s (Some l) = after s l
 
+-- the marks of the records that are read
+abbrev pub marks_read : LogReading → List Mark
+marks_read (Whole ls torn) = map mark_of ls
+marks_read (Damaged place) = []
+
 -- the frames in these bytes are sound, but for a torn tail of so many bytes
-pub record Ends (p : Kind) (bytes : List ℕ) (torn : ℕ) : Type 0 where
+pub record Ends (p : LogForm) (bytes : List ℕ) (torn : ℕ) : Type 0 where
   pub sound : List ℕ
   pub tail : List ℕ
   pub split : bytes ≡ sound ++ tail
@@ -28,23 +41,25 @@ pub record Ends (p : Kind) (bytes : List ℕ) (torn : ℕ) : Type 0 where
   pub read : read_frames p 5 nothing_seen 0 bytes ≡ Whole (records_in p 0 sound) torn
 
 -- the frames in these bytes are damaged there
-abbrev pub IsFault : Kind → List ℕ → OpenError → Type 0
+abbrev pub IsFault : LogForm → List ℕ → OpenError → Type 0
 IsFault p bytes Memory = ⊤
 IsFault p bytes Device = ⊥
+IsFault p bytes OldFormat = ⊥
 IsFault p bytes (DamagedError place) = read_frames p 5 nothing_seen 0 bytes ≡ Damaged place
 
 -- the bytes are an empty log without its header; or a header and sound frames, and a torn tail of so many
 -- bytes
-abbrev pub IsFound : Kind → List ℕ → Found → Type 0
+abbrev pub IsFound : LogForm → List ℕ → Found → Type 0
 IsFound p bytes Empty = (length bytes < 5) × (read_log p bytes ≡ Whole [] 0)
 IsFound p bytes (Sound torn) =
-    (take 5 bytes ≡ header) × (5 ≤ length bytes) × Ends p (drop 5 bytes) torn
+    (take 5 bytes ≡ header p.format) × (5 ≤ length bytes) × Ends p (drop 5 bytes) torn
     × (read_log p bytes ≡ read_frames p 5 nothing_seen 0 (drop 5 bytes))
 
 -- the bytes are no log
-abbrev pub IsNoLog : Kind → List ℕ → OpenError → Type 0
+abbrev pub IsNoLog : LogForm → List ℕ → OpenError → Type 0
 IsNoLog p bytes Memory = ⊤
 IsNoLog p bytes Device = ⊥
+IsNoLog p bytes OldFormat = ⊥
 IsNoLog p bytes (DamagedError place) = read_log p bytes ≡ Damaged place
 
 -- a log is written anew where it is opened: a torn tail of so many bytes stands behind its frames, or its
@@ -53,14 +68,14 @@ abbrev pub IsWrittenAnew : ℕ → ℕ → Type 0
 IsWrittenAnew torn forced = (0 < torn) ⊎ (forced < 5)
 
 -- what is forced of the records of these bytes is forced as it was; or they are written anew, all of them forced
-abbrev pub StaysForced : Kind → List ℕ → ℕ → ℕ → LogSight → Type 0
+abbrev pub StaysForced : LogForm → List ℕ → ℕ → ℕ → LogSight → Type 0
 StaysForced p bytes forced torn s =
     ((s.kept ≡ kept_of p bytes forced) × (s.behind ≡ bytes_behind p bytes forced))
     ⊎ ((s.kept.unforced ≡ []) × (s.behind ≡ 0) × IsWrittenAnew torn forced)
 
 -- the log of these bytes: their records, a torn tail gone, and what was forced of them
-pub record Opens (p : Kind) (bytes : List ℕ) (forced failures : ℕ) (log : LogState) : Type 0 where
-  pub kind : log.kind ≡ p
+pub record Opens (p : LogForm) (bytes : List ℕ) (forced failures : ℕ) (log : LogState) : Type 0 where
+  pub form : log.sight.form ≡ p
   pub torn : ℕ
   pub read : read_log p bytes ≡ Whole (records_of log.sight.kept) torn
   pub front : StaysForced p bytes forced torn log.sight
@@ -69,9 +84,9 @@ pub record Opens (p : Kind) (bytes : List ℕ) (forced failures : ℕ) (log : Lo
 
 -- a text of the records that these bytes are, whole, with its header forced: the bytes as they were, or a
 -- text that is written anew, all forced
-pub record Settles (p : Kind) (bytes : List ℕ) (forced failures : ℕ) (text : List ℕ)
+pub record Settles (p : LogForm) (bytes : List ℕ) (forced failures : ℕ) (text : List ℕ)
     (forced' failures' : ℕ) : Type 0 where
-  pub begins : take 5 text ≡ header
+  pub begins : take 5 text ≡ header p.format
   pub header_forced : 5 ≤ forced'
   pub torn : ℕ
   pub front : ((text ≡ bytes) × (forced' ≡ forced)) ⊎ ((forced' ≡ length text) × IsWrittenAnew torn forced)
@@ -81,21 +96,23 @@ pub record Settles (p : Kind) (bytes : List ℕ) (forced failures : ℕ) (text :
 
 -- the device failed as the text of a whole log was put in place: the old bytes stand with their forced front,
 -- or that text, all forced
-pub record BreaksOpening {S : Type 0} (bytes : S → List ℕ) (forced failures : S → ℕ) (p : Kind)
+pub record BreaksOpening {S : Type 0} (bytes : S → List ℕ) (forced failures : S → ℕ) (p : LogForm)
     (old new : S) : Type 0 where
   pub text : List ℕ
   pub settles : Settles p (bytes old) (forced old) (failures old) text (length text) (failures old)
   pub breaks : ReplaceBreaks bytes forced failures old new text
 
 -- why no log is opened, and what store is handed back
-abbrev pub NotOpened : {S : Type 0} → (S → List ℕ) → (S → ℕ) → (S → ℕ) → Kind → S → S → OpenError → Type 0
+abbrev pub NotOpened : {S : Type 0} → (S → List ℕ) → (S → ℕ) → (S → ℕ) → LogForm → S → S → OpenError → Type 0
 NotOpened bytes forced failures p old new Memory = SameStore bytes forced failures old new
 NotOpened bytes forced failures p old new Device = BreaksOpening bytes forced failures p old new
 NotOpened bytes forced failures p old new (DamagedError place) =
-    (new ≡ old) × (read_log p (bytes old) ≡ Damaged place)
+    (new ≡ old) × (is_old (bytes old) ≡ false) × (read_log p (bytes old) ≡ Damaged place)
+NotOpened bytes forced failures p old new OldFormat = (new ≡ old) × (is_old (bytes old) ≡ true)
 
 -- a text was not put in place
 abbrev pub IsRefused : {S : Type 0} → (S → List ℕ) → (S → ℕ) → (S → ℕ) → S → S → List ℕ → OpenError → Type 0
 IsRefused bytes forced failures old new text Memory = SameStore bytes forced failures old new
 IsRefused bytes forced failures old new text Device = ReplaceBreaks bytes forced failures old new text
 IsRefused bytes forced failures old new text (DamagedError place) = ⊥
+IsRefused bytes forced failures old new text OldFormat = ⊥

@@ -1,22 +1,22 @@
 -- What a restart writes, and what a store makes of it.
 use Rattle.std.specs.Prelude.{◌≡◌, ◌≤◌, ◌⊎◌, ℕ, Bool, true, false, if◌then◌else◌, List, ◌++◌, length, take}
-use Rattle.tree_model.specs.declared.names.Kind.{Kind}
+use Rattle.log_text.specs.declared.form.LogForm.{LogForm}
 use Rattle.tree_model.specs.declared.records.LogRecord.{LogRecord}
 use Rattle.log_store.specs.Stores.{MoreFailures}
 use Rattle.log_text.specs.Payloads.{records_text}
 use Rattle.rec_log.specs.Sights.{EndsSound}
 
 -- a text that a restart leaves: what is left without a torn tail, and new records
-pub record LeavesText (p : Kind) (left : List ℕ) (rs : List LogRecord) (text : List ℕ) : Type 0 where
+pub record LeavesText (p : LogForm) (left : List ℕ) (rs : List LogRecord) (text : List ℕ) : Type 0 where
   pub end : ℕ
   pub ends : EndsSound p left end
-  pub is : text ≡ take end left ++ records_text rs
+  pub is : text ≡ take end left ++ records_text p rs
 
 -- what a restart writes: all that is to stand, in place of a torn tail; or the new records, behind what is
 -- left, which is whole
-abbrev pub WritesLeft : Kind → List ℕ → List LogRecord → Bool → List ℕ → Type 0
+abbrev pub WritesLeft : LogForm → List ℕ → List LogRecord → Bool → List ℕ → Type 0
 WritesLeft p left rs true text = LeavesText p left rs text
-WritesLeft p left rs false text = EndsSound p left (length left) × (text ≡ records_text rs)
+WritesLeft p left rs false text = EndsSound p left (length left) × (text ≡ records_text p rs)
 
 -- the text stands in place of what stood, or behind it, all of it forced
 pub record PutsLeft {S : Type 0} (bytes : S → List ℕ) (forced failures : S → ℕ) (old new : S) (anew : Bool)

@@ -1,10 +1,13 @@
 -- What is seen of a log: its records, a front of which is forced.
 use Rattle.std.specs.Prelude.{◌≡◌, ◌≤◌, ◌+◌, ◌-◌, ◌⊎◌, ⊤, ℕ, Bool, true, false, nat_le, if◌then◌else◌, List, [], ◌∷◌, ◌++◌, length, take, drop, Some}
 use Rattle.tree_model.specs.declared.names.Kind.{Kind}
+use Rattle.log_text.specs.declared.form.LogForm.{LogForm}
+use Rattle.log_text.specs.declared.form.LogFormat.TheVariants.{Second}
 use Rattle.tree_model.specs.declared.records.LogRecord.{LogRecord}
 use Rattle.log_store.specs.Stores.{MoreFailures}
-use Rattle.log_text.specs.Frames.{header}
-use Rattle.log_text.specs.Payloads.{FitsFrame, kind_byte, payload_text, record_text, records_text}
+use Rattle.log_text.specs.Forms.{header}
+pub use Rattle.log_text.specs.Payloads.{record_size}
+use Rattle.log_text.specs.Payloads.{FitsFrameIn, kind_byte, payload_text, records_text}
 use Rattle.log_text.specs.Reading.{read_record}
 use Rattle.log_rules.specs.sound.Sound.{IsSound}
 use Rattle.rec_log.specs.Texts.{records_in, is_whole, whole_size}
@@ -16,17 +19,17 @@ pub record Kept : Type 0 where
   pub forced : List LogRecord
   pub unforced : List LogRecord
 
--- what is seen of a log: its records, how many of the forced bytes stand behind the last one that is wholly
--- forced, whether it has failed, and how often its device has
+-- what is seen of a log: its form, its records, how many of the forced bytes stand behind the last one that is
+-- wholly forced, whether it has failed, and how often its device has
 pub record LogSight : Type 0 where
+  pub form : LogForm
   pub kept : Kept
   pub behind : ℕ
   pub failed : Bool
   pub failures : ℕ
 
--- what a contract sees: the sight, the sort of process, and how many more bytes are not refused for memory
+-- what a contract sees: the sight, and how many more bytes are not refused for memory
 pub record LogState : Type 0 where
-  pub kind : Kind
   pub sight : LogSight
   pub room : ℕ
 
@@ -43,21 +46,21 @@ abbrev pub front : List ℕ → ℕ → List ℕ
 front text forced = take (forced - 5) (body text)
 
 -- the records of a text so many bytes of which are forced
-abbrev pub kept_of : Kind → List ℕ → ℕ → Kept
+abbrev pub kept_of : LogForm → List ℕ → ℕ → Kept
 kept_of p text forced = record {
   forced = records_in p 0 (front text forced);
   unforced = drop (length (records_in p 0 (front text forced))) (records_in p 0 (body text));
 }
 
 -- how many of the forced bytes stand behind the last record that is wholly forced
-abbrev pub bytes_behind : Kind → List ℕ → ℕ → ℕ
+abbrev pub bytes_behind : LogForm → List ℕ → ℕ → ℕ
 bytes_behind p text forced = length (front text forced) - whole_size p 0 (front text forced)
 
 -- what a contract sees of a log with this text, so many bytes of which are forced
-abbrev pub log_state : Kind → List ℕ → ℕ → ℕ → ℕ → Bool → LogState
+abbrev pub log_state : LogForm → List ℕ → ℕ → ℕ → ℕ → Bool → LogState
 log_state p text forced failures room failed = record {
-  kind = p;
   sight = record {
+    form = p;
     kept = kept_of p text forced;
     behind = bytes_behind p text forced;
     failed = failed;
@@ -66,42 +69,47 @@ log_state p text forced failures room failed = record {
   room = room - length text;
 }
 
--- the header is forced; where the log has not failed, its bytes are whole records
-pub record IsLogText (p : Kind) (text : List ℕ) (forced : ℕ) (failed : Bool) : Type 0 where
-  pub begins : take 5 text ≡ header
+-- the header is forced, of the second format; where the log has not failed, its bytes are whole records
+pub record IsLogText (p : LogForm) (text : List ℕ) (forced : ℕ) (failed : Bool) : Type 0 where
+  pub second : p.format ≡ Second
+  pub begins : take 5 text ≡ header p.format
   pub header_forced : 5 ≤ forced
   pub whole : failed ≡ false → is_whole p 0 (body text) ≡ true
 
 -- so many bytes at the front are forced, and behind the header among them are whole records
-pub record IsKnown (p : Kind) (text : List ℕ) (forced known : ℕ) : Type 0 where
+pub record IsKnown (p : LogForm) (text : List ℕ) (forced known : ℕ) : Type 0 where
   pub header : 5 ≤ known
   pub within : known ≤ forced
   pub whole : is_whole p 0 (take (known - 5) (body text)) ≡ true
 
 -- the text begins as a log does, and reads as these records; it is whole, where the log has not failed
-pub record ReadsAs (p : Kind) (text : List ℕ) (ls : List LogRecord) (failed : Bool) : Type 0 where
-  pub begins : take 5 text ≡ header
+pub record ReadsAs (p : LogForm) (text : List ℕ) (ls : List LogRecord) (failed : Bool) : Type 0 where
+  pub begins : take 5 text ≡ header p.format
   pub read : records_in p 0 (body text) ≡ ls
   pub whole : failed ≡ false → is_whole p 0 (body text) ≡ true
 
--- a record that can stand in such a log: it fits a frame, and the frame reads as this record
-pub record IsRecord (p : Kind) (l : LogRecord) : Type 0 where
-  pub fits : FitsFrame l
-  pub again : read_record p (kind_byte l.entry) (payload_text l.parent l.entry) ≡ Some l
+-- a record can stand in a log of this form: it fits a frame, and the frame reads as this record
+pub record Stands (p : LogForm) (l : LogRecord) : Type 0 where
+  pub fits : FitsFrameIn p l
+  pub again : read_record p (kind_byte l.entry) (payload_text p l.parent l.entry) ≡ Some l
+
+-- a record that can stand in any log of this sort of process
+abbrev pub IsRecord : Kind → LogRecord → Type 0
+IsRecord k l = (p : LogForm) → p.kind ≡ k → Stands p l
 
 -- one record more, not forced
 pub record Appended (old new : LogState) (l : LogRecord) : Type 0 where
-  pub kind : new.kind ≡ old.kind
+  pub form : new.sight.form ≡ old.sight.form
   pub forced : new.sight.kept.forced ≡ old.sight.kept.forced
   pub unforced : new.sight.kept.unforced ≡ old.sight.kept.unforced ++ l ∷ []
   pub behind : new.sight.behind ≡ old.sight.behind
   pub works : new.sight.failed ≡ false
   pub failures : new.sight.failures ≡ old.sight.failures
-  pub room : old.room ≤ new.room + length (record_text l)
+  pub room : old.room ≤ new.room + record_size l
 
 -- all the records are forced
 pub record Forced (old new : LogState) : Type 0 where
-  pub kind : new.kind ≡ old.kind
+  pub form : new.sight.form ≡ old.sight.form
   pub forced : new.sight.kept.forced ≡ records_of old.sight.kept
   pub unforced : new.sight.kept.unforced ≡ []
   pub behind : new.sight.behind ≡ 0
@@ -109,23 +117,19 @@ pub record Forced (old new : LogState) : Type 0 where
   pub failures : new.sight.failures ≡ old.sight.failures
   pub room : old.room ≤ new.room
 
--- records that can all stand in such a log
+-- records that can all stand in any log of this sort of process
 abbrev pub AreRecords : Kind → List LogRecord → Type 0
-AreRecords p [] = ⊤
-AreRecords p (l ∷ ls) = IsRecord p l × AreRecords p ls
+AreRecords k [] = ⊤
+AreRecords k (l ∷ ls) = IsRecord k l × AreRecords k ls
 
 -- a sound record can stand in a log
 abbrev pub SoundIsRecord : Type 0
-SoundIsRecord = (p : Kind) (l : LogRecord) → IsSound p l → IsRecord p l
+SoundIsRecord = (k : Kind) (l : LogRecord) → IsSound k l → IsRecord k l
 
 -- what is written is read: the text of records reads as these records, and is whole
 abbrev pub WrittenIsRead : Type 0
-WrittenIsRead = (p : Kind) (ls : List LogRecord) → AreRecords p ls
-    → (records_in p 0 (records_text ls) ≡ ls) × (is_whole p 0 (records_text ls) ≡ true)
-
--- how many bytes a record takes in a log
-abbrev pub record_size : LogRecord → ℕ
-record_size l = length (record_text l)
+WrittenIsRead = (p : LogForm) (ls : List LogRecord) → AreRecords p.kind ls
+    → (records_in p 0 (records_text p ls) ≡ ls) × (is_whole p 0 (records_text p ls) ≡ true)
 
 -- the records at the front that stand whole within so many bytes
 unfoldable pub whole_within : ℕ → List LogRecord → List LogRecord
@@ -144,7 +148,7 @@ longer s ls = record s { kept = record { forced = s.kept.forced; unforced = s.ke
 -- the device failed: of these records a front was appended, and so many more bytes are forced, so a crash
 -- leaves what it would leave of the log with that front if it kept so many bytes more
 pub record Breaks (old new : LogState) (ls : List LogRecord) : Type 0 where
-  pub kind : new.kind ≡ old.kind
+  pub form : new.sight.form ≡ old.sight.form
   pub appended : ℕ
   pub stand : records_of new.sight.kept ≡ records_of old.sight.kept ++ take appended ls
   pub no_less : length old.sight.kept.forced ≤ length new.sight.kept.forced
@@ -155,7 +159,7 @@ pub record Breaks (old new : LogState) (ls : List LogRecord) : Type 0 where
   pub cause : MoreFailures old.sight.failures new.sight.failures
 
 -- the first so many bytes are whole frames of records, and behind them no whole frame of a record begins
-pub record Sounds (p : Kind) (bytes : List ℕ) (size : ℕ) : Type 0 where
+pub record Sounds (p : LogForm) (bytes : List ℕ) (size : ℕ) : Type 0 where
   pub sound : List ℕ
   pub tail : List ℕ
   pub split : bytes ≡ sound ++ tail
@@ -164,14 +168,14 @@ pub record Sounds (p : Kind) (bytes : List ℕ) (size : ℕ) : Type 0 where
   pub all : records_in p 0 bytes ≡ records_in p 0 sound
 
 -- the whole frames of records at the front of the text end there
-pub record EndsSound (p : Kind) (text : List ℕ) (end : ℕ) : Type 0 where
+pub record EndsSound (p : LogForm) (text : List ℕ) (end : ℕ) : Type 0 where
   pub header : 5 ≤ end
   pub there : end ≤ length text
   pub sounds : Sounds p (body text) (end - 5)
 
 -- a log of what a crash left that kept so many bytes, and of these new records, all of them forced
 pub record Restarts (old new : LogState) (keep : ℕ) (rs : List LogRecord) : Type 0 where
-  pub kind : new.kind ≡ old.kind
+  pub form : new.sight.form ≡ old.sight.form
   pub forced : new.sight.kept.forced ≡ left_by old.sight keep ++ rs
   pub unforced : new.sight.kept.unforced ≡ []
   pub behind : new.sight.behind ≡ 0
@@ -181,7 +185,7 @@ pub record Restarts (old new : LogState) (keep : ℕ) (rs : List LogRecord) : Ty
 -- the crash took place and the device failed: what it left stands, and behind it a front of the new records;
 -- the forced front ends anywhere behind the records that were forced
 pub record RestartBreaks (old new : LogState) (keep : ℕ) (rs : List LogRecord) : Type 0 where
-  pub kind : new.kind ≡ old.kind
+  pub form : new.sight.form ≡ old.sight.form
   pub appended : ℕ
   pub stand : records_of new.sight.kept ≡ left_by old.sight keep ++ take appended rs
   pub no_less : length old.sight.kept.forced ≤ length new.sight.kept.forced
@@ -195,7 +199,7 @@ NotRestarted old new keep rs Device = RestartBreaks old new keep rs
 
 -- these records stand alone, all of them forced
 pub record Rewritten (old new : LogState) (rs : List LogRecord) : Type 0 where
-  pub kind : new.kind ≡ old.kind
+  pub form : new.sight.form ≡ old.sight.form
   pub forced : new.sight.kept.forced ≡ rs
   pub unforced : new.sight.kept.unforced ≡ []
   pub behind : new.sight.behind ≡ 0
@@ -204,7 +208,7 @@ pub record Rewritten (old new : LogState) (rs : List LogRecord) : Type 0 where
 
 -- the device failed: the log is as it was, or these records stand alone, all of them forced
 pub record RewriteBreaks (old new : LogState) (rs : List LogRecord) : Type 0 where
-  pub kind : new.kind ≡ old.kind
+  pub form : new.sight.form ≡ old.sight.form
   pub either : (new.sight.kept ≡ old.sight.kept) ⊎ (new.sight.kept ≡ record { forced = rs; unforced = [] })
   pub failed : new.sight.failed ≡ true
   pub cause : MoreFailures old.sight.failures new.sight.failures

@@ -1,7 +1,8 @@
 -- The records in the bytes behind a log's header.
 use Rattle.std.specs.Prelude.{ℕ, zero, suc, ◌+◌, ◌==◌, Bool, false, List, [], ◌∷◌, Option, Some, None, length}
-use Rattle.tree_model.specs.declared.names.Kind.{Kind}
+use Rattle.log_text.specs.declared.form.LogForm.{LogForm}
 use Rattle.tree_model.specs.declared.records.LogRecord.{LogRecord}
+use Rattle.log_text.specs.Forms.{size_bytes}
 use Rattle.log_text.specs.Frames.{Cut, first_frame}
 use Rattle.log_text.specs.Reading.{read_record}
 
@@ -14,15 +15,15 @@ and_records None more = []
 and_records (Some l) more = l ∷ more
 
 -- the record of a frame, where one stands whole, and those behind it
-abbrev pub records_by : Kind → Option Cut → (ℕ → List LogRecord) → List LogRecord
+abbrev pub records_by : LogForm → Option Cut → (ℕ → List LogRecord) → List LogRecord
 records_by p None more = []
-records_by p (Some c) more = and_records (read_record p c.0 c.1) (more (suc (suc (length c.1))))
+records_by p (Some c) more = and_records (read_record p c.0 c.1) (more (size_bytes p.format + length c.1))
 
 -- the records of the whole frames at the front, up to the first that is none
-unfoldable pub records_in : Kind → ℕ → List ℕ → List LogRecord
+unfoldable pub records_in : LogForm → ℕ → List ℕ → List LogRecord
 records_in p k [] = []
 records_in p (suc k) (b ∷ bs) = records_in p k bs
-records_in p zero (b ∷ bs) = records_by p (first_frame (b ∷ bs)) (λ k. records_in p k bs)
+records_in p zero (b ∷ bs) = records_by p (first_frame p.format (b ∷ bs)) (λ k. records_in p k bs)
 
 -- a record was read, and what is behind it is whole
 abbrev pub whole_if : Option LogRecord → Bool → Bool
@@ -30,15 +31,15 @@ whole_if None more = false
 whole_if (Some l) more = more
 
 -- a frame stands whole and is a record, and what is behind it is whole
-abbrev pub whole_by : Kind → Option Cut → (ℕ → Bool) → Bool
+abbrev pub whole_by : LogForm → Option Cut → (ℕ → Bool) → Bool
 whole_by p None more = false
-whole_by p (Some c) more = whole_if (read_record p c.0 c.1) (more (suc (suc (length c.1))))
+whole_by p (Some c) more = whole_if (read_record p c.0 c.1) (more (size_bytes p.format + length c.1))
 
 -- the bytes are whole frames of records, and nothing behind them
-unfoldable pub is_whole : Kind → ℕ → List ℕ → Bool
+unfoldable pub is_whole : LogForm → ℕ → List ℕ → Bool
 is_whole p k [] = k == 0
 is_whole p (suc k) (b ∷ bs) = is_whole p k bs
-is_whole p zero (b ∷ bs) = whole_by p (first_frame (b ∷ bs)) (λ k. is_whole p k bs)
+is_whole p zero (b ∷ bs) = whole_by p (first_frame p.format (b ∷ bs)) (λ k. is_whole p k bs)
 
 -- this size, where a record was read
 abbrev pub size_if : Option LogRecord → ℕ → ℕ
@@ -46,12 +47,13 @@ size_if None more = 0
 size_if (Some l) more = more
 
 -- how many bytes a frame and those behind it are, where it stands whole and is a record
-abbrev pub size_by : Kind → Option Cut → (ℕ → ℕ) → ℕ
+abbrev pub size_by : LogForm → Option Cut → (ℕ → ℕ) → ℕ
 size_by p None more = 0
-size_by p (Some c) more = size_if (read_record p c.0 c.1) (3 + length c.1 + more (suc (suc (length c.1))))
+size_by p (Some c) more = size_if (read_record p c.0 c.1)
+    (suc (size_bytes p.format) + length c.1 + more (size_bytes p.format + length c.1))
 
 -- how many bytes the whole frames of records at the front are
-unfoldable pub whole_size : Kind → ℕ → List ℕ → ℕ
+unfoldable pub whole_size : LogForm → ℕ → List ℕ → ℕ
 whole_size p k [] = 0
 whole_size p (suc k) (b ∷ bs) = whole_size p k bs
-whole_size p zero (b ∷ bs) = size_by p (first_frame (b ∷ bs)) (λ k. whole_size p k bs)
+whole_size p zero (b ∷ bs) = size_by p (first_frame p.format (b ∷ bs)) (λ k. whole_size p k bs)

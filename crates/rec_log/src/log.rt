@@ -1,29 +1,34 @@
 //! A log as its records.
 
-ghost use Rattle.std.specs.Prelude.{◌≡◌, ◌≤◌, ◌<◌, ◌+◌, ◌++◌, ◌∷◌, [], true, false, IfOk, IfErr, OnOk, OnErr, drop, is_some, length, map, take};
+ghost use Rattle.std.specs.Prelude.{◌≡◌, ◌≤◌, ◌<◌, ◌+◌, ◌++◌, ◌∷◌, [], true, false, IfOk, IfErr, OnOk, drop, length, map, take};
 ghost use Rattle.std.specs.List.{AllByRecursion};
+ghost use Rattle.log_rules.specs.order.Logs.{read_log};
 ghost use Rattle.log_rules.specs.sound.Sound.{IsSound};
+ghost use Rattle.log_text.specs.Marks.{mark_of};
 ghost use Rattle.log_text.specs.Reading.{read_record};
-ghost use Rattle.log_text.specs.Frames.{header};
+ghost use Rattle.log_text.specs.Forms.{header, log_form};
 ghost use Rattle.log_text.specs.Made.{frame_record};
-ghost use Rattle.log_text.specs.Payloads.{record_text, records_text};
+ghost use Rattle.log_text.specs.Payloads.{record_size, record_text, records_text};
 ghost use Rattle.rec_log.specs.Sights.{Appended, AreRecords, Breaks, EndsSound, Forced, IsKnown, IsRecord, NotRestarted, NotRewritten, ReadsAs, Restarts, Rewritten, Sounds, body, left_by, log_state, records_of, whole_within};
-ghost use Rattle.log_store.specs.Stores.{Replaces};
-ghost use Rattle.rec_log.specs.Openings.{IsRefused, NotOpened, Opens, Settles};
+ghost use Rattle.log_store.specs.Stores.{AppendBreaks, Appends, MemoryRefuses, Replaces};
+ghost use Rattle.rec_log.specs.Openings.{IsFound, IsRefused, NotOpened, Opens, Settles, is_old, marks_read};
 ghost use Rattle.rec_log.specs.Errors.{log_error_number};
 ghost use Rattle.rec_log.specs.Restarting.{BreaksLeft, PutsLeft, WritesLeft};
 ghost use Rattle.rec_log.specs.Texts.{records_in};
-ghost use Rattle.rec_log.specs.Trimming.{IsIndex, Spells, Trimmed, trim_of};
+ghost use Rattle.rec_log.specs.Trimming.{Spells, Trimmed, trim_of};
 
-use crate::index::Index;
-use crate::opening::{Found, OpenError, find};
+use crate::index::{Index, LogText, push_marks};
+use crate::opening::{Found, OpenError, find_marks, is_old};
 use crate::trimming::trimmed_text;
 use log_store::{LogStore, MemoryStore, StoreError};
-use log_text::{Frame, HEADER, ReadFault, first_frame, read_record};
+use log_text::{Frame, HEADER_SIZE, LogForm, LogFormat, Mark, ReadFault, first_frame, read_record};
 use std::alloc::{AllocError, Global};
 use std::marker::Model;
 use thiserror::Error;
-use tree_model::{Kind, LogRecord};
+use tree_model::{Kind, LogRecord, ProcessId};
+
+/// How many records an event writes at most.
+const RECORDS: usize = 4;
 
 /// Why a log did not do what it was asked.
 #[derive(Clone, Copy, Debug, PartialEq, Eq, Error)]
@@ -51,37 +56,35 @@ impl LogError {
 /// The log of a process. What it keeps of its records is their bytes, and an index for its trims.
 #[derive(Drop)]
 pub struct RecLog<L: LogStore> {
-    kind: Kind,
+    form: LogForm,
     store: L,
-    /// How many bytes at the front are known to be the header and whole records, all of them forced: a
-    /// restart looks for the end of the last whole record behind them alone.
-    known: usize,
-    /// What a trim must know of the records at the front. An append takes its record in; a trim, what stands
-    /// behind it still.
+    /// What a trim must know of the records, and how many bytes at the front are known to be the header and
+    /// whole records, all of them forced.
     index: Index,
     failed: bool,
 }
 
 impl<L: LogStore> Model for RecLog<L> {
-    ghost use Rattle.rec_log.specs.Sights.{LogState, IsKnown, IsLogText, log_state};
-    ghost use Rattle.rec_log.specs.Trimming.{IsIndex};
+    ghost use Rattle.std.specs.Prelude.{◌≤◌};
+    ghost use Rattle.rec_log.specs.Sights.{LogState, IsLogText, log_state};
+    ghost use Rattle.rec_log.specs.Trimming.{IsIndexed};
 
     ghost Value = { LogState };
 
-    ghost view = { λ l. log_state l.kind (L.bytes l.store) (L.forced l.store) (L.failures l.store)
+    ghost view = { λ l. log_state l.form (L.bytes l.store) (L.forced l.store) (L.failures l.store)
         (L.room l.store) l.failed };
 
-    ghost invariant = { λ l. IsLogText l.kind (L.bytes l.store) (L.forced l.store) l.failed
-        × IsKnown l.kind (L.bytes l.store) (L.forced l.store) l.known
-        × IsIndex l.kind (L.bytes l.store) l.index.size l.index.marks.items };
+    ghost invariant = { λ l. IsLogText l.form (L.bytes l.store) (L.forced l.store) l.failed
+        × IsIndexed l.form (L.bytes l.store) l.index.size l.index.marks.items l.index.forced
+        × (l.index.forced.size ≤ L.forced l.store) };
 }
 
 /// The bytes behind the header.
-fn body(bytes: &[u8]) -> &[u8]
+pub(crate) fn body(bytes: &[u8]) -> &[u8]
     requires { 5 ≤ length bytes.now }
     ensures { result.now ≡ body bytes.now }
 {
-    let (_, body) = bytes.split_at(HEADER.len());
+    let (_, body) = bytes.split_at(HEADER_SIZE);
     body
 }
 
@@ -99,13 +102,17 @@ fn left_by(bytes: &[u8], forced: usize, keep: usize) -> &[u8]
 }
 
 /// The records at the front of the bytes behind a header.
-fn records_in(kind: Kind, bytes: &[u8], alloc: Global) -> Result<Vec<LogRecord>, AllocError>
-    ensures { IfOk result (λ records. records.items ≡ records_in kind 0 bytes.now) }
+pub(crate) fn records_in(
+    form: LogForm,
+    bytes: &[u8],
+    alloc: Global,
+) -> Result<Vec<LogRecord>, AllocError>
+    ensures { IfOk result (λ records. records.items ≡ records_in form 0 bytes.now) }
 {
     let mut records = Vec::new(alloc);
     let mut rest = bytes;
-    while let Some((frame_kind, payload, behind)) = first_frame(rest) {
-        match read_record(kind, frame_kind, payload, alloc) {
+    while let Some((frame_kind, payload, behind)) = first_frame(form.format, rest) {
+        match read_record(form, frame_kind, payload, alloc) {
             Ok(record) => records.push(record)?,
             Err(ReadFault::Malformed) => return Ok(records),
             Err(ReadFault::Memory) => return Err(AllocError),
@@ -117,21 +124,21 @@ fn records_in(kind: Kind, bytes: &[u8], alloc: Global) -> Result<Vec<LogRecord>,
 
 /// The records at the front of what stands behind the known bytes.
 pub(crate) fn records_behind(
-    kind: Kind,
+    form: LogForm,
     left: &[u8],
     known: usize,
     alloc: Global,
 ) -> Result<Vec<LogRecord>, AllocError>
     requires { known ≤ length left.now }
-    ensures { IfOk result (λ records. records.items ≡ records_in kind 0 (drop known left.now)) }
+    ensures { IfOk result (λ records. records.items ≡ records_in form 0 (drop known left.now)) }
 {
     let (_, behind) = left.split_at(known);
-    records_in(kind, behind, alloc)
+    records_in(form, behind, alloc)
 }
 
 /// The records that are read off these bytes can stand in a log.
-fn are_sound(kind: Kind, bytes: &[u8])
-    ensures { AllByRecursion (IsSound kind) (records_in kind 0 bytes.now) }
+fn are_sound(form: LogForm, bytes: &[u8])
+    ensures { AllByRecursion (IsSound form.kind) (records_in form 0 bytes.now) }
 {}
 
 /// The first bytes, as a list of their own.
@@ -143,71 +150,132 @@ fn front_of(bytes: &[u8], size: usize, alloc: Global) -> Result<Vec<u8>, AllocEr
     Vec::from_slice(alloc, front)
 }
 
-/// Whether a frame is a record.
-fn is_record(kind: Kind, frame_kind: u8, payload: &[u8], alloc: Global) -> Result<bool, AllocError>
-    ensures { IfOk result (λ is. is ≡ is_some (read_record kind frame_kind payload.now)) }
-{
-    match read_record(kind, frame_kind, payload, alloc) {
-        Ok(_) => Ok(true),
-        Err(ReadFault::Malformed) => Ok(false),
-        Err(ReadFault::Memory) => Err(AllocError),
-    }
+/// Whole frames of records.
+#[derive(Drop)]
+struct Sound {
+    /// Where they end.
+    end: usize,
+    /// The marks of their records.
+    marks: Vec<Mark>,
 }
 
-/// How many bytes the whole frames of records at the front are.
-fn sound_size(kind: Kind, bytes: &[u8], alloc: Global) -> Result<usize, AllocError>
-    ensures { IfOk result (λ size. Sounds kind bytes.now size) }
+/// The whole frames of records at the front.
+fn sound_front(form: LogForm, bytes: &[u8], alloc: Global) -> Result<Sound, AllocError>
+    ensures end { IfOk result (λ sound. Sounds form bytes.now sound.end) }
+    ensures marks { IfOk result (λ sound. map mark_of (records_in form 0 bytes.now) ≡ sound.marks.items) }
 {
+    let mut marks = Vec::new(alloc);
     let mut rest = bytes;
-    while let Some((frame_kind, payload, behind)) = first_frame(rest) {
-        if !is_record(kind, frame_kind, payload, alloc)? {
-            return Ok(bytes.len() - rest.len());
+    while let Some((frame_kind, payload, behind)) = first_frame(form.format, rest) {
+        match read_record(form, frame_kind, payload, alloc) {
+            Ok(record) => marks.push(Mark::of(&record.entry, record.parent))?,
+            Err(ReadFault::Malformed) => {
+                return Ok(Sound {
+                    end: bytes.len() - rest.len(),
+                    marks,
+                });
+            }
+            Err(ReadFault::Memory) => return Err(AllocError),
         }
         rest = behind;
     }
-    Ok(bytes.len() - rest.len())
+    Ok(Sound {
+        end: bytes.len() - rest.len(),
+        marks,
+    })
 }
 
-/// Adds the bytes of these frames.
+/// Adds the bytes of these frames in a log of this form.
 #[tactic(auto, unfolding(log_text::specs::Payloads::records_text))]
-pub(crate) fn push_frames(text: &mut Vec<u8>, frames: &[Frame]) -> Result<(), AllocError>
-    ensures { OnOk result (text.new.items ≡ text.old.items ++ records_text (map frame_record frames.now)) }
+pub(crate) fn push_frames(
+    text: &mut Vec<u8>,
+    form: LogForm,
+    frames: &[Frame],
+) -> Result<(), AllocError>
+    requires { form.format ≡ LogFormat.Second }
+    ensures { OnOk result (text.new.items
+        ≡ text.old.items ++ records_text form (map frame_record frames.now)) }
 {
     for frame in frames {
-        text.extend_from_slice(frame.bytes())?;
+        frame.push(form, text)?;
     }
     Ok(())
 }
 
-/// Where the whole frames of records at the front end, looked for behind the known bytes.
-fn sound_end(kind: Kind, left: &[u8], known: usize, alloc: Global) -> Result<usize, AllocError>
-    requires { IsKnown kind left.now (length left.now) known }
-    ensures { IfOk result (λ end. EndsSound kind left.now end) }
+/// Where the whole frames of records at the front end, looked for behind the known bytes, and the marks of
+/// those behind them.
+fn sound_end(form: LogForm, left: &[u8], known: usize, alloc: Global) -> Result<Sound, AllocError>
+    requires { IsKnown form left.now (length left.now) known }
+    ensures end { IfOk result (λ sound. EndsSound form left.now sound.end) }
+    ensures marks { IfOk result (λ sound. map mark_of (records_in form 0 (drop known left.now))
+        ≡ sound.marks.items) }
 {
     let (_, behind) = left.split_at(known);
-    Ok(known + sound_size(kind, behind, alloc)?)
+    let sound = sound_front(form, behind, alloc)?;
+    Ok(Sound {
+        end: known + sound.end,
+        marks: sound.marks,
+    })
 }
 
-/// What a restart writes. Where a torn tail is left, all that is to stand, and true; else the new frames,
-/// which are to stand behind what is left, and false.
+/// Appends the bytes of a frame in a log of this form.
+fn append_frame<L: LogStore>(store: &mut L, form: LogForm, frame: &Frame) -> Result<(), StoreError>
+    requires { form.format ≡ LogFormat.Second }
+    ensures ok { OnOk result (Appends L.bytes L.forced L.failures store.old store.new
+        (record_text form (frame_record frame.now))) }
+    ensures room { L.room store.old ≤ L.room store.new }
+    ensures memory { IfErr result (λ e. e ≡ StoreError.Memory
+        → MemoryRefuses L.bytes L.forced L.failures store.old store.new (L.room store.old)
+        (length (L.bytes store.old) + length (record_text form (frame_record frame.now)))) }
+    ensures device { IfErr result (λ e. e ≡ StoreError.Device
+        → AppendBreaks L.bytes L.forced L.failures store.old store.new
+        (record_text form (frame_record frame.now))) }
+{
+    match frame.boot() {
+        Some(boot) => store.append(&form.opened(boot)),
+        None => store.append(frame.bytes()),
+    }
+}
+
+/// What a restart writes.
+#[derive(Drop)]
+struct Left {
+    /// Whether a torn tail is left.
+    is_torn: bool,
+    /// Where one is, all that is to stand; else the new frames, which are to stand behind what is left.
+    text: Vec<u8>,
+    /// The marks of the records that are to stand behind the known bytes.
+    marks: Vec<Mark>,
+}
+
+/// What a restart writes over what a crash left.
 fn text_left(
-    kind: Kind,
+    form: LogForm,
     left: &[u8],
     known: usize,
     new: &[Frame],
     alloc: Global,
-) -> Result<(bool, Vec<u8>), AllocError>
-    requires { IsKnown kind left.now (length left.now) known }
-    ensures { IfOk result (λ r. WritesLeft kind left.now (map frame_record new.now) r.0 r.1.items) }
+) -> Result<Left, AllocError>
+    requires second { form.format ≡ LogFormat.Second }
+    requires known { IsKnown form left.now (length left.now) known }
+    ensures text { IfOk result (λ r. WritesLeft form left.now (map frame_record new.now) r.is_torn
+        r.text.items) }
+    ensures marks { IfOk result (λ r. map mark_of (records_in form 0 (drop known left.now)
+        ++ map frame_record new.now) ≡ r.marks.items) }
 {
-    let end = sound_end(kind, left, known, alloc)?;
+    let Sound { end, mut marks } = sound_end(form, left, known, alloc)?;
     let is_torn = end < left.len();
     let mut text = Vec::new(alloc);
     if is_torn {
         text.extend_from_slice(&left[..end])?;
     }
-    push_frames(&mut text, new)?;
-    Ok((is_torn, text))
+    push_frames(&mut text, form, new)?;
+    push_marks(&mut marks, new)?;
+    Ok(Left {
+        is_torn,
+        text,
+        marks,
+    })
 }
 
 /// Puts these bytes in place of all that stands, or behind it, and forces all.
@@ -226,16 +294,21 @@ fn write_left<L: LogStore>(store: &mut L, anew: bool, text: &[u8]) -> Result<(),
 }
 
 /// The text of a log of these records alone.
-fn text_of(new: &[Frame], alloc: Global) -> Result<Vec<u8>, AllocError>
-    ensures { IfOk result (λ text. text.items ≡ header ++ records_text (map frame_record new.now)) }
+fn text_of(form: LogForm, new: &[Frame], alloc: Global) -> Result<LogText, AllocError>
+    requires { form.format ≡ LogFormat.Second }
+    ensures text { IfOk result (λ log. log.text.items
+        ≡ header form.format ++ records_text form (map frame_record new.now)) }
+    ensures marks { IfOk result (λ log. log.marks.items ≡ map mark_of (map frame_record new.now)) }
 {
-    let mut alone = Vec::from_slice(alloc, &HEADER)?;
-    push_frames(&mut alone, new)?;
-    Ok(alone)
+    let mut text = Vec::from_slice(alloc, &form.format.header())?;
+    push_frames(&mut text, form, new)?;
+    let mut marks = Vec::new(alloc);
+    push_marks(&mut marks, new)?;
+    Ok(LogText { text, marks })
 }
 
 /// A store in which this text stands, forced, in place of what stood there.
-fn replaced<L: LogStore + Drop>(store: L, text: &[u8]) -> Result<L, (OpenError, L)>
+pub(crate) fn replaced<L: LogStore + Drop>(store: L, text: &[u8]) -> Result<L, (OpenError, L)>
     ensures ok { IfOk result (λ new. Replaces L.bytes L.forced L.failures store new text.now) }
     ensures err { IfErr result (λ e. IsRefused L.bytes L.forced L.failures store e.1 text.now e.0) }
 {
@@ -247,19 +320,45 @@ fn replaced<L: LogStore + Drop>(store: L, text: &[u8]) -> Result<L, (OpenError, 
     }
 }
 
-/// A store in which a log of whole frames stands that begins with these bytes.
-fn settled<L: LogStore + Drop>(kind: Kind, store: L, alloc: Global) -> Result<L, (OpenError, L)>
-    ensures ok { IfOk result (λ new. Settles kind (L.bytes store) (L.forced store) (L.failures store)
-        (L.bytes new) (L.forced new) (L.failures new)) }
-    ensures err { IfErr result (λ e. NotOpened L.bytes L.forced L.failures kind store e.1 e.0) }
+/// A store in which a log of whole frames stands that begins with these bytes, and the marks of its records.
+pub(crate) fn settled<L: LogStore + Drop>(
+    form: LogForm,
+    store: L,
+    alloc: Global,
+) -> Result<(L, Vec<Mark>), (OpenError, L)>
+    requires { is_old (L.bytes store) ≡ false }
+    ensures ok { IfOk result (λ r. Settles form (L.bytes store) (L.forced store) (L.failures store)
+        (L.bytes r.0) (L.forced r.0) (L.failures r.0)) }
+    ensures marks { IfOk result (λ r. r.1.items ≡ marks_read (read_log form (L.bytes store))) }
+    ensures err { IfErr result (λ e. NotOpened L.bytes L.forced L.failures form store e.1 e.0) }
 {
-    let torn = match find(kind, store.bytes(), alloc) {
+    let (found, marks) = match find_marks(form, store.bytes(), alloc) {
         Err(error) => return Err((error, store)),
-        Ok(Found::Empty) => return replaced(store, &HEADER),
-        Ok(Found::Sound(torn)) => torn,
+        Ok(found) => found,
+    };
+    let store = settled_as(form, store, found, alloc)?;
+    Ok((store, marks))
+}
+
+/// The same, where it is known what the store's bytes are.
+fn settled_as<L: LogStore + Drop>(
+    form: LogForm,
+    store: L,
+    found: Found,
+    alloc: Global,
+) -> Result<L, (OpenError, L)>
+    requires old { is_old (L.bytes store) ≡ false }
+    requires found { IsFound form (L.bytes store) found }
+    ensures ok { IfOk result (λ new. Settles form (L.bytes store) (L.forced store) (L.failures store)
+        (L.bytes new) (L.forced new) (L.failures new)) }
+    ensures err { IfErr result (λ e. NotOpened L.bytes L.forced L.failures form store e.1 e.0) }
+{
+    let torn = match found {
+        Found::Empty => return replaced(store, &form.format.header()),
+        Found::Sound(torn) => torn,
     };
     let forced = store.forced();
-    if torn == 0 && HEADER.len() <= forced {
+    if torn == 0 && HEADER_SIZE <= forced {
         return Ok(store);
     }
     let size = store.bytes().len() - torn;
@@ -270,18 +369,29 @@ fn settled<L: LogStore + Drop>(kind: Kind, store: L, alloc: Global) -> Result<L,
 }
 
 impl<L: LogStore + Drop> RecLog<L> {
-    /// A log over a store. A torn tail is removed, and an empty log is given its header, by one `replace`;
-    /// otherwise the store is left as it is. A refusal hands the store back.
-    pub fn open(store: L, kind: Kind, alloc: Global) -> Result<RecLog<L>, (OpenError, L)>
-        ensures ok { IfOk result (λ log. Opens kind (L.bytes store) (L.forced store) (L.failures store) log) }
-        ensures err { IfErr result (λ e. NotOpened L.bytes L.forced L.failures kind store e.1 e.0) }
+    /// The log of this process over a store. A torn tail is removed, and an empty log is given its header, by
+    /// one `replace`; otherwise the store is left as it is. A refusal hands the store back.
+    pub fn open(
+        store: L,
+        process: ProcessId,
+        kind: Kind,
+        alloc: Global,
+    ) -> Result<RecLog<L>, (OpenError, L)>
+        ensures ok { IfOk result (λ log. Opens (log_form process kind) (L.bytes store) (L.forced store)
+            (L.failures store) log) }
+        ensures err { IfErr result (λ e. NotOpened L.bytes L.forced L.failures (log_form process kind) store
+            e.1 e.0) }
     {
-        let store = settled(kind, store, alloc)?;
+        if is_old(store.bytes()) {
+            return Err((OpenError::OldFormat, store));
+        }
+        let form = LogForm::of(process, kind);
+        let (store, marks) = settled(form, store, alloc)?;
+        let index = Index::new(store.bytes().len(), marks, store.forced());
         Ok(RecLog {
-            kind,
+            form,
             store,
-            known: HEADER.len(),
-            index: Index::new(alloc),
+            index,
             failed: false,
         })
     }
@@ -297,7 +407,7 @@ impl<L: LogStore> RecLog<L> {
 
     /// The store under the log, as it stands.
     pub fn into_store(self) -> L
-        ensures { log_state self.kind (L.bytes result) (L.forced result) (L.failures result)
+        ensures { log_state self.sight.form (L.bytes result) (L.forced result) (L.failures result)
             (L.room result) self.sight.failed ≡ self }
     {
         let RecLog { store, .. } = self;
@@ -307,10 +417,9 @@ impl<L: LogStore> RecLog<L> {
     /// Makes room for so many bytes of frames. A refusal changes nothing.
     pub fn reserve(&mut self, more: usize) -> Result<(), AllocError>
         ensures stays { self.new.sight ≡ self.old.sight }
-        ensures kind { self.new.kind ≡ self.old.kind }
         ensures room { OnOk result (more ≤ self.new.room) }
     {
-        self.index.reserve()?;
+        self.index.reserve(RECORDS)?;
         self.store.reserve(more)
     }
 
@@ -320,15 +429,15 @@ impl<L: LogStore> RecLog<L> {
     /// stand out of order is refused where it is opened. Device: the device failed, and any front of the
     /// frame stands; the log has failed until its restart.
     pub fn append(&mut self, frame: &Frame) -> Result<(), LogError>
-        requires room { length (record_text (frame_record frame.now)) ≤ self.old.room }
+        requires room { record_size (frame_record frame.now) ≤ self.old.room }
         requires works { self.old.sight.failed ≡ false }
-        requires sound { IsRecord self.old.kind (frame_record frame.now) }
+        requires sound { IsRecord self.old.sight.form.kind (frame_record frame.now) }
         ensures ok { OnOk result (Appended self.old self.new (frame_record frame.now)) }
         ensures err { IfErr result (λ e. (e ≡ LogError.Device)
             × Breaks self.old self.new (frame_record frame.now ∷ [])) }
     {
         let from = self.store.bytes().len();
-        if let Err(_) = self.store.append(frame.bytes()) {
+        if let Err(_) = append_frame(&mut self.store, self.form, frame) {
             self.failed = true;
             return Err(LogError::Device);
         }
@@ -348,14 +457,14 @@ impl<L: LogStore> RecLog<L> {
             self.failed = true;
             return Err(LogError::Device);
         }
-        self.known = self.store.bytes().len();
+        self.index.force();
         Ok(())
     }
 
     /// The bytes of the log, its header and its frames, as a list made anew. Behind a failure of the device
     /// a torn frame may stand at the end.
     pub fn text(&self, alloc: Global) -> Result<Vec<u8>, AllocError>
-        ensures { IfOk result (λ text. ReadsAs self.now.kind text.items
+        ensures { IfOk result (λ text. ReadsAs self.now.sight.form text.items
             (records_of self.now.sight.kept) self.now.sight.failed) }
     {
         Vec::from_slice(alloc, self.store.bytes())
@@ -372,7 +481,7 @@ impl<L: LogStore> RecLog<L> {
     pub fn records(&self, alloc: Global) -> Result<Vec<LogRecord>, AllocError>
         ensures { IfOk result (λ records. records.items ≡ records_of self.now.sight.kept) }
     {
-        records_in(self.kind, body(self.store.bytes()), alloc)
+        records_in(self.form, body(self.store.bytes()), alloc)
     }
 
     /// The records that a crash would leave which keeps so many bytes behind the forced front, as a list
@@ -382,7 +491,7 @@ impl<L: LogStore> RecLog<L> {
     {
         let forced = self.store.forced();
         let left = left_by(self.store.bytes(), forced, keep);
-        records_in(self.kind, body(left), alloc)
+        records_in(self.form, body(left), alloc)
     }
 
     /// How many of the records behind the forced ones a crash would leave that keeps so many bytes behind
@@ -392,16 +501,17 @@ impl<L: LogStore> RecLog<L> {
             ≡ length (whole_within (self.now.sight.behind + keep) self.now.sight.kept.unforced)) }
     {
         let (bytes, forced) = (self.store.bytes(), self.store.forced());
-        let left = records_behind(self.kind, left_by(bytes, forced, keep), self.known, alloc)?;
-        let front = records_behind(self.kind, left_by(bytes, forced, 0), self.known, alloc)?;
+        let known = self.index.forced.size;
+        let left = records_behind(self.form, left_by(bytes, forced, keep), known, alloc)?;
+        let front = records_behind(self.form, left_by(bytes, forced, 0), known, alloc)?;
         Ok(left.len() - front.len())
     }
 
     /// Each record that stands was read off bytes: so it can stand in a log of this sort of process.
     pub fn records_are_sound(&self)
-        ensures { AllByRecursion (IsSound self.now.kind) (records_of self.now.sight.kept) }
+        ensures { AllByRecursion (IsSound self.now.sight.form.kind) (records_of self.now.sight.kept) }
     {
-        are_sound(self.kind, body(self.store.bytes()));
+        are_sound(self.form, body(self.store.bytes()));
     }
 
     /// After a crash that kept so many bytes behind the forced front: the records of what is left, a torn
@@ -410,30 +520,32 @@ impl<L: LogStore> RecLog<L> {
     /// Device: what is left stands, and behind it any first ones of the new records; what was forced is; and
     /// the log has failed.
     pub fn restart(&mut self, keep: usize, new: &[Frame], alloc: Global) -> Result<(), LogError>
-        requires { AreRecords self.old.kind (map frame_record new.now) }
-        ensures kind { self.new.kind ≡ self.old.kind }
+        requires { AreRecords self.old.sight.form.kind (map frame_record new.now) }
+        ensures form { self.new.sight.form ≡ self.old.sight.form }
         ensures ok { OnOk result (Restarts self.old self.new keep (map frame_record new.now)) }
         ensures err { IfErr result (λ e. NotRestarted self.old self.new keep (map frame_record new.now) e) }
     {
         let forced = self.store.forced();
         let left = left_by(self.store.bytes(), forced, keep);
-        let (is_torn, text) = match text_left(self.kind, left, self.known, new, alloc) {
-            Ok(writing) => writing,
+        let left = match text_left(self.form, left, self.index.forced.size, new, alloc) {
+            Ok(left) => left,
             Err(_) => return Err(LogError::Memory),
         };
-        if let Err(_) = self.store.reserve(text.len()) {
+        if let Err(_) = self.index.reserve(left.marks.len()) {
             return Err(LogError::Memory);
         }
-        self.index = Index::new(alloc);
+        if let Err(_) = self.store.reserve(left.text.len()) {
+            return Err(LogError::Memory);
+        }
         self.store.crash(keep);
-        match write_left(&mut self.store, is_torn, &text) {
+        match write_left(&mut self.store, left.is_torn, &left.text) {
             Ok(()) => {
-                self.known = self.store.bytes().len();
+                self.index.go_back(&left.marks, self.store.bytes().len());
                 self.failed = false;
                 Ok(())
             }
             Err(_) => {
-                self.known = HEADER.len();
+                self.index.clear();
                 self.failed = true;
                 Err(LogError::Device)
             }
@@ -445,37 +557,37 @@ impl<L: LogStore> RecLog<L> {
     /// failed.
     pub fn rewrite(&mut self, new: &[Frame], alloc: Global) -> Result<(), LogError>
         requires works { self.old.sight.failed ≡ false }
-        requires sound { AreRecords self.old.kind (map frame_record new.now) }
+        requires sound { AreRecords self.old.sight.form.kind (map frame_record new.now) }
         ensures ok { OnOk result (Rewritten self.old self.new (map frame_record new.now)) }
         ensures err { IfErr result (λ e. NotRewritten self.old self.new (map frame_record new.now) e) }
     {
-        match text_of(new, alloc) {
-            Ok(text) => self.put(&text, Index::new(alloc)),
+        match text_of(self.form, new, alloc) {
+            Ok(LogText { text, marks }) => self.put(&text, marks),
             Err(_) => Err(LogError::Memory),
         }
     }
 
-    /// Puts the log of this text in place of all that stand, with this index of it.
-    fn put(&mut self, text: &[u8], index: Index) -> Result<(), LogError>
+    /// Puts the log of this text in place of all that stand; these are the marks of its records.
+    fn put(&mut self, text: &[u8], marks: Vec<Mark>) -> Result<(), LogError>
         requires works { self.old.sight.failed ≡ false }
-        requires index { IsIndex self.old.kind text.now index.size index.marks.items }
-        requires sound { Spells self.old.kind text.now (records_in self.old.kind 0 (body text.now)) }
-        ensures kind { self.new.kind ≡ self.old.kind }
-        ensures ok { OnOk result (Rewritten self.old self.new (records_in self.old.kind 0 (body text.now))) }
+        requires marks { map mark_of (records_in self.old.sight.form 0 (body text.now)) ≡ marks.items }
+        requires sound { Spells self.old.sight.form text.now
+            (records_in self.old.sight.form 0 (body text.now)) }
+        ensures form { self.new.sight.form ≡ self.old.sight.form }
+        ensures ok { OnOk result (Rewritten self.old self.new
+            (records_in self.old.sight.form 0 (body text.now))) }
         ensures err { IfErr result (λ e. NotRewritten self.old self.new
-            (records_in self.old.kind 0 (body text.now)) e) }
+            (records_in self.old.sight.form 0 (body text.now)) e) }
     {
         if let Err(_) = self.store.reserve(text.len()) {
             return Err(LogError::Memory);
         }
         if let Err(_) = self.store.replace(text) {
-            self.known = HEADER.len();
             self.index.clear();
             self.failed = true;
             return Err(LogError::Device);
         }
-        self.known = text.len();
-        self.index = index;
+        self.index = Index::new(text.len(), marks, text.len());
         Ok(())
     }
 
@@ -485,28 +597,24 @@ impl<L: LogStore> RecLog<L> {
     /// as it was or trimmed, and the log has failed.
     pub fn trim(&mut self, behind: &[Frame], alloc: Global) -> Result<usize, LogError>
         requires works { self.old.sight.failed ≡ false }
-        requires sound { AreRecords self.old.kind (map frame_record behind.now) }
-        ensures kind { self.new.kind ≡ self.old.kind }
+        requires sound { AreRecords self.old.sight.form.kind (map frame_record behind.now) }
+        ensures form { self.new.sight.form ≡ self.old.sight.form }
         ensures ok { IfOk result (λ count. Trimmed self.old self.new (map frame_record behind.now) count) }
         ensures err { IfErr result (λ e. NotRewritten self.old self.new
             (trim_of self.old (map frame_record behind.now)) e) }
     {
         let bytes = self.store.bytes();
-        if let Err(_) = self.index.extend(self.kind, bytes, alloc) {
+        // All is indexed, but where an append had no memory for the mark of its record.
+        if let Err(_) = self.index.extend(self.form, bytes, alloc) {
             return Err(LogError::Memory);
         }
-        let (text, index) = match trimmed_text(
-            self.kind,
-            body(bytes),
-            &self.index.marks,
-            behind,
-            alloc,
-        ) {
-            Ok(trimmed) => trimmed,
+        let log = match trimmed_text(self.form, body(bytes), &self.index.marks, behind, alloc) {
+            Ok(log) => log,
             Err(_) => return Err(LogError::Memory),
         };
-        let count = index.marks.len() + behind.len();
-        match self.put(&text, index) {
+        let LogText { text, marks } = log;
+        let count = marks.len();
+        match self.put(&text, marks) {
             Ok(()) => Ok(count),
             Err(error) => Err(error),
         }

@@ -1,17 +1,18 @@
 //! Opening a log over the bytes of a store.
 
-ghost use Rattle.std.specs.Prelude.{◌≡◌, ◌≤◌, ◌-◌, None, Some, IfOk, IfErr, OnOk, length, take, drop};
+ghost use Rattle.std.specs.Prelude.{◌≡◌, ◌≤◌, ◌-◌, None, Some, IfOk, IfErr, OnOk, length, take, drop, option_map};
+ghost use Rattle.log_rules.specs.order.Logs.{read_frames, read_log};
+ghost use Rattle.log_rules.specs.order.Orders.{nothing_seen};
+ghost use Rattle.log_text.specs.Marks.{mark_of};
 ghost use Rattle.log_text.specs.Reading.{read_record};
-ghost use Rattle.log_text.specs.Frames.{header};
 ghost use Rattle.rec_log.specs.Errors.{open_error_number};
-ghost use Rattle.rec_log.specs.Openings.{Ends, IsFault, IsFound, IsNoLog, after_frame};
+ghost use Rattle.rec_log.specs.Openings.{Ends, IsFault, IsFound, IsNoLog, after_frame, is_old, marks_read};
 ghost use Rattle.tree_model.specs.Records.{same_bytes};
 
 use log_rules::order::Seen;
-use log_text::{HEADER, ReadFault, first_frame, read_record};
-use std::alloc::Global;
+use log_text::{HEADER_SIZE, LogForm, LogFormat, Mark, ReadFault, first_frame, read_record};
+use std::alloc::{AllocError, Global};
 use thiserror::Error;
-use tree_model::Kind;
 
 /// Why a log was not opened.
 #[derive(Clone, Copy, Debug, PartialEq, Eq, Error)]
@@ -25,10 +26,13 @@ pub enum OpenError {
     /// The bytes are no log: the first byte of the first frame that is wrong, 0 for the header.
     #[error("damaged at byte {0}")]
     Damaged(usize),
+    /// The log is of the first format; the store is as it was, and `RecLog::migrate` carries it over.
+    #[error("a log of the first format")]
+    OldFormat,
 }
 
 impl OpenError {
-    /// The number of the refusal, from 1 to 3.
+    /// The number of the refusal, from 1 to 4.
     pub fn number(self) -> u8
         ensures { result ≡ open_error_number self }
     {
@@ -36,44 +40,64 @@ impl OpenError {
             OpenError::Memory => 1,
             OpenError::Device => 2,
             OpenError::Damaged(_) => 3,
+            OpenError::OldFormat => 4,
         }
     }
 }
 
-/// Takes the record of a frame. Malformed comes exactly where there is none, or it may not follow the
-/// records so far. Behind an error nothing more is known.
+impl From<AllocError> for OpenError {
+    ghost use Rattle.std.specs.Prelude.{◌≡◌};
+    ghost use Rattle.rec_log.specs.declared.opening.OpenError.TheVariants.{Memory};
+
+    ghost from_gives = { λ _ e. e ≡ Memory };
+
+    fn from(_error: AllocError) -> OpenError {
+        OpenError::Memory
+    }
+}
+
+/// Takes the record of a frame, and gives its mark. Malformed comes exactly where there is none, or it may not
+/// follow the records so far. Behind an error nothing more is known.
 fn take_frame(
     seen: &mut Seen,
-    kind: Kind,
+    form: LogForm,
     frame_kind: u8,
     payload: &[u8],
     alloc: Global,
-) -> Result<(), ReadFault>
+) -> Result<Mark, ReadFault>
     ensures ok { OnOk result (after_frame seen.old
-        (read_record kind frame_kind payload.now) ≡ Some seen.new) }
+        (read_record form frame_kind payload.now) ≡ Some seen.new) }
+    ensures mark { IfOk result (λ mark. option_map mark_of (read_record form frame_kind payload.now) ≡ Some mark) }
     ensures err { IfErr result (λ e. e ≡ ReadFault.Malformed
-        → after_frame seen.old (read_record kind frame_kind payload.now) ≡ None) }
+        → after_frame seen.old (read_record form frame_kind payload.now) ≡ None) }
 {
-    let entry = read_record(kind, frame_kind, payload, alloc)?;
-    seen.take(entry)
+    let record = read_record(form, frame_kind, payload, alloc)?;
+    let mark = Mark::of(&record.entry, record.parent);
+    seen.take(record)?;
+    Ok(mark)
 }
 
-/// How many bytes of a torn tail stand behind the sound frames in the bytes behind a header.
-pub fn torn_tail(kind: Kind, bytes: &[u8], alloc: Global) -> Result<usize, OpenError>
-    ensures ok { IfOk result (λ torn. Ends kind bytes.now torn) }
-    ensures err { IfErr result (λ e. IsFault kind bytes.now e) }
+/// How many bytes of a torn tail stand behind the sound frames in the bytes behind a header, and the marks of
+/// the records of these frames.
+fn torn_tail(form: LogForm, bytes: &[u8], alloc: Global) -> Result<(usize, Vec<Mark>), OpenError>
+    ensures ok { IfOk result (λ r. Ends form bytes.now r.0) }
+    ensures marks { IfOk result (λ r. r.1.items
+        ≡ marks_read (read_frames form 5 nothing_seen 0 bytes.now)) }
+    ensures err { IfErr result (λ e. IsFault form bytes.now e) }
 {
     let mut seen = Seen::new(alloc);
+    let mut marks = Vec::new(alloc);
     let mut rest = bytes;
-    while let Some((frame_kind, payload, behind)) = first_frame(rest) {
-        let place = HEADER.len() + (bytes.len() - rest.len());
-        match take_frame(&mut seen, kind, frame_kind, payload, alloc) {
-            Ok(()) => rest = behind,
+    while let Some((frame_kind, payload, behind)) = first_frame(form.format, rest) {
+        let place = HEADER_SIZE + (bytes.len() - rest.len());
+        match take_frame(&mut seen, form, frame_kind, payload, alloc) {
+            Ok(mark) => marks.extend_from_slice(&[mark])?,
             Err(ReadFault::Malformed) => return Err(OpenError::Damaged(place)),
             Err(ReadFault::Memory) => return Err(OpenError::Memory),
         }
+        rest = behind;
     }
-    Ok(rest.len())
+    Ok((rest.len(), marks))
 }
 
 /// What a store's bytes are to a log that opens.
@@ -85,25 +109,39 @@ pub enum Found {
     Sound(usize),
 }
 
-/// What these bytes are.
-#[tactic(auto, unfolding(log_rules::specs::order::Logs::read_log))]
-pub fn find(kind: Kind, bytes: &[u8], alloc: Global) -> Result<Found, OpenError>
-    ensures ok { IfOk result (λ found. IsFound kind bytes.now found) }
-    ensures err { IfErr result (λ e. IsNoLog kind bytes.now e) }
+/// What these bytes are as a log of this form.
+pub fn find(form: LogForm, bytes: &[u8], alloc: Global) -> Result<Found, OpenError>
+    ensures ok { IfOk result (λ found. IsFound form bytes.now found) }
+    ensures err { IfErr result (λ e. IsNoLog form bytes.now e) }
 {
-    if bytes.len() < HEADER.len() {
-        return if is_same(bytes, &HEADER[..bytes.len()]) {
-            Ok(Found::Empty)
+    let (found, _) = find_marks(form, bytes, alloc)?;
+    Ok(found)
+}
+
+/// What these bytes are as a log of this form, and the marks of its records.
+#[tactic(auto, unfolding(log_rules::specs::order::Logs::read_log))]
+pub(crate) fn find_marks(
+    form: LogForm,
+    bytes: &[u8],
+    alloc: Global,
+) -> Result<(Found, Vec<Mark>), OpenError>
+    ensures ok { IfOk result (λ r. IsFound form bytes.now r.0) }
+    ensures marks { IfOk result (λ r. r.1.items ≡ marks_read (read_log form bytes.now)) }
+    ensures err { IfErr result (λ e. IsNoLog form bytes.now e) }
+{
+    if bytes.len() < HEADER_SIZE {
+        return if is_same(bytes, &form.format.header()[..bytes.len()]) {
+            Ok((Found::Empty, Vec::new(alloc)))
         } else {
             Err(OpenError::Damaged(0))
         };
     }
-    let (header, frames) = bytes.split_at(HEADER.len());
-    if !is_same(header, &HEADER) {
+    let (header, frames) = bytes.split_at(HEADER_SIZE);
+    if !is_same(header, &form.format.header()) {
         return Err(OpenError::Damaged(0));
     }
-    let torn = torn_tail(kind, frames, alloc)?;
-    Ok(Found::Sound(torn))
+    let (torn, marks) = torn_tail(form, frames, alloc)?;
+    Ok((Found::Sound(torn), marks))
 }
 
 #[tactic(auto, using(crate::proofs::Keys::same_bytes_is_equality))]
@@ -111,4 +149,12 @@ fn is_same(one: &[u8], other: &[u8]) -> bool
     ensures { result ≡ same_bytes one.now other.now }
 {
     one == other
+}
+
+/// Whether the bytes begin as a log of the first format.
+pub(crate) fn is_old(bytes: &[u8]) -> bool
+    ensures { result ≡ is_old bytes.now }
+{
+    let front = &bytes[..bytes.len().min(HEADER_SIZE)];
+    is_same(front, &LogFormat::First.header())
 }

@@ -6,21 +6,36 @@ use logs_script::read_logs;
 use rec_log::{OpenError, RecLog};
 use std::alloc::{AllocError, Global};
 use tree_engine::{Output, Status, run_tree};
-use tree_model::Kind;
+use tree_model::{Kind, ProcessId};
 
-/// What opening a log answers: how many records it has, or the place of its damage.
+/// Whose log it is.
+#[derive(Clone, Copy)]
+struct Owner {
+    process: ProcessId,
+    kind: Kind,
+}
+
+/// What opening a log answers: how many records it has, the place of its damage, or that it is of the first
+/// format.
 #[derive(Clone, Copy, PartialEq, Eq)]
 enum Answer {
     Records(usize),
     Damaged(usize),
+    OldFormat,
 }
 
 /// What opening a log of these bytes answers.
-fn answer_to(alloc: Global, kind: Kind, text: &[u8]) -> Option<Answer> {
+fn answer_to(alloc: Global, owner: Owner, text: &[u8]) -> Option<Answer> {
     let bytes = Vec::from_slice(alloc, text).ok()?;
-    match RecLog::open(MemoryStore::from_bytes(bytes), kind, alloc) {
+    match RecLog::open(
+        MemoryStore::from_bytes(bytes),
+        owner.process,
+        owner.kind,
+        alloc,
+    ) {
         Ok(log) => Some(Answer::Records(log.records(alloc).ok()?.len())),
         Err((OpenError::Damaged(place), _store)) => Some(Answer::Damaged(place)),
+        Err((OpenError::OldFormat, _store)) => Some(Answer::OldFormat),
         Err(_) => None,
     }
 }
@@ -37,6 +52,7 @@ fn push_alike(
     let line = match answer {
         Answer::Records(count) => format!(in alloc; "{place}: {from} to {to}: records {count}\n")?,
         Answer::Damaged(at) => format!(in alloc; "{place}: {from} to {to}: damaged {at}\n")?,
+        Answer::OldFormat => format!(in alloc; "{place}: {from} to {to}: old format\n")?,
     };
     out.extend_from_slice(line.as_bytes())
 }
@@ -45,14 +61,14 @@ fn push_alike(
 fn push_values(
     alloc: Global,
     out: &mut Vec<u8>,
-    kind: Kind,
+    owner: Owner,
     text: &mut Vec<u8>,
     place: usize,
 ) -> Option<()> {
     let (mut first, mut before) = (0u8, None);
     for value in 0..=255u8 {
         *text.get_mut(place)? = value;
-        let answer = answer_to(alloc, kind, text)?;
+        let answer = answer_to(alloc, owner, text)?;
         if let Some(before) = before {
             if before != answer {
                 push_alike(alloc, out, place, first, value.saturating_sub(1), before).ok()?;
@@ -65,10 +81,10 @@ fn push_values(
 }
 
 /// The answers to each value of each byte of a log.
-fn push_log(alloc: Global, out: &mut Vec<u8>, kind: Kind, log: &[u8]) -> Option<()> {
+fn push_log(alloc: Global, out: &mut Vec<u8>, owner: Owner, log: &[u8]) -> Option<()> {
     for place in 0..log.len() {
         let mut text = Vec::from_slice(alloc, log).ok()?;
-        push_values(alloc, out, kind, &mut text, place)?;
+        push_values(alloc, out, owner, &mut text, place)?;
     }
     Some(())
 }
@@ -77,12 +93,11 @@ fn push_log(alloc: Global, out: &mut Vec<u8>, kind: Kind, log: &[u8]) -> Option<
 pub(crate) fn run_damages(alloc: Global, input: &[u8], out: &mut Vec<u8>) -> Option<()> {
     let (tree, logs) = read_logs(alloc, input).ok()?;
     let first = tree.entries().first()?;
-    push_log(
-        alloc,
-        out,
-        first.kind,
-        logs.as_slice().first()?.bytes.as_slice(),
-    )
+    let owner = Owner {
+        process: first.id,
+        kind: first.kind,
+    };
+    push_log(alloc, out, owner, logs.as_slice().first()?.bytes.as_slice())
 }
 
 /// What the engine writes of a script.

@@ -10,6 +10,7 @@ mod damages;
 mod edges;
 mod fakes;
 mod floods;
+mod migrations;
 mod scripts;
 mod stops;
 mod streams;
@@ -17,10 +18,12 @@ mod worlds;
 
 use crate::damages::{run_cuts, run_damages};
 use crate::edges::holds;
+use crate::migrations::run_migrations;
 use crate::stops::run_stops;
 use audit_engine::{Detail, run_audit, run_log};
 use crash_engine::run_crash;
 use explanation::{Script, refusal_text};
+use migrate_engine::run_migrate;
 use std::alloc::Global;
 use std::{fs, io};
 use tree_engine::{Output, run_tree};
@@ -49,6 +52,10 @@ enum Program {
     Xa,
     /// The logs of a tree, for what they hold.
     Log,
+    /// The logs of a tree, for the same logs by the second format.
+    Migrate,
+    /// The logs of a tree, for what stops of their migrations leave.
+    Migrations,
     /// The logs of a tree, for how its cases stand and end.
     Audit,
     /// Likewise, and what decided those that are in doubt or show a mismatch.
@@ -84,6 +91,8 @@ impl Program {
             "damages" => Some(Program::Damages),
             "xa" => Some(Program::Xa),
             "log" => Some(Program::Log),
+            "migrate" => Some(Program::Migrate),
+            "migrations" => Some(Program::Migrations),
             "audit" => Some(Program::Audit),
             "explain" => Some(Program::Explain),
             "why_tree" => Some(Program::Why(Script::Tree)),
@@ -105,7 +114,8 @@ impl Program {
             Program::Cuts => ("tree", "cuts"),
             Program::Damages => ("logs", "damages"),
             Program::Xa => ("xa", "out"),
-            Program::Log | Program::Audit | Program::Explain => ("logs", "out"),
+            Program::Migrations => ("logs", "migrations"),
+            Program::Log | Program::Migrate | Program::Audit | Program::Explain => ("logs", "out"),
             Program::Why(Script::Tree) => ("tree", "why"),
             Program::Why(Script::Xa) => ("xa", "why"),
             Program::Why(Script::Logs) => ("logs", "why"),
@@ -137,7 +147,12 @@ impl Program {
                 return Some(0);
             }
             Program::Xa => run_xa(alloc, &mut input, out),
+            Program::Migrations => {
+                run_migrations(alloc, input, out)?;
+                return Some(0);
+            }
             Program::Log => run_log(alloc, &mut input, out),
+            Program::Migrate => run_migrate(alloc, &mut input, out),
             Program::Audit => return audited(alloc, Detail::Lines, input, out),
             Program::Explain => return audited(alloc, Detail::Explained, input, out),
             Program::Why(script) => return told(alloc, script, input, out),

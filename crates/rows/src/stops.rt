@@ -79,7 +79,10 @@ fn opened(alloc: Global, tree: &Tree, stop: Stop) -> Option<Result<World<FaultSt
     let stores = stores(alloc, tree, stop).ok()?;
     let tree = copied_tree(alloc, tree.entries()).ok()?;
     tree.check().ok()?;
-    Some(World::with_stores(alloc, tree, stores))
+    match World::with_stores(alloc, tree, stores) {
+        Ok(world) => Some(Ok(world)),
+        Err((refusal, _stores)) => Some(Err(refusal)),
+    }
 }
 
 /// Makes the events up to the first at which a device fails, and answers whether there is one.
@@ -435,7 +438,7 @@ fn votes_as_promised(world: &World<FaultStore>, promised: bool) -> Result<bool, 
 }
 
 /// How many bytes a manager forces as it promises: its write, and its promise.
-const PROMISE_BYTES: usize = 60;
+const PROMISE_BYTES: usize = 62;
 
 /// Whether a manager votes as it promised whose device stops at its promise, with so many of the bytes done.
 fn votes_behind_stop(alloc: Global, tree: &Tree, events: &[Event], keep: usize) -> Option<bool> {

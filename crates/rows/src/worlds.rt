@@ -1,7 +1,7 @@
 //! A tree that runs over stores: what is refused, and each public call once, with ample memory: none of them
 //! answers want of memory.
 
-use log_store::{FaultStore, MemoryStore, StoreCall};
+use log_store::{FaultStore, LogStore, MemoryStore, StoreCall};
 use std::alloc::{AllocError, Global};
 use tree_model::{
     Act, Bytes, Case, Event, Happening, Input, Kind, Message, Op, Presumption, ProcessId,
@@ -22,8 +22,11 @@ fn listed(id: ProcessId, kind: Kind, parent: Option<ProcessId>) -> TreeEntry {
     }
 }
 
+/// Why a tree does not open, and the stores that it hands back.
+type Refusal = (OpenError, Vec<FaultStore>);
+
 /// A root with one manager below it, over these stores, or why they are refused.
-fn opened(alloc: Global, stores: Vec<FaultStore>) -> Option<Result<World<FaultStore>, OpenError>> {
+fn opened(alloc: Global, stores: Vec<FaultStore>) -> Option<Result<World<FaultStore>, Refusal>> {
     let entries = vec![in alloc;
         listed(ROOT, Kind::Coordinator, None),
         listed(CHILD, Kind::Manager, Some(ROOT)),
@@ -50,26 +53,31 @@ fn failing_store(alloc: Global, nth: u64, keep: usize) -> FaultStore {
     FaultStore::new(MemoryStore::new(alloc), StoreCall::Force, nth, keep)
 }
 
-/// Why a tree does not open over these stores, if it does not.
-fn refusal_over(alloc: Global, stores: Vec<FaultStore>) -> Option<OpenError> {
-    match opened(alloc, stores)? {
-        Ok(world) => {
-            world.close();
-            None
+/// Whether a tree does not open over these stores for this error, and hands back stores of so many bytes.
+fn is_refused(alloc: Global, stores: Vec<FaultStore>, why: OpenError, sizes: &[usize]) -> bool {
+    match opened(alloc, stores) {
+        Some(Err((refusal, stores))) => {
+            refusal == why
+                && stores.len() == sizes.len()
+                && stores
+                    .iter()
+                    .zip(sizes)
+                    .all(|(store, size)| store.bytes().len() == *size)
         }
-        Err(refusal) => Some(refusal),
+        _ => false,
     }
 }
 
-/// A process without a store is refused, and one with bytes, and one whose device fails.
+/// A process without a store is refused, and one with bytes, and one whose device fails. The stores are handed
+/// back: one whose process had opened has its header and its first record, 23 bytes.
 pub(crate) fn stores_are_refused(alloc: Global) -> Result<bool, AllocError> {
     let one = vec![in alloc; sound_store(alloc)]?;
     let written = vec![in alloc; store_of(alloc, b"x")?, sound_store(alloc)]?;
     let failing = vec![in alloc; sound_store(alloc), failing_store(alloc, 1, 0)]?;
     Ok(
-        refusal_over(alloc, one) == Some(OpenError::Store(CHILD))
-            && refusal_over(alloc, written) == Some(OpenError::Store(ROOT))
-            && refusal_over(alloc, failing) == Some(OpenError::Device(CHILD)),
+        is_refused(alloc, one, OpenError::Store(CHILD), &[23])
+            && is_refused(alloc, written, OpenError::Store(ROOT), &[1, 0])
+            && is_refused(alloc, failing, OpenError::Device(CHILD), &[23, 23]),
     )
 }
 

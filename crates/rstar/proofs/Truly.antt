@@ -15,7 +15,9 @@ use Rattle.logs_script.specs.declared.line.ProcessLog.{ProcessLog}
 use Rattle.logs_script.specs.Logs.{IsLogsText, bytes_of}
 use Rattle.link_script.specs.Inputs.{IsScript}
 use Rattle.logs_script.specs.Faults.{Damage, damage_text, first_damage}
-use Rattle.log_rules.specs.order.Logs.{read_log}
+use Rattle.log_text.specs.Forms.{form_in, log_form}
+use Rattle.log_rules.specs.order.Logs.{read_as}
+use Rattle.logs_script.proofs.Formats.{second_form}
 use Rattle.logs_script.specs.spelling.Fits.{FitsEntry, FitsTree}
 use Rattle.logs_script.proofs.spelling.OneWay.{read_has_no_fault, read_in_one_way}
 use Rattle.logs_script.proofs.spelling.Read.{table_fits}
@@ -23,14 +25,13 @@ use Rattle.logs_script.proofs.spelling.Written.{written_is_read}
 use Rattle.rec_log.specs.Sights.{body, records_of}
 use Rattle.rec_log.specs.Texts.{records_in}
 use Rattle.report_io.specs.declared.status.Status.TheVariants.{Ended}
-use Rattle.core_model.specs.States.{CoreState}
+use Rattle.core_model.specs.States.{CoreState, form_of, kind_of_role}
 use Rattle.core_law.specs.Fits.{KeepsOwn}
 use Rattle.core_law.proofs.worlds.Kept.{keeps_own}
 use Rattle.core_law.specs.worlds.Refusals.{LeadsTo, Refusal}
 use Rattle.core_law.specs.worlds.Runs.{IsOpened}
 use Rattle.core_law.specs.worlds.Ties.{Follows}
 use Rattle.core_law.specs.worlds.Worlds.{WorldState}
-use Rattle.tree_node.specs.Nodes.{log_kind}
 use Rattle.tree_world.specs.Nodes.{SpellsLogBy}
 use Rattle.tree_engine.specs.declared.tree.Output.TheVariants.{Logs}
 use Rattle.tree_world.specs.LogsLeft.{AreLogs}
@@ -41,7 +42,7 @@ use Rattle.tree_audit.specs.Truths.{AreKeptBehind, AreTrue}
 use Rattle.tree_audit.proofs.TreePlaces.{listed_entry, named_so, not_found, role_if}
 use Rattle.tree_audit.proofs.Truths.{true_of_runs}
 use Rattle.audit_engine.specs.Audits.{AuditsLogs, IsAudited, IsAuditReport, OfInput, OfLog, Reports, audit_lines, ending_by}
-use Rattle.audit_engine.specs.Refusals.{TellsDamage}
+use Rattle.logs_script.specs.Refusals.{TellsDamage}
 use Rattle.audit_engine.specs.declared.detail.Detail.{Detail}
 use Rattle.audit_engine.specs.declared.ending.Ending.{Ending}
 use Rattle.audit_engine.specs.declared.ending.Ending.TheVariants as ending
@@ -67,19 +68,22 @@ module _ (end : WorldState) (t : IsTree end.tree) (es : List Made) (w : World) (
     unfolding kept_lists
     kept_by e found here c there =
         let at = follows.nodes q c there in
-        let kind : log_kind c.place.role ≡ e.kind =
-        ap (λ (p : Place). log_kind p.role) at.place ∙ entry_log end.tree t q e found in
+        let mine : form_of c.place ≡ log_form q e.kind =
+        ap (λ (p : Place). log_form p.me (kind_of_role c.place.role)) at.place
+        ∙ ap (log_form q) (ap (λ (p : Place). kind_of_role p.role) at.place ∙ entry_log end.tree t q e found) in
         let spells : SpellsLogBy (Some c) (bytes_of logs q) =
         subst (λ o. SpellsLogBy o (bytes_of logs q)) there
         (subst (λ p. SpellsLogBy (end.node_at p) (bytes_of logs q)) here
         (spells_at end end.tree logs q e left found)) in
-        let sound = subst (λ p. IsSoundLog e.kind (bytes_of logs p)) here
+        let sound = subst (λ p. IsSoundLog p e.kind (bytes_of logs p)) here
         (sound_at logs end.tree q e none found) in
+        let second : form_in (bytes_of logs q) q e.kind ≡ log_form q e.kind =
+        second_form (bytes_of logs q) q e.kind spells.begins in
         ap (λ o. own_records (place_of end.tree q)
-        (whole_records (read_log (entry_kind o) (bytes_of logs q)))) found
+        (whole_records (read_as q (entry_kind o) (bytes_of logs q)))) found
         ∙ ap (own_records (place_of end.tree q))
-        (sound_records e.kind (bytes_of logs q) sound.records sound.torn sound.read
-        ∙ ap (λ k. records_in k 0 (body (bytes_of logs q))) (sym kind)
+        (sound_records (form_in (bytes_of logs q) q e.kind) (bytes_of logs q) sound.records sound.torn sound.read
+        ∙ ap (λ f. records_in f 0 (body (bytes_of logs q))) (second ∙ sym mine)
         ∙ spells.read)
         ∙ ap (λ p. own_records p (records_of c.log.kept)) (sym at.place)
         ∙ own_kept (w.at q) c at.stands

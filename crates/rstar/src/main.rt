@@ -5,7 +5,9 @@
 #![tactic(auto)]
 
 mod explainer;
+mod files;
 mod law;
+mod migration;
 mod node;
 mod running;
 
@@ -15,6 +17,8 @@ use clap::error::ErrorKind;
 use clap::{Arg, ArgAction, ArgMatches, Command, Error};
 use crash_engine::run_crash;
 use explanation::{Script, failure_text, refusal_text};
+use migrate_engine::run_migrate;
+use migration::FileWords;
 use node::NodeWords;
 use report_io::{read_all, write_all};
 use std::alloc::{AllocError, Global};
@@ -39,6 +43,8 @@ enum Request {
     Log,
     /// How the cases of a tree stand and end by its logs, and how much is written of that.
     Audit(Detail),
+    /// The logs of a tree, by the second format.
+    Migrate,
     /// What each crash of a tree script ends with.
     Crash,
 }
@@ -56,11 +62,13 @@ enum Asked<'a> {
     Request(Request, Told),
     /// A process of a tree, as a program of its own.
     Node(NodeWords<'a>),
+    /// The log of a process in a file, by the second format.
+    MigrateFile(FileWords<'a>),
     Memory,
 }
 
 /// What `rstar --version` says behind the name.
-const VERSION: &str = "0.1.0, format of logs 1";
+const VERSION: &str = "0.1.0, format of logs 2";
 
 /// What `rstar --help` says behind its subcommands.
 const EXAMPLES: &str = "\
@@ -71,12 +79,13 @@ Examples:
   rstar xa < examples/migrate.xa
   rstar log < examples/commit.logs
   rstar audit < examples/commit.logs
+  rstar migrate < examples/commit.logs
   rstar crash < examples/commit.tree
   rstar node tree.toml 1 1.log --new
 
 Exit status: 0 the script was run to its end, 1 it was refused, 2 an event was refused,
 3 an audit found a mismatch, or a run of crash ends with one or a case in doubt, 4 reading,
-writing or memory failed, or of 'rstar node' the device of the log.";
+writing or memory failed, or the device of a log in a file.";
 
 /// What `rstar tree --help` says below its usage.
 const TREE_HELP: &str = "\
@@ -143,10 +152,10 @@ Examples: rstar xa < examples/migrate.xa
 const LOG_HELP: &str = "\
 Where it refuses, --explain tells on standard error what is wrong, and what is wanted there.
 
-In: the processes as TOML, a line ---, and a line 'log P HEX' for the log of each process.
-Out: for each process 'log P' and a line for each record: the place of its first byte, its
-kind, its name, and what it carries; 'torn N' behind the last where N bytes are a torn tail.
-'damaged P PLACE' alone where a log is damaged, 'error ..' where the input is refused.
+In: the processes as TOML, a line ---, and a line 'log P HEX' for the log of each process, of
+either format. Out: for each process 'log P' and a line for each record: the place of its first
+byte, its kind, its name, and what it carries; 'torn N' behind the last where N bytes are a torn
+tail. 'damaged P PLACE' alone where a log is damaged, 'error ..' where the input is refused.
 
 Example: rstar log < examples/commit.logs";
 
@@ -195,8 +204,9 @@ Examples: rstar crash < examples/commit.tree
 const NODE_HELP: &str = "\
 TREE is a file with the processes as TOML, ME the number of one of them, LOG the file of its
 log; with --new it is made, and without it a log that is missing is not begun anew. One process
-has a log at a time. Where it does not start, standard error tells why; with --explain also
-what is wrong with each line that it refuses.
+has a log at a time. A log of the first format is migrated first ('rstar migrate --help'). Where
+it does not start, standard error tells why; with --explain also what is wrong with each line
+that it refuses.
 
 In, a line each, answered in order, each before the next is read:
   begin pa|pc, join, work, commit, abort, ask, heur, forget    as 'rstar tree --help' has them
@@ -353,6 +363,7 @@ fn grammar<'a>(alloc: Global) -> Result<Command<'a>, AllocError> {
         LOG_HELP,
     )?)?
     .subcommand(audit(alloc)?)?
+    .subcommand(migration::words(alloc)?)?
     .subcommand(explaining(
         alloc,
         "crash",
@@ -413,6 +424,10 @@ fn read_words<'a>(alloc: Global, words: &'a [String]) -> Result<Asked<'a>, Error
             "run" => Asked::Request(Request::Run(running::asked(found)), told_of(found)),
             "log" => Asked::Request(Request::Log, told_of(found)),
             "audit" => Asked::Request(Request::Audit(detail_of(found)), Told::Silent),
+            "migrate" => match migration::file_of(found) {
+                Some(words) => Asked::MigrateFile(words),
+                None => Asked::Request(Request::Migrate, told_of(found)),
+            },
             "crash" => Asked::Request(Request::Crash, told_of(found)),
             "node" => match node_of(found) {
                 Some(words) => Asked::Node(words),
@@ -446,6 +461,7 @@ fn run<R: Read, T: Threads + Wait + Sync>(
         Request::Run(run) => number(running::start(threads, alloc, run, reader, &mut writer)),
         Request::Xa => number(run_xa(alloc, reader, &mut writer)),
         Request::Log => number(run_log(alloc, reader, &mut writer)),
+        Request::Migrate => number(run_migrate(alloc, reader, &mut writer)),
         Request::Audit(detail) => match run_audit(alloc, detail, reader, &mut writer) {
             Ok(ending) => Ok(ending.number()),
             Err(failure) => Err(failure),
@@ -470,7 +486,7 @@ fn script_of(request: Request) -> Script {
     match request {
         Request::Tree(_) | Request::Run(_) | Request::Crash => Script::Tree,
         Request::Xa => Script::Xa,
-        Request::Log | Request::Audit(_) => Script::Logs,
+        Request::Log | Request::Audit(_) | Request::Migrate => Script::Logs,
     }
 }
 
@@ -533,6 +549,7 @@ fn status_of<T: Threads + Wait + Sync>(rt: &HostRuntime, threads: &T) -> u8 {
     match read_words(alloc, words.as_slice()) {
         Ok(Asked::Request(request, told)) => perform(rt, threads, request, told),
         Ok(Asked::Node(words)) => node::run(rt, words),
+        Ok(Asked::MigrateFile(words)) => migration::run(rt, words),
         Ok(Asked::Memory) => 4,
         Err(error) => {
             if error.kind() == ErrorKind::OutOfMemory {

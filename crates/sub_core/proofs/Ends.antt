@@ -7,11 +7,12 @@ use Rattle.xa_tables.specs.declared.states.BranchState.{BranchState}
 use Rattle.xa_xid.specs.declared.xid.Xid.{Xid}
 use Rattle.xa_assoc.specs.Answers.{state_at}
 use Rattle.tree_model.specs.declared.names.Case.{Case}
+use Rattle.tree_model.specs.declared.names.Outcome.{Outcome}
 use Rattle.tree_model.specs.declared.records.Branch.TheVariants.{Case as CaseBranch}
 use Rattle.tree_model.specs.declared.records.LogRecord.{LogRecord}
 use Rattle.tree_model.specs.declared.records.Write.{Write}
 use Rattle.tree_model.specs.declared.events.StepError.{StepError}
-use Rattle.tree_model.specs.declared.events.StepError.TheVariants.{Memory, Device}
+use Rattle.tree_model.specs.declared.events.StepError.TheVariants.{Memory, Device, Exhausted}
 use Rattle.tree_model.specs.Nodes.{Written, entries_written}
 use Rattle.tree_model.specs.Records.{record_case}
 use Rattle.tree_model.specs.LogNames.{case_parent, in_log}
@@ -21,10 +22,11 @@ use Rattle.log_text.specs.Parts.{Name, name_in}
 use Rattle.rec_log.specs.Sights.{Breaks}
 use Rattle.core_model.specs.States.{log_behind, logged, wrote}
 use Rattle.core_model.specs.Turns.{Handles}
+use Rattle.manager_model.specs.Deciding.{decision_writes}
 use Rattle.manager_model.specs.Sights.{ManagerSight}
 use Rattle.manager_model.specs.Ends.{logged_under, state_of, written_by, written_for}
 use Rattle.live_table.specs.Tables.{Moves}
-use Rattle.sub_deeds.specs.Deeds.{NotDone, NotFinished}
+use Rattle.sub_deeds.specs.Deeds.{NotDecided, NotDone, NotFinished}
 use Rattle.sub_branch.specs.declared.branch.Branch.{Branch}
 use Rattle.sub_table.specs.Tables.{BranchTable, Retires, retired_at, ticket_in}
 use Rattle.sub_core.specs.Subordinates.{IsAt, IsGiven, IsNamed, IsTied, NotTurned, SubState, core_of}
@@ -93,6 +95,7 @@ module _ (s : SubState) (c : Case) (x : Xid) (named : IsNamed s.parent c x) (giv
       place = refl;
     },
   )
+  not_done m vs row Exhausted is of h = (same_keeps s m h.0, h.1)
   not_done m vs row _ is of h = absurd h
 
   -- what a call writes, by the state of its branch, and what it has written
@@ -128,7 +131,8 @@ pub none_tied : (s : SubState) (m : ManagerSight) (ls : List LogRecord) (e : Ste
     → IsTied s → NotDone s.manager m ls e
     → IsTied (behind s s.table m)
 none_tied s m ls Memory tied h = same_tied s m tied h
-none_tied s m ls Device tied h = still_tied s m tied h.idle h.states h.decided h.boot
+none_tied s m ls Device tied h = still_tied s m tied h.idle h.states h.decided h.boot h.log.form
+none_tied s m ls Exhausted tied h = same_tied s m tied h.0
 none_tied s m ls _ tied h = absurd h
 
 -- the tie behind a call that was not made
@@ -136,3 +140,9 @@ pub not_tied : (s : SubState) (m : ManagerSight) (x : Xid) (call : Call) (e : St
     → NotFinished s.manager m x call e
     → IsTied (behind s s.table m)
 not_tied s m x call e tied h = none_tied s m (logged_under x (written_for s.manager x call)) e tied h
+
+-- the tie behind a decision that was not made
+pub undecided_tied : (s : SubState) (m : ManagerSight) (x : Xid) (o : Outcome) (e : StepError) → IsTied s
+    → NotDecided s.manager m x o e
+    → IsTied (behind s s.table m)
+undecided_tied s m x o e tied h = none_tied s m (logged_under x (decision_writes x o)) e tied h

@@ -63,6 +63,7 @@ stays_core s = record {
         no_view;
     branches = λ d. refl;
     decided = λ d. refl;
+    spent = refl;
   };
 }
 
@@ -201,6 +202,7 @@ module _ (s : SubState) (d : Case) (t : BranchTable) (m : ManagerSight) (x : Xid
 
   pub begun_tied : Begins s.manager m x → IsTied new
   begun_tied b = record {
+    own = b.comes.form ∙ tied.own;
     idle = b.comes.idle;
     named = λ c w h. named_at b c w (same_case own c) refl h;
     stands = λ c w h. stands_at b c w (same_case own c) refl h;
@@ -251,6 +253,7 @@ module _ (s : SubState) (d : Case) (t : BranchTable) (m : ManagerSight) (x : Xid
 pub table_tied : (s : SubState) (t : BranchTable) → IsTied s → SameTable s.table t
     → IsTied (behind s t s.manager)
 table_tied s t tied same = record {
+  own = tied.own;
   idle = tied.idle;
   named = λ c w h. tied.named c w (sym (same.branches c) ∙ h);
   stands = λ c w h. tied.stands c w (sym (same.branches c) ∙ h);
@@ -277,6 +280,7 @@ undone_core s t m same stays = record {
     branches = λ c. ap kept_view (same.branches c);
     decided = λ c. ap (decided_at m) (same.branches c)
         ∙ same_decided s m stays.rest.decided (branch_in s.table c);
+    spent = stays.spent;
   };
 }
 

@@ -7,13 +7,17 @@ use Rattle.xa_xid.specs.declared.xid.Xid.{Xid}
 use Rattle.xa_branch.specs.Branches.{BranchList, state_in}
 use Rattle.xa_assoc.specs.Associations.{AssocList, IsBare, moved_of}
 use Rattle.xa_assoc.specs.Answers.{Opens}
+use Rattle.log_text.specs.Forms.{log_form}
+use Rattle.tree_model.specs.declared.names.Kind.TheVariants.{Manager}
 use Rattle.tree_model.specs.declared.names.Case.{Case}
 use Rattle.tree_model.specs.declared.names.ProcessId.{ProcessId}
 use Rattle.tree_model.specs.declared.trees.TreeEntry.{TreeEntry}
 use Rattle.tree_model.specs.Nodes.{AtLeaf}
 use Rattle.live_table.specs.Tables.{live_value}
-use Rattle.core_model.specs.Opening.{IsOpened}
+use Rattle.core_model.specs.States.{forced_sight}
+use Rattle.core_model.specs.Opening.{IsOpened, first_opened}
 use Rattle.core_model.proofs.Opened.{opened_is_read}
+use Rattle.rec_log.specs.Sights.{LogSight}
 use Rattle.manager_model.specs.Opening.{IsNew}
 use Rattle.manager_model.specs.Data.{Rests, is_begun, no_data}
 use Rattle.manager_model.specs.Sights.{Calls, ManagerSight, manager_data}
@@ -67,9 +71,10 @@ module _ (old m : ManagerSight) (new : IsNew old) (refuses : Code → Type 0) (a
   }
 
   pub opened_tied : (me parent : ProcessId) (tree : List TreeEntry) (t : BranchTable)
-      → t.tickets ≡ [] → t.branches ≡ []
+      → t.tickets ≡ [] → t.branches ≡ [] → old.log.form ≡ log_form me Manager
       → IsTied (record { me = me; parent = parent; tree = tree; given = 0; table = t; manager = m })
-  opened_tied me parent tree t tickets branches = record {
+  opened_tied me parent tree t tickets branches own = record {
+    own = ap (λ (l : LogSight). l.form) calls.log ∙ own;
     idle = idle;
     named = λ c b e. absurd (let f = sym e ∙ bare c in cc);
     stands = λ c b e. absurd (let f = sym e ∙ bare c in cc);
@@ -81,15 +86,16 @@ module _ (old m : ManagerSight) (new : IsNew old) (refuses : Code → Type 0) (a
       bare c = ap (λ bs. branch_in (record { tickets = t.tickets; branches = bs }) c) branches ∙ no_branch c
 
   pub opened : (me parent : ProcessId) (tree : List TreeEntry) (t : BranchTable)
-      → t.tickets ≡ [] → t.branches ≡ []
+      → t.tickets ≡ [] → t.branches ≡ [] → old.log.form ≡ log_form me Manager
       → IsOpened
       (core_of (record { me = me; parent = parent; tree = tree; given = 0; table = t; manager = m }))
       (record { me = me; role = AtLeaf parent; tree = tree }) old.log.failures
-  opened me parent tree t tickets branches =
+  opened me parent tree t tickets branches own =
       let read = opened_is_read (record { me = me; role = AtLeaf parent; tree = tree }) in
       record {
         place_is = refl;
-        log = calls.log ∙ new.log;
+        log = calls.log ∙ new.log
+            ∙ ap (λ f. forced_sight f (first_opened ∷ []) old.log.failures) own;
         read = record {
           boot = calls.boot ∙ new.boot ∙ read.boot;
           begun = refl;

@@ -1,19 +1,31 @@
 -- A subordinate over the log that an earlier one left.
-use Rattle.std.proofs.Common.{◌≡◌, ◌∙◌, ◌+◌, ◌-◌, ◌∷◌, ◌++◌, [], ℕ, false, List, length, take, ap, subst, arith, length-append}
+use Rattle.std.proofs.Common.{◌≡◌, ◌≤◌, ◌∙◌, ◌+◌, ◌-◌, ◌^◌, ◌∷◌, ◌++◌, [], ℕ, false, List, length, take, refl, ap, subst, arith, length-append}
 use Rattle.std.proofs.lemmas.List.{append-nil, take_at}
+use Rattle.std.specs.List.{AllByRecursion}
 use Rattle.xa_codes.specs.declared.code.Code.{Code}
 use Rattle.xa_assoc.specs.Answers.{Opens}
+use Rattle.log_text.specs.Forms.{log_form}
+use Rattle.log_text.specs.declared.form.LogForm.{LogForm}
+use Rattle.tree_model.specs.declared.names.Kind.TheVariants.{Manager}
+use Rattle.tree_model.specs.declared.names.ProcessId.{ProcessId}
+use Rattle.tree_model.specs.declared.events.StepError.{StepError}
+use Rattle.tree_model.specs.declared.events.StepError.TheVariants.{Exhausted, Memory}
 use Rattle.tree_model.specs.declared.records.LogRecord.{LogRecord}
+use Rattle.tree_model.specs.declared.trees.TreeEntry.{TreeEntry}
+use Rattle.tree_model.specs.LogNames.{own_records}
+use Rattle.tree_model.specs.Records.{boot_of}
 use Rattle.tree_model.specs.Views.{leaf_place}
-use Rattle.rec_log.specs.Sights.{LogSight, left_by, whole_within}
+use Rattle.log_rules.specs.sound.Sound.{IsSound}
+use Rattle.rec_log.specs.Sights.{LogSight, left_by, records_of, whole_within}
 use Rattle.core_model.specs.States.{CoreState, forced_sight}
 use Rattle.core_model.specs.Restarting.{LeftSo, Restarts}
 use Rattle.core_model.proofs.Lefts.{left_alike}
-use Rattle.manager_model.specs.Restarting.{Restarts as ManagerRestarts, boot_record, next_boot, with_boot}
+use Rattle.manager_model.specs.Restarting.{IsRestarted, Restarts as ManagerRestarts, boot_record, next_boot, with_boot}
 use Rattle.manager_model.specs.Sights.{Calls, ManagerSight}
+use Rattle.sub_table.proofs.Marks.{boots_alike}
 use Rattle.sub_table.specs.declared.rebuilt.Rebuilt.{Rebuilt}
 use Rattle.sub_table.specs.Rebuilt.{Rebuilds}
-use Rattle.sub_core.specs.Steps.{PromisesLeft, left_before}
+use Rattle.sub_core.specs.Steps.{NotReady, PromisesLeft, left_before}
 use Rattle.sub_core.specs.Subordinates.{IsTied, SubState, core_of}
 use Rattle.sub_core.proofs.Restarted.{promises_left, reopened_tied, restarted, shown_restart}
 
@@ -23,9 +35,9 @@ before_last : (ls : List LogRecord) (l : LogRecord)
 before_last ls l = take_at ls (l ∷ []) (length (ls ++ l ∷ []) - 1) (omega (arith, length-append ls (l ∷ [])))
 
 -- all records that are forced are left
-all_forced : (ls : List LogRecord) (failures : ℕ) → left_by (forced_sight ls failures) 0 ≡ ls
+all_forced : (form : LogForm) (ls : List LogRecord) (failures : ℕ) → left_by (forced_sight form ls failures) 0 ≡ ls
 unfolding whole_within
-all_forced ls failures = append-nil ls
+all_forced form ls failures = append-nil ls
 
 -- the records that a manager restarted over
 pub left_is : (before mid : ManagerSight) (all : ℕ) → ManagerRestarts before mid all
@@ -33,15 +45,43 @@ pub left_is : (before mid : ManagerSight) (all : ℕ) → ManagerRestarts before
 left_is before mid all h =
     let ls = left_by before.log all in
     let log : left_by mid.log 0 ≡ with_boot ls =
-    ap (λ (l : LogSight). left_by l 0) h.log ∙ all_forced (with_boot ls) before.log.failures in
+    ap (λ (l : LogSight). left_by l 0) h.log ∙ all_forced before.log.form (with_boot ls) before.log.failures in
     ap (λ (rs : List LogRecord). take (length rs - 1) rs) log
     ∙ before_last ls (boot_record (next_boot ls))
+
+-- what holds of all records holds of the last
+of_last : {A : Type 0} (P : A → Type 0) (xs : List A) (x : A) → AllByRecursion P ((xs ++ x ∷ []) ++ []) → P x
+of_last P [] x all = all.0
+of_last P (y ∷ ys) x all = of_last P ys x all.1
+
+-- a manager that restarted had a boot left
+boot_left : (m : ManagerSight) (me p : ProcessId) (tree : List TreeEntry)
+    → AllByRecursion (IsSound Manager) (records_of m.log.kept) → IsRestarted m
+    → 2 ^ 63 ≤ boot_of (own_records (leaf_place me p tree) (left_before m)) + 1 → ⊥
+boot_left m me p tree sound h used =
+    let ls = left_by h.old.log h.keep in
+    let last : IsSound Manager (boot_record (next_boot ls)) =
+    of_last (IsSound Manager) ls (boot_record (next_boot ls))
+    (subst (λ (l : LogSight). AllByRecursion (IsSound Manager) (records_of l.kept)) h.restarts.log sound) in
+    let from : 2 ^ 63 ≤ boot_of (own_records (leaf_place me p tree) ls) + 1 =
+    subst (λ ks. 2 ^ 63 ≤ boot_of (own_records (leaf_place me p tree) ks) + 1)
+    (left_is h.old m h.keep h.restarts) used in
+    absurd (omega (arith, last.1, from, boots_alike me p tree ls))
+
+-- so nothing but memory keeps its records from being made ready
+pub only_memory : (m : ManagerSight) (me p : ProcessId) (tree : List TreeEntry)
+    → AllByRecursion (IsSound Manager) (records_of m.log.kept) → IsRestarted m → (e : StepError)
+    → NotReady (leaf_place me p tree) (left_before m) e → e ≡ Memory
+only_memory m me p tree sound h Memory why = refl
+only_memory m me p tree sound h Exhausted why = absurd (boot_left m me p tree sound h why)
+only_memory m me p tree sound h e why = absurd why
 
 module _ (s : SubState) (all : ℕ) (r : Rebuilt) (mid m : ManagerSight)
     (refuses : Code → Type 0) (answer : Code)
     (made : Rebuilds (leaf_place s.me s.parent s.tree) s.parent (left_before mid) r)
     (restarts : ManagerRestarts s.manager mid all)
-    (calls : Calls mid m (refuses answer) (λ old new. Opens old new 0 false answer)) where
+    (calls : Calls mid m (refuses answer) (λ old new. Opens old new 0 false answer))
+    (own : s.manager.log.form ≡ log_form s.me Manager) where
   -- the subordinate over it
   abbrev pub over : SubState
   over = record {
@@ -58,7 +98,7 @@ module _ (s : SubState) (all : ℕ) (r : Rebuilt) (mid m : ManagerSight)
       (left_is s.manager mid all restarts) made
 
   pub over_tied : IsTied over
-  over_tied = reopened_tied s all r mid m refuses answer rebuilt restarts calls
+  over_tied = reopened_tied s all r mid m refuses answer rebuilt restarts calls own
 
   pub over_left : (old : CoreState) → LeftSo old (core_of s).place s.manager.log.failures
       → (keep : ℕ) → left_by old.log keep ≡ left_by s.manager.log all
@@ -66,7 +106,7 @@ module _ (s : SubState) (all : ℕ) (r : Rebuilt) (mid m : ManagerSight)
   over_left old so keep left =
       left_alike (core_of s) old all keep (core_of over) (shown_restart (r.boot + 1) r.messages)
       so.place_is so.failures_are left
-      (restarted s all r mid m refuses answer rebuilt restarts calls)
+      (restarted s all r mid m refuses answer rebuilt restarts calls own)
 
   pub over_promises : PromisesLeft (left_by s.manager.log all) m
   over_promises = promises_left s.manager mid m all refuses answer restarts calls

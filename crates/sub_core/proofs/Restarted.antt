@@ -1,11 +1,13 @@
 -- A subordinate behind a restart.
 use Rattle.std.proofs.lemmas.Grind.{fold-append}
-use Rattle.std.proofs.Common.{◌≡◌, ◌∙◌, ◌+◌, ◌∷◌, ◌++◌, [], ℕ, true, false, List, map, Option, Some, None, refl, sym, ap, subst, arith}
+use Rattle.std.proofs.Common.{◌≡◌, ◌≤◌, ◌∙◌, ◌+◌, ◌^◌, ◌∷◌, ◌++◌, [], ℕ, true, false, List, map, Option, Some, None, refl, sym, ap, subst, arith}
 use Rattle.xa_codes.specs.declared.code.Code.{Code}
 use Rattle.xa_tables.specs.declared.states.BranchState.{BranchState}
 use Rattle.xa_xid.specs.declared.xid.Xid.{Xid}
 use Rattle.xa_branch.specs.Branches.{BranchList, state_in}
 use Rattle.xa_assoc.specs.Answers.{Opens, state_at}
+use Rattle.log_text.specs.Forms.{log_form}
+use Rattle.tree_model.specs.declared.names.Kind.TheVariants.{Manager}
 use Rattle.tree_model.specs.declared.names.Case.{Case}
 use Rattle.tree_model.specs.declared.messages.Envelope.{Envelope}
 use Rattle.tree_model.specs.declared.records.Branch.TheVariants.{Case as CaseBranch, Foreign}
@@ -28,13 +30,13 @@ use Rattle.xa_heur.specs.declared.decision.Decision.{Decision}
 use Rattle.xa_heur.specs.Decisions.{decided_in, decision_of}
 use Rattle.log_text.specs.Parts.{name_in}
 use Rattle.rec_log.specs.Sights.{LogSight, RestartBreaks, left_by}
-use Rattle.core_model.specs.States.{forced_sight}
+use Rattle.core_model.specs.States.{forced_sight, form_of}
 use Rattle.core_model.specs.Restarting.{NotRestarted, Restarts, restarted_log}
 use Rattle.core_model.proofs.Alike.{same_view}
 use Rattle.manager_model.specs.Data.{is_begun}
 use Rattle.manager_model.specs.Ends.{state_of}
 use Rattle.manager_model.specs.Restarting.{RestartFails, Restarts as ManagerRestarts, boot_record, marked_state, next_boot}
-use Rattle.manager_model.specs.Sights.{Calls, ManagerSight}
+use Rattle.manager_model.specs.Sights.{Calls, ManagerSight, SameManager}
 use Rattle.sub_deeds.specs.Deeds.{IsIdle}
 use Rattle.sub_deeds.proofs.Quiet.{same_idle}
 use Rattle.sub_table.specs.declared.rebuilt.Rebuilt.{Rebuilt}
@@ -51,6 +53,7 @@ use Rattle.sub_branch.specs.declared.branch.Stage.TheVariants.{Active, Heuristic
 use Rattle.sub_core.specs.Subordinates.{AgreesWith, IsGiven, IsNamed, IsTied, SubState, core_of, decided_at, stage_state}
 use Rattle.sub_core.specs.Steps.{PromisesLeft}
 use Rattle.sub_core.proofs.Joins.{is_real}
+use Rattle.sub_core.proofs.Rows.{same_keeps}
 use Rattle.sub_core.proofs.Opened.{bare_quiet}
 use Rattle.sub_core.proofs.Ties.{behind, still_tied}
 
@@ -83,7 +86,8 @@ module _ (s : SubState) (keep : ℕ) (r : Rebuilt) (mid m : ManagerSight)
     (refuses : Code → Type 0) (answer : Code)
     (made : Rebuilds (leaf_place s.me s.parent s.tree) s.parent (left_by s.manager.log keep) r)
     (restarts : ManagerRestarts s.manager mid keep)
-    (calls : Calls mid m (refuses answer) (λ old new. Opens old new 0 false answer)) where
+    (calls : Calls mid m (refuses answer) (λ old new. Opens old new 0 false answer))
+    (own : s.manager.log.form ≡ log_form s.me Manager) where
   abbrev ls : List LogRecord
   ls = left_by s.manager.log keep
 
@@ -178,6 +182,7 @@ module _ (s : SubState) (keep : ℕ) (r : Rebuilt) (mid m : ManagerSight)
 
   pub reopened_tied : IsTied reopened
   reopened_tied = record {
+    own = ap (λ (l : LogSight). l.form) (calls.log ∙ restarts.log) ∙ own;
     idle = idle;
     named = λ c b e. named c b (made.live c b e);
     stands = λ c b e. stands c b (made.live c b e);
@@ -219,9 +224,11 @@ module _ (s : SubState) (keep : ℕ) (r : Rebuilt) (mid m : ManagerSight)
   unfolding case_decision
   boot_decides c ks n = fold-append (decision_after c) None ks (Opened n ∷ [])
 
-  log_is : m.log ≡ forced_sight (restarted_log (core_of s) keep) s.manager.log.failures
+  log_is : m.log ≡ forced_sight (form_of (core_of s).place) (restarted_log (core_of s) keep) s.manager.log.failures
   log_is = calls.log ∙ restarts.log
-      ∙ ap (λ n. forced_sight (left_by s.manager.log keep ++ boot_record n ∷ []) s.manager.log.failures) boots
+      ∙ ap (λ n. forced_sight s.manager.log.form (left_by s.manager.log keep ++ boot_record n ∷ [])
+      s.manager.log.failures) boots
+      ∙ ap (λ f. forced_sight f (restarted_log (core_of s) keep) s.manager.log.failures) own
 
   read : own_records (leaf_place s.me s.parent s.tree) (restarted_log (core_of s) keep) ≡ rs
       ++ Opened (boot_of rs + 1) ∷ []
@@ -255,7 +262,7 @@ pub broken_tied : (s : SubState) (m : ManagerSight) (keep : ℕ) → IsTied s �
 broken_tied s m keep tied fails =
     still_tied s m tied (same_idle s.manager m fails.tables tied.idle)
     (λ y. ap (λ (bs : List (Xid × BranchState)). state_in bs y)
-    fails.tables.branches.branches) fails.decided fails.boot
+    fails.tables.branches.branches) fails.decided fails.boot fails.log.form
 
 pub broken : (s : SubState) (m : ManagerSight) (keep : ℕ) → RestartFails s.manager m keep
     → NotRestarted (core_of s) keep (core_of (behind s s.table m)) error.Device
@@ -263,4 +270,15 @@ broken s m keep fails = (
   subst (λ n. RestartBreaks (state_of s.manager.log) (state_of m.log) keep (boot_record n ∷ []))
       (ap (λ n. n + 1) (sym (boots_alike s.me s.parent s.tree (left_by s.manager.log keep)))) fails.log,
   refl,
+)
+
+-- Boots that are used up.
+
+-- no boot comes behind the manager's last one
+pub boots_used : (s : SubState) (m : ManagerSight) (keep : ℕ) → SameManager s.manager m
+    → 2 ^ 63 ≤ next_boot (left_by s.manager.log keep)
+    → NotRestarted (core_of s) keep (core_of (behind s s.table m)) error.Exhausted
+boots_used s m keep same used = (
+  (same_keeps s m same).core,
+  λ held. absurd (omega (arith, used, held.0.1, boots_alike s.me s.parent s.tree (left_by s.manager.log keep))),
 )

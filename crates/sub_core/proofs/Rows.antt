@@ -74,6 +74,7 @@ same_core s m stays = record {
     views = λ c. no_view;
     branches = λ c. refl;
     decided = λ c. same_decided s m stays.rest.decided (branch_in s.table c);
+    spent = stays.spent;
   };
 }
 

@@ -13,14 +13,14 @@ use Rattle.tree_model.specs.declared.events.Input.{Input}
 use Rattle.tree_model.specs.declared.events.Input.TheVariants.{Act as ActInput, Message as MessageInput}
 use Rattle.tree_model.specs.declared.events.Reaction.{Reaction}
 use Rattle.tree_model.specs.declared.events.StepError.{StepError}
-use Rattle.tree_model.specs.declared.events.StepError.TheVariants.{Memory, Device, UnknownTxn, NotAChild, Closed, Failed, NotInDoubt, NothingToForget, NoSuch}
+use Rattle.tree_model.specs.declared.events.StepError.TheVariants.{Memory, Device, UnknownTxn, NotAChild, Closed, Failed, NotInDoubt, NothingToForget, NoSuch, Exhausted}
 use Rattle.tree_model.specs.Names.{same_txn}
 use Rattle.tree_model.specs.Nodes.{DataAnswer}
 use Rattle.tree_model.specs.CoordinatorRows.{post}
 use Rattle.tree_model.specs.ManagerRows.{Leaf, untold_ask}
 use Rattle.tree_model.specs.Reactions.{act_is_listed, sends_only}
 use Rattle.core_model.specs.Turns.{Finds, Handles, Refuses, Says, Turn, asked_by, asked_in, leaf_ask_turn, leaf_in, reacted, turn_of, up_turn, is_refusal}
-use Rattle.core_model.specs.Makes.{Makes, NotMade}
+use Rattle.core_model.specs.Makes.{Limited, Makes, NotMade}
 use Rattle.sub_branch.specs.declared.branch.Branch.{Branch}
 use Rattle.sub_branch.specs.declared.branch.Stage.{Stage}
 use Rattle.sub_branch.specs.declared.branch.Stage.TheVariants.{Active, Heuristic, Prepared}
@@ -41,6 +41,7 @@ use Rattle.sub_core.proofs.Decisions.{no_retire}
 pub refuses : (s : SubState) (turn : Turn) (e : StepError) → turn ≡ Refuses e
     → is_refusal e ≡ true → NotTurned s s turn e
 refuses s turn Device is no_device = absurd cc
+refuses s turn Exhausted is no_numbers = absurd cc
 refuses s turn Memory is ok = stays s
 refuses s turn UnknownTxn is ok = (stays s, is)
 refuses s turn NotAChild is ok = (stays s, is)
@@ -184,6 +185,7 @@ not_made old new a i turn NoSuch is t = record {
   finds = none_found old i;
   refuses = is ∙ t.1;
 }
+not_made old new a i turn Exhausted is t = record { same = t.0.core; why = Limited t.1 }
 
 -- an error but the device's leaves the manager as it was
 kept_by : (old new : SubState) (turn : Turn) (e : StepError) → NotTurned old new turn e

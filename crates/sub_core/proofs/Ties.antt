@@ -19,6 +19,7 @@ use Rattle.tree_model.proofs.NameTests.{case_tells}
 use Rattle.log_text.specs.Parts.{Name}
 use Rattle.live_table.specs.Tables.{Moves}
 use Rattle.live_table.proofs.Writes.{same_case-itself}
+use Rattle.rec_log.specs.Sights.{LogSight}
 use Rattle.manager_model.specs.Sights.{ManagerSight, SameManager}
 use Rattle.manager_model.specs.Ends.{OthersStayDecided}
 use Rattle.sub_deeds.specs.Deeds.{Comes, IsIdle}
@@ -170,6 +171,7 @@ module _ (s : SubState) (t : BranchTable) (m : ManagerSight) (owner : Case) (b :
 
   pub moved_tied : IsTied (behind s t m)
   moved_tied = record {
+    own = comes.form ∙ tied.own;
     idle = comes.idle;
     named = λ c w h. named_at v refl c w (same_case owner c) refl h;
     stands = λ c w h. stands_at v refl c w (same_case owner c) refl h;
@@ -180,8 +182,10 @@ module _ (s : SubState) (t : BranchTable) (m : ManagerSight) (owner : Case) (b :
 -- no branch moved
 pub still_tied : (s : SubState) (m : ManagerSight) → IsTied s → IsIdle m
     → ((y : Xid) → state_at m.tables y ≡ state_at s.manager.tables y)
-    → ((y : Xid) → m.decided y ≡ s.manager.decided y) → m.boot ≡ s.manager.boot → IsTied (behind s s.table m)
-still_tied s m tied idle states decided boot = record {
+    → ((y : Xid) → m.decided y ≡ s.manager.decided y) → m.boot ≡ s.manager.boot
+    → m.log.form ≡ s.manager.log.form → IsTied (behind s s.table m)
+still_tied s m tied idle states decided boot form = record {
+  own = form ∙ tied.own;
   idle = idle;
   named = λ c w h. tied.named c w h;
   stands = λ c w h. states w.xid ∙ tied.stands c w h;
@@ -195,4 +199,4 @@ pub same_tied : (s : SubState) (m : ManagerSight) → IsTied s → SameManager s
 same_tied s m tied stays =
     still_tied s m tied (same_idle s.manager m stays.tables tied.idle)
     (λ y. ap (λ (bs : List (Xid × BranchState)). state_in bs y) stays.tables.branches.branches)
-    stays.rest.decided stays.boot
+    stays.rest.decided stays.boot (ap (λ (l : LogSight). l.form) stays.log)

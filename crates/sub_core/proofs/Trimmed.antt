@@ -3,6 +3,7 @@ use Rattle.std.proofs.Common.{◌≡◌, ◌∙◌, inl, inr, ◌+◌, ◌++◌,
 use Rattle.std.proofs.lemmas.Grind.{fold-append}
 use Rattle.std.specs.List.{AllByRecursion}
 use Rattle.xa_xid.specs.declared.xid.Xid.{Xid}
+use Rattle.log_text.specs.Forms.{log_form}
 use Rattle.tree_model.specs.declared.events.StepError.{StepError}
 use Rattle.tree_model.specs.declared.events.StepError.TheVariants as error
 use Rattle.tree_model.specs.declared.names.Kind.TheVariants.{Manager}
@@ -169,11 +170,12 @@ trims_alike s sound =
 -- What a trim leaves.
 
 module _ (s : SubState) (m : ManagerSight) (sound : AllByRecursion (IsSound Manager)
-    (records_of s.manager.log.kept)) where
+    (records_of s.manager.log.kept)) (own : s.manager.log.form ≡ log_form s.me Manager) where
   pub trims : (remain : ℕ) → ManagerTrims s.manager m remain
       → Trims (core_of s) (core_of (behind s s.table m)) remain
   trims remain h = record {
-    log = h.log ∙ ap (λ ls. forced_sight ls s.manager.log.failures) (trims_alike s sound);
+    log = h.log ∙ ap (λ ls. forced_sight s.manager.log.form ls s.manager.log.failures) (trims_alike s sound)
+        ∙ ap (λ f. forced_sight f (trimmed_log (core_of s)) s.manager.log.failures) own;
     counts = h.counts ∙ ap length (trims_alike s sound);
     rest = record {
       place = refl;
@@ -184,6 +186,7 @@ module _ (s : SubState) (m : ManagerSight) (sound : AllByRecursion (IsSound Mana
       views = λ c. same_view unknown_view;
       branches = λ c. refl;
       decided = λ c. same_decided s m h.rest.decided (branch_in s.table c);
+      spent = h.spent;
     };
   }
 
@@ -213,6 +216,7 @@ module _ (s : SubState) (m : ManagerSight) (sound : AllByRecursion (IsSound Mana
       views = λ c. same_view unknown_view;
       branches = λ c. refl;
       decided = λ c. same_decided s m same.rest.decided (branch_in s.table c);
+      spent = same.spent;
     };
   }
 

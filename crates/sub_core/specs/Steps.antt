@@ -1,5 +1,5 @@
 -- A step of a subordinate: one input, as `core_model` says of any process.
-use Rattle.std.specs.Prelude.{◌≡◌, ◌-◌, ℕ, false, List, length, take}
+use Rattle.std.specs.Prelude.{◌≡◌, ◌≤◌, ◌+◌, ◌-◌, ◌^◌, ⊤, ℕ, false, List, length, take}
 use Rattle.xa_codes.specs.declared.code.Code.{Code}
 use Rattle.xa_codes.specs.declared.code.Code.TheVariants.{RmFail}
 use Rattle.xa_assoc.specs.Answers.{Opens}
@@ -10,7 +10,10 @@ use Rattle.tree_model.specs.declared.events.Input.{Input}
 use Rattle.tree_model.specs.declared.events.Input.TheVariants.{Act as ActInput, Message as MessageInput}
 use Rattle.tree_model.specs.declared.events.Reaction.{Reaction}
 use Rattle.tree_model.specs.declared.events.StepError.{StepError}
-use Rattle.tree_model.specs.Nodes.{DataAnswer}
+use Rattle.tree_model.specs.declared.events.StepError.TheVariants as steps
+use Rattle.tree_model.specs.LogNames.{own_records}
+use Rattle.tree_model.specs.Records.{boot_of}
+use Rattle.tree_model.specs.Nodes.{DataAnswer, Place}
 use Rattle.core_model.specs.States.{CoreState}
 use Rattle.core_model.specs.Turns.{Turn, manager_act, no_answer}
 use Rattle.rec_log.specs.Sights.{left_by}
@@ -18,6 +21,8 @@ use Rattle.manager_model.specs.Restarting.{Restarts, is_left, writes_left}
 use Rattle.manager_model.specs.Sights.{Calls, ManagerSight, manager_data}
 use Rattle.manager_model.specs.Data.{HoldWrites}
 use Rattle.manager_model.specs.Turns.{MovesData, act_data}
+use Rattle.sub_table.specs.declared.names.RebuildError.{RebuildError}
+use Rattle.sub_table.specs.declared.names.RebuildError.TheVariants as rebuilds
 use Rattle.sub_core.specs.Subordinates.{NotTurned, SubState, SubValue, Turns, Writes, answer_for, core_of, seen, xid_of}
 
 -- the process that a subordinate is
@@ -74,3 +79,15 @@ pub record PromisesLeft (left : List LogRecord) (m : ManagerSight) : Type 0 wher
 -- so it is behind a restart, by the records that were left
 abbrev pub LeavesPromises : SubState → ℕ → SubState → Type 0
 LeavesPromises old keep new = PromisesLeft (left_by old.manager.log keep) new.manager
+
+-- the error of a step, for that of what records leave
+abbrev pub error_of_rebuild : RebuildError → StepError
+error_of_rebuild rebuilds.Exhausted = steps.Exhausted
+error_of_rebuild e = steps.Memory
+
+-- why no restart was made ready where these records are left: boots are used up where none below 2^63 comes behind
+-- the last one
+abbrev pub NotReady : Place → List LogRecord → StepError → Type 0
+NotReady place ls steps.Memory = ⊤
+NotReady place ls steps.Exhausted = 2 ^ 63 ≤ boot_of (own_records place ls) + 1
+NotReady place ls e = ⊥

@@ -20,7 +20,7 @@ use Rattle.tree_model.specs.declared.events.Input.{Input}
 use Rattle.tree_model.specs.declared.events.Input.TheVariants.{Message as MessageInput}
 use Rattle.tree_model.specs.declared.events.Reaction.{Reaction}
 use Rattle.tree_model.specs.declared.events.StepError.{StepError}
-use Rattle.tree_model.specs.declared.events.StepError.TheVariants.{Device, Memory}
+use Rattle.tree_model.specs.declared.events.StepError.TheVariants.{Device, Exhausted, Memory}
 use Rattle.tree_model.specs.declared.records.Logged.{Logged}
 use Rattle.tree_model.specs.declared.records.RecordKind.{RecordKind}
 use Rattle.tree_model.specs.declared.records.RecordKind.TheVariants.{HeurCommit, HeurRollback}
@@ -38,6 +38,8 @@ use Rattle.log_text.specs.Parts.{name_in}
 use Rattle.core_model.specs.States.{CoreState, SameCore}
 use Rattle.core_model.specs.Turns.{Refuses, Turn, decision_records, manager_turn, next_ticket, reacted, this_version}
 use Rattle.core_model.specs.Makes.{BreaksIn, IssuesTicket, Moves}
+use Rattle.log_text.specs.Forms.{log_form}
+use Rattle.tree_model.specs.declared.names.Kind.TheVariants.{Manager}
 use Rattle.manager_model.specs.Sights.{ManagerSight, manager_data, obstacle}
 use Rattle.sub_deeds.specs.Deeds.{IsIdle, KeepsManager, starts}
 use Rattle.manager_model.specs.Data.{Begins, Rests}
@@ -102,6 +104,7 @@ core_of s =
       view_of = λ c. unknown_view;
       branch_of = λ c. view_in s.table c;
       decided_of = λ c. decided_at s.manager (branch_in s.table c);
+      spent = s.manager.spent;
     }
 
 -- the XID by which the manager knows a case
@@ -148,9 +151,10 @@ pub record IsGiven (s : SubState) (c : Case) : Type 0 where
   pub has : c.ticket ≡ Some ticket
   pub before : ticket.boot ≡ s.manager.boot → ticket.number ≤ s.given
 
--- the manager is idle, and each live branch stands there as the subordinate keeps it, under its case's XID,
--- with what it was told behind an operator's decision
+-- the manager's log is this process's, it is idle, and each live branch stands there as the subordinate keeps
+-- it, under its case's XID, with what it was told behind an operator's decision
 pub record IsTied (s : SubState) : Type 0 where
+  pub own : s.manager.log.form ≡ log_form s.me Manager
   pub idle : IsIdle s.manager
   pub named : (c : Case) (b : Branch) → branch_in s.table c ≡ Some b → IsNamed s.parent c b.xid
   pub stands : (c : Case) (b : Branch) → branch_in s.table c ≡ Some b
@@ -173,10 +177,11 @@ pub record Keeps (old new : SubState) : Type 0 where
   pub core : SameCore (core_of old) (core_of new)
   pub manager : KeepsManager old.manager new.manager
 
--- why a turn was not made, and what that leaves
+-- why a turn was not made, and what that leaves: numbers are used up where the manager has met a limit of its own
 abbrev pub NotTurned : SubState → SubState → Turn → StepError → Type 0
 NotTurned old new turn Memory = Keeps old new
 NotTurned old new turn Device = BreaksIn (core_of old) (core_of new) turn
+NotTurned old new turn Exhausted = Keeps old new × (old.manager.spent ≡ true)
 NotTurned old new turn e = Keeps old new × (turn ≡ Refuses e)
 
 -- what a message meets

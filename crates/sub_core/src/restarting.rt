@@ -1,6 +1,8 @@
 //! Restart: what a crash left of the log stands, and the cases that were not told their outcomes ask. And
 //! trim.
 
+ghost use Rattle.log_text.specs.Forms.{log_form};
+ghost use Rattle.tree_model.specs.declared.names.Kind.TheVariants.{Manager};
 ghost use Rattle.std.specs.Prelude.{◌≡◌, ◌≢◌, ◌∷◌, ◌+◌, ℕ, [], true, IfErr, IfOk, OnOk};
 ghost use Rattle.core_model.specs.Restarting.{LeftSo, NotRestarted, NotTrimmed, Restarts, Trims};
 ghost use Rattle.core_model.specs.States.{CoreState};
@@ -16,14 +18,14 @@ ghost use Rattle.sub_deeds.specs.Deeds.{KeepsManager};
 ghost use Rattle.sub_table.specs.Rebuilt.{Rebuilds};
 ghost use Rattle.tree_model.specs.Views.{leaf_place};
 ghost use Rattle.sub_core.specs.Subordinates.{seen};
-ghost use Rattle.sub_core.specs.Steps.{LeavesPromises, PromisesLeft, Reopens, left_before, state};
+ghost use Rattle.sub_core.specs.Steps.{LeavesPromises, NotReady, PromisesLeft, Reopens, error_of_rebuild, left_before, state};
 ghost use Rattle.tree_model.specs.declared.records.RecordKind.TheVariants as kind;
 ghost use Rattle.tree_model.specs.declared.records.Subject.TheVariants as subject;
 
 use crate::subordinate::Subordinate;
 use manager_model::{ResourceManager, RestartError, TrimError};
 use std::alloc::{AllocError, Global};
-use sub_table::{Rebuilt, rebuild};
+use sub_table::{RebuildError, Rebuilt, rebuild};
 use tree_model::{
     LogRecord, Logged, ProcessId, Reaction, RecordKind, Sequence, StepError, Subject, Tree,
 };
@@ -53,17 +55,29 @@ fn reopen<M: ResourceManager>(manager: &mut M, keep: usize) -> Result<(), Restar
     Ok(())
 }
 
+/// The error of a step, for that of what records leave. Memory: also where no run makes such records.
+fn step_error(error: RebuildError) -> StepError
+    ensures { result ≡ error_of_rebuild error }
+{
+    match error {
+        RebuildError::Memory | RebuildError::Unfit => StepError::Memory,
+        RebuildError::Exhausted => StepError::Exhausted,
+    }
+}
+
 impl<M: ResourceManager> Subordinate<M> {
-    /// What the records leave that a crash would leave. Memory: also where no run makes such records.
+    /// What the records leave that a crash would leave. Memory: also where no run makes such records. Exhausted:
+    /// no boot below 2^63 comes behind the last one.
     fn rebuilt(&self, keep: usize) -> Result<Rebuilt, StepError>
         ensures ok { IfOk result (Rebuilds (leaf_place self.now.me self.now.parent self.now.tree) self.now.parent
             (left_by (M.sight self.now.manager).log keep)) }
-        ensures err { IfErr result (λ e. e ≡ StepError.Memory) }
+        ensures err { IfErr result (NotReady (leaf_place self.now.me self.now.parent self.now.tree)
+            (left_by (M.sight self.now.manager).log keep)) }
     {
         let records = self.manager.left(keep)?;
         match rebuild(self.me, self.parent, &self.tree, &records, self.alloc) {
             Ok(rebuilt) => Ok(rebuilt),
-            Err(_) => Err(StepError::Memory),
+            Err(error) => Err(step_error(error)),
         }
     }
 
@@ -75,7 +89,8 @@ impl<M: ResourceManager> Subordinate<M> {
             (left_by (M.sight self.now.manager).log keep) ready.0) }
         ensures written { IfOk result (λ ready.
             ready.1 ≡ record { kind = kind.Opened; subject = subject.Boot (ready.0.boot + 1); forced = true } ∷ []) }
-        ensures err { IfErr result (λ e. e ≡ StepError.Memory) }
+        ensures err { IfErr result (NotReady (leaf_place self.now.me self.now.parent self.now.tree)
+            (left_by (M.sight self.now.manager).log keep)) }
     {
         let rebuilt = self.rebuilt(keep)?;
         let written = opened(rebuilt.boot + 1, self.alloc)?;
@@ -85,8 +100,8 @@ impl<M: ResourceManager> Subordinate<M> {
     /// Restarts behind a crash that keeps so many of the log's unforced bytes: each case in doubt asks for
     /// its outcome, and so does one that an operator decided and that was not told. All memory is taken
     /// before the crash. Memory: nothing changed, also where the records that are left are none that a run
-    /// makes, as with a ticket of a boot to come, or where no boot comes behind their last one. Device: it has
-    /// failed until it is restarted.
+    /// makes, as with a ticket of a boot to come. Exhausted: no boot below 2^63 comes behind their last one;
+    /// nothing changed. Device: it has failed until it is restarted.
     pub fn restart(&mut self, keep: usize) -> Result<Reaction, StepError>
         ensures ok { IfOk result (Restarts (state M.sight self.old) keep (state M.sight self.new)) }
         ensures writes { OnOk result (LeavesPromises (seen M.sight self.old) keep (seen M.sight self.new)) }
@@ -113,7 +128,7 @@ impl<M: ResourceManager> Subordinate<M> {
                 })
             }
             Err(RestartError::Memory) => Err(StepError::Memory),
-            Err(RestartError::Exhausted) => Err(StepError::Memory),
+            Err(RestartError::Exhausted) => Err(StepError::Exhausted),
             Err(RestartError::Device) => Err(StepError::Device),
         }
     }
@@ -147,7 +162,7 @@ fn left_before<M: ResourceManager>(manager: &M) -> Result<Vec<LogRecord>, AllocE
     Ok(records)
 }
 
-/// What these records leave. Memory: also where no run makes such records.
+/// What these records leave. The errors are those of `rebuilt`.
 fn rebuilt_before<M: ResourceManager>(
     alloc: Global,
     me: ProcessId,
@@ -156,12 +171,12 @@ fn rebuilt_before<M: ResourceManager>(
     manager: &M,
 ) -> Result<Rebuilt, StepError>
     ensures ok { IfOk result (Rebuilds (leaf_place me parent tree.now) parent (left_before (M.sight manager.now))) }
-    ensures err { IfErr result (λ e. e ≡ StepError.Memory) }
+    ensures err { IfErr result (NotReady (leaf_place me parent tree.now) (left_before (M.sight manager.now))) }
 {
     let records = left_before(manager)?;
     match rebuild(me, parent, tree, &records, alloc) {
         Ok(rebuilt) => Ok(rebuilt),
-        Err(_) => Err(StepError::Memory),
+        Err(error) => Err(step_error(error)),
     }
 }
 
@@ -177,7 +192,7 @@ fn ready_before<M: ResourceManager>(
         (left_before (M.sight manager.now)) ready.0) }
     ensures written { IfOk result (λ ready.
         ready.1 ≡ record { kind = kind.Opened; subject = subject.Boot (ready.0.boot + 1); forced = true } ∷ []) }
-    ensures err { IfErr result (λ e. e ≡ StepError.Memory) }
+    ensures err { IfErr result (NotReady (leaf_place me parent tree.now) (left_before (M.sight manager.now))) }
 {
     let rebuilt = rebuilt_before(alloc, me, parent, tree, manager)?;
     let written = opened(rebuilt.boot + 1, alloc)?;
@@ -195,7 +210,8 @@ impl<M: ResourceManager + Drop> Subordinate<M> {
         tree: Tree,
         mut manager: M,
     ) -> Result<(Subordinate<M>, Reaction), (StepError, M)>
-        requires { IsRestarted (M.sight manager) }
+        requires restarted { IsRestarted (M.sight manager) }
+        requires own { (M.sight manager).log.form ≡ log_form me Manager }
         ensures ok { IfOk result (λ made. (before : ManagerSight) (all : ℕ)
             → RestartsManager before (M.sight manager) all
             → (old : CoreState) → LeftSo old
@@ -207,6 +223,7 @@ impl<M: ResourceManager + Drop> Subordinate<M> {
             → PromisesLeft (left_by before.log all) (M.sight made.0.manager)) }
         ensures err { IfErr result (λ e. (e.0 ≡ StepError.Memory) × (e.1 ≡ manager)) }
     {
+        manager.records_are_sound();
         match ready_before(alloc, me, parent, &tree, &manager) {
             Err(error) => Err((error, manager)),
             Ok((rebuilt, written)) => {

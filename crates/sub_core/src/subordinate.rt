@@ -1,5 +1,7 @@
 //! A subordinate.
 
+ghost use Rattle.tree_model.specs.declared.names.Kind.TheVariants as kind;
+ghost use Rattle.log_text.specs.Forms.{log_form};
 ghost use Rattle.std.specs.Prelude.{◌≡◌, IsTrue};
 ghost use Rattle.tree_model.specs.Nodes.{AtLeaf};
 ghost use Rattle.core_model.specs.Opening.{IsOpened};
@@ -71,7 +73,8 @@ impl<M: ResourceManager> Subordinate<M> {
         tree: Tree,
         mut manager: M,
     ) -> Subordinate<M>
-        requires { IsNew (M.sight manager) }
+        requires new { IsNew (M.sight manager) }
+        requires own { (M.sight manager).log.form ≡ log_form me kind.Manager }
         ensures opened { IsOpened (state M.sight result) (record { me = me; role = AtLeaf parent; tree = tree })
             (M.sight manager).log.failures }
         ensures empty { Rests no_data (manager_data (M.sight result.manager)) }
@@ -146,16 +149,18 @@ impl<M: ResourceManager> Subordinate<M> {
         self.manager.branches_are_listed_once();
     }
 
-    /// The manager that it drives, which has its log.
+    /// The manager that it drives, which has its log; the log is this process's.
     pub fn manager(&self) -> &M
-        ensures { result.now ≡ self.now.manager }
+        ensures manager { result.now ≡ self.now.manager }
+        ensures own { (M.sight self.now.manager).log.form ≡ log_form self.now.me kind.Manager }
     {
         &self.manager
     }
 
-    /// The manager that it drives, as it stands.
+    /// The manager that it drives, as it stands; its log is this process's.
     pub fn into_manager(self) -> M
-        ensures { result ≡ self.manager }
+        ensures manager { result ≡ self.manager }
+        ensures own { (M.sight self.manager).log.form ≡ log_form self.me kind.Manager }
     {
         let Subordinate { manager, .. } = self;
         manager

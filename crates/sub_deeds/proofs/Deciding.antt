@@ -7,9 +7,12 @@ use Rattle.xa_assoc.specs.Associations.{AssocList}
 use Rattle.xa_branch.specs.Branches.{state_in}
 use Rattle.tree_model.specs.declared.names.Outcome.{Outcome}
 use Rattle.tree_model.specs.declared.events.StepError.TheVariants as error
+use Rattle.rec_log.specs.Sights.{LogSight}
+use Rattle.core_model.proofs.Wrote.{wrote_form}
 use Rattle.manager_model.specs.Data.{is_begun}
 use Rattle.manager_model.specs.Sights.{ManagerSight}
-use Rattle.manager_model.specs.Deciding.{DecideFails, Decides as DecidesBy}
+use Rattle.manager_model.specs.Deciding.{DecideFails, Decides as DecidesBy, decision_writes}
+use Rattle.manager_model.specs.Ends.{logged_under}
 use Rattle.sub_deeds.specs.Deeds.{Comes, Decides, IsIdle, IsQuiet, NotDecided}
 use Rattle.sub_deeds.proofs.Known.{stays_known}
 use Rattle.sub_deeds.proofs.Quiet.{same_idle}
@@ -26,6 +29,8 @@ decides old new x o idle d =
         quiet = subst (λ (a : AssocList). IsQuiet a) (sym d.tables.associations) idle.quiet;
       };
       boot = d.boot;
+      form = ap (λ (l : LogSight). l.form) d.log
+          ∙ wrote_form old.log (decision_writes x o) (logged_under x (decision_writes x o));
     } in
     record {
       comes = comes;

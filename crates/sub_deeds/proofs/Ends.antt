@@ -18,12 +18,14 @@ use Rattle.xa_assoc.specs.Answers.{state_at}
 use Rattle.xa_assoc.specs.Ready.{has_rows, ready}
 use Rattle.tree_model.specs.declared.standings.Vote.TheVariants.{Yes, Read}
 use Rattle.tree_model.specs.declared.records.Write.{Write}
+use Rattle.rec_log.specs.Sights.{LogSight}
 use Rattle.manager_model.specs.Sights.{ManagerSight, SameManager}
 use Rattle.xa_heur.specs.declared.decision.Decision.{Decision}
 use Rattle.xa_heur.specs.Decisions.{heur_code}
 use Rattle.tree_model.specs.declared.names.Outcome.{Outcome}
 use Rattle.tree_model.specs.declared.names.Outcome.TheVariants.{Committed, Aborted}
 use Rattle.manager_model.specs.Ends.{Broke, Failed, Fails, Finishes as Answers, Limited, Made, Makes, Refused, Unlisted, logged_under, outcome_row, prepare_row as prepare_answer, row_for, row_of, written_for}
+use Rattle.core_model.proofs.Wrote.{wrote_form}
 use Rattle.sub_deeds.specs.Deeds.{BreaksUnder, Finishes, IsIdle, IsQuiet, can_roll_back, vote_of}
 use Rattle.sub_deeds.proofs.Quiet.{not_null, ready_is, same_idle}
 
@@ -75,6 +77,8 @@ made_deed old new x c idle makes = record {
       quiet = subst (λ (a : AssocList). IsQuiet a) (sym makes.tables.associations) idle.quiet;
     };
     boot = makes.boot;
+    form = ap (λ (l : LogSight). l.form) makes.log
+        ∙ wrote_form old.log (written_for old x c) (logged_under x (written_for old x c));
   };
   log = makes.log;
   own = makes.own;
@@ -128,11 +132,13 @@ module _ (old new : ManagerSight) (v : Verb) (x : Xid) (flags : ℕ) (c : Call)
       failed_deed old new x c idle (subst (λ (k : Call). Fails old new x k) (ok_is d c _ e is) fails)
 
   -- a limit was met
-  pub limited : (answer : Code) → answer ≡ code.RmErr → Answers old new v x flags answer → SameManager old new
-  limited answer fail (Failed e a s) = s
-  limited answer fail (Refused u e s) = s
-  limited answer fail (Limited u p a s) = s
-  limited answer fail (Unlisted u d e none a s) = s
+  pub limited : (answer : Code) → answer ≡ code.RmErr → Answers old new v x flags answer
+      → SameManager old new × (old.spent ≡ true)
+  limited answer fail (Failed e a s) = absurd (up_down old up e)
+  limited answer fail (Refused u e s) = absurd (ok_err c answer _ is e)
+  limited answer fail (Limited u p a s) = (s, p)
+  limited answer fail (Unlisted u d e none a s) =
+      absurd (let f : code.Proto ≡ code.RmErr = sym a ∙ fail in cc)
   limited answer fail (Made u d e a makes) = absurd ((code_of old x d).1 (sym a ∙ fail))
   limited answer fail (Broke u d e a fails) = absurd (let f : code.RmFail ≡ code.RmErr = sym a ∙ fail in cc)
 
@@ -237,7 +243,8 @@ module _ (old new : ManagerSight) (v : Verb) (x : Xid) (c : Call) (s : BranchSta
       → BreaksUnder old new (logged_under x (written_for old x c))
   breaks answer fail a = broken old new v x 0 c up idle is_ready is_listed answer fail a
 
-  pub stays : (answer : Code) → answer ≡ code.RmErr → Answers old new v x 0 answer → SameManager old new
+  pub stays : (answer : Code) → answer ≡ code.RmErr → Answers old new v x 0 answer
+      → SameManager old new × (old.spent ≡ true)
   stays answer fail a = limited old new v x 0 c up idle is_ready is_listed answer fail a
 
 -- the vote of a prepare's answer

@@ -223,11 +223,11 @@ walks_end base mid new x succeeds answer work h =
 -- a thread at work in a branch ends its work
 pub ended : (base mid new : ManagerSight) (x : Xid) (succeeds : Bool) (flags : ℕ)
     (answer : Code) → mid.log.failed ≡ false
-    → IsAtWork base.tables mid.tables x → x ≢ null_xid → mid.boot ≡ base.boot
+    → IsAtWork base.tables mid.tables x → x ≢ null_xid → mid.boot ≡ base.boot → mid.log ≡ base.log
     → ((y : Xid) → mid.decided y ≡ base.decided y) → legal verb.End flags ≡ Ok (end_call succeeds)
     → Calls mid new (answer ≡ code.RmFail) (λ m n. Answers any m n verb.End 0 x flags answer)
     → Comes base new x (left_after succeeds)
-ended base mid new x succeeds flags answer up work named boot decided is calls =
+ended base mid new x succeeds flags answer up work named boot log decided is calls =
     let w = walks_end base.tables mid.tables new.tables x succeeds answer work
     (ends_of succeeds mid.tables new.tables x flags answer is work.opened named (calls.works up)) in
     let quiet = quiet_again base.tables.associations mid.tables.associations new.tables.associations 0 x
@@ -238,6 +238,7 @@ ended base mid new x succeeds flags answer up work named boot decided is calls =
       others_decided = λ y apart. calls.rest.decided y ∙ decided y;
       idle = record { opened = w.init ∙ work.opened; quiet = quiet };
       boot = calls.boot ∙ boot;
+      form = ap (λ (l : LogSight). l.form) (calls.log ∙ log);
     }
 
 -- and where the branch was idle before, each branch stands where it stood
@@ -275,7 +276,7 @@ has_begun old mid new x start end up idle named starting ok ending =
     let still = ap (λ (l : LogSight). l.failed) starting.log ∙ up in (
       work.0,
       record {
-        comes = ended old mid new x true 0x0400_0000 end still work.1 named starting.boot
+        comes = ended old mid new x true 0x0400_0000 end still work.1 named starting.boot starting.log
             starting.rest.decided refl ending;
         log = ending.log ∙ starting.log;
         rest = rest_through old mid new starting.rest ending.rest;
@@ -348,7 +349,7 @@ module _ (old mid back new : ManagerSight) (x : Xid) (op : Op) (start : Code)
       let b : does.branch ≡ x = same_name does.branch x (sym does.active ∙ at_work.begins.turns.active) in
       let comes : Comes old new x S2 = ended old back new x true 0x0400_0000 end (still_up back does.log)
       (same_work old.tables mid.tables back.tables x does.tables at_work)
-      named (does.boot ∙ starting.boot)
+      named (does.boot ∙ starting.boot) (does.log ∙ starting.log)
       (λ y. does.decided y ∙ starting.rest.decided y) refl ending in
       record {
         allowed = ap is_none (sym in_way ∙ does.allowed);
@@ -378,7 +379,7 @@ module _ (old mid back new : ManagerSight) (x : Xid) (op : Op) (start : Code)
       let why = refusal_of mid back op e other refused in
       let comes : Comes old new x S4 = ended old back new x false 0x2000_0000 end (still_up back why.1.log)
       (same_work old.tables mid.tables back.tables x why.1.tables at_work) named
-      (why.1.boot ∙ starting.boot)
+      (why.1.boot ∙ starting.boot) (why.1.log ∙ starting.log)
       (λ y. why.1.rest.decided y ∙ starting.rest.decided y) refl ending in
       record {
         allowed = ap is_none (sym in_way ∙ why.0);
@@ -399,7 +400,7 @@ module _ (old mid back new : ManagerSight) (x : Xid) (op : Op) (start : Code)
   wanting end stays ending = record {
     comes = ended old back new x true 0x0400_0000 end (still_up back stays.log)
         (same_work old.tables mid.tables back.tables x stays.tables at_work) named
-        (stays.boot ∙ starting.boot)
+        (stays.boot ∙ starting.boot) (stays.log ∙ starting.log)
         (λ y. stays.rest.decided y ∙ starting.rest.decided y) refl ending;
     log = ending.log ∙ stays.log ∙ starting.log;
     kept = record {

@@ -17,7 +17,7 @@ use Rattle.tree_model.specs.declared.messages.Op.{Op}
 use Rattle.tree_model.specs.declared.records.LogRecord.{LogRecord}
 use Rattle.tree_model.specs.declared.records.Write.{Write}
 use Rattle.tree_model.specs.declared.events.StepError.{StepError}
-use Rattle.tree_model.specs.declared.events.StepError.TheVariants.{Device, Memory}
+use Rattle.tree_model.specs.declared.events.StepError.TheVariants.{Device, Exhausted, Memory}
 use Rattle.rec_log.specs.Sights.{Breaks}
 use Rattle.core_model.specs.States.{wrote}
 use Rattle.manager_model.specs.Sights.{ManagerSight, SameData, SameManager, manager_data, obstacle}
@@ -45,6 +45,7 @@ pub record Comes (old new : ManagerSight) (x : Xid) (s : BranchState) : Type 0 w
   pub others_decided : OthersStayDecided old new x
   pub idle : IsIdle new
   pub boot : new.boot ≡ old.boot
+  pub form : new.log.form ≡ old.log.form
 
 -- but for its log, a manager between two pieces of work is as it was: which branches it knows and their states,
 -- what each has written, who holds which key, what operators decided, and whether a limit of its
@@ -127,11 +128,12 @@ pub record BreaksUnder (old new : ManagerSight) (ls : List LogRecord) : Type 0 w
   pub idle : IsIdle new
   pub boot : new.boot ≡ old.boot
 
--- why a piece of work was not done that writes these records: for memory nothing changed; or the device
--- failed
+-- why a piece of work was not done that writes these records: for memory nothing changed, nor where the manager has
+-- met a limit of its own; or the device failed
 abbrev pub NotDone : ManagerSight → ManagerSight → List LogRecord → StepError → Type 0
 NotDone old new ls Memory = SameManager old new
 NotDone old new ls Device = BreaksUnder old new ls
+NotDone old new ls Exhausted = SameManager old new × (old.spent ≡ true)
 NotDone old new ls e = ⊥
 
 -- why a call did not make its row

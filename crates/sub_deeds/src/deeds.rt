@@ -60,8 +60,8 @@ pub fn work<M: ResourceManager>(manager: &mut M, xid: &Xid, op: &Op) -> Result<b
     }
 }
 
-/// An idle branch promises, with what it has written; one that wrote nothing is ended. Memory: nothing
-/// changed, also where a limit of the manager's own is met. Device: it fails now.
+/// An idle branch promises, with what it has written; one that wrote nothing is ended. Memory; Exhausted,
+/// where a limit of the manager's own is met: nothing changed. Device: it fails now.
 pub fn promise<M: ResourceManager>(manager: &mut M, xid: &Xid) -> Result<Vote, StepError>
     requires idle { IsIdle (M.sight manager.old) }
     requires up { (M.sight manager.old).log.failed ≡ false }
@@ -74,7 +74,7 @@ pub fn promise<M: ResourceManager>(manager: &mut M, xid: &Xid) -> Result<Vote, S
 {
     match manager.prepare(THREAD, xid, Flags::TMNOFLAGS)? {
         Code::RmFail => Err(StepError::Device),
-        Code::RmErr => Err(StepError::Memory),
+        Code::RmErr => Err(StepError::Exhausted),
         Code::RdOnly => Ok(Vote::Read),
         _ => Ok(Vote::Yes),
     }
@@ -92,7 +92,7 @@ pub fn commit<M: ResourceManager>(manager: &mut M, xid: &Xid) -> Result<(), Step
 {
     match manager.commit(THREAD, xid, Flags::TMNOFLAGS)? {
         Code::RmFail => Err(StepError::Device),
-        Code::RmErr => Err(StepError::Memory),
+        Code::RmErr => Err(StepError::Exhausted),
         _ => Ok(()),
     }
 }
@@ -110,7 +110,7 @@ pub fn roll_back<M: ResourceManager>(manager: &mut M, xid: &Xid) -> Result<(), S
 {
     match manager.rollback(THREAD, xid, Flags::TMNOFLAGS)? {
         Code::RmFail => Err(StepError::Device),
-        Code::RmErr => Err(StepError::Memory),
+        Code::RmErr => Err(StepError::Exhausted),
         _ => Ok(()),
     }
 }
@@ -151,13 +151,10 @@ pub fn decide<M: ResourceManager>(
 {
     match manager.decide(xid, outcome) {
         Ok(()) => Ok(()),
+        Err(DecideError::Memory) => Err(StepError::Memory),
+        Err(DecideError::Exhausted) => Err(StepError::Exhausted),
         Err(DecideError::Device) => Err(StepError::Device),
-        Err(
-            DecideError::Memory
-            | DecideError::Failed
-            | DecideError::NotInDoubt
-            | DecideError::Exhausted,
-        ) => Err(StepError::Memory),
+        Err(DecideError::Failed | DecideError::NotInDoubt) => unreachable!(),
     }
 }
 
@@ -172,7 +169,7 @@ pub fn forget<M: ResourceManager>(manager: &mut M, xid: &Xid) -> Result<(), Step
 {
     match manager.forget(THREAD, xid, Flags::TMNOFLAGS)? {
         Code::RmFail => Err(StepError::Device),
-        Code::RmErr => Err(StepError::Memory),
+        Code::RmErr => Err(StepError::Exhausted),
         _ => Ok(()),
     }
 }

@@ -27,6 +27,8 @@ use Rattle.sub_branch.specs.declared.branch.Stage.{Stage}
 use Rattle.sub_branch.specs.declared.branch.Stage.TheVariants.{Active, Heuristic, Prepared}
 use Rattle.sub_branch.specs.Stages.{awaits}
 use Rattle.sub_table.specs.Tables.{BranchTable, branch_in, ticket_in, view_in}
+use Rattle.sub_table.specs.declared.names.RebuildError.{RebuildError}
+use Rattle.sub_table.specs.declared.names.RebuildError.TheVariants as errors
 use Rattle.sub_table.specs.declared.names.Saying.{Saying}
 use Rattle.sub_table.specs.declared.names.Saying.TheVariants.{Nothing, Boot, Promises as PromisesOf, Ends as EndsOf, Decides, Coordinates}
 use Rattle.sub_table.specs.declared.cases.Cases.{Cases}
@@ -222,3 +224,21 @@ pub record Rebuilds (place : Place) (p : ProcessId) (ls : List LogRecord) (r : R
   pub recalls : (c : Case) → RecallsCase (own_records place ls) c
   pub messages : r.messages
       ≡ flat_map (manager_resumes place.me p (own_records place ls)) (cases_in (own_records place ls))
+
+-- Refusals.
+
+-- records were not read, for another reason than that boots are used up
+abbrev pub IsUnread : RebuildError → Type 0
+IsUnread errors.Exhausted = ⊥
+IsUnread e = ⊤
+
+-- why nothing was rebuilt: boots are used up where none below 2^63 comes behind the last one
+abbrev pub NotRebuilt : Place → List LogRecord → RebuildError → Type 0
+NotRebuilt place ls errors.Exhausted = 2 ^ 63 ≤ boot_of (own_records place ls) + 1
+NotRebuilt place ls e = ⊤
+
+-- the number of an error
+abbrev pub rebuild_number : RebuildError → ℕ
+rebuild_number errors.Memory = 1
+rebuild_number errors.Unfit = 2
+rebuild_number errors.Exhausted = 3

@@ -1,7 +1,7 @@
 //! The cases of the records that were read so far.
 
-ghost use Rattle.std.specs.Prelude.{◌≡◌, [], OnOk};
-ghost use Rattle.sub_table.specs.Rebuilt.{AddsCase, DecidesCase, Ends, Promises, Takes, fits_told};
+ghost use Rattle.std.specs.Prelude.{◌≡◌, [], IfErr, OnOk};
+ghost use Rattle.sub_table.specs.Rebuilt.{AddsCase, DecidesCase, Ends, IsUnread, Promises, Takes, fits_told};
 ghost use Rattle.tree_model.specs.Views.{leaf_place};
 
 use crate::names::{RebuildError, Saying, own_case, saying_of};
@@ -60,7 +60,8 @@ impl Cases {
 
     /// The case promised. Unfit: it has promised already, or has no ticket.
     fn promise(&mut self, parent: ProcessId, case: Case) -> Result<(), RebuildError>
-        ensures { OnOk result (Promises self.old self.new parent case) }
+        ensures ok { OnOk result (Promises self.old self.new parent case) }
+        ensures err { IfErr result IsUnread }
     {
         let Some(ticket) = case.ticket else {
             return Err(RebuildError::Unfit);
@@ -79,7 +80,8 @@ impl Cases {
     /// An operator decided the case, or it was told this outcome since. Unfit: it did not promise, or it was told
     /// before an operator decided it.
     fn decide(&mut self, case: &Case, told: Option<Outcome>) -> Result<(), RebuildError>
-        ensures { OnOk result (DecidesCase self.old self.new case.now told) }
+        ensures ok { OnOk result (DecidesCase self.old self.new case.now told) }
+        ensures err { IfErr result IsUnread }
     {
         let Some(key) = self.branches.find(case) else {
             return Err(RebuildError::Unfit);
@@ -113,7 +115,8 @@ impl Cases {
         tree: &Tree,
         next: &LogRecord,
     ) -> Result<(), RebuildError>
-        ensures { OnOk result (Takes (leaf_place me parent tree.now) parent self.old self.new next.now) }
+        ensures ok { OnOk result (Takes (leaf_place me parent tree.now) parent self.old self.new next.now) }
+        ensures err { IfErr result IsUnread }
     {
         match saying_of(&next.entry) {
             Saying::Nothing => Ok(()),

@@ -1,8 +1,8 @@
 //! What a record says of which branch, and whether the branch is a case of the process's own.
 
-ghost use Rattle.std.specs.Prelude.{◌≡◌, Some, IfOk, IsTrue};
+ghost use Rattle.std.specs.Prelude.{◌≡◌, Some, IfErr, IfOk, IsTrue};
 ghost use Rattle.tree_model.specs.LogNames.{is_own};
-ghost use Rattle.sub_table.specs.Rebuilt.{NameReads, own_case, saying_of};
+ghost use Rattle.sub_table.specs.Rebuilt.{IsUnread, NameReads, own_case, rebuild_number, saying_of};
 ghost use Rattle.tree_model.specs.Views.{leaf_place};
 
 use log_text::{name_in, name_xid};
@@ -20,9 +20,30 @@ pub enum RebuildError {
     /// The records are those of no log that a subordinate wrote.
     #[error("the records are those of no subordinate")]
     Unfit,
+    /// No boot below 2^63 comes behind the last one.
+    #[error("numbers are used up")]
+    Exhausted,
+}
+
+impl RebuildError {
+    /// Its number, 1 to 3.
+    pub fn number(self) -> u8
+        ensures { result ≡ rebuild_number self }
+    {
+        match self {
+            RebuildError::Memory => 1,
+            RebuildError::Unfit => 2,
+            RebuildError::Exhausted => 3,
+        }
+    }
 }
 
 impl From<AllocError> for RebuildError {
+    ghost use Rattle.std.specs.Prelude.{◌≡◌};
+    ghost use Rattle.sub_table.specs.declared.names.RebuildError.TheVariants.{Memory};
+
+    ghost from_gives = { λ _ e. e ≡ Memory };
+
     fn from(_error: AllocError) -> RebuildError {
         RebuildError::Memory
     }
@@ -130,6 +151,7 @@ pub(crate) fn own_case(
 ) -> Result<Option<Case>, RebuildError>
     ensures own { IfOk result (λ own. own ≡ own_case (leaf_place me parent tree.now) named branch) }
     ensures reads { IfOk result (λ own. NameReads named branch) }
+    ensures unread { IfErr result IsUnread }
 {
     if !reads_back(named, branch) {
         return Err(RebuildError::Unfit);

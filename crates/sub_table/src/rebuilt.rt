@@ -1,9 +1,9 @@
 //! The records of a log, read in one pass.
 
-ghost use Rattle.std.specs.Prelude.{◌≡◌, IfOk};
+ghost use Rattle.std.specs.Prelude.{◌≡◌, IfErr, IfOk};
 ghost use Rattle.std.specs.List.{flat_map};
 ghost use Rattle.sub_table.specs.Tables.{branch_in};
-ghost use Rattle.sub_table.specs.Rebuilt.{Leaves, Rebuilds, asks, is_asked};
+ghost use Rattle.sub_table.specs.Rebuilt.{IsUnread, Leaves, NotRebuilt, Rebuilds, asks, is_asked};
 ghost use Rattle.tree_model.specs.Views.{leaf_place};
 
 use crate::cases::Cases;
@@ -33,7 +33,8 @@ fn read(
     records: &[LogRecord],
     alloc: Global,
 ) -> Result<Cases, RebuildError>
-    ensures { IfOk result (Leaves (leaf_place me parent tree.now) parent records.now) }
+    ensures ok { IfOk result (Leaves (leaf_place me parent tree.now) parent records.now) }
+    ensures err { IfErr result IsUnread }
 {
     let mut cases = Cases::new(alloc);
     for next in records {
@@ -78,8 +79,8 @@ fn inquiries(
     Ok(messages)
 }
 
-/// What these records leave. Unfit: no run of a subordinate makes such records. So a boot behind which none
-/// comes is refused, and a ticket of a later boot.
+/// What these records leave. Unfit: no run of a subordinate makes such records, as with a ticket of a later
+/// boot. Exhausted: no boot below 2^63 comes behind the last one.
 pub fn rebuild(
     me: ProcessId,
     parent: ProcessId,
@@ -87,7 +88,8 @@ pub fn rebuild(
     records: &[LogRecord],
     alloc: Global,
 ) -> Result<Rebuilt, RebuildError>
-    ensures { IfOk result (Rebuilds (leaf_place me parent tree.now) parent records.now) }
+    ensures ok { IfOk result (Rebuilds (leaf_place me parent tree.now) parent records.now) }
+    ensures err { IfErr result (NotRebuilt (leaf_place me parent tree.now) records.now) }
 {
     let Cases {
         branches,
@@ -95,7 +97,10 @@ pub fn rebuild(
         boot,
         newest,
     } = read(me, parent, tree, records, alloc)?;
-    if boot > LAST_BOOT || newest > boot {
+    if boot > LAST_BOOT {
+        return Err(RebuildError::Exhausted);
+    }
+    if newest > boot {
         return Err(RebuildError::Unfit);
     }
     let messages = inquiries(me, parent, &branches, order.as_slice(), alloc)?;

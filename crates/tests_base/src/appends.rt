@@ -9,13 +9,18 @@ use log_store::MemoryStore;
 use rec_log::{OpenError, RecLog};
 use std::alloc::Global;
 use std::test::Fail;
-use tree_model::{Kind, Record};
+use tree_model::{Kind, ProcessId, Record};
 
 /// A log without records.
 fn empty_log(alloc: Global) -> Result<RecLog<MemoryStore>, Fail>
-    ensures { IfOk result (λ log. log.kind ≡ Coordinator) }
+    ensures { IfOk result (λ log. log.sight.form.kind ≡ Coordinator) }
 {
-    match RecLog::open(MemoryStore::new(alloc), Kind::Coordinator, alloc) {
+    match RecLog::open(
+        MemoryStore::new(alloc),
+        ProcessId(1),
+        Kind::Coordinator,
+        alloc,
+    ) {
         Ok(log) => Ok(log),
         Err(_) => Err(Fail::from("a log")),
     }
@@ -23,11 +28,11 @@ fn empty_log(alloc: Global) -> Result<RecLog<MemoryStore>, Fail>
 
 /// Appends an Opened of this boot.
 fn append_boot(log: &mut RecLog<MemoryStore>, boot: u64, alloc: Global) -> Result<(), Fail>
-    requires { log.old.kind ≡ Coordinator }
-    ensures { log.new.kind ≡ log.old.kind }
+    requires { log.old.sight.form.kind ≡ Coordinator }
+    ensures { log.new.sight.form ≡ log.old.sight.form }
 {
     let frame = coordinator_frame(&Record::Opened(boot), None, alloc)?;
-    log.reserve(frame.bytes().len())?;
+    log.reserve(frame.size())?;
     if log.failed() || log.append(&frame).is_err() {
         return Err(Fail::from("a record that is appended"));
     }
@@ -40,7 +45,12 @@ fn opened_again(
     alloc: Global,
 ) -> Result<Result<usize, OpenError>, Fail> {
     let text = log.text(alloc)?;
-    match RecLog::open(MemoryStore::from_bytes(text), Kind::Coordinator, alloc) {
+    match RecLog::open(
+        MemoryStore::from_bytes(text),
+        ProcessId(1),
+        Kind::Coordinator,
+        alloc,
+    ) {
         Ok(again) => Ok(Ok(again.records(alloc)?.len())),
         Err((error, _store)) => Ok(Err(error)),
     }
@@ -68,6 +78,6 @@ fn records_out_of_order_are_refused_where_they_are_opened(rt: HostRuntime) -> Re
     let mut log = empty_log(alloc)?;
     append_boot(&mut log, 2, alloc)?;
     append_boot(&mut log, 1, alloc)?;
-    assert!(rt; opened_again(&log, alloc)? == Err(OpenError::Damaged(16)));
+    assert!(rt; opened_again(&log, alloc)? == Err(OpenError::Damaged(23)));
     Ok(())
 }

@@ -10,7 +10,7 @@ use log_store::{FaultStore, LogStore, MemoryStore, StoreCall};
 use rec_log::{LogError, OpenError, RecLog};
 use std::alloc::Global;
 use std::test::Fail;
-use tree_model::{Kind, Record};
+use tree_model::{Kind, ProcessId, Record};
 
 /// A store with the log of a commit, which fails at its first call of this kind.
 fn failing(torn: &[u8], call: StoreCall, alloc: Global) -> Result<FaultStore, Fail> {
@@ -21,9 +21,9 @@ fn failing(torn: &[u8], call: StoreCall, alloc: Global) -> Result<FaultStore, Fa
 
 /// The log in a store, which has not failed.
 fn opened<L: LogStore + Drop>(store: L, alloc: Global) -> Result<RecLog<L>, Fail>
-    ensures { IfOk result (λ log. log.kind ≡ Coordinator) }
+    ensures { IfOk result (λ log. log.sight.form.kind ≡ Coordinator) }
 {
-    match RecLog::open(store, Kind::Coordinator, alloc) {
+    match RecLog::open(store, ProcessId(1), Kind::Coordinator, alloc) {
         Ok(log) => Ok(log),
         Err(_) => Err(Fail::from("a log")),
     }
@@ -31,7 +31,7 @@ fn opened<L: LogStore + Drop>(store: L, alloc: Global) -> Result<RecLog<L>, Fail
 
 /// The log of a commit, whose device fails at the first call of this kind.
 fn failing_log(call: StoreCall, alloc: Global) -> Result<RecLog<FaultStore>, Fail>
-    ensures { IfOk result (λ log. log.kind ≡ Coordinator) }
+    ensures { IfOk result (λ log. log.sight.form.kind ≡ Coordinator) }
 {
     opened(failing(&[], call, alloc)?, alloc)
 }
@@ -70,8 +70,8 @@ fn a_failed_force_fails_the_log(rt: HostRuntime) -> Result<(), Fail> {
 
 /// Restarts the log with the record of its second boot; what the crash takes is all that is not forced.
 fn restarts(log: &mut RecLog<FaultStore>, alloc: Global) -> Result<bool, Fail>
-    requires { log.old.kind ≡ Coordinator }
-    ensures { log.new.kind ≡ log.old.kind }
+    requires { log.old.sight.form.kind ≡ Coordinator }
+    ensures { log.new.sight.form ≡ log.old.sight.form }
 {
     let frames = [coordinator_frame(&Record::Opened(2), None, alloc)?];
     Ok(log.restart(0, &frames, alloc) == Ok(()))
@@ -97,7 +97,7 @@ fn a_failed_restart_goes_on_at_the_next(rt: HostRuntime) -> Result<(), Fail> {
 fn a_failed_open_hands_the_store_back(rt: HostRuntime) -> Result<(), Fail> {
     let alloc = rt.alloc();
     let store = failing(&[4, 0], StoreCall::Replace, alloc)?;
-    let Err((error, store)) = RecLog::open(store, Kind::Coordinator, alloc) else {
+    let Err((error, store)) = RecLog::open(store, ProcessId(1), Kind::Coordinator, alloc) else {
         return Err(Fail::from("a store handed back"));
     };
     assert!(rt; error == OpenError::Device && store.failures() == 1);

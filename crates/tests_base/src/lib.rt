@@ -19,6 +19,8 @@ mod faults;
 #[cfg(test)]
 mod players;
 #[cfg(test)]
+mod trims;
+#[cfg(test)]
 mod votes;
 #[cfg(test)]
 mod xids;

@@ -12,7 +12,7 @@ use tree_model::{Message, Op, Reaction, Tree, Vote};
 
 /// The child below the root, over an empty key store.
 fn opened(alloc: Global) -> Result<Subordinate<KvManager<MemoryStore>>, AllocError> {
-    match KvManager::create(MemoryStore::new(alloc), alloc) {
+    match KvManager::create(MemoryStore::new(alloc), CHILD, alloc) {
         Ok(manager) => {
             let tree = Tree::from_vec(Vec::new(alloc));
             Ok(Subordinate::open(alloc, CHILD, ROOT, tree, manager))

@@ -5,7 +5,6 @@ use Rattle.std.proofs.lemmas.List.Sums.{fold-append}
 use Rattle.std.specs.List.{flat_map, list_all, list_any}
 use Rattle.std.specs.Map.{lookup}
 use Rattle.indexmap.specs.IndexMap.{insert_entry}
-use Rattle.tree_model.specs.declared.names.Kind.{Kind}
 use Rattle.tree_model.specs.declared.names.ProcessId.{ProcessId}
 use Rattle.tree_model.specs.declared.records.LogRecord.{LogRecord}
 use Rattle.tree_model.specs.declared.trees.TreeEntry.{TreeEntry}
@@ -15,7 +14,9 @@ use Rattle.tree_model.specs.Nodes.{Role, is_listed, place_of}
 use Rattle.tree_model.specs.Records.{record_case}
 use Rattle.tree_model.specs.Trees.{IsTree}
 use Rattle.tree_model.specs.contracts.names.ProcessIdPartialEq.TheImpl as processes
-use Rattle.log_rules.specs.order.Logs.{LogReading, Whole, Damaged, read_log}
+use Rattle.log_text.specs.declared.form.LogForm.{LogForm}
+use Rattle.log_text.specs.Forms.{form_in}
+use Rattle.log_rules.specs.order.Logs.{LogReading, Whole, Damaged, read_as, read_log}
 use Rattle.logs_script.specs.Faults.{damage_or, first_damage}
 use Rattle.logs_script.specs.Places.{Placed, placed, placed_in}
 use Rattle.logs_script.proofs.PlaceLaws.{places_tell}
@@ -25,7 +26,7 @@ use Rattle.rec_log.specs.Openings.{IsFound as IsLogFound, IsNoLog}
 use Rattle.rec_log.specs.declared.opening.Found.{Found}
 use Rattle.rec_log.specs.declared.opening.Found.TheVariants.{Empty, Sound}
 use Rattle.rec_log.specs.declared.opening.OpenError.{OpenError}
-use Rattle.rec_log.specs.declared.opening.OpenError.TheVariants.{Memory, Device, Damaged as DamagedError}
+use Rattle.rec_log.specs.declared.opening.OpenError.TheVariants.{Memory, Device, Damaged as DamagedError, OldFormat}
 use Rattle.tree_headline.specs.auditor.Audits.{is_case_at}
 use Rattle.audit_cases.specs.Notes.{LogNotes, listed_cases, log_notes_of, no_notes, noted, place_at}
 use Rattle.audit_cases.proofs.NoteLaws.{noted_all}
@@ -59,16 +60,16 @@ noted_goes_on tree e t new total at l xs more n is h =
     (flat_map (λ m. own_by (place_at tree e) m (record_case m.entry)) (reads more)))
     ∙ sym (ap (λ ys. fold noted t (own_records (place_at tree e) (reads ys))) is) ∙ h
 
-pub is_frames_notes : (tree : List TreeEntry) (e : TreeEntry) (frames : List ℕ)
-    → fold noted no_notes (own_records (place_at tree e) (reads (placed_in e.kind 5 0 frames)))
-    ≡ frames_notes tree e frames
+pub is_frames_notes : (f : LogForm) (tree : List TreeEntry) (e : TreeEntry) (frames : List ℕ)
+    → fold noted no_notes (own_records (place_at tree e) (reads (placed_in f 5 0 frames)))
+    ≡ frames_notes f tree e frames
 unfolding frames_notes
-is_frames_notes tree e frames = refl
+is_frames_notes f tree e frames = refl
 
 -- A log.
 
 pub empty_notes : (tree : List TreeEntry) (e : TreeEntry) (bytes : List ℕ) (found : Found)
-    → IsLogFound e.kind bytes found
+    → IsLogFound (form_in bytes e.id e.kind) bytes found
     → found ≡ Empty → NotesLog tree e bytes no_notes
 unfolding own_records
 empty_notes tree e bytes Empty h is = record { records = []; torn = 0; read = h.1; notes = noted_all [] }
@@ -76,7 +77,8 @@ empty_notes tree e bytes (Sound torn) h is = absurd (cc)
 
 pub sound_notes : (tree : List TreeEntry) (e : TreeEntry) (bytes : List ℕ)
     (found : Found) (torn : ℕ) (t : LogNotes)
-    → IsLogFound e.kind bytes found → found ≡ Sound torn → t ≡ frames_notes tree e (drop 5 bytes)
+    → IsLogFound (form_in bytes e.id e.kind) bytes found → found ≡ Sound torn
+    → t ≡ frames_notes (form_in bytes e.id e.kind) tree e (drop 5 bytes)
     → NotesLog tree e bytes t
 unfolding frames_notes
 sound_notes tree e bytes Empty torn t h is table = absurd (cc)
@@ -86,29 +88,30 @@ sound_notes tree e bytes (Sound size) torn t h is table = record {
   read = h.3 ∙ h.2.read;
   notes = table
       ∙ ap (λ ls. fold noted no_notes (own_records (place_at tree e) ls))
-      (places_tell e.kind bytes _ size (h.3 ∙ h.2.read))
+      (places_tell (form_in bytes e.id e.kind) bytes _ size (h.3 ∙ h.2.read))
       ∙ noted_all _;
 }
 
 same_place : (a b : ℕ) → DamagedError a ≡ DamagedError b → a ≡ b
 same_place a b e = cc
 
-pub no_log : (p : Kind) (bytes : List ℕ) (error : OpenError) (place : ℕ) → IsNoLog p bytes error
+pub no_log : (p : LogForm) (bytes : List ℕ) (error : OpenError) (place : ℕ) → IsNoLog p bytes error
     → error ≡ DamagedError place → read_log p bytes ≡ Damaged place
 no_log p bytes Memory place h e = absurd (cc)
 no_log p bytes Device place h e = absurd (cc)
+no_log p bytes OldFormat place h e = absurd (cc)
 no_log p bytes (DamagedError at) place h e = h ∙ ap (λ n. Damaged n) (same_place at place e)
 
 -- The logs.
 
 pub sound_more : (e : TreeEntry) (es : List TreeEntry) (logs : List ProcessLog)
     (ls : List LogRecord) (torn : ℕ)
-    → read_log e.kind (bytes_of logs e.id) ≡ Whole ls torn → first_damage (e ∷ es) logs ≡ first_damage es logs
+    → read_as e.id e.kind (bytes_of logs e.id) ≡ Whole ls torn → first_damage (e ∷ es) logs ≡ first_damage es logs
 unfolding first_damage
 sound_more e es logs ls torn is = ap (λ r. damage_or e.id r (first_damage es logs)) is
 
 pub damaged_here : (e : TreeEntry) (es : List TreeEntry) (logs : List ProcessLog) (place : ℕ)
-    → read_log e.kind (bytes_of logs e.id) ≡ Damaged place → first_damage (e ∷ es) logs ≡ Some (e.id, place)
+    → read_as e.id e.kind (bytes_of logs e.id) ≡ Damaged place → first_damage (e ∷ es) logs ≡ Some (e.id, place)
 unfolding first_damage
 damaged_here e es logs place is = ap (λ r. damage_or e.id r (first_damage es logs)) is
 
@@ -119,18 +122,18 @@ none_damaged logs = refl
 -- what a process keeps is what it reads in its log
 pub kept_is : (tree : List TreeEntry) (logs : List ProcessLog) (e : TreeEntry)
     (ls : List LogRecord) (torn : ℕ)
-    → IsFound tree e → read_log e.kind (bytes_of logs e.id) ≡ Whole ls torn
+    → IsFound tree e → read_as e.id e.kind (bytes_of logs e.id) ≡ Whole ls torn
     → kept_lists tree logs e.id ≡ own_records (place_at tree e) ls
 unfolding kept_lists
 kept_is tree logs e ls torn found is =
     ap (λ o. own_records (place_of tree e.id)
-    (whole_records (read_log (entry_kind o) (bytes_of logs e.id)))) found
+    (whole_records (read_as e.id (entry_kind o) (bytes_of logs e.id)))) found
     ∙ ap (λ r. own_records (record { me = e.id; role = r; tree = tree })
-    (whole_records (read_log e.kind (bytes_of logs e.id))))
+    (whole_records (read_as e.id e.kind (bytes_of logs e.id))))
     (role_if tree e.id e found)
     ∙ ap (λ r. own_records (place_at tree e) (whole_records r)) is
 
-whole_at : (p : Kind) (bytes : List ℕ) (r : LogReading) → read_log p bytes ≡ r → AllAt p (whole_records r)
+whole_at : (p : LogForm) (bytes : List ℕ) (r : LogReading) → read_log p bytes ≡ r → AllAt p.kind (whole_records r)
 unfolding AllAt
 whole_at p bytes (Whole ls torn) is = all_at p bytes ls torn is
 whole_at p bytes (Damaged place) is = tt
@@ -148,12 +151,12 @@ kept_own tree logs t q listed role =
     subst (λ p. list_all (is_case_at tree p) (listed_cases role (kept_lists tree logs p)) ≡ true) here
     (ap (λ rs. list_all (is_case_at tree found.0.id) (listed_cases role rs))
     (ap (λ o. own_records (place_of tree found.0.id)
-    (whole_records (read_log (entry_kind o) (bytes_of logs found.0.id)))) at
+    (whole_records (read_as found.0.id (entry_kind o) (bytes_of logs found.0.id)))) at
     ∙ ap (λ r. own_records (record { me = found.0.id; role = r; tree = tree })
-    (whole_records (read_log found.0.kind (bytes_of logs found.0.id)))) (role_if tree found.0.id found.0 at))
-    ∙ own_cases tree t found.0 at (whole_records (read_log found.0.kind (bytes_of logs found.0.id)))
-    (whole_at found.0.kind (bytes_of logs found.0.id)
-    (read_log found.0.kind (bytes_of logs found.0.id)) refl) role)
+    (whole_records (read_as found.0.id found.0.kind (bytes_of logs found.0.id)))) (role_if tree found.0.id found.0 at))
+    ∙ own_cases tree t found.0 at (whole_records (read_as found.0.id found.0.kind (bytes_of logs found.0.id)))
+    (whole_at (form_in (bytes_of logs found.0.id) found.0.id found.0.kind) (bytes_of logs found.0.id)
+    (read_as found.0.id found.0.kind (bytes_of logs found.0.id)) refl) role)
 
 -- Maps of processes.
 

@@ -1,5 +1,5 @@
 -- The log of a process holds what a process of its kind writes.
-use Rattle.std.proofs.Common.{◌≡◌, ◌+◌, ◌==◌, ◌||◌, ℕ, zero, suc, Bool, true, false, if◌then◌else◌, Option, Some, None, option_map, List, [], ◌∷◌, length, map, refl, subst}
+use Rattle.std.proofs.Common.{◌≡◌, ◌+◌, ◌==◌, ◌||◌, ℕ, zero, suc, Bool, true, false, if◌then◌else◌, Option, Some, None, option_map, List, [], ◌∷◌, length, map, refl, subst, sym}
 use Rattle.tree_model.specs.declared.names.Kind.{Kind}
 use Rattle.tree_model.specs.declared.names.Kind.TheVariants.{Coordinator, Manager}
 use Rattle.tree_model.specs.declared.names.Outcome.TheVariants.{Committed as CommittedOutcome, Aborted as AbortedOutcome}
@@ -8,9 +8,11 @@ use Rattle.tree_model.specs.declared.records.LogRecord.{LogRecord}
 use Rattle.tree_model.specs.declared.records.Record.{Record}
 use Rattle.tree_model.specs.declared.records.Record.TheVariants.{Opened, Prepared, Committed, RolledBack, Direct, HeurCommit, HeurRollback, Told, Forgot, Base, Pair}
 use Rattle.tree_model.specs.declared.records.Write.{Write}
+use Rattle.log_text.specs.declared.form.LogForm.{LogForm}
+use Rattle.log_text.specs.Forms.{size_bytes}
 use Rattle.log_text.specs.Frames.{Cut, first_frame}
 use Rattle.log_text.specs.Parts.{Front, Name, key_at, name_at, value_at, writes_of}
-use Rattle.log_text.specs.Reading.{bare, below, branch_record, manager_record, of_branch, named, pair_by, pair_of, read_record, told, writing}
+use Rattle.log_text.specs.Reading.{bare, below, branch_record, manager_record, of_branch, kind_record, named, opened_boot, pair_by, pair_of, read_record, told, writing}
 use Rattle.tree_model.specs.LogNames.{unnamed}
 use Rattle.log_rules.specs.order.Logs.{Whole, read_log}
 use Rattle.logs_script.specs.Places.{Placed, and_placed, placed_by, placed_in}
@@ -107,22 +109,25 @@ manager_fine kind payload =
     (pair_fine (key_at payload))
     (named_fine kind (name_at payload)))
 
-read_fine : (kind : ℕ) (payload : List ℕ) → FineLog (read_record Manager kind payload)
+read_fine : (f : LogForm) (kind : ℕ) (payload : List ℕ) → f.kind ≡ Manager → FineLog (read_record f kind payload)
 unfolding read_record
-read_fine kind payload =
-    log_if (kind == 1) (option_map (λ n. unnamed (Opened n)) (below payload)) (manager_record kind payload)
-    (log_map (λ n. unnamed (Opened n)) (below payload) (λ n. refl))
-    (manager_fine kind payload)
+read_fine f kind payload is =
+    log_if (kind == 1) (option_map (λ n. unnamed (Opened n)) (opened_boot f payload)) (kind_record f.kind kind payload)
+    (log_map (λ n. unnamed (Opened n)) (opened_boot f payload) (λ n. refl))
+    (subst (λ k. FineLog (kind_record k kind payload)) (sym is) (manager_fine kind payload))
 
 -- the record of a frame is one that a process of the log's kind writes
-pub record_at : (p : Kind) (kind : ℕ) (payload : List ℕ) (l : LogRecord) → read_record p kind payload ≡ Some l
-    → IsRecordAt p l.entry
+pub record_at : (f : LogForm) (kind : ℕ) (payload : List ℕ) (l : LogRecord) → read_record f kind payload ≡ Some l
+    → IsRecordAt f.kind l.entry
 unfolding FineLog
-record_at Coordinator kind payload l is = tt
-record_at Manager kind payload l is = fine_some (subst FineLog is (read_fine kind payload))
+record_at f kind payload l is = by_kind f.kind refl
   where
     fine_some : FineLog (Some l) → is_coordinators l.entry ≡ false
     fine_some h = h
+
+    by_kind : (k : Kind) → f.kind ≡ k → IsRecordAt k l.entry
+    by_kind Coordinator e = tt
+    by_kind Manager e = fine_some (subst FineLog is (read_fine f kind payload e))
 
 -- these are records that a process of this kind writes
 unfoldable pub AllAt : Kind → List LogRecord → Type 0
@@ -139,23 +144,25 @@ unfolding AllAt
 by_record p at None more is rest = tt
 by_record p at (Some l) more is rest = (is l refl, rest)
 
-by_frame : (p : Kind) (at : ℕ) (o : Option Cut) (more : ℕ → ℕ → List Placed)
-    → ((a k : ℕ) → AllAt p (reads (more a k)))
-    → AllAt p (reads (placed_by p at o more))
+by_frame : (p : LogForm) (at : ℕ) (o : Option Cut) (more : ℕ → ℕ → List Placed)
+    → ((a k : ℕ) → AllAt p.kind (reads (more a k)))
+    → AllAt p.kind (reads (placed_by p at o more))
 unfolding AllAt
 by_frame p at None more rest = tt
 by_frame p at (Some c) more rest =
-    by_record p at (read_record p c.0 c.1) (more (at + 3 + length c.1) (suc (suc (length c.1))))
-    (λ l is. record_at p c.0 c.1 l is) (rest (at + 3 + length c.1) (suc (suc (length c.1))))
+    by_record p.kind at (read_record p c.0 c.1)
+    (more (at + suc (size_bytes p.format) + length c.1) (size_bytes p.format + length c.1))
+    (λ l is. record_at p c.0 c.1 l is)
+    (rest (at + suc (size_bytes p.format) + length c.1) (size_bytes p.format + length c.1))
 
-all_placed : (p : Kind) (at k : ℕ) (bytes : List ℕ) → AllAt p (reads (placed_in p at k bytes))
+all_placed : (p : LogForm) (at k : ℕ) (bytes : List ℕ) → AllAt p.kind (reads (placed_in p at k bytes))
 unfolding AllAt placed_in
 all_placed p at k [] = tt
 all_placed p at (suc k) (b ∷ bs) = all_placed p at k bs
 all_placed p at zero (b ∷ bs) =
-    by_frame p at (first_frame (b ∷ bs)) (λ a k. placed_in p a k bs) (λ a k. all_placed p a k bs)
+    by_frame p at (first_frame p.format (b ∷ bs)) (λ a k. placed_in p a k bs) (λ a k. all_placed p a k bs)
 
 -- the records of a sound log are ones that a process of its kind writes
-pub all_at : (p : Kind) (bytes : List ℕ) (ls : List LogRecord) (torn : ℕ)
-    → read_log p bytes ≡ Whole ls torn → AllAt p ls
-all_at p bytes ls torn is = subst (AllAt p) (places_tell p bytes ls torn is) (all_placed p 5 0 _)
+pub all_at : (p : LogForm) (bytes : List ℕ) (ls : List LogRecord) (torn : ℕ)
+    → read_log p bytes ≡ Whole ls torn → AllAt p.kind ls
+all_at p bytes ls torn is = subst (AllAt p.kind) (places_tell p bytes ls torn is) (all_placed p 5 0 _)

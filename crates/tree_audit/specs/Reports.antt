@@ -16,7 +16,7 @@ use Rattle.tree_model.specs.LogNames.{own_records}
 use Rattle.tree_model.specs.Names.{process_of, same_process}
 use Rattle.tree_model.specs.Nodes.{place_of, role_of}
 use Rattle.tree_model.specs.Records.{has, is_decided}
-use Rattle.log_rules.specs.order.Logs.{LogReading, Whole, Damaged, read_log}
+use Rattle.log_rules.specs.order.Logs.{LogReading, Whole, Damaged, read_as}
 use Rattle.logs_script.specs.Faults.{first_damage}
 use Rattle.logs_script.specs.declared.line.ProcessLog.{ProcessLog}
 use Rattle.logs_script.specs.Logs.{bytes_of}
@@ -47,7 +47,7 @@ kind_in tree q = entry_kind (find (λ e. same_process e.id q) tree)
 -- the kept list of each process: the records of its log, as the process reads them
 unfoldable pub kept_lists : List TreeEntry → List ProcessLog → Logs
 kept_lists tree logs q =
-    own_records (place_of tree q) (whole_records (read_log (kind_in tree q) (bytes_of logs q)))
+    own_records (place_of tree q) (whole_records (read_as q (kind_in tree q) (bytes_of logs q)))
 
 -- The lines.
 

@@ -16,7 +16,8 @@ use Rattle.tree_model.specs.LogNames.{own_records}
 use Rattle.tree_model.specs.Names.{child_case}
 use Rattle.tree_model.specs.Nodes.{Role, is_listed, role_by}
 use Rattle.tree_model.specs.Trees.{is_unlisted, level_within}
-use Rattle.log_rules.specs.order.Logs.{Whole, Damaged, read_log}
+use Rattle.log_text.specs.declared.form.LogForm.{LogForm}
+use Rattle.log_rules.specs.order.Logs.{Whole, Damaged, read_as}
 use Rattle.logs_script.specs.Places.{placed_in}
 use Rattle.tree_headline.specs.auditor.Audits.{Logs, audited, is_case_at, naming_case}
 use Rattle.audit_cases.specs.Kinds.{decided_in, decision_in, line_in, own_in}
@@ -34,22 +35,22 @@ same_id = processes.ghosts.eq
 
 -- What the logs say.
 
--- what frames say of the cases of a process, record by record
-unfoldable pub frames_notes : List TreeEntry → TreeEntry → List ℕ → LogNotes
-frames_notes tree e frames =
-    fold noted no_notes (own_records (place_at tree e) (map (λ x. x.read) (placed_in e.kind 5 0 frames)))
+-- what the frames of a log of this form say of the cases of a process, record by record
+unfoldable pub frames_notes : LogForm → List TreeEntry → TreeEntry → List ℕ → LogNotes
+frames_notes f tree e frames =
+    fold noted no_notes (own_records (place_at tree e) (map (λ x. x.read) (placed_in f 5 0 frames)))
 
 -- the bytes are a sound log, and this is what its records say of the process's cases
 pub record NotesLog (tree : List TreeEntry) (e : TreeEntry) (bytes : List ℕ) (n : LogNotes) : Type 0 where
   pub records : List LogRecord
   pub torn : ℕ
-  pub read : read_log e.kind bytes ≡ Whole records torn
+  pub read : read_as e.id e.kind bytes ≡ Whole records torn
   pub notes : n ≡ log_notes_of (own_records (place_at tree e) records)
 
 -- memory was refused, or the bytes are the process's log and damaged at this place
 abbrev pub IsDamage : TreeEntry → List ℕ → AuditError → Type 0
 IsDamage e bytes error.Memory = ⊤
-IsDamage e bytes (error.Damaged q place) = (q ≡ e.id) × (read_log e.kind bytes ≡ Damaged place)
+IsDamage e bytes (error.Damaged q place) = (q ≡ e.id) × (read_as e.id e.kind bytes ≡ Damaged place)
 
 -- what is said of each process's cases
 abbrev pub TreeTables : Type 0

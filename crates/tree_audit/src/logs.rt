@@ -10,7 +10,7 @@ ghost use Rattle.tree_audit.specs.Tables.{AreNotes, IsDamage, NotesLog, frames_n
 use crate::report::AuditError;
 use audit_cases::Notes;
 use indexmap::IndexMap;
-use log_text::{HEADER, ReadFault, first_frame, read_record};
+use log_text::{HEADER_SIZE, LogForm, ReadFault, first_frame, read_record};
 use logs_script::{ProcessLog, bytes_of};
 use rec_log::{Found, OpenError, find};
 use std::alloc::{AllocError, Global};
@@ -20,13 +20,20 @@ use tree_model::{ProcessId, Tree, TreeEntry};
 pub type TreeNotes = IndexMap<ProcessId, Notes>;
 
 /// What the frames behind a header say of the process's cases, up to the first that is no record.
-fn noted(alloc: Global, tree: &Tree, entry: &TreeEntry, frames: &[u8]) -> Result<Notes, AllocError>
-    ensures { IfOk result (λ notes. notes ≡ frames_notes tree.now entry.now frames.now) }
+fn noted(
+    alloc: Global,
+    form: LogForm,
+    tree: &Tree,
+    entry: &TreeEntry,
+    frames: &[u8],
+) -> Result<Notes, AllocError>
+    requires { form.kind ≡ entry.now.kind }
+    ensures { IfOk result (λ notes. notes ≡ frames_notes form tree.now entry.now frames.now) }
 {
     let mut notes = Notes::new(alloc);
     let mut rest = frames;
-    while let Some((kind, payload, behind)) = first_frame(rest) {
-        match read_record(entry.kind, kind, payload, alloc) {
+    while let Some((kind, payload, behind)) = first_frame(form.format, rest) {
+        match read_record(form, kind, payload, alloc) {
             Ok(record) => notes.take(tree, entry, &record)?,
             Err(ReadFault::Malformed) => return Ok(notes),
             Err(ReadFault::Memory) => return Err(AllocError),
@@ -46,11 +53,12 @@ fn notes_of(
     ensures ok { IfOk result (λ notes. NotesLog tree.now entry.now bytes.now notes) }
     ensures err { IfErr result (λ e. IsDamage entry.now bytes.now e) }
 {
-    match find(entry.kind, bytes, alloc) {
+    let form = LogForm::of_bytes(bytes, entry.id, entry.kind);
+    match find(form, bytes, alloc) {
         Ok(Found::Empty) => Ok(Notes::new(alloc)),
         Ok(Found::Sound(_)) => {
-            let (_, frames) = bytes.split_at(HEADER.len());
-            Ok(noted(alloc, tree, entry, frames)?)
+            let (_, frames) = bytes.split_at(HEADER_SIZE);
+            Ok(noted(alloc, form, tree, entry, frames)?)
         }
         Err(OpenError::Damaged(place)) => Err(AuditError::Damaged(entry.id, place)),
         Err(_) => Err(AuditError::Memory),

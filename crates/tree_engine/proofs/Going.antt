@@ -4,7 +4,7 @@ use Rattle.std.specs.Prelude.{slice_get}
 use Rattle.std.proofs.Math.Seq.{take-append-add}
 use Rattle.tree_model.specs.declared.events.Event.{Event}
 use Rattle.tree_model.specs.declared.events.StepError.{StepError}
-use Rattle.tree_model.specs.declared.events.StepError.TheVariants.{Memory, Device}
+use Rattle.tree_model.specs.declared.events.StepError.TheVariants.{Memory, Device, Exhausted}
 use Rattle.tree_model.specs.declared.trees.TreeEntry.{TreeEntry}
 use Rattle.tree_model.specs.Trees.{IsTree}
 use Rattle.core_law.specs.worlds.Refusals.{Refusal}
@@ -103,13 +103,13 @@ pub one_refused : (s now new : WorldState) (given events : List Event)
     (refusal : Refusal) (n k m : ℕ) (e : StepError)
     → is_some refusal ≡ false → ComesTo s given refusal n now
     → LeadsUntil now events k e new → m ≡ n + k → m + 1 < 2 ^ 64 → e ≢ Memory
-    → e ≢ Device → ComesTo s (given ++ events) (Some (m, e)) n new
-one_refused s now new given events (Some r) n k m e is h until sum few memory device = absurd (cc)
-one_refused s now new given events None n k m e is h until sum few memory device = record {
+    → e ≢ Device → e ≢ Exhausted → ComesTo s (given ++ events) (Some (m, e)) n new
+one_refused s now new given events (Some r) n k m e is h until sum few memory device numbers = absurd (cc)
+one_refused s now new given events None n k m e is h until sum few memory device numbers = record {
   leads = subst (λ j. LeadsUntil s (given ++ events) j e new) (sym (sum ∙ ap (λ j. j + k) (h.number refl)))
       (until_on s now new given events k e h.leads until);
   number = λ none. absurd (cc);
-  itself = (memory, device);
+  itself = (memory, device, numbers);
   numbered = few;
 }
 

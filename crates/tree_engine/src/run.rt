@@ -64,8 +64,8 @@ impl Run {
         self.refusal
     }
 
-    /// Makes this event behind those that it was given. A store in memory has no device that fails; 2^64
-    /// events are taken for want of memory.
+    /// Makes this event behind those that it was given. A store in memory has no device that fails; numbers that
+    /// are used up, and 2^64 events, are taken for want of memory.
     pub fn make(&mut self, event: Event) -> Result<(), Failure>
         ensures goes_on { OnOk result ((start : WorldState) (given : List AnyEvent)
             → HasCome start given self.old → HasCome start (given ++ event ∷ []) self.new) }
@@ -83,7 +83,10 @@ impl Run {
                 Ok(())
             }
             Err(refusal) => {
-                if refusal == StepError::Memory || refusal == StepError::Device {
+                if refusal == StepError::Memory
+                    || refusal == StepError::Device
+                    || refusal == StepError::Exhausted
+                {
                     return Err(Failure::Memory);
                 }
                 self.refusal = Some((self.made, refusal));

@@ -1,7 +1,7 @@
 -- The numbers of refusals.
 use Rattle.std.specs.Prelude.{ℕ}
 use Rattle.tree_model.specs.declared.events.StepError.{StepError}
-use Rattle.tree_model.specs.declared.events.StepError.TheVariants.{Memory, Device, UnknownTxn, NotAChild, Closed, Failed, NotInDoubt, NothingToForget, NoSuch}
+use Rattle.tree_model.specs.declared.events.StepError.TheVariants.{Memory, Device, UnknownTxn, NotAChild, Closed, Failed, NotInDoubt, NothingToForget, NoSuch, Exhausted}
 
 -- the number that is printed
 abbrev pub step_error_number : StepError → ℕ
@@ -14,3 +14,4 @@ step_error_number Failed = 6
 step_error_number NotInDoubt = 7
 step_error_number NothingToForget = 8
 step_error_number NoSuch = 9
+step_error_number Exhausted = 11

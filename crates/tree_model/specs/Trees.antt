@@ -114,7 +114,7 @@ is_too_deep es = list_any (λ e. is_below_level 8 (level_within (length es) es e
 -- the fault of an error is there
 abbrev pub has_fault : List TreeEntry → TreeError → Bool
 has_fault es Empty = length es == 0
-has_fault es TooMany = nat_lt 16 (length es)
+has_fault es TooMany = nat_lt 64 (length es)
 has_fault es TwoParents = lists_twice es
 has_fault es Unknown = has_unknown_parent es
 has_fault es Cycle = has_cycle es

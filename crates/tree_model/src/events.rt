@@ -171,6 +171,10 @@ pub enum StepError {
     /// No process or no message has this number.
     #[error("no such process or message")]
     NoSuch,
+    /// A number of 2^63 or more would be needed, or a record that no log holds, as one that names more than
+    /// 255 tickets.
+    #[error("numbers are used up")]
+    Exhausted,
 }
 
 impl From<AllocError> for StepError {
@@ -185,7 +189,7 @@ impl From<AllocError> for StepError {
 }
 
 impl StepError {
-    /// The number that is printed, 1 to 9.
+    /// The number that is printed, 1 to 9, or 11.
     pub fn number(self) -> u8
         ensures { result ≡ step_error_number self }
     {
@@ -199,6 +203,7 @@ impl StepError {
             StepError::NotInDoubt => 7,
             StepError::NothingToForget => 8,
             StepError::NoSuch => 9,
+            StepError::Exhausted => 11,
         }
     }
 }

@@ -13,7 +13,7 @@ use std::marker::Model;
 use thiserror::Error;
 
 /// The most processes in a tree.
-pub const MOST_PROCESSES: usize = 16;
+pub const MOST_PROCESSES: usize = 64;
 
 /// The most levels of a tree; the root's is the first.
 pub const MOST_LEVELS: usize = 8;
@@ -49,8 +49,8 @@ pub enum TreeError {
     /// No process at all.
     #[error("no process")]
     Empty,
-    /// More than 16 processes.
-    #[error("more than 16 processes")]
+    /// More than 64 processes.
+    #[error("more than 64 processes")]
     TooMany,
     /// More than 8 levels, the root's being the first.
     #[error("more than 8 levels")]

@@ -1,13 +1,13 @@
 -- The log of an empty store.
 use Rattle.std.proofs.Common.{◌≡◌, ◌∙◌, [], ℕ, List, refl, sym, subst}
-use Rattle.tree_model.specs.declared.names.Kind.{Kind}
+use Rattle.log_text.specs.declared.form.LogForm.{LogForm}
 use Rattle.tree_model.specs.declared.records.LogRecord.{LogRecord}
 use Rattle.tree_model.specs.Records.{same_bytes}
 use Rattle.log_rules.specs.order.Logs.{Whole, read_log}
 use Rattle.rec_log.specs.Openings.{Opens}
 use Rattle.rec_log.specs.Sights.{LogState, records_of}
 
-pub nothing_read : (k : Kind) → read_log k [] ≡ Whole [] 0
+pub nothing_read : (k : LogForm) → read_log k [] ≡ Whole [] 0
 unfolding read_log same_bytes
 nothing_read k = refl
 
@@ -15,7 +15,7 @@ same_records : (a b : List LogRecord) (m n : ℕ) → Whole a m ≡ Whole b n �
 same_records a b m n e = cc
 
 -- a log over an empty store has no records
-pub no_records : (k : Kind) (bytes : List ℕ) (forced failures : ℕ) (log : LogState) → bytes ≡ []
+pub no_records : (k : LogForm) (bytes : List ℕ) (forced failures : ℕ) (log : LogState) → bytes ≡ []
     → Opens k bytes forced failures log
     → records_of log.sight.kept ≡ []
 no_records k bytes forced failures log empty o =

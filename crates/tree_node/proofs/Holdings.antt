@@ -5,7 +5,7 @@ use Rattle.tree_model.specs.declared.events.Input.{Input}
 use Rattle.tree_model.specs.declared.events.Input.TheVariants.{Act as ActInput, Message as MessageInput}
 use Rattle.tree_model.specs.declared.events.Reaction.{Reaction}
 use Rattle.tree_model.specs.declared.events.StepError.{StepError}
-use Rattle.tree_model.specs.declared.events.StepError.TheVariants.{Device, Failed, Memory}
+use Rattle.tree_model.specs.declared.events.StepError.TheVariants.{Device, Exhausted, Failed, Memory}
 use Rattle.tree_model.specs.declared.records.LogRecord.{LogRecord}
 use Rattle.tree_model.specs.Nodes.{DataAnswer}
 use Rattle.core_model.specs.States.{CoreState}
@@ -137,6 +137,7 @@ pub no_restart_so : (s t : CoreState) (d f : ManagerData) (keep : ℕ) (bytes : 
     → KeepsBytes s bytes keep → NotRestarted s keep t e → KeepsData d f e → NoRestart s t d f bytes e
 no_restart_so s t d f keep bytes Memory k h keeps = (h, keeps (λ is. absurd cc))
 no_restart_so s t d f keep bytes Device k h keeps = record { keep = keep; keeps = k; broken = h }
+no_restart_so s t d f keep bytes Exhausted k h keeps = (h.0, keeps (λ is. absurd cc), (keep, k, h.1))
 no_restart_so s t d f keep bytes _ k h keeps = absurd h
 
 pub no_trim_so : (s t : CoreState) (d f : ManagerData) (e : StepError) → s.log.failed ≡ false → IsSoundLog s

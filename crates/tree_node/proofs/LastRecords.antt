@@ -8,13 +8,13 @@ use Rattle.tree_model.specs.declared.names.Kind.{Kind}
 use Rattle.tree_model.specs.declared.records.LogRecord.{LogRecord}
 use Rattle.log_text.specs.Payloads.{FitsFrame}
 use Rattle.log_rules.specs.sound.Sound.{IsSound}
-use Rattle.log_rules.proofs.sound.Sizes.{records_fit_frames}
+use Rattle.log_rules.proofs.sound.Sizes.{sound_fits}
 use Rattle.rec_log.specs.Sights.{LogSight, left_by, records_of, whole_within}
 
 fits_by : (k : Kind) (xs ys : List LogRecord) → AllByRecursion (IsSound k) (xs ++ ys)
     → AllByRecursion FitsFrame ys
 fits_by k [] [] sound = tt
-fits_by k [] (y ∷ ys) sound = (records_fit_frames k y sound.0, fits_by k [] ys sound.1)
+fits_by k [] (y ∷ ys) sound = (sound_fits k y sound.0, fits_by k [] ys sound.1)
 fits_by k (x ∷ xs) ys sound = fits_by k xs ys sound.1
 
 -- where so many bytes keep every record, all of the unforced ones are within them

@@ -1,18 +1,20 @@
 -- A process that opens over an empty store is refused for memory or by its device alone.
-use Rattle.std.proofs.Common.{◌≡◌, ◌∙◌, inl, inr, ℕ, Some, None, List, [], ◌∷◌, ◌++◌, refl, sym, ap, subst, arith}
-use Rattle.tree_model.specs.declared.names.Kind.{Kind}
+use Rattle.std.proofs.Common.{◌≡◌, ◌∙◌, true, inl, inr, ℕ, Some, None, List, [], ◌∷◌, ◌++◌, refl, sym, ap, subst, arith}
 use Rattle.tree_model.specs.declared.names.Kind.TheVariants.{Manager}
 use Rattle.tree_model.specs.declared.names.ProcessId.{ProcessId}
 use Rattle.tree_model.specs.declared.events.StepError.{StepError}
 use Rattle.tree_model.specs.declared.events.StepError.TheVariants as steps
 use Rattle.tree_model.specs.declared.records.LogRecord.{LogRecord}
 use Rattle.tree_model.specs.Store.{stored}
+use Rattle.tree_model.specs.Records.{same_bytes}
+use Rattle.log_text.specs.declared.form.LogForm.{LogForm}
+use Rattle.log_text.specs.Forms.{log_form}
 use Rattle.log_rules.specs.order.Logs.{Damaged, Whole, read_log}
 use Rattle.log_rules.specs.order.Orders.{SeenLog, keys_once, nothing_seen}
 use Rattle.log_store.specs.Stores.{MoreFailures}
 use Rattle.rec_log.specs.declared.opening.OpenError.{OpenError as LogError}
 use Rattle.rec_log.specs.declared.opening.OpenError.TheVariants as logs
-use Rattle.rec_log.specs.Openings.{NotOpened as LogNotOpened}
+use Rattle.rec_log.specs.Openings.{NotOpened as LogNotOpened, is_old}
 use Rattle.rec_log.specs.Sights.{LogSight, LogState, records_of}
 use Rattle.coord_core.specs.States.{NotOpened as CoordinatorNotOpened}
 use Rattle.kv_core.specs.Replays.{AreMalformed, BreaksLimits, CountTooFar, seen_after, seen_of}
@@ -29,8 +31,15 @@ use Rattle.tree_node.proofs.EmptyLogs.{no_records, nothing_read}
 whole_not_damaged : (ls : List LogRecord) (n place : ℕ) → Whole ls n ≡ Damaged place → ⊥
 whole_not_damaged ls n place e = cc
 
+none_is_old : is_old [] ≡ true → ⊥
+unfolding same_bytes
+none_is_old e = cc
+
+empty_is_new : (bytes : List ℕ) → bytes ≡ [] → is_old bytes ≡ true → ⊥
+empty_is_new bytes empty h = none_is_old (ap is_old (sym empty) ∙ h)
+
 -- a log over an empty store is refused for memory or by its device
-pub log_refused : {S : Type 0} (bytes : S → List ℕ) (forced failures : S → ℕ) (k : Kind) (p : ProcessId)
+pub log_refused : {S : Type 0} (bytes : S → List ℕ) (forced failures : S → ℕ) (k : LogForm) (p : ProcessId)
     (old new : S) (e : LogError) → bytes old ≡ []
     → LogNotOpened bytes forced failures k old new e
     → ProcessNotOpened bytes failures p (Some old) (error_of_log p e)
@@ -39,16 +48,19 @@ log_refused bytes forced failures k p old new logs.Device empty h =
     (refl, record { empty = empty; left = new; more = h.breaks.cause })
 log_refused bytes forced failures k p old new (logs.Damaged place) empty h =
     absurd (whole_not_damaged [] 0 place
-    (sym (nothing_read k) ∙ ap (read_log k) (sym empty) ∙ h.1))
+    (sym (nothing_read k) ∙ ap (read_log k) (sym empty) ∙ h.2))
+log_refused bytes forced failures k p old new logs.OldFormat empty h =
+    absurd (empty_is_new (bytes old) empty h.1)
 
 -- the store that is handed back with that
-pub log_handed_back : {S : Type 0} (bytes : S → List ℕ) (forced failures : S → ℕ) (k : Kind) (p : ProcessId)
+pub log_handed_back : {S : Type 0} (bytes : S → List ℕ) (forced failures : S → ℕ) (k : LogForm) (p : ProcessId)
     (old new : S) (e : LogError) → bytes old ≡ []
     → LogNotOpened bytes forced failures k old new e
     → HandsStoreBack failures old new (error_of_log p e)
 log_handed_back bytes forced failures k p old new logs.Memory empty h = h.failures_stay
 log_handed_back bytes forced failures k p old new logs.Device empty h = h.breaks.cause
 log_handed_back bytes forced failures k p old new (logs.Damaged place) empty h = h.0
+log_handed_back bytes forced failures k p old new logs.OldFormat empty h = h.0
 
 -- Coordinators.
 
@@ -125,16 +137,17 @@ never_exhausted (inl far) = none_too_far far
 never_exhausted (inr last) = none_last last
 
 -- the log of an empty store leaves what no records leave
-as_none : {S : Type 0} (bytes : S → List ℕ) (forced failures : S → ℕ) (old new : S) (e : RecordsError)
-    → bytes old ≡ [] → (h : HandsBack bytes forced failures old new e)
+as_none : {S : Type 0} (bytes : S → List ℕ) (forced failures : S → ℕ) (p : ProcessId) (old new : S)
+    (e : RecordsError)
+    → bytes old ≡ [] → (h : HandsBack bytes forced failures p old new e)
     → NotRebuilt (records_of h.opened_as.sight.kept) e → NotRebuilt [] e
-as_none bytes forced failures old new e empty h = subst (λ ls. NotRebuilt ls e)
-    (no_records Manager (bytes old) (forced old) (failures old) h.opened_as empty h.opens)
+as_none bytes forced failures p old new e empty h = subst (λ ls. NotRebuilt ls e)
+    (no_records (log_form p Manager) (bytes old) (forced old) (failures old) h.opened_as empty h.opens)
 
 -- a key store over an empty log is refused likewise
 records_refused : {S : Type 0} (bytes : S → List ℕ) (forced failures : S → ℕ) (p : ProcessId)
     (old new : S) (e : RecordsError) → bytes old ≡ []
-    → HandsBack bytes forced failures old new e
+    → HandsBack bytes forced failures p old new e
     → ProcessNotOpened bytes failures p (Some old) (error_of_manager p (restores.Records e))
 records_refused bytes forced failures p old new restarts.Memory empty h = tt
 records_refused bytes forced failures p old new restarts.Device empty h =
@@ -142,24 +155,24 @@ records_refused bytes forced failures p old new restarts.Device empty h =
     let more : MoreFailures (failures old) (failures new) = omega (arith, h.opens.failures_stay, to, h.why.2.cause) in
     (refl, record { empty = empty; left = new; more = more })
 records_refused bytes forced failures p old new restarts.Unfit empty h =
-    absurd (never_unfit (as_none bytes forced failures old new restarts.Unfit empty h h.why.0))
+    absurd (never_unfit (as_none bytes forced failures p old new restarts.Unfit empty h h.why.0))
 records_refused bytes forced failures p old new restarts.Exhausted empty h = absurd
-    (never_exhausted (as_none bytes forced failures old new restarts.Exhausted empty h h.why.0))
+    (never_exhausted (as_none bytes forced failures p old new restarts.Exhausted empty h h.why.0))
 
 -- a key store over an empty store is refused likewise
 pub manager_refused : {S : Type 0} (bytes : S → List ℕ) (forced failures : S → ℕ) (p : ProcessId)
     (old new : S) (e : RestoreError) → bytes old ≡ []
-    → NotRestored bytes forced failures old new e
+    → NotRestored bytes forced failures p old new e
     → ProcessNotOpened bytes failures p (Some old) (error_of_manager p e)
 manager_refused bytes forced failures p old new (restores.Log e) empty h =
-    log_refused bytes forced failures Manager p old new e empty h
+    log_refused bytes forced failures (log_form p Manager) p old new e empty h
 manager_refused bytes forced failures p old new (restores.Records e) empty h =
     records_refused bytes forced failures p old new e empty h
 
 -- the store that is handed back with that
 records_handed_back : {S : Type 0} (bytes : S → List ℕ) (forced failures : S → ℕ) (p : ProcessId)
     (old new : S) (e : RecordsError) → bytes old ≡ []
-    → HandsBack bytes forced failures old new e
+    → HandsBack bytes forced failures p old new e
     → HandsStoreBack failures old new (error_of_manager p (restores.Records e))
 records_handed_back bytes forced failures p old new restarts.Memory empty h =
     let to : h.left_as.sight.failures ≡ failures new = ap (λ (s : LogSight). s.failures) h.holds in
@@ -168,15 +181,15 @@ records_handed_back bytes forced failures p old new restarts.Device empty h =
     let to : h.left_as.sight.failures ≡ failures new = ap (λ (s : LogSight). s.failures) h.holds in
     omega (arith, h.opens.failures_stay, to, h.why.2.cause)
 records_handed_back bytes forced failures p old new restarts.Unfit empty h =
-    absurd (never_unfit (as_none bytes forced failures old new restarts.Unfit empty h h.why.0))
+    absurd (never_unfit (as_none bytes forced failures p old new restarts.Unfit empty h h.why.0))
 records_handed_back bytes forced failures p old new restarts.Exhausted empty h = absurd
-    (never_exhausted (as_none bytes forced failures old new restarts.Exhausted empty h h.why.0))
+    (never_exhausted (as_none bytes forced failures p old new restarts.Exhausted empty h h.why.0))
 
 pub manager_handed_back : {S : Type 0} (bytes : S → List ℕ) (forced failures : S → ℕ) (p : ProcessId)
     (old new : S) (e : RestoreError) → bytes old ≡ []
-    → NotRestored bytes forced failures old new e
+    → NotRestored bytes forced failures p old new e
     → HandsStoreBack failures old new (error_of_manager p e)
 manager_handed_back bytes forced failures p old new (restores.Log e) empty h =
-    log_handed_back bytes forced failures Manager p old new e empty h
+    log_handed_back bytes forced failures (log_form p Manager) p old new e empty h
 manager_handed_back bytes forced failures p old new (restores.Records e) empty h =
     records_handed_back bytes forced failures p old new e empty h

@@ -2,7 +2,6 @@
 use Rattle.std.proofs.Common.{◌≡◌, ◌∙◌, inl, inr, ◌∷◌, ◌++◌, [], ℕ, List, Option, Some, None, refl, sym, ap, subst, arith}
 use Rattle.std.proofs.lemmas.List.{append-nil}
 use Rattle.xa_branch.specs.Branches.{in_doubt}
-use Rattle.tree_model.specs.declared.names.Kind.{Kind}
 use Rattle.tree_model.specs.declared.names.ProcessId.{ProcessId}
 use Rattle.tree_model.specs.declared.trees.TreeEntry.{TreeEntry}
 use Rattle.tree_model.specs.declared.events.Reaction.{Reaction}
@@ -12,6 +11,8 @@ use Rattle.tree_model.specs.Nodes.{AtLeaf, Place, Role, role_by}
 use Rattle.log_store.specs.Stores.{MoreFailures}
 use Rattle.rec_log.specs.declared.opening.OpenError.{OpenError as LogError}
 use Rattle.rec_log.specs.declared.opening.OpenError.TheVariants as logs
+use Rattle.log_text.specs.declared.form.LogForm.{LogForm}
+use Rattle.log_text.specs.Forms.{log_form}
 use Rattle.rec_log.specs.Openings.{NotOpened as LogNotOpened, Opens}
 use Rattle.rec_log.specs.Sights.{LogSight, LogState, left_by, records_of, whole_within}
 use Rattle.core_model.specs.States.{CoreState, forced_sight}
@@ -32,7 +33,7 @@ use Rattle.kv_manager.specs.Resources.{sight_of}
 use Rattle.kv_manager.specs.Restarts.{LeavesStore, NotRestored, Restarted, RestoredFrom, StartsOver, opened}
 use Rattle.kv_manager.specs.Sights.{KvSight}
 use Rattle.kv_manager.proofs.Restarted.{restarted}
-use Rattle.tree_node.specs.Reopenings.{NotReopened, Reopens, error_of_coordinator, error_of_log, error_of_manager}
+use Rattle.tree_node.specs.Reopenings.{HoldsNoRestart, NotReopened, Reopens, error_of_coordinator, error_of_log, error_of_manager}
 
 -- Managers.
 
@@ -40,24 +41,24 @@ use Rattle.tree_node.specs.Reopenings.{NotReopened, Reopens, error_of_coordinato
 abbrev pub before : LogState → KvSight → KvSight
 before log s = record {
   store = s.store;
-  log = record s.log { sight = forced_sight (records_of log.sight.kept) log.sight.failures };
+  log = record s.log { sight = forced_sight log.sight.form (records_of log.sight.kept) log.sight.failures };
   boot = s.boot;
 }
 
-pub all_left : (ls : List LogRecord) (failures : ℕ) → left_by (forced_sight ls failures) 0 ≡ ls
+pub all_left : (form : LogForm) (ls : List LogRecord) (failures : ℕ) → left_by (forced_sight form ls failures) 0 ≡ ls
 unfolding whole_within
-all_left ls failures = append-nil ls
+all_left form ls failures = append-nil ls
 
 -- a manager over a log that was opened is the restart of that one
 pub starts_over : (log : LogState) (s : KvSight) → StartsOver log s
     → ManagerRestarts (sight_of (before log s)) (sight_of s) 0
 starts_over log s h =
     let ls = records_of log.sight.kept in
-    let all = sym (all_left ls log.sight.failures) in
+    let all = sym (all_left log.sight.form ls log.sight.failures) in
     let made : Restarted (before log s) s 0 (in_doubt s.store.tables.branches.branches) = record {
       left = subst (λ rs. LeavesStore rs s.store s.boot) all h.left;
       log = record {
-        kind = refl;
+        form = h.form;
         forced = h.forced ∙ ap (λ rs. rs ++ opened s.boot ∷ []) all;
         unforced = h.unforced;
         behind = h.behind;
@@ -77,7 +78,7 @@ over_restarted log s h = record {
 
 module _ (me parent : ProcessId) (tree : List TreeEntry) (bytes : List ℕ) (forced failures : ℕ) (s : KvSight)
     (core : CoreState) (m : ManagerSight) (reaction : Reaction)
-    (r : RestoredFrom bytes forced failures s)
+    (r : RestoredFrom me bytes forced failures s)
     (restarts : (old : ManagerSight) (all : ℕ) → ManagerRestarts old (sight_of s) all
     → (q : CoreState) → LeftSo q (record { me = me; role = AtLeaf parent; tree = tree }) old.log.failures
     → (keep : ℕ) → left_by q.log keep ≡ left_by old.log all → Restarts q keep core reaction)
@@ -90,10 +91,10 @@ module _ (me parent : ProcessId) (tree : List TreeEntry) (bytes : List ℕ) (for
   here = starts_over r.log s r.starts
 
   left : left_by (sight_of (before r.log s)).log 0 ≡ ls
-  left = all_left ls r.log.sight.failures
+  left = all_left r.log.sight.form ls r.log.sight.failures
 
   -- it is the restart of whatever manager left those records
-  pub manager_left : Reopens Manager (record { me = me; role = AtLeaf parent; tree = tree }) bytes forced failures
+  pub manager_left : Reopens (log_form me Manager) (record { me = me; role = AtLeaf parent; tree = tree }) bytes forced failures
       core (manager_data m) reaction
   manager_left =
       let p : PromisesLeft ls m = subst (λ (rs : List LogRecord). PromisesLeft rs m) left
@@ -121,12 +122,12 @@ no_data_there (Some p) rs d = tt
 -- it is the restart of whatever coordinator left those records
 pub coordinator_left : (me : ProcessId) (parent : Option ProcessId) (tree : List TreeEntry) (bytes : List ℕ)
     (forced failures : ℕ) (log : LogState) (core : CoreState) (reaction : Reaction)
-    → Opens Coordinator bytes forced failures log
+    → Opens (log_form me Coordinator) bytes forced failures log
     → ((old : CoreState) → LeftSo old (record { me = me; role = role_below parent; tree = tree })
     log.sight.failures
     → (keep : ℕ) → left_by old.log keep ≡ records_of log.sight.kept → Restarts old keep core reaction)
-    → Reopens Coordinator (record { me = me; role = role_by Coordinator parent; tree = tree }) bytes forced failures
-    core no_data reaction
+    → Reopens (log_form me Coordinator) (record { me = me; role = role_by Coordinator parent; tree = tree }) bytes forced
+    failures core no_data reaction
 coordinator_left me parent tree bytes forced failures log core reaction opens restarts = record {
   log = log;
   opens = opens;
@@ -142,18 +143,19 @@ coordinator_left me parent tree bytes forced failures log core reaction opens re
 
 -- Refusals.
 
-pub log_fails : {S : Type 0} (bytes : S → List ℕ) (forced failures : S → ℕ) (k : Kind) (old new : S)
+pub log_fails : {S : Type 0} (bytes : S → List ℕ) (forced failures : S → ℕ) (k : LogForm) (old new : S)
     (e : LogError) → LogNotOpened bytes forced failures k old new e
     → NotReopened bytes forced failures k old (error_of_log e)
 log_fails bytes forced failures k old new logs.Memory h = tt
 log_fails bytes forced failures k old new logs.Device h = record { left = new; more = h.breaks.cause }
-log_fails bytes forced failures k old new (logs.Damaged place) h = h.1
+log_fails bytes forced failures k old new (logs.Damaged place) h = h.2
+log_fails bytes forced failures k old new logs.OldFormat h = h.1
 
 pub coordinator_fails : {S : Type 0} (bytes : S → List ℕ) (forced failures : S → ℕ) (place : Place) (old new : S)
     (opened left : LogState) (e : CoordinatorError)
-    → Opens Coordinator (bytes old) (forced old) (failures old) opened → left.sight.failures ≡ failures new
+    → Opens (log_form place.me Coordinator) (bytes old) (forced old) (failures old) opened → left.sight.failures ≡ failures new
     → CoordinatorNotReopened place opened.sight left.sight e
-    → NotReopened bytes forced failures Coordinator old (error_of_coordinator e)
+    → NotReopened bytes forced failures (log_form place.me Coordinator) old (error_of_coordinator e)
 coordinator_fails bytes forced failures place old new opened left coordinators.Memory opens to h = tt
 coordinator_fails bytes forced failures place old new opened left coordinators.Device opens to h =
     let from : h.before.log.failures ≡ failures old =
@@ -162,20 +164,29 @@ coordinator_fails bytes forced failures place old new opened left coordinators.D
     let more : MoreFailures (failures old) (failures new) = omega (arith, from, until, h.broke.0.cause) in
     record { left = new; more = more }
 coordinator_fails bytes forced failures place old new opened left coordinators.Unfit opens to h =
-    record { log = opened; opens = opens; why = h.1 }
+    record { log = opened; opens = opens; why = inl h.1 }
+coordinator_fails bytes forced failures place old new opened left coordinators.Exhausted opens to h =
+    let beyond : HoldsNoRestart opened.sight = record {
+      process = h.1.before;
+      log_is = h.1.log_is;
+      keep = h.1.keep;
+      left = h.1.left;
+      beyond = h.1.beyond;
+    } in
+    record { log = opened; opens = opens; why = inr beyond }
 
-pub manager_fails : {S : Type 0} (bytes : S → List ℕ) (forced failures : S → ℕ) (old new : S)
-    (e : RestoreError) → NotRestored bytes forced failures old new e
-    → NotReopened bytes forced failures Manager old (error_of_manager e)
-manager_fails bytes forced failures old new (restores.Log e) h =
-    log_fails bytes forced failures Manager old new e h
-manager_fails bytes forced failures old new (restores.Records restarts.Memory) h = tt
-manager_fails bytes forced failures old new (restores.Records restarts.Device) h =
+pub manager_fails : {S : Type 0} (bytes : S → List ℕ) (forced failures : S → ℕ) (p : ProcessId) (old new : S)
+    (e : RestoreError) → NotRestored bytes forced failures p old new e
+    → NotReopened bytes forced failures (log_form p Manager) old (error_of_manager e)
+manager_fails bytes forced failures p old new (restores.Log e) h =
+    log_fails bytes forced failures (log_form p Manager) old new e h
+manager_fails bytes forced failures p old new (restores.Records restarts.Memory) h = tt
+manager_fails bytes forced failures p old new (restores.Records restarts.Device) h =
     let to : h.left_as.sight.failures ≡ failures new = ap (λ (s : LogSight). s.failures) h.holds in
     let more : MoreFailures (failures old) (failures new) =
     omega (arith, h.opens.failures_stay, to, h.why.2.cause) in
     record { left = new; more = more }
-manager_fails bytes forced failures old new (restores.Records restarts.Unfit) h =
+manager_fails bytes forced failures p old new (restores.Records restarts.Unfit) h =
     record { log = h.opened_as; opens = h.opens; why = inl h.why.0 }
-manager_fails bytes forced failures old new (restores.Records restarts.Exhausted) h =
+manager_fails bytes forced failures p old new (restores.Records restarts.Exhausted) h =
     record { log = h.opened_as; opens = h.opens; why = inr h.why.0 }

@@ -3,9 +3,9 @@ use Rattle.std.proofs.Common.{◌≡◌, refl, Option, Some, None}
 use Rattle.tree_model.specs.declared.names.ProcessId.{ProcessId}
 use Rattle.tree_model.specs.declared.names.Kind.TheVariants.{Coordinator}
 use Rattle.coord_core.specs.States.{role_below}
-use Rattle.tree_node.specs.Nodes.{log_kind}
+use Rattle.core_model.specs.States.{kind_of_role}
 
 -- the log of a coordinator is a coordinator's, whether it is the root or below another
-pub role_kind : (parent : Option ProcessId) → log_kind (role_below parent) ≡ Coordinator
+pub role_kind : (parent : Option ProcessId) → kind_of_role (role_below parent) ≡ Coordinator
 role_kind None = refl
 role_kind (Some p) = refl

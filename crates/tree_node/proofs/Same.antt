@@ -19,6 +19,7 @@ same_core s =
             same_view (s.view_of c);
         branches = λ c. refl;
         decided = λ c. refl;
+        spent = refl;
       };
     }
 

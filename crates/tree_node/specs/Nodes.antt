@@ -1,15 +1,13 @@
 -- One process of a tree, of either kind, as the definitions see it.
 use Rattle.std.specs.Prelude.{◌≡◌, ◌≢◌, ℕ, true, List}
 use Rattle.live_table.specs.Tables.{live_count}
-use Rattle.tree_model.specs.declared.names.Kind.{Kind}
-use Rattle.tree_model.specs.declared.names.Kind.TheVariants.{Coordinator as CoordinatorKind, Manager as ManagerKind}
 use Rattle.tree_model.specs.declared.events.Input.{Input}
 use Rattle.tree_model.specs.declared.records.LogRecord.{LogRecord}
 use Rattle.tree_model.specs.declared.events.StepError.{StepError}
 use Rattle.tree_model.specs.declared.events.StepError.TheVariants.{Device}
 use Rattle.tree_model.specs.Nodes.{DataAnswer, Role, AtLeaf}
 use Rattle.rec_log.specs.Sights.{ReadsAs, log_state, records_of}
-use Rattle.core_model.specs.States.{CoreState}
+use Rattle.core_model.specs.States.{CoreState, form_of}
 use Rattle.core_model.specs.Makes.{NotMade}
 use Rattle.core_law.specs.Steps.{IsSoundLog}
 use Rattle.coord_core.specs.States as coordinators
@@ -36,19 +34,14 @@ abbrev pub data_of : {L : Type 0} → Node L → ManagerData
 data_of (Coordinator c) = no_data
 data_of (Manager m) = manager_data (sight_of m.manager)
 
--- the kind of the log that a process with this role keeps
-abbrev pub log_kind : Role → Kind
-log_kind (AtLeaf p) = ManagerKind
-log_kind _ = CoordinatorKind
-
 -- the bytes read as the log of this process
 abbrev pub SpellsLog : CoreState → List ℕ → Type 0
-SpellsLog s text = ReadsAs (log_kind s.place.role) text (records_of s.log.kept) s.log.failed
+SpellsLog s text = ReadsAs (form_of s.place) text (records_of s.log.kept) s.log.failed
 
 -- a store holds the log of this process: its bytes, what is forced of them, and how often its device failed
 abbrev pub HoldsLog : {L : Type 0} → (L → List ℕ) → (L → ℕ) → (L → ℕ) → CoreState → L → Type 0
 HoldsLog bytes forced failures s store =
-    (log_state (log_kind s.place.role) (bytes store) (forced store) (failures store) 0 s.log.failed).sight ≡ s.log
+    (log_state (form_of s.place) (bytes store) (forced store) (failures store) 0 s.log.failed).sight ≡ s.log
 
 -- the records of a manager may follow one another; that a coordinator's may is a law of every run
 abbrev pub FollowAt : Role → List LogRecord → Type 0

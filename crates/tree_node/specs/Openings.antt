@@ -64,6 +64,7 @@ abbrev pub error_of_log : ProcessId → LogError → OpenError
 error_of_log p logs.Memory = Memory
 error_of_log p logs.Device = Device p
 error_of_log p (logs.Damaged place) = Store p
+error_of_log p logs.OldFormat = Store p
 
 -- likewise, where its first record was not written
 abbrev pub error_of_step : ProcessId → StepError → OpenError

@@ -1,5 +1,5 @@
 -- A process that goes on over the log that an earlier one left, and why none did.
-use Rattle.std.specs.Prelude.{◌≡◌, ⊤, ◌⊎◌, ℕ, false, Option, Some, List, map}
+use Rattle.std.specs.Prelude.{◌≡◌, ⊤, ◌⊎◌, ℕ, true, false, Option, Some, List, map}
 use Rattle.tree_model.specs.declared.names.Kind.{Kind}
 use Rattle.tree_model.specs.declared.names.Kind.TheVariants.{Coordinator, Manager}
 use Rattle.tree_model.specs.declared.names.ProcessId.{ProcessId}
@@ -12,10 +12,12 @@ use Rattle.log_store.specs.Stores.{MoreFailures}
 use Rattle.log_rules.specs.order.Logs.{Damaged as DamagedLog, read_log}
 use Rattle.rec_log.specs.declared.opening.OpenError.{OpenError}
 use Rattle.rec_log.specs.declared.opening.OpenError.TheVariants as logs
-use Rattle.rec_log.specs.Openings.{Opens}
-use Rattle.rec_log.specs.Sights.{LogState, left_by, records_of}
+use Rattle.log_text.specs.declared.form.LogForm.{LogForm}
+use Rattle.log_text.specs.Forms.{log_form}
+use Rattle.rec_log.specs.Openings.{Opens, is_old}
+use Rattle.rec_log.specs.Sights.{LogSight, LogState, left_by, records_of}
 use Rattle.core_model.specs.States.{CoreState}
-use Rattle.core_model.specs.Restarting.{LeftSo, Restarts}
+use Rattle.core_model.specs.Restarting.{CannotReopen, LeftSo, Restarts}
 use Rattle.core_law.specs.worlds.Worlds.{RestartsData}
 use Rattle.manager_model.specs.Data.{ManagerData}
 use Rattle.kv_manager.specs.declared.manager.RestoreError.{RestoreError}
@@ -26,12 +28,12 @@ use Rattle.coord_core.specs.declared.restarting.ReopenError.{ReopenError as Coor
 use Rattle.coord_core.specs.declared.restarting.ReopenError.TheVariants as coordinators
 use Rattle.inquire_core.specs.Numbered.{are_numbered}
 use Rattle.tree_node.specs.declared.reopening.ReopenError.{ReopenError}
-use Rattle.tree_node.specs.declared.reopening.ReopenError.TheVariants.{Memory, Device, Damaged, Unfit}
+use Rattle.tree_node.specs.declared.reopening.ReopenError.TheVariants.{Memory, Device, Damaged, Unfit, OldFormat}
 
 -- The process is the restart of whatever process left these records: the bytes are a log of them, and of every
 -- process that sat here, and of whose log a crash left them, this is the restart, with what that shows. A
 -- manager's branches in doubt have the writes that they promised.
-pub record Reopens (p : Kind) (place : Place) (bytes : List ℕ) (forced failures : ℕ) (s : CoreState)
+pub record Reopens (p : LogForm) (place : Place) (bytes : List ℕ) (forced failures : ℕ) (s : CoreState)
     (values : ManagerData) (reaction : Reaction) : Type 0 where
   pub log : LogState
   pub opens : Opens p bytes forced failures log
@@ -44,31 +46,44 @@ abbrev pub kind_by : Kind → Option ProcessId → Kind
 kind_by Manager (Some p) = Manager
 kind_by _ parent = Coordinator
 
+-- the form of the log of the process of this entry
+abbrev pub form_by : TreeEntry → LogForm
+form_by e = log_form e.id (kind_by e.kind e.parent)
+
 -- the same of the process of an entry of the tree
 abbrev pub ReopensAs : List TreeEntry → TreeEntry → List ℕ → ℕ → ℕ → CoreState → ManagerData → Reaction → Type 0
 ReopensAs tree e bytes forced failures s values reaction =
-    Reopens (kind_by e.kind e.parent) (record { me = e.id; role = role_by e.kind e.parent; tree = tree })
+    Reopens (form_by e) (record { me = e.id; role = role_by e.kind e.parent; tree = tree })
     bytes forced failures s values reaction
 
 -- Refusals.
 
 -- the bytes are the log of records that leave no manager, or behind which no number comes
-pub record LeavesNoManager (p : Kind) (bytes : List ℕ) (forced failures : ℕ) : Type 0 where
+pub record LeavesNoManager (p : LogForm) (bytes : List ℕ) (forced failures : ℕ) : Type 0 where
   pub log : LogState
   pub opens : Opens p bytes forced failures log
   pub why : NotRebuilt (records_of log.sight.kept) restarts.Unfit
       ⊎ NotRebuilt (records_of log.sight.kept) restarts.Exhausted
 
--- the bytes are the log of records of which one is of a case of a boot that the log had not reached
-pub record LeavesNoCoordinator (p : Kind) (bytes : List ℕ) (forced failures : ℕ) : Type 0 where
+-- a process over this log cannot append to it what its restart would, where all its records are kept
+pub record HoldsNoRestart (log : LogSight) : Type 0 where
+  pub process : CoreState
+  pub log_is : process.log ≡ log
+  pub keep : ℕ
+  pub left : left_by log keep ≡ records_of log.kept
+  pub beyond : CannotReopen process keep
+
+-- the bytes are the log of records of which one is of a case of a boot that the log had not reached, or behind which
+-- no restart can write
+pub record LeavesNoCoordinator (p : LogForm) (bytes : List ℕ) (forced failures : ℕ) : Type 0 where
   pub log : LogState
   pub opens : Opens p bytes forced failures log
-  pub why : are_numbered 0 (map (λ l. l.entry) (records_of log.sight.kept)) ≡ false
+  pub why : (are_numbered 0 (map (λ l. l.entry) (records_of log.sight.kept)) ≡ false) ⊎ HoldsNoRestart log.sight
 
 -- the bytes are the log of records that leave no process of this kind
-abbrev pub LeavesNone : Kind → List ℕ → ℕ → ℕ → Type 0
-LeavesNone Coordinator bytes forced failures = LeavesNoCoordinator Coordinator bytes forced failures
-LeavesNone Manager bytes forced failures = LeavesNoManager Manager bytes forced failures
+abbrev pub LeavesNone : Kind → LogForm → List ℕ → ℕ → ℕ → Type 0
+LeavesNone Coordinator p bytes forced failures = LeavesNoCoordinator p bytes forced failures
+LeavesNone Manager p bytes forced failures = LeavesNoManager p bytes forced failures
 
 -- the device failed: there is a store that has more failures, as a failure leaves one, or whose count is at its
 -- top
@@ -77,11 +92,12 @@ pub record FailsOver {L : Type 0} (failures : L → ℕ) (store : L) : Type 0 wh
   pub more : MoreFailures (failures store) (failures left)
 
 -- why no process goes on over the log in a store; want of memory may come at any time
-abbrev pub NotReopened : {L : Type 0} → (L → List ℕ) → (L → ℕ) → (L → ℕ) → Kind → L → ReopenError → Type 0
+abbrev pub NotReopened : {L : Type 0} → (L → List ℕ) → (L → ℕ) → (L → ℕ) → LogForm → L → ReopenError → Type 0
 NotReopened bytes forced failures p store Memory = ⊤
 NotReopened bytes forced failures p store Device = FailsOver failures store
 NotReopened bytes forced failures p store (Damaged place) = read_log p (bytes store) ≡ DamagedLog place
-NotReopened bytes forced failures p store Unfit = LeavesNone p (bytes store) (forced store) (failures store)
+NotReopened bytes forced failures p store OldFormat = is_old (bytes store) ≡ true
+NotReopened bytes forced failures p store Unfit = LeavesNone p.kind p (bytes store) (forced store) (failures store)
 
 -- the number of an error
 abbrev pub reopen_error_number : ReopenError → ℕ
@@ -89,12 +105,14 @@ reopen_error_number Memory = 1
 reopen_error_number Device = 2
 reopen_error_number (Damaged place) = 3
 reopen_error_number Unfit = 4
+reopen_error_number OldFormat = 5
 
 -- why a process did not go on, where its log did not open
 abbrev pub error_of_log : OpenError → ReopenError
 error_of_log logs.Memory = Memory
 error_of_log logs.Device = Device
 error_of_log (logs.Damaged place) = Damaged place
+error_of_log logs.OldFormat = OldFormat
 
 -- likewise, where it did not restart
 abbrev pub error_of_step : StepError → ReopenError
@@ -106,6 +124,7 @@ abbrev pub error_of_coordinator : CoordinatorError → ReopenError
 error_of_coordinator coordinators.Memory = Memory
 error_of_coordinator coordinators.Device = Device
 error_of_coordinator coordinators.Unfit = Unfit
+error_of_coordinator coordinators.Exhausted = Unfit
 
 -- likewise, where its key store was not restored
 abbrev pub error_of_manager : RestoreError → ReopenError

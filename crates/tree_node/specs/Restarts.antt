@@ -2,11 +2,11 @@
 use Rattle.std.specs.Prelude.{◌≡◌, ℕ, false, Option, Some}
 use Rattle.tree_model.specs.declared.events.Reaction.{Reaction}
 use Rattle.tree_model.specs.declared.events.StepError.{StepError}
-use Rattle.tree_model.specs.declared.events.StepError.TheVariants.{Memory, Device, Failed}
+use Rattle.tree_model.specs.declared.events.StepError.TheVariants.{Memory, Device, Failed, Exhausted}
 use Rattle.core_model.specs.States.{CoreState, SameCore}
 use Rattle.core_model.specs.Restarting.{NotRestarted, NotTrimmed, Restarts, Trims}
 use Rattle.core_law.specs.Steps.{IsSoundLog, records_kept}
-use Rattle.core_law.specs.worlds.Worlds.{HasFailed, KeepsBytes, RestartsData, TrimsData}
+use Rattle.core_law.specs.worlds.Worlds.{CannotReopenAt, HasFailed, KeepsBytes, RestartsData, TrimsData}
 use Rattle.manager_model.specs.Data.{ManagerData, Rests}
 use Rattle.rec_log.specs.Sights.{left_by}
 
@@ -28,6 +28,8 @@ pub record RestartBreaks (before behind : CoreState) (bytes : Option ℕ) : Type
 abbrev pub NoRestart : CoreState → CoreState → ManagerData → ManagerData → Option ℕ → StepError → Type 0
 NoRestart before behind old new bytes Memory = SameCore before behind × Rests old new
 NoRestart before behind old new bytes Device = RestartBreaks before behind bytes
+NoRestart before behind old new bytes Exhausted =
+    SameCore before behind × Rests old new × CannotReopenAt (Some before) bytes
 NoRestart before behind old new bytes e = ⊥
 
 -- the log of the process, which is up, is trimmed, and so many records remain

@@ -82,8 +82,8 @@ impl<L: LogStore> Node<L> {
     }
 
     /// Handles an input. The refusals of the reaction table, as `StepError` says them, change nothing, nor
-    /// does Memory. Device: the device failed under the record of the input, which stands or not, and the
-    /// process answers Failed until its restart.
+    /// does Memory, nor Exhausted: numbers that the input wants are used up. Device: the device failed under the
+    /// record of the input, which stands or not, and the process answers Failed until its restart.
     pub fn step(&mut self, input: InputRef<'_>) -> Result<Reaction, StepError>
         requires numbers { HasNumbers (core_of self.old) }
         ensures ok { IfOk result (HandlesInput (core_of self.old) (core_of self.new)
@@ -97,7 +97,7 @@ impl<L: LogStore> Node<L> {
         }
     }
 
-    /// The same, and Memory where no numbers are left, by which nothing changed.
+    /// The same, and Exhausted where no numbers are left, by which nothing changed.
     pub fn handle(&mut self, input: InputRef<'_>) -> Result<Reaction, StepError>
         ensures ok { IfOk result (HandlesInput (core_of self.old) (core_of self.new)
             (data_of self.old) (data_of self.new) (input_of input.entry)) }
@@ -105,7 +105,7 @@ impl<L: LogStore> Node<L> {
             (data_of self.old) (data_of self.new) (input_of input.entry)) }
     {
         if !self.has_numbers() {
-            return Err(StepError::Memory);
+            return Err(StepError::Exhausted);
         }
         self.step(input)
     }

@@ -1,5 +1,6 @@
 //! Opening a process over an empty store.
 
+ghost use Rattle.log_text.specs.Forms.{log_form};
 ghost use Rattle.std.specs.Prelude.{◌≡◌, [], false, IfErr, IfOk, Some};
 ghost use Rattle.rec_log.specs.Sights.{records_of};
 ghost use Rattle.tree_model.specs.declared.names.Kind.TheVariants as kind;
@@ -67,7 +68,7 @@ fn of_log(me: ProcessId, error: LogOpenError) -> OpenError
     match error {
         LogOpenError::Memory => OpenError::Memory,
         LogOpenError::Device => OpenError::Device(me),
-        LogOpenError::Damaged(_) => OpenError::Store(me),
+        LogOpenError::Damaged(_) | LogOpenError::OldFormat => OpenError::Store(me),
     }
 }
 
@@ -124,14 +125,14 @@ fn empty_log<L: LogStore + Drop>(
     store: L,
 ) -> Result<RecLog<L>, (OpenError, L)>
     requires { L.bytes store ≡ [] }
-    ensures kind { IfOk result (λ log. log.kind ≡ kind.Coordinator) }
+    ensures form { IfOk result (λ log. log.sight.form ≡ log_form me kind.Coordinator) }
     ensures works { IfOk result (λ log. log.sight.failed ≡ false) }
     ensures empty { IfOk result (λ log. records_of log.sight.kept ≡ []) }
     ensures failures { IfOk result (λ log. log.sight.failures ≡ L.failures store) }
     ensures err { IfErr result (λ e. ProcessNotOpened L.bytes L.failures me (Some store) e.0) }
     ensures handed_back { IfErr result (λ e. HandsBack L.failures store e.1 e.0) }
 {
-    match RecLog::open(store, Kind::Coordinator, alloc) {
+    match RecLog::open(store, me, Kind::Coordinator, alloc) {
         Ok(log) => Ok(log),
         Err((error, store)) => Err((of_log(me, error), store)),
     }
@@ -174,7 +175,7 @@ fn open_manager<L: LogStore + Drop>(
     ensures err { IfErr result (λ e. ProcessNotOpened L.bytes L.failures me (Some store) e.0) }
     ensures handed_back { IfErr result (λ e. HandsBack L.failures store e.1 e.0) }
 {
-    match KvManager::create(store, alloc) {
+    match KvManager::create(store, me, alloc) {
         Ok(manager) => Ok(Node::Manager(Subordinate::open(alloc, me, parent, tree, manager))),
         Err((error, store)) => Err((of_manager(me, error), store)),
     }

@@ -1,5 +1,6 @@
 //! Opening a process over the log that an earlier one left, or over an empty store.
 
+ghost use Rattle.log_text.specs.Forms.{log_form};
 ghost use Rattle.std.specs.Prelude.{◌≡◌, IfErr, IfOk};
 ghost use Rattle.tree_model.specs.declared.names.Kind.TheVariants as kind;
 ghost use Rattle.tree_model.specs.Nodes.{Role, role_by};
@@ -14,7 +15,7 @@ ghost use Rattle.tree_node.specs.Reopenings.{
   error_of_log,
   error_of_manager,
   error_of_step,
-  kind_by,
+  form_by,
   reopen_error_number,
 };
 
@@ -44,10 +45,13 @@ pub enum ReopenError {
     /// The records are those of no such process.
     #[error("the records are those of no such process")]
     Unfit,
+    /// The log is of the first format, and is to be migrated before.
+    #[error("a log of the first format, which `rstar migrate --file LOG` carries over")]
+    OldFormat,
 }
 
 impl ReopenError {
-    /// The number of the error, 1 to 4.
+    /// The number of the error, 1 to 5.
     pub fn number(self) -> u8
         ensures { result ≡ reopen_error_number self }
     {
@@ -56,6 +60,7 @@ impl ReopenError {
             ReopenError::Device => 2,
             ReopenError::Damaged(_) => 3,
             ReopenError::Unfit => 4,
+            ReopenError::OldFormat => 5,
         }
     }
 }
@@ -74,6 +79,7 @@ fn of_log(error: OpenError) -> ReopenError
         OpenError::Memory => ReopenError::Memory,
         OpenError::Device => ReopenError::Device,
         OpenError::Damaged(place) => ReopenError::Damaged(place),
+        OpenError::OldFormat => ReopenError::OldFormat,
     }
 }
 
@@ -92,7 +98,7 @@ fn of_coordinator(error: CoordinatorError) -> ReopenError
     match error {
         CoordinatorError::Memory => ReopenError::Memory,
         CoordinatorError::Device => ReopenError::Device,
-        CoordinatorError::Unfit => ReopenError::Unfit,
+        CoordinatorError::Unfit | CoordinatorError::Exhausted => ReopenError::Unfit,
     }
 }
 
@@ -108,22 +114,31 @@ fn of_manager(error: RestoreError) -> ReopenError
 }
 
 /// The log of a coordinator in a store.
-fn left_log<L: LogStore + Drop>(alloc: Global, store: L) -> Result<RecLog<L>, ReopenError>
-    ensures ok { IfOk result (Opens kind.Coordinator (L.bytes store) (L.forced store) (L.failures store)) }
-    ensures err { IfErr result (NotReopened L.bytes L.forced L.failures kind.Coordinator store) }
+fn left_log<L: LogStore + Drop>(
+    alloc: Global,
+    me: ProcessId,
+    store: L,
+) -> Result<RecLog<L>, ReopenError>
+    ensures ok { IfOk result (Opens (log_form me kind.Coordinator) (L.bytes store) (L.forced store)
+        (L.failures store)) }
+    ensures err { IfErr result (NotReopened L.bytes L.forced L.failures (log_form me kind.Coordinator) store) }
 {
-    match RecLog::open(store, Kind::Coordinator, alloc) {
+    match RecLog::open(store, me, Kind::Coordinator, alloc) {
         Ok(log) => Ok(log),
         Err((error, store)) => Err(refused(store, of_log(error))),
     }
 }
 
 /// A key store over the log in a store.
-fn left_manager<L: LogStore + Drop>(alloc: Global, store: L) -> Result<KvManager<L>, ReopenError>
-    ensures ok { IfOk result (RestoredFrom (L.bytes store) (L.forced store) (L.failures store)) }
-    ensures err { IfErr result (NotReopened L.bytes L.forced L.failures kind.Manager store) }
+fn left_manager<L: LogStore + Drop>(
+    alloc: Global,
+    me: ProcessId,
+    store: L,
+) -> Result<KvManager<L>, ReopenError>
+    ensures ok { IfOk result (RestoredFrom me (L.bytes store) (L.forced store) (L.failures store)) }
+    ensures err { IfErr result (NotReopened L.bytes L.forced L.failures (log_form me kind.Manager) store) }
 {
-    match KvManager::restore(store, alloc) {
+    match KvManager::restore(store, me, alloc) {
         Ok(manager) => Ok(manager),
         Err((error, store)) => Err(refused(store, of_manager(error))),
     }
@@ -137,12 +152,12 @@ fn reopen_coordinator<L: LogStore + Drop>(
     tree: Tree,
     store: L,
 ) -> Result<(Node<L>, Reaction), ReopenError>
-    ensures ok { IfOk result (λ made. Reopens kind.Coordinator
+    ensures ok { IfOk result (λ made. Reopens (log_form me kind.Coordinator)
         (record { me = me; role = role_by kind.Coordinator parent; tree = tree })
         (L.bytes store) (L.forced store) (L.failures store) (core_of made.0) (data_of made.0) made.1) }
-    ensures err { IfErr result (NotReopened L.bytes L.forced L.failures kind.Coordinator store) }
+    ensures err { IfErr result (NotReopened L.bytes L.forced L.failures (log_form me kind.Coordinator) store) }
 {
-    let log = left_log(alloc, store)?;
+    let log = left_log(alloc, me, store)?;
     match Coordinator::reopen(alloc, me, parent, tree, log) {
         Ok((coordinator, reaction)) => Ok((Node::Coordinator(coordinator), reaction)),
         Err((error, log)) => Err(refused(log.into_store(), of_coordinator(error))),
@@ -157,12 +172,12 @@ fn reopen_manager<L: LogStore + Drop>(
     tree: Tree,
     store: L,
 ) -> Result<(Node<L>, Reaction), ReopenError>
-    ensures ok { IfOk result (λ made. Reopens kind.Manager
+    ensures ok { IfOk result (λ made. Reopens (log_form me kind.Manager)
         (record { me = me; role = Role.AtLeaf parent; tree = tree })
         (L.bytes store) (L.forced store) (L.failures store) (core_of made.0) (data_of made.0) made.1) }
-    ensures err { IfErr result (NotReopened L.bytes L.forced L.failures kind.Manager store) }
+    ensures err { IfErr result (NotReopened L.bytes L.forced L.failures (log_form me kind.Manager) store) }
 {
-    let manager = left_manager(alloc, store)?;
+    let manager = left_manager(alloc, me, store)?;
     match Subordinate::reopen(alloc, me, parent, tree, manager) {
         Ok((subordinate, reaction)) => Ok((Node::Manager(subordinate), reaction)),
         Err((error, manager)) => Err(refused(manager, of_step(error))),
@@ -173,9 +188,10 @@ fn reopen_manager<L: LogStore + Drop>(
 /// log without a record is that of a process which never opened. What it logs and sends as it restarts comes
 /// with it. A process without a parent is the root, whatever its kind.
 ///
-/// Memory: a growth was refused, or a coordinator's boots are used up. Device: the device of the store failed.
-/// Damaged: the bytes are no log of such a process. Unfit: the records leave no manager, or one of a
-/// coordinator's is of a case of a boot that the log had not reached. Behind a refusal the store is let go.
+/// Memory: a growth was refused. Device: the device of the store failed. Damaged: the bytes are no log of such a
+/// process. OldFormat: they are a log of the first format. Unfit: the records leave no manager, or one of a
+/// coordinator's is of a case of a boot that the log had not reached; or numbers are used up behind them. Behind a
+/// refusal the store is let go.
 pub fn reopen_node<L: LogStore + Drop>(
     alloc: Global,
     entry: &TreeEntry,
@@ -185,7 +201,7 @@ pub fn reopen_node<L: LogStore + Drop>(
     ensures ok { IfOk result (λ made. ReopensAs tree entry.now
         (L.bytes store) (L.forced store) (L.failures store) (core_of made.0) (data_of made.0) made.1) }
     ensures err { IfErr result (NotReopened L.bytes L.forced L.failures
-        (kind_by entry.now.kind entry.now.parent) store) }
+        (form_by entry.now) store) }
 {
     match (entry.kind, entry.parent) {
         (Kind::Manager, Some(parent)) => reopen_manager(alloc, entry.id, parent, tree, store),

@@ -17,7 +17,7 @@ fn size_of(alloc: Global, record: &LogRecord) -> Result<u64, AllocError>
     ensures { IfOk result (λ size. size ≡ record_size record.now) }
 {
     let frame = Frame::of(&record.entry, record.parent, alloc)?;
-    Ok(frame.bytes().len() as u64)
+    Ok(frame.size() as u64)
 }
 
 /// The same of each of these.

@@ -1,4 +1,5 @@
--- A process over a store in memory is refused for memory, or by the table of reactions.
+-- A process over a store in memory is refused for memory or for numbers that are used up, or by the table of
+-- reactions.
 use Rattle.std.proofs.Common.{◌≡◌, ◌≢◌, refl, ℕ, Result, Ok, Err, IfErr, IfOk, arith}
 use Rattle.tree_model.specs.declared.events.Input.{Input}
 use Rattle.tree_model.specs.declared.events.Happening.TheVariants.{Input as Handles, Restart, Trim}
@@ -53,6 +54,10 @@ one_refused old new before behind i steps.NoSuch to h = record {
   same = h.not_made.same;
   why = record { answer = h.answer; why = h.not_made; no_device = λ d. absurd (cc) };
 }
+one_refused old new before behind i steps.Exhausted to h = record {
+  same = h.not_made.same;
+  why = record { answer = h.answer; why = h.not_made; no_device = λ d. absurd (cc) };
+}
 
 pub input_refused : (r : Result Reaction StepError) (old new : CoreState) (before behind : ManagerData) (i : Input)
     → new.log.failures ≡ 0 → IfErr r (NotHandled old new before behind i)
@@ -63,15 +68,16 @@ input_refused (Err e) old new before behind i to h = one_refused old new before 
 pub restart_refused : (r : Result Reaction StepError) (old new : CoreState) (keep : ℕ) → new.log.failures ≡ 0
     → IfErr r (NotRestarted old keep new) → IfErr r (NotRestartedIt old new)
 restart_refused (Ok x) old new keep to h = h
-restart_refused (Err steps.Memory) old new keep to h = record { same = h; memory = refl }
+restart_refused (Err steps.Memory) old new keep to h = record { same = h; why = tt }
 restart_refused (Err steps.Device) old new keep to h = absurd (omega (arith, to, h.0.cause))
+restart_refused (Err steps.Exhausted) old new keep to h = record { same = h.0; why = (keep, h.1) }
 restart_refused (Err e) old new keep to h = absurd h
 
 -- a restart that was not made, as what happens
 pub not_restarted : (r : Result Reaction StepError) (old new : CoreState) (k : ℕ) → IfErr r (NotRestartedIt old new)
     → IfErr r (NotMadeIt old new (Restart k))
 not_restarted (Ok x) old new k h = h
-not_restarted (Err e) old new k h = record { same = h.same; why = h.memory }
+not_restarted (Err e) old new k h = record { same = h.same; why = h.why }
 
 pub trimmed : (r : Result ℕ StepError) (old new : CoreState) (before behind : ManagerData)
     → IfOk r (TrimsNode old new before behind) → IfOk r (TrimsSo old new)

@@ -7,11 +7,11 @@ use Rattle.tree_model.specs.declared.events.Happening.TheVariants.{Input as Hand
 use Rattle.tree_model.specs.declared.events.Input.{Input}
 use Rattle.tree_model.specs.declared.events.Reaction.{Reaction}
 use Rattle.tree_model.specs.declared.events.StepError.{StepError}
-use Rattle.tree_model.specs.declared.events.StepError.TheVariants.{Device, Failed, Memory}
+use Rattle.tree_model.specs.declared.events.StepError.TheVariants.{Device, Exhausted, Failed, Memory}
 use Rattle.tree_model.specs.Nodes.{DataAnswer}
 use Rattle.core_model.specs.States.{CoreState, SameCore}
 use Rattle.core_model.specs.Makes.{NotMade}
-use Rattle.core_model.specs.Restarting.{Restarts, Trims}
+use Rattle.core_model.specs.Restarting.{CannotReopen, Restarts, Trims}
 use Rattle.core_law.specs.Steps.{IsSoundLog, records_kept, trim_reaction}
 use Rattle.core_law.specs.worlds.Worlds.{HandlesInput}
 use Rattle.manager_model.specs.Data.{ManagerData}
@@ -48,7 +48,7 @@ MakesIt old new keep (Handles i) r = HandlesIt old new i r
 MakesIt old new keep (Restart k) r = Restarts old keep new r
 MakesIt old new keep Trim r = TrimsIt old new r
 
--- an input is refused by the table of reactions, or for memory
+-- an input is refused by the table of reactions, or for memory or for numbers that are used up
 pub record RefusesIt (old new : CoreState) (i : Input) (e : StepError) : Type 0 where
   pub answer : DataAnswer
   pub why : NotMade old new answer i e
@@ -60,10 +60,16 @@ NotTrimmedIt old Memory = ⊤
 NotTrimmedIt old Failed = old.log.failed ≡ true
 NotTrimmedIt old e = ⊥
 
+-- why it was not restarted: for memory, or because no log holds what its restart would append
+abbrev pub NotRestartedFor : CoreState → StepError → Type 0
+NotRestartedFor old Memory = ⊤
+NotRestartedFor old Exhausted = (keep : ℕ) × CannotReopen old keep
+NotRestartedFor old e = ⊥
+
 -- why what happens was not made
 abbrev pub WhyNot : CoreState → CoreState → Happening → StepError → Type 0
 WhyNot old new (Handles i) e = RefusesIt old new i e
-WhyNot old new (Restart k) e = e ≡ Memory
+WhyNot old new (Restart k) e = NotRestartedFor old e
 WhyNot old new Trim e = NotTrimmedIt old e
 
 -- what happens was not made, and the process is as it was
@@ -74,4 +80,4 @@ pub record NotMadeIt (old new : CoreState) (h : Happening) (e : StepError) : Typ
 -- a restart was not made, and the process is as it was
 pub record NotRestartedIt (old new : CoreState) (e : StepError) : Type 0 where
   pub same : SameCore old new
-  pub memory : e ≡ Memory
+  pub why : NotRestartedFor old e

@@ -7,7 +7,7 @@ use Rattle.tree_model.specs.declared.events.Input.{Input}
 use Rattle.tree_model.specs.declared.events.Input.TheVariants.{Act as ActInput, Message as MessageInput}
 use Rattle.tree_model.specs.declared.events.Reaction.{Reaction}
 use Rattle.tree_model.specs.declared.events.StepError.{StepError}
-use Rattle.tree_model.specs.declared.events.StepError.TheVariants.{Memory, Device, UnknownTxn, NotAChild, Closed, Failed, NotInDoubt, NothingToForget, NoSuch}
+use Rattle.tree_model.specs.declared.events.StepError.TheVariants.{Memory, Device, UnknownTxn, NotAChild, Closed, Failed, NotInDoubt, NothingToForget, NoSuch, Exhausted}
 use Rattle.tree_model.specs.declared.trees.TreeEntry.{TreeEntry}
 use Rattle.tree_model.specs.Plays.{sent_as}
 use Rattle.core_law.specs.worlds.Worlds.{Delivers, DeviceFails, NotActed, NotDelivered, Same, Steps, entry_at, undelivered}
@@ -86,6 +86,7 @@ not_acted tree nodes after j k q a Failed keeps stops = (same tree nodes after j
 not_acted tree nodes after j k q a NotInDoubt keeps stops = (same tree nodes after j k keeps stops.0, stops.1)
 not_acted tree nodes after j k q a NothingToForget keeps stops = (same tree nodes after j k keeps stops.0, stops.1)
 not_acted tree nodes after j k q a NoSuch keeps stops = (same tree nodes after j k keeps stops.0, stops.1)
+not_acted tree nodes after j k q a Exhausted keeps stops = (same tree nodes after j k keeps stops.0, stops.1)
 
 -- a message was not delivered
 pub not_delivered : (tree : List TreeEntry) (nodes after : NodesSight) (j k : JournalState)
@@ -108,6 +109,8 @@ not_delivered tree nodes after j k n l NotInDoubt keeps is stops =
 not_delivered tree nodes after j k n l NothingToForget keeps is stops =
     rw is (same tree nodes after j k keeps stops.0, stops.1)
 not_delivered tree nodes after j k n l NoSuch keeps is stops =
+    rw is (same tree nodes after j k keeps stops.0, stops.1)
+not_delivered tree nodes after j k n l Exhausted keeps is stops =
     rw is (same tree nodes after j k keeps stops.0, stops.1)
 
 -- What a call leaves, by how the process's step ended and what the journal made of it.

@@ -1,3 +1,5 @@
+pub mod HandedBack
+pub mod FromPlaces
 pub mod Handling
 pub mod Acting
 pub mod Logs

@@ -1,7 +1,6 @@
 -- The processes of a tree, opened one after another.
-use Rattle.std.proofs.Common.{◌≡◌, ◌≢◌, ◌∙◌, sym, ap, subst, ℕ, zero, suc, ◌+◌, ◌<◌, Bool, true, false, if◌then◌else◌, ◌||◌, Option, Some, None, is_some, IsSomeAnd, List, [], ◌∷◌, ◌++◌, length, get_or, take, refl, ◌⊎◌, inl, inr, arith}
+use Rattle.std.proofs.Common.{◌≡◌, ◌≢◌, ◌∙◌, sym, ap, subst, ℕ, zero, suc, ◌+◌, ◌<◌, Bool, true, false, if◌then◌else◌, ◌||◌, Option, Some, None, is_some, IsSomeAnd, List, [], ◌∷◌, ◌++◌, length, get_or, take, drop, refl, ◌⊎◌, inl, inr, arith}
 use Rattle.std.specs.List.{list_any}
-use Rattle.std.proofs.lemmas.List.{take_more}
 use Rattle.tree_model.specs.declared.names.ProcessId.{ProcessId}
 use Rattle.tree_model.specs.declared.trees.TreeEntry.{TreeEntry}
 use Rattle.tree_model.specs.Names.{same_process}
@@ -17,21 +16,6 @@ use Rattle.tree_node.specs.Openings.{OpenedAs}
 use Rattle.tree_world.specs.Openings.{AreOpened}
 use Rattle.tree_world.proofs.Handling.{world}
 use Rattle.tree_world.proofs.Processes.{itself}
-
-listed_more : (es : List TreeEntry) (e : TreeEntry) (q : ProcessId)
-    → is_listed (es ++ e ∷ []) q ≡ (is_listed es q || same_process e.id q)
-unfolding is_listed
-listed_more [] e q = by_test (same_process e.id q)
-  where
-    by_test : (b : Bool) → (b || false) ≡ b
-    by_test true = refl
-    by_test false = refl
-listed_more (x ∷ es) e q = by_test (same_process x.id q) (list_any (λ e. same_process e.id q) (es ++ e ∷ []))
-    (list_any (λ e. same_process e.id q) es) (same_process e.id q) (listed_more es e q)
-  where
-    by_test : (b r s t : Bool) → r ≡ (s || t) → (b || r) ≡ ((b || s) || t)
-    by_test true r s t h = refl
-    by_test false r s t h = h
 
 -- the role of a process is that of the entry that lists it first
 first_role : (es : List TreeEntry) (i : ℕ) (e : TreeEntry) → i < length es → e ≡ get_or es i e
@@ -57,14 +41,6 @@ some_true : (o : Option CoreState) (P : CoreState → Type 0) → IsSomeAnd o P 
 some_true None P h = absurd h
 some_true (Some l) P h = refl
 
-or_true : (b c : Bool) → c ≡ true → (b || c) ≡ true
-or_true true c h = refl
-or_true false c h = h
-
-or_false : (b c : Bool) → c ≡ false → (b || c) ≡ b
-or_false true c h = refl
-or_false false c h = h
-
 -- no process is listed, none is open
 pub none : (tree : List TreeEntry) (ns : NodesSight)
     → ((q : ProcessId) → ns.node_at q ≡ None) → ((q : ProcessId) → ns.data_at q ≡ no_data)
@@ -79,20 +55,38 @@ none tree ns empty bare = record {
     no_some : (o : Option CoreState) (s : CoreState) → o ≡ None → o ≡ Some s → ⊥
     no_some o s e f = absurd (cc)
 
--- a process more
+-- the entries from a place on begin with the one that stands there, and behind it come those from the next place on
+drop_behind : (es : List TreeEntry) (i j : ℕ) (e : TreeEntry) → j ≡ suc i → i < length es → e ≡ get_or es i e
+    → drop i es ≡ e ∷ drop j es
+drop_behind [] i j e next lt is = absurd (omega (arith, lt))
+drop_behind (x ∷ es) zero j e next lt is =
+    subst (λ k. (x ∷ es) ≡ e ∷ drop k (x ∷ es)) (sym next) (ap (λ (y : TreeEntry). y ∷ es) (sym is))
+drop_behind (x ∷ es) (suc i) j e next lt is =
+    subst (λ k. drop i es ≡ e ∷ drop k (x ∷ es)) (sym next) (drop_behind es i (suc i) e refl (omega (arith, lt)) is)
+
+-- the entries from a place on begin with the one that stands there
+pub drop_at : (es : List TreeEntry) (i : ℕ) (e : TreeEntry) → i < length es → e ≡ get_or es i e
+    → drop i es ≡ e ∷ drop (i + 1) es
+drop_at es i e lt is = drop_behind es i (i + 1) e (omega arith) lt is
+
+-- a process more, in front of those that are open
 pub opens_more : (es : List TreeEntry) (i : ℕ) (e : TreeEntry)
     (old new : NodesSight) → i < length es
     → e ≡ get_or es i e → is_listed (take i es) e.id ≡ false → IsSomeAnd (new.node_at e.id) (OpenedAs es e)
     → Rests no_data (new.data_at e.id)
     → ((q : ProcessId) → same_process e.id q ≡ false → new.node_at q ≡ old.node_at q)
     → ((q : ProcessId) → same_process e.id q ≡ false → new.data_at q ≡ old.data_at q)
-    → AreOpened es (take i es) old → AreOpened es (take (i + 1) es) new
-opens_more es i e old new lt is fresh own bare others others_data h = rw (take_more es i e lt, ← is) (record {
+    → AreOpened es (drop (i + 1) es) old → AreOpened es (drop i es) new
+unfolding is_listed
+opens_more es i e old new lt is fresh own bare others others_data h = rw here_first (record {
   opened = λ q s stands. opened_by q s stands (same_process_tells e.id q);
-  listed_are = λ q. listed_by q (same_process_tells e.id q) ∙ sym (listed_more (take i es) e q);
+  listed_are = λ q. listed_by q (same_process_tells e.id q);
   holdings = λ q. held_by q (same_process_tells e.id q);
 })
   where
+    here_first : drop i es ≡ e ∷ drop (i + 1) es
+    here_first = drop_at es i e lt is
+
     role : role_of es e.id ≡ role_by e.kind e.parent
     role = first_role es i e lt is fresh
 
@@ -118,13 +112,13 @@ opens_more es i e old new lt is fresh own bare others others_data h = rw (take_m
 
     listed_by : (q : ProcessId)
         → ((same_process e.id q ≡ true) × (e.id ≡ q)) ⊎ ((same_process e.id q ≡ false) × (e.id ≢ q))
-        → is_some (new.node_at q) ≡ (is_listed (take i es) q || same_process e.id q)
+        → is_some (new.node_at q) ≡ (same_process e.id q || is_listed (drop (i + 1) es) q)
     listed_by q (inl here) =
         ap (λ p. is_some (new.node_at p)) (sym here.1) ∙ some_true (new.node_at e.id) (OpenedAs es e) own
-        ∙ sym (or_true (is_listed (take i es) q) (same_process e.id q) here.0)
+        ∙ ap (λ b. b || is_listed (drop (i + 1) es) q) (sym here.0)
     listed_by q (inr there) =
         ap is_some (others q there.0) ∙ h.listed_are q
-        ∙ sym (or_false (is_listed (take i es) q) (same_process e.id q) there.0)
+        ∙ ap (λ b. b || is_listed (drop (i + 1) es) q) (sym there.0)
 
 -- a tree of which every process is open, and that has done nothing
 pub opened_tree : (tree : List TreeEntry) (ns : NodesSight) (j : JournalState)

@@ -5,13 +5,13 @@ use Rattle.tree_model.specs.declared.events.Happening.{Happening}
 use Rattle.tree_model.specs.declared.events.Happening.TheVariants.{Restart, Trim as Trimming}
 use Rattle.tree_model.specs.declared.events.Reaction.{Reaction}
 use Rattle.tree_model.specs.declared.events.StepError.{StepError}
-use Rattle.tree_model.specs.declared.events.StepError.TheVariants.{Memory, Device, UnknownTxn, NotAChild, Closed, Failed, NotInDoubt, NothingToForget, NoSuch}
+use Rattle.tree_model.specs.declared.events.StepError.TheVariants.{Memory, Device, UnknownTxn, NotAChild, Closed, Failed, NotInDoubt, NothingToForget, NoSuch, Exhausted}
 use Rattle.tree_model.specs.declared.trees.TreeEntry.{TreeEntry}
 use Rattle.tree_model.specs.Names.{same_process}
 use Rattle.core_model.specs.States.{CoreState}
 use Rattle.core_law.specs.Steps.{trim_reaction}
 use Rattle.core_law.specs.worlds.Worlds as worlds
-use Rattle.core_law.specs.worlds.Worlds.{HasFailed, Same, WorldState, step_entry, undelivered}
+use Rattle.core_law.specs.worlds.Worlds.{CannotReopenAt, HasFailed, Same, WorldState, step_entry, undelivered}
 use Rattle.tree_node.specs.declared.node.Node.{Node}
 use Rattle.tree_node.specs.Nodes.{core_of, data_of}
 use Rattle.tree_node.specs.Restarts.{NoRestart, NoTrim, RestartsNode, TrimsNode}
@@ -52,6 +52,8 @@ no_restart old new q bytes Failed s t moves h = absurd h
 no_restart old new q bytes NotInDoubt s t moves h = absurd h
 no_restart old new q bytes NothingToForget s t moves h = absurd h
 no_restart old new q bytes NoSuch s t moves h = absurd h
+no_restart old new q bytes Exhausted s t moves h =
+    (same_nodes old new q s t moves h.0 h.1, subst (λ o. CannotReopenAt o bytes) (sym moves.stood) h.2)
 
 pub not_restarted : {L A : Type 0} (es fs : List (ProcessId × Node L)) (q : ProcessId)
     (bytes : Option ℕ) (before behind : Node L)
@@ -98,6 +100,7 @@ no_trim old new q Failed s t moves h =
 no_trim old new q NotInDoubt s t moves h = absurd h
 no_trim old new q NothingToForget s t moves h = absurd h
 no_trim old new q NoSuch s t moves h = absurd h
+no_trim old new q Exhausted s t moves h = absurd h
 
 pub not_trimmed : {L A : Type 0} (es fs : List (ProcessId × Node L)) (q : ProcessId)
     (before behind : Node L) (made : Result A StepError)
@@ -223,6 +226,7 @@ no_restart_of_tree old new q bytes Failed h stays = absurd h
 no_restart_of_tree old new q bytes NotInDoubt h stays = absurd h
 no_restart_of_tree old new q bytes NothingToForget h stays = absurd h
 no_restart_of_tree old new q bytes NoSuch h stays = (same_tree old new h.0 stays, h.1)
+no_restart_of_tree old new q bytes Exhausted h stays = (same_tree old new h.0 stays, h.1)
 
 pub no_trim_of_tree : (old new : WorldState) (q : ProcessId) (e : StepError)
     → NoTrimAt (sight_in old) (sight_in new) q e → Unentered old new → worlds.NotTrimmedAt old new q e
@@ -251,6 +255,7 @@ no_trim_of_tree old new q Failed h stays = (same_tree old new h.0 stays, h.1)
 no_trim_of_tree old new q NotInDoubt h stays = absurd h
 no_trim_of_tree old new q NothingToForget h stays = absurd h
 no_trim_of_tree old new q NoSuch h stays = (same_tree old new h.0 stays, h.1)
+no_trim_of_tree old new q Exhausted h stays = absurd h
 
 -- The whole state, from the processes and the journals around a step.
 

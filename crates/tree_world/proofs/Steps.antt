@@ -4,13 +4,13 @@ use Rattle.tree_model.specs.declared.names.ProcessId.{ProcessId}
 use Rattle.tree_model.specs.declared.events.Input.{Input}
 use Rattle.tree_model.specs.declared.events.Reaction.{Reaction}
 use Rattle.tree_model.specs.declared.events.StepError.{StepError}
-use Rattle.tree_model.specs.declared.events.StepError.TheVariants.{Memory, Device, UnknownTxn, NotAChild, Closed, Failed, NotInDoubt, NothingToForget, NoSuch}
+use Rattle.tree_model.specs.declared.events.StepError.TheVariants.{Memory, Device, UnknownTxn, NotAChild, Closed, Failed, NotInDoubt, NothingToForget, NoSuch, Exhausted}
 use Rattle.tree_model.specs.Names.{same_process}
 use Rattle.tree_model.specs.NameLaws.{same_process_tells}
 use Rattle.tree_model.specs.Nodes.{DataAnswer}
 use Rattle.core_model.specs.States.{CoreState, SameCore}
 use Rattle.core_model.specs.Makes.{IsRefused}
-use Rattle.core_law.specs.worlds.Worlds.{HandlesInput, RefusesAt, SameNode}
+use Rattle.core_law.specs.worlds.Worlds.{HandlesInput, RefusesAt, SameNode, WantsNumbersAt}
 use Rattle.tree_node.specs.declared.node.Node.{Node}
 use Rattle.tree_node.specs.Nodes.{NotHandled, core_of, data_of}
 use Rattle.tree_node.proofs.Same.{rests, same_core}
@@ -126,6 +126,10 @@ stopped_by old new q i NothingToForget s t moves h =
     refused_at old new q i NothingToForget s t h.answer moves (h.keeps (λ is. absurd cc)) h.not_made
 stopped_by old new q i NoSuch s t moves h =
     refused_at old new q i NoSuch s t h.answer moves (h.keeps (λ is. absurd cc)) h.not_made
+stopped_by old new q i Exhausted s t moves h = (
+  same_nodes old new q s t moves h.not_made.same (h.keeps (λ is. absurd cc)),
+  subst (λ o. WantsNumbersAt o i) (sym moves.stood) (h.answer, h.not_made.why),
+)
 
 pub stopped : {L A : Type 0} (es fs : List (ProcessId × Node L)) (q : ProcessId) (i : Input)
     (before behind : Node L) (made : Result A StepError)

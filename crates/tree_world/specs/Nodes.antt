@@ -7,14 +7,14 @@ use Rattle.tree_model.specs.declared.records.LogRecord.{LogRecord}
 use Rattle.tree_model.specs.declared.events.Input.{Input}
 use Rattle.tree_model.specs.declared.events.Reaction.{Reaction}
 use Rattle.tree_model.specs.declared.events.StepError.{StepError}
-use Rattle.tree_model.specs.declared.events.StepError.TheVariants.{Memory, Device}
+use Rattle.tree_model.specs.declared.events.StepError.TheVariants.{Memory, Device, Exhausted}
 use Rattle.tree_model.specs.Names.{same_process}
 use Rattle.tree_model.specs.Nodes.{DataAnswer}
 use Rattle.rec_log.specs.Sights.{records_of}
 use Rattle.core_model.specs.States.{CoreState}
 use Rattle.core_model.specs.Makes.{IsBroken}
 use Rattle.manager_model.specs.Data.{ManagerData, Rests, no_data}
-use Rattle.core_law.specs.worlds.Worlds.{HandlesInput, RefusesAt, SameNode}
+use Rattle.core_law.specs.worlds.Worlds.{HandlesInput, RefusesAt, SameNode, WantsNumbersAt}
 use Rattle.tree_node.specs.declared.node.Node.{Node}
 use Rattle.tree_node.specs.Nodes.{SpellsLog, core_of, data_of}
 
@@ -82,4 +82,5 @@ pub record SameNodes (old new : NodesSight) : Type 0 where
 abbrev pub NoStepAt : NodesSight → NodesSight → ProcessId → Input → StepError → Type 0
 NoStepAt old new q i Memory = SameNodes old new
 NoStepAt old new q i Device = BreaksAt old new q i
+NoStepAt old new q i Exhausted = SameNodes old new × WantsNumbersAt (old.node_at q) i
 NoStepAt old new q i e = SameNodes old new × RefusesAt (old.node_at q) i e

@@ -1,5 +1,5 @@
 -- Processes that have opened empty logs, and why one did not.
-use Rattle.std.specs.Prelude.{◌≡◌, ℕ, true, if◌then◌else◌, Option, Some, None, is_some, List, [], ◌∷◌}
+use Rattle.std.specs.Prelude.{◌≡◌, ◌⊎◌, ℕ, true, if◌then◌else◌, Option, Some, None, is_some, List, [], ◌∷◌}
 use Rattle.tree_model.specs.declared.names.ProcessId.{ProcessId}
 use Rattle.tree_model.specs.declared.trees.TreeEntry.{TreeEntry}
 use Rattle.tree_model.specs.Names.{same_process}
@@ -8,7 +8,10 @@ use Rattle.core_model.specs.States.{CoreState}
 use Rattle.core_law.specs.worlds.Runs.{NodeOpened}
 use Rattle.manager_model.specs.Data.{Rests, no_data}
 use Rattle.tree_node.specs.declared.opening.OpenError.{OpenError}
-use Rattle.tree_node.specs.Openings.{ProcessNotOpened}
+use Rattle.rec_log.specs.Sights.{kept_of}
+use Rattle.core_model.specs.Opening.{first_opened}
+use Rattle.tree_node.specs.Openings.{HandsBack, ProcessNotOpened}
+use Rattle.tree_node.specs.Reopenings.{form_by}
 use Rattle.tree_world.specs.Nodes.{NodesSight}
 
 -- of the tree, these processes have
@@ -31,3 +34,17 @@ pub record NotOpened {L : Type 0} (bytes : L → List ℕ) (failures : L → ℕ
   pub process : ProcessId
   pub listed : is_listed tree process ≡ true
   pub why : ProcessNotOpened bytes failures process (store_of tree stores process) e
+
+-- a store holds the log of a process that has just opened: its first record, forced
+abbrev pub HoldsFirst : {L : Type 0} → (L → List ℕ) → (L → ℕ) → TreeEntry → L → Type 0
+HoldsFirst bytes forced e store =
+    kept_of (form_by e) (bytes store) (forced store) ≡ record { forced = first_opened ∷ []; unforced = [] }
+
+-- the stores that are handed back where a tree does not open, in the order of its processes: each process before
+-- one had opened, that one had not, and those behind it are as they were
+abbrev pub AreHandedBack : {L : Type 0} → (L → List ℕ) → (L → ℕ) → (L → ℕ) → List TreeEntry → List L → List L
+    → OpenError → Type 0
+AreHandedBack bytes forced failures (e ∷ es) (s ∷ ss) (l ∷ ls) why =
+    (HandsBack failures s l why × (ls ≡ ss))
+    ⊎ (HoldsFirst bytes forced e l × AreHandedBack bytes forced failures es ss ls why)
+AreHandedBack bytes forced failures es ss ls why = ls ≡ ss

@@ -3,9 +3,9 @@ use Rattle.std.specs.Prelude.{◌≡◌, ℕ, Option, None}
 use Rattle.tree_model.specs.declared.names.ProcessId.{ProcessId}
 use Rattle.tree_model.specs.declared.events.Reaction.{Reaction}
 use Rattle.tree_model.specs.declared.events.StepError.{StepError}
-use Rattle.tree_model.specs.declared.events.StepError.TheVariants.{Memory, Device, Failed, NoSuch}
+use Rattle.tree_model.specs.declared.events.StepError.TheVariants.{Memory, Device, Failed, NoSuch, Exhausted}
 use Rattle.core_model.specs.States.{CoreState}
-use Rattle.core_law.specs.worlds.Worlds.{HasFailed}
+use Rattle.core_law.specs.worlds.Worlds.{CannotReopenAt, HasFailed}
 use Rattle.tree_node.specs.Restarts.{RestartBreaks, RestartsNode, TrimBreaksOff, TrimsNode}
 use Rattle.tree_world.specs.Nodes.{MovesAt, NodesSight, SameNodes}
 
@@ -30,6 +30,7 @@ abbrev pub NoRestartAt : NodesSight → NodesSight → ProcessId → Option ℕ 
 NoRestartAt old new q bytes Memory = SameNodes old new
 NoRestartAt old new q bytes Device = RestartBreaksAt old new q bytes
 NoRestartAt old new q bytes NoSuch = SameNodes old new × (old.node_at q ≡ None)
+NoRestartAt old new q bytes Exhausted = SameNodes old new × CannotReopenAt (old.node_at q) bytes
 NoRestartAt old new q bytes e = ⊥
 
 -- of all processes one is trimmed

@@ -21,7 +21,7 @@ pub(crate) struct Nodes<L: LogStore> {
 }
 
 impl<L: LogStore> Nodes<L> {
-    /// A process handles an input. NoSuch: there is no such process. Memory also comes where its numbers are
+    /// A process handles an input. NoSuch: there is no such process. Exhausted: numbers that the input wants are
     /// used up.
     pub(crate) fn step(
         &mut self,

@@ -1,6 +1,8 @@
 //! Opening a tree over empty stores.
 
-ghost use Rattle.std.specs.Prelude.{◌≡◌, [], All, false, IfErr, IfOk, IsSomeAnd, length, OnOk, Some};
+ghost use Rattle.std.specs.Prelude.{◌≡◌, ◌+◌, ◌<◌, ◌≤◌, ◌++◌, ◌∷◌, [], All, IfErr, IfOk, OnErr, OnOk, Some, false, drop, length, reverse};
+ghost use Rattle.std.specs.Vec.{vec_capacity, vec_len};
+ghost use Rattle.indexmap.specs.IndexMap.{spare};
 ghost use Rattle.std.specs.Map.{lookup};
 ghost use Rattle.tree_model.specs.contracts.names.ProcessIdPartialEq.TheImpl as processes;
 ghost use Rattle.tree_model.specs.declared.names.ProcessId.{ProcessId as AnyProcess};
@@ -11,9 +13,9 @@ ghost use Rattle.core_law.specs.worlds.Modelled.{KeepsHeadline};
 ghost use Rattle.log_store.specs.Memory.{memory_bytes};
 ghost use Rattle.manager_model.specs.Data.{Rests, no_data};
 ghost use Rattle.tree_node.specs.Nodes.{core_of, data_of};
-ghost use Rattle.tree_node.specs.Openings.{OpenedAs, ProcessNotOpened};
-ghost use Rattle.tree_world.specs.Nodes.{kept_at, nodes_at};
-ghost use Rattle.tree_world.specs.Openings.{AreOpened, NotOpened};
+ghost use Rattle.tree_node.specs.Openings.{HandsBack, OpenedAs, ProcessNotOpened};
+ghost use Rattle.tree_world.specs.Nodes.{kept_at};
+ghost use Rattle.tree_world.specs.Openings.{AreHandedBack, AreOpened, NotOpened};
 ghost use Rattle.tree_world.specs.Worlds.{state};
 
 use crate::nodes::Nodes;
@@ -26,92 +28,92 @@ use tree_model::{ProcessId, Tree, TreeEntry};
 use tree_node::{Node, OpenError, copied_tree, open_node};
 use world_journal::Journal;
 
-/// Lets go of a store that was refused, and tells why.
-fn refused<T: Drop>(_left: T, why: OpenError) -> OpenError
-    ensures { result ≡ why }
-{
-    why
-}
-
-/// A value more, by its process's name.
-fn put_by_name<V: Drop>(
-    values: &mut IndexMap<ProcessId, V>,
-    name: ProcessId,
-    value: V,
-) -> Result<(), AllocError>
-    ensures own { OnOk result (lookup (processes.ghosts.eq name) values.new.entries ≡ Some value) }
-    ensures others { OnOk result ((q : AnyProcess) → same_process name q ≡ false
+/// A value more, by its process's name, where there is room.
+fn put_by_name<V: Drop>(values: &mut IndexMap<ProcessId, V>, name: ProcessId, value: V)
+    requires { 0 < spare values.old }
+    ensures own { lookup (processes.ghosts.eq name) values.new.entries ≡ Some value }
+    ensures others { (q : AnyProcess) → same_process name q ≡ false
         → lookup (processes.ghosts.eq q) values.new.entries
-        ≡ lookup (processes.ghosts.eq q) values.old.entries) }
+        ≡ lookup (processes.ghosts.eq q) values.old.entries }
+    ensures room { spare values.old ≤ spare values.new + 1 }
 {
-    values.reserve(1)?;
     let _ = values.insert(name, value).unwrap();
-    Ok(())
 }
 
-/// Opens the process of an entry over an empty store, which a refusal lets go.
+/// Puts a store back where it was taken from.
+fn put_back<L>(stores: &mut Vec<L>, store: L)
+    requires { vec_len stores.old < vec_capacity stores.old }
+    ensures items { stores.new.items ≡ stores.old.items ++ store ∷ [] }
+    ensures room { vec_capacity stores.old ≤ vec_capacity stores.new }
+{
+    stores.push(store).unwrap();
+}
+
+/// Opens the process of an entry over this store. With a refusal the store is handed back.
 fn opened<L: LogStore + Drop>(
     alloc: Global,
+    tree: &[TreeEntry],
     entry: &TreeEntry,
-    tree: Tree,
     store: L,
-) -> Result<Node<L>, OpenError>
-    requires { L.bytes store ≡ [] }
-    ensures ok { IfOk result (λ node. OpenedAs tree entry.now (core_of node)) }
+) -> Result<Node<L>, (OpenError, L)>
+    ensures ok { IfOk result (λ node. OpenedAs tree.now entry.now (core_of node)) }
     ensures holdings { IfOk result (λ node. Rests no_data (data_of node)) }
-    ensures err { IfErr result (ProcessNotOpened L.bytes L.failures entry.now.id (Some store)) }
+    ensures err { IfErr result (λ e. ProcessNotOpened L.bytes L.failures entry.now.id (Some store) e.0) }
+    ensures handed_back { IfErr result (λ e. HandsBack L.failures store e.1 e.0) }
 {
-    match open_node(alloc, entry, tree, store) {
-        Ok(node) => Ok(node),
-        Err((error, store)) => Err(refused(store, error)),
+    if !store.bytes().is_empty() {
+        return Err((OpenError::Store(entry.id), store));
+    }
+    match copied_tree(alloc, tree) {
+        Ok(copy) => open_node(alloc, entry, copy, store),
+        Err(_) => Err((OpenError::Memory, store)),
     }
 }
 
-/// Opens the process of an entry over this store, beside those that are open. Store: there is none, or it
-/// has bytes.
-fn open_more<L: LogStore + Drop>(
+/// Opens the processes of a tree from this place on, each over the last store of the list, which leaves it. With
+/// a refusal all stores stand in the list again, and none is open.
+fn open_from<L: LogStore + Drop>(
     alloc: Global,
     tree: &[TreeEntry],
-    entry: &TreeEntry,
-    store: Option<L>,
+    place: usize,
+    stores: &mut Vec<L>,
     nodes: &mut IndexMap<ProcessId, Node<L>>,
 ) -> Result<(), OpenError>
-    ensures own { OnOk result (IsSomeAnd (nodes_at nodes.new.entries entry.now.id)
-        (OpenedAs tree.now entry.now)) }
-    ensures others { OnOk result ((q : AnyProcess) → same_process entry.now.id q ≡ false
-        → nodes_at nodes.new.entries q ≡ nodes_at nodes.old.entries q) }
-    ensures holdings { OnOk result (Rests no_data ((kept_at nodes.new.entries).data_at entry.now.id)) }
-    ensures others_data { OnOk result ((q : AnyProcess) → same_process entry.now.id q ≡ false
-        → (kept_at nodes.new.entries).data_at q ≡ (kept_at nodes.old.entries).data_at q) }
-    ensures err { IfErr result (ProcessNotOpened L.bytes L.failures entry.now.id store) }
+    requires tree { IsTree tree.now }
+    requires place { place ≤ length tree.now }
+    requires empty { nodes.old.entries ≡ [] }
+    requires room { length tree.now ≤ spare nodes.old }
+    ensures ok { OnOk result (AreOpened tree.now (drop place tree.now) (kept_at nodes.new.entries)) }
+    ensures spare { OnOk result (place ≤ spare nodes.new) }
+    ensures err { IfErr result (NotOpened L.bytes L.failures (drop place tree.now) (reverse stores.old.items)) }
+    ensures handed_back { IfErr result (AreHandedBack L.bytes L.forced L.failures (drop place tree.now)
+        (reverse stores.old.items) (reverse stores.new.items)) }
+    ensures len { OnErr result (vec_len stores.new ≡ vec_len stores.old) }
+    ensures capacity { OnErr result (vec_capacity stores.old ≤ vec_capacity stores.new) }
 {
-    let Some(store) = store else {
+    let Some(entry) = tree.get(place) else {
+        return Ok(());
+    };
+    let Some(store) = stores.pop() else {
         return Err(OpenError::Store(entry.id));
     };
-    if !store.bytes().is_empty() {
-        return Err(refused(store, OpenError::Store(entry.id)));
+    let node = match opened(alloc, tree, entry, store) {
+        Ok(node) => node,
+        Err((error, store)) => {
+            put_back(stores, store);
+            return Err(error);
+        }
+    };
+    match open_from(alloc, tree, place + 1, stores, nodes) {
+        Ok(()) => {
+            put_by_name(nodes, entry.id, node);
+            Ok(())
+        }
+        Err(error) => {
+            put_back(stores, node.into_store());
+            Err(error)
+        }
     }
-    let node = opened(alloc, entry, copied_tree(alloc, tree)?, store)?;
-    put_by_name(nodes, entry.id, node)?;
-    Ok(())
-}
-
-/// Opens every process of the tree, each over its store.
-fn opened_over<L: LogStore + Drop>(
-    alloc: Global,
-    tree: &[TreeEntry],
-    stores: Vec<L>,
-) -> Result<IndexMap<ProcessId, Node<L>>, OpenError>
-    requires { IsTree tree.now }
-    ensures ok { IfOk result (λ nodes. AreOpened tree.now tree.now (kept_at nodes.entries)) }
-    ensures err { IfErr result (NotOpened L.bytes L.failures tree.now stores.items) }
-{
-    let mut stores = stores.into_iter();
-    let mut nodes = IndexMap::new(alloc);
-    for entry in tree {
-        open_more(alloc, tree, entry, stores.next(), &mut nodes)?;
-    }
-    Ok(nodes)
 }
 
 /// So many stores in memory, without bytes.
@@ -131,15 +133,32 @@ impl<L: LogStore + Drop> World<L> {
     /// Each process has a store without bytes, in the order of the tree; those that are left over are let
     /// go.
     ///
-    /// Memory: a growth was refused. Device: the device of the store of this process failed. Store: there is
-    /// no store for this process, or bytes stand in it. Behind a refusal all stores are let go.
-    pub fn with_stores(alloc: Global, tree: Tree, stores: Vec<L>) -> Result<World<L>, OpenError>
+    /// With a refusal the stores are handed back, in the order of the tree: those of the processes that had opened
+    /// with their first record, the others as they were. Memory: a growth was refused; of the store of the process
+    /// that was opening a header may stand. Device: the device of the store of this process failed. Store: there
+    /// is no store for this process, or bytes stand in it.
+    pub fn with_stores(
+        alloc: Global,
+        tree: Tree,
+        stores: Vec<L>,
+    ) -> Result<World<L>, (OpenError, Vec<L>)>
         requires { IsTree tree }
         ensures opened { IfOk result (λ world. IsOpened (state world) tree) }
         ensures headline { IfOk result (λ world. KeepsHeadline (state world)) }
-        ensures err { IfErr result (NotOpened L.bytes L.failures tree stores.items) }
+        ensures err { IfErr result (λ e. NotOpened L.bytes L.failures tree stores.items e.0) }
+        ensures handed_back { IfErr result (λ e. AreHandedBack L.bytes L.forced L.failures tree
+            stores.items e.1.items e.0) }
     {
-        let nodes = opened_over(alloc, tree.entries(), stores)?;
+        let mut stores = stores;
+        let mut nodes = match IndexMap::with_capacity(alloc, tree.entries().len()) {
+            Ok(nodes) => nodes,
+            Err(_) => return Err((OpenError::Memory, stores)),
+        };
+        stores.reverse();
+        if let Err(error) = open_from(alloc, tree.entries(), 0, &mut stores, &mut nodes) {
+            stores.reverse();
+            return Err((error, stores));
+        }
         Ok(World {
             running: RunningTree {
                 alloc,
@@ -160,6 +179,12 @@ impl World<MemoryStore> {
         ensures err { IfErr result (λ e. e ≡ OpenError.Memory) }
     {
         let stores = memory_stores(alloc, tree.entries().len())?;
-        World::with_stores(alloc, tree, stores)
+        match World::with_stores(alloc, tree, stores) {
+            Ok(world) => Ok(world),
+            Err((error, stores)) => {
+                drop(stores);
+                Err(error)
+            }
+        }
     }
 }

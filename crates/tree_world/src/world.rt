@@ -119,7 +119,7 @@ impl<L: LogStore> World<L> {
 
     /// Makes an event. After a refusal nothing has changed, but for what a settle had delivered. Device: a
     /// process's device failed under its record, and it answers Failed from then on. Memory: a growth was
-    /// refused, or a process has no numbers left.
+    /// refused. Exhausted: numbers that the event wants of a process are used up.
     ///
     /// However it ends, and whatever devices failed, the tree stands for a run of the model that goes on
     /// from the one that it stood for. In this run no two processes end one transaction differently except

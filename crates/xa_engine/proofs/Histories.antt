@@ -36,6 +36,7 @@ use Rattle.tree_model.specs.declared.names.Outcome.{Outcome}
 use Rattle.tree_model.specs.Records.{same_bytes}
 use Rattle.log_rules.specs.order.Logs.{Whole, read_log}
 use Rattle.log_rules.specs.order.Orders.{SeenLog, left_by as in_doubt_by, nothing_seen}
+use Rattle.log_text.specs.Forms.{log_form}
 use Rattle.rec_log.specs.Openings.{Opens as OpensLog}
 use Rattle.rec_log.specs.Sights.{Kept, LogSight, LogState, RestartBreaks, left_by, records_of}
 use Rattle.tree_model.specs.Nodes.{Written, is_any_forced}
@@ -409,7 +410,7 @@ run_of m n (r ∷ rs) (a ∷ given) e =
     }
 
 -- a new manager has new tables and an empty log
-no_records : (log : LogState) → OpensLog Manager [] 0 0 log → records_of log.sight.kept ≡ []
+no_records : (log : LogState) → OpensLog (log_form (record { 0 = 1 }) Manager) [] 0 0 log → records_of log.sight.kept ≡ []
 unfolding read_log same_bytes
 no_records log opens = let one : Whole [] 0 ≡ Whole (records_of log.sight.kept) opens.torn = opens.read in cc
 

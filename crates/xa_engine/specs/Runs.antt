@@ -14,9 +14,9 @@ use Rattle.xa_engine.specs.declared.answer.Answer.{Answer}
 use Rattle.xa_engine.specs.Answers.{answer_text}
 use Rattle.xa_engine.specs.Makes.{Makes}
 
--- a manager that was restored from a store without bytes, whose device never failed
+-- the manager of process 1 that was restored from a store without bytes, whose device never failed
 abbrev pub IsFresh : KvSight → Type 0
-IsFresh m = RestoredFrom [] 0 0 m
+IsFresh m = RestoredFrom (record { 0 = 1 }) [] 0 0 m
 
 -- requests take a manager from one state to another, each with its answer
 abbrev pub Leads : KvSight → List Request → List Answer → KvSight → Type 0

@@ -15,6 +15,7 @@ use report_io::{Failure, Status, read_all, write_all};
 use std::alloc::{AllocError, Global};
 use std::io::{Read, Write};
 use trace_lines::{push, push_number};
+use tree_model::ProcessId;
 
 /// Reads an XA script, makes its requests of a key store whose log is in memory, and writes their answers;
 /// or one line that says why the script is refused. After a failed read, or where memory is refused, nothing
@@ -71,11 +72,14 @@ fn refusal(alloc: Global, error: ScriptError) -> Result<Vec<u8>, AllocError>
     Ok(out)
 }
 
+/// The process whose manager answers.
+const PROCESS: ProcessId = ProcessId(1);
+
 /// A manager over a store in memory whose log begins with it. An error says that memory was refused.
 pub fn first_manager(alloc: Global) -> Result<Manager, AllocError>
     ensures { IfOk result (λ manager. IsFresh manager) }
 {
-    match KvManager::restore(MemoryStore::new(alloc), alloc) {
+    match KvManager::restore(MemoryStore::new(alloc), PROCESS, alloc) {
         Ok(manager) => Ok(manager),
         Err(_) => Err(AllocError),
     }

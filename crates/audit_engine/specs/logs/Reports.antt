@@ -3,17 +3,18 @@ use Rattle.std.specs.Prelude.{◌≡◌, ℕ, ◌==◌, if◌then◌else◌, Lis
 use Rattle.std.specs.List.{flat_map}
 use Rattle.std.specs.Fmt.{decimal}
 use Rattle.tree_model.specs.declared.names.ProcessId.{ProcessId}
-use Rattle.tree_model.specs.declared.names.Kind.{Kind}
 use Rattle.tree_model.specs.declared.records.Record.{Record}
 use Rattle.tree_model.specs.declared.trees.TreeEntry.{TreeEntry}
 use Rattle.tree_model.specs.Records.{kind_of}
 use Rattle.tree_model.specs.Texts.{kind_word}
 use Rattle.logs_script.specs.declared.line.ProcessLog.{ProcessLog}
 use Rattle.logs_script.specs.Logs.{IsLogsText, bytes_of}
+use Rattle.log_text.specs.declared.form.LogForm.{LogForm}
+use Rattle.log_text.specs.Forms.{form_in}
 use Rattle.log_rules.specs.order.Logs.{LogReading, Whole, Damaged, read_log}
 use Rattle.report_io.specs.declared.status.Status.{Status}
 use Rattle.report_io.specs.declared.status.Status.TheVariants.{Ended, Refused, Stopped}
-use Rattle.audit_engine.specs.Refusals.{RefusesInput, TellsDamage}
+use Rattle.logs_script.specs.Refusals.{RefusesInput, TellsDamage}
 use Rattle.audit_engine.specs.logs.Lines.{record_words}
 use Rattle.logs_script.specs.Faults.{first_damage}
 use Rattle.logs_script.specs.Places.{Placed, placed_records}
@@ -40,12 +41,14 @@ tail_text (Whole ls torn) = torn_text torn
 tail_text (Damaged place) = []
 
 -- what a log holds
-unfoldable pub held_text : ProcessId → Kind → List ℕ → List ℕ
-held_text q p bytes = heading_text q ++ records_text (placed_records p bytes) ++ tail_text (read_log p bytes)
+unfoldable pub held_text : LogForm → List ℕ → List ℕ
+held_text f bytes =
+    heading_text f.process ++ records_text (placed_records f bytes) ++ tail_text (read_log f bytes)
 
 -- what the logs of these processes hold
 unfoldable pub shown_text : List TreeEntry → List ProcessLog → List ℕ
-shown_text es logs = flat_map (λ e. held_text e.id e.kind (bytes_of logs e.id)) es
+shown_text es logs =
+    flat_map (λ e. held_text (form_in (bytes_of logs e.id) e.id e.kind) (bytes_of logs e.id)) es
 
 -- what is written of logs that were read, by whether one is damaged
 abbrev pub IsShown : Status → List TreeEntry → List ProcessLog → List ℕ → Type 0

@@ -10,14 +10,14 @@ ghost use Rattle.report_io.specs.declared.status.Status.{Status as AnyStatus};
 
 use crate::logs::lines::push_words;
 use link_script::ScriptError;
-use log_text::{HEADER, ReadFault, first_frame, read_record};
+use log_text::{HEADER_SIZE, LogForm, ReadFault, first_frame, read_record};
 use logs_script::{ProcessLog, bytes_of, damaged, read_logs, refusal};
 use rec_log::{Found, OpenError, find};
 use report_io::{Failure, Status, read_all, write_all};
 use std::alloc::{AllocError, Global};
 use std::io::{Read, Write};
 use trace_lines::{kind_word, push, push_number};
-use tree_model::{Kind, ProcessId, Record, TreeEntry};
+use tree_model::{ProcessId, Record, TreeEntry};
 
 /// Reads a tree with its logs, and writes what each log holds, in the order of the tree: a line `log P`, a
 /// line for each record with the place of its first byte, and `torn N` where the log has a torn tail; or one
@@ -70,8 +70,9 @@ fn shown(
     let mut out = Vec::new(alloc);
     for entry in entries {
         let bytes = bytes_of(logs, entry.id);
-        match find(entry.kind, bytes, alloc) {
-            Ok(found) => push_log(alloc, &mut out, entry, bytes, found)?,
+        let form = LogForm::of_bytes(bytes, entry.id, entry.kind);
+        match find(form, bytes, alloc) {
+            Ok(found) => push_log(alloc, &mut out, form, bytes, found)?,
             Err(OpenError::Damaged(place)) => {
                 return Ok((damaged(alloc, entry.id, place)?, Status::Refused));
             }
@@ -85,19 +86,19 @@ fn shown(
 fn push_log(
     alloc: Global,
     out: &mut Vec<u8>,
-    entry: &TreeEntry,
+    form: LogForm,
     bytes: &[u8],
     found: Found,
 ) -> Result<(), AllocError>
-    requires { IsFound entry.now.kind bytes.now found }
-    ensures { OnOk result (out.new.items ≡ out.old.items ++ held_text entry.now.id entry.now.kind bytes.now) }
+    requires { IsFound form bytes.now found }
+    ensures { OnOk result (out.new.items ≡ out.old.items ++ held_text form bytes.now) }
 {
-    push_heading(out, entry.id)?;
+    push_heading(out, form.process)?;
     match found {
         Found::Empty => Ok(()),
         Found::Sound(torn) => {
-            let (_, frames) = bytes.split_at(HEADER.len());
-            push_records(alloc, out, entry.kind, frames)?;
+            let (_, frames) = bytes.split_at(HEADER_SIZE);
+            push_records(alloc, out, form, frames)?;
             push_torn(out, torn)?;
             Ok(())
         }
@@ -142,15 +143,15 @@ fn push_record(
 fn push_records(
     alloc: Global,
     out: &mut Vec<u8>,
-    kind: Kind,
+    form: LogForm,
     frames: &[u8],
 ) -> Result<(), AllocError>
-    ensures { OnOk result (out.new.items ≡ out.old.items ++ records_text (placed_in kind 5 0 frames.now)) }
+    ensures { OnOk result (out.new.items ≡ out.old.items ++ records_text (placed_in form 5 0 frames.now)) }
 {
     let mut rest = frames;
-    while let Some((frame_kind, payload, behind)) = first_frame(rest) {
-        let place = HEADER.len() + (frames.len() - rest.len());
-        match read_record(kind, frame_kind, payload, alloc) {
+    while let Some((frame_kind, payload, behind)) = first_frame(form.format, rest) {
+        let place = HEADER_SIZE + (frames.len() - rest.len());
+        match read_record(form, frame_kind, payload, alloc) {
             Ok(read) => push_record(alloc, out, place, &read.entry)?,
             Err(ReadFault::Malformed) => return Ok(()),
             Err(ReadFault::Memory) => return Err(AllocError),

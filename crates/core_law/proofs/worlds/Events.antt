@@ -144,6 +144,7 @@ module _ (journal : List Made → List Entry) (shows : ShowsMoves journal)
   undelivered_on s t k step_error.NothingToForget es w faults is f h = same_on s t es w is f h.0
   undelivered_on s t k step_error.Failed es w faults is f h = same_on s t es w is f h.0
   undelivered_on s t k step_error.NoSuch es w faults is f h = same_on s t es w is f h.0
+  undelivered_on s t k step_error.Exhausted es w faults is f h = same_on s t es w is f h.0
 
   unacted_on : (s t : WorldState) (q : ProcessId) (a : Act) (e : StepError) (es : List Made) (w : World)
       → (e ≡ step_error.Device → HidesFaults journal) → s.tree ≡ tree → FollowsBy journal es w s
@@ -160,6 +161,7 @@ module _ (journal : List Made → List Entry) (shows : ShowsMoves journal)
   unacted_on s t q a step_error.NothingToForget es w faults is f h = same_on s t es w is f h.0
   unacted_on s t q a step_error.Failed es w faults is f h = same_on s t es w is f h.0
   unacted_on s t q a step_error.NoSuch es w faults is f h = same_on s t es w is f h.0
+  unacted_on s t q a step_error.Exhausted es w faults is f h = same_on s t es w is f h.0
 
   unrestarted_on : (s t : WorldState) (q : ProcessId) (bytes : Option ℕ) (e : StepError) (es : List Made)
       (w : World) → (e ≡ step_error.Device → HidesFaults journal)
@@ -176,6 +178,7 @@ module _ (journal : List Made → List Entry) (shows : ShowsMoves journal)
   unrestarted_on s t q bytes step_error.NothingToForget es w faults is f h = absurd h
   unrestarted_on s t q bytes step_error.Failed es w faults is f h = absurd h
   unrestarted_on s t q bytes step_error.NoSuch es w faults is f h = same_on s t es w is f h.0
+  unrestarted_on s t q bytes step_error.Exhausted es w faults is f h = same_on s t es w is f h.0
 
   untrimmed_on : (s t : WorldState) (q : ProcessId) (e : StepError) (es : List Made) (w : World)
       → (e ≡ step_error.Device → HidesFaults journal) → s.tree ≡ tree → FollowsBy journal es w s
@@ -192,6 +195,7 @@ module _ (journal : List Made → List Entry) (shows : ShowsMoves journal)
   untrimmed_on s t q step_error.NothingToForget es w faults is f h = absurd h
   untrimmed_on s t q step_error.Failed es w faults is f h = same_on s t es w is f h.0
   untrimmed_on s t q step_error.NoSuch es w faults is f h = same_on s t es w is f h.0
+  untrimmed_on s t q step_error.Exhausted es w faults is f h = absurd h
 
   none_on : (s t : WorldState) (e : StepError) (o : Option ℕ) (es : List Made) (w : World)
       → (e ≡ step_error.Device → HidesFaults journal) → s.tree ≡ tree → FollowsBy journal es w s

@@ -328,8 +328,8 @@ both_refuse s t c d (x ∷ xs) (suc n) (suc m) e f alike one two h k =
     let rest = both_refuse h.0 k.0 c d xs n m e f (event_alike s h.0 t k.0 x alike h.1 k.1) one two h.2 k.2 in
     (ap suc rest.0, rest.1, rest.2)
 
-so : (e : StepError) → (e ≢ step_error.Memory) × (e ≢ step_error.Device) → ForItself e
-so e h = record { memory = h.0; device = h.1 }
+so : (e : StepError) → (e ≢ step_error.Memory) × (e ≢ step_error.Device) × (e ≢ step_error.Exhausted) → ForItself e
+so e h = record { memory = h.0; device = h.1; numbers = h.2 }
 
 pub one_text : OneInputOneText
 one_text tree s t c d events None None is_tree a b h k one two =

@@ -89,6 +89,7 @@ same_core s = record {
     views = λ c. same_view (s.view_of c);
     branches = λ c. refl;
     decided = λ c. refl;
+    spent = refl;
   };
 }
 

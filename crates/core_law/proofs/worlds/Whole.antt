@@ -28,10 +28,11 @@ use Rattle.core_law.proofs.worlds.Journals.{by_whole, whole_follows, whole_shows
 use Rattle.core_law.proofs.worlds.Processes.{as_the_model, refused_so}
 use Rattle.core_law.proofs.worlds.Restarts.{restart_refused, trim_failed, trim_unknown}
 
--- a refusal that is neither for memory nor because of a device
+-- a refusal that is neither for memory or for numbers that are used up nor because of a device
 pub record ForItself (e : StepError) : Type 0 where
   pub memory : e ≢ step_error.Memory
   pub device : e ≢ step_error.Device
+  pub numbers : e ≢ step_error.Exhausted
 
 pub not_acted : (s t : WorldState) (q : ProcessId) (a : Act) (e : StepError) → ForItself e → NotActed s t q a e
     → Same s t × RefusesAt (s.node_at q) (ActInput a) e
@@ -44,6 +45,7 @@ not_acted s t q a step_error.NotInDoubt itself h = h
 not_acted s t q a step_error.NothingToForget itself h = h
 not_acted s t q a step_error.Failed itself h = h
 not_acted s t q a step_error.NoSuch itself h = h
+not_acted s t q a step_error.Exhausted itself h = absurd (itself.numbers refl)
 
 pub not_delivered : (s t : WorldState) (k : ℕ) (e : StepError) → ForItself e → NotDelivered s t k e → Same s t
     × RefusesMessage s k (sent_as s.net k) e
@@ -56,6 +58,7 @@ not_delivered s t k step_error.NotInDoubt itself h = h
 not_delivered s t k step_error.NothingToForget itself h = h
 not_delivered s t k step_error.Failed itself h = h
 not_delivered s t k step_error.NoSuch itself h = h
+not_delivered s t k step_error.Exhausted itself h = absurd (itself.numbers refl)
 
 pub refused_message : (es : List Made) (w : World) (s : WorldState) (k : ℕ) (o : Option Envelope) (e : StepError)
     → Follows es w s → RefusesMessage s k o e
@@ -83,6 +86,7 @@ not_restarted s t q bytes step_error.NotInDoubt itself h = absurd h
 not_restarted s t q bytes step_error.NothingToForget itself h = absurd h
 not_restarted s t q bytes step_error.Failed itself h = absurd h
 not_restarted s t q bytes step_error.NoSuch itself h = (h.0, h.1, refl)
+not_restarted s t q bytes step_error.Exhausted itself h = absurd (itself.numbers refl)
 
 -- of a trim that was refused for itself there is no process, or it has failed
 pub not_trimmed : (es : List Made) (w : World) (s t : WorldState) (q : ProcessId) (e : StepError) → Follows es w s
@@ -97,6 +101,7 @@ not_trimmed es w s t q step_error.NotInDoubt f itself h = absurd h
 not_trimmed es w s t q step_error.NothingToForget f itself h = absurd h
 not_trimmed es w s t q step_error.Failed f itself h = (h.0, trim_failed es w s f q h.1)
 not_trimmed es w s t q step_error.NoSuch f itself h = (h.0, trim_unknown es w s f q h.1)
+not_trimmed es w s t q step_error.Exhausted f itself h = absurd h
 
 -- an event that was refused for itself left a state that stands for a run, which refuses it so
 record StoppedSo (tree : List TreeEntry) (t : WorldState) (event : Event) (e : StepError) : Type 0 where
@@ -205,7 +210,7 @@ module _ (tree : List TreeEntry) (is_tree : IsTree tree) where
       (by_whole [] opened_world start (opened_follows tree start opened)) leads.leads in
       let last = stopped_so leads.before end leads.event refused.1 (g.goes_on_so.later ++ [])
       g.goes_on_so.world g.tree_stays
-      (record { memory = itself.0; device = itself.1 })
+      (record { memory = itself.0; device = itself.1; numbers = itself.2 })
       (whole_follows (g.goes_on_so.later ++ []) g.goes_on_so.world leads.before
       g.goes_on_so.follows) leads.stops in
       record {

@@ -1,5 +1,5 @@
--- One input, one text: what a tree makes of a list of events is determined, but for want of memory and for devices
--- that fail.
+-- One input, one text: what a tree makes of a list of events is determined, but for want of memory, for numbers that
+-- are used up and for devices that fail.
 use Rattle.std.specs.Prelude.{◌≡◌, List}
 use Rattle.tree_model.specs.declared.events.Event.{Event}
 use Rattle.tree_model.specs.declared.trees.TreeEntry.{TreeEntry}
@@ -16,7 +16,7 @@ pub record ShowTheSame (a b : WorldState) : Type 0 where
 
 -- Two trees of the same processes, which have all opened empty logs, come to states that show the same by the same
 -- events, and the event that is refused, where there is one, is the same and refused by the same error; of each it is
--- asked that no event be refused for memory, nor because a device failed.
+-- asked that no event be refused for memory or for numbers that are used up, nor because a device failed.
 abbrev pub OneInputOneText : Type 0
 OneInputOneText = (tree : List TreeEntry) (a b c d : WorldState) (events : List Event) (r s : Refusal) → IsTree tree
     → IsOpened a tree → IsOpened b tree → LeadsTo a events r c → LeadsTo b events s d

@@ -8,7 +8,7 @@ use Rattle.tree_model.specs.declared.events.Happening.TheVariants.{Restart as Re
 use Rattle.tree_model.specs.declared.events.Input.{Input}
 use Rattle.tree_model.specs.declared.events.Input.TheVariants.{Act as ActInput, Message as MessageInput}
 use Rattle.tree_model.specs.declared.events.StepError.{StepError}
-use Rattle.tree_model.specs.declared.events.StepError.TheVariants.{Memory, Device, NoSuch}
+use Rattle.tree_model.specs.declared.events.StepError.TheVariants.{Memory, Device, NoSuch, Exhausted}
 use Rattle.tree_model.specs.declared.trees.TreeEntry.{TreeEntry}
 use Rattle.tree_model.specs.Nodes.{DataAnswer, is_listed, place_of}
 use Rattle.tree_model.specs.Plays.{process_of_act, sent_as}
@@ -72,10 +72,11 @@ abbrev pub LeadsTo : WorldState → List Event → Refusal → WorldState → Ty
 LeadsTo start events None end = Leads start events end
 LeadsTo start events (Some refused) end = LeadsUntil start events refused.0 refused.1 end
 
--- the refused event, where there is one, was refused for itself: not for memory, nor because a device failed
+-- the refused event, where there is one, was refused for itself: not for memory or for numbers that are used up,
+-- nor because a device failed
 abbrev pub IsForItself : Refusal → Type 0
 IsForItself None = ⊤
-IsForItself (Some refused) = (refused.1 ≢ Memory) × (refused.1 ≢ Device)
+IsForItself (Some refused) = (refused.1 ≢ Memory) × (refused.1 ≢ Device) × (refused.1 ≢ Exhausted)
 
 -- the refused event, where there is one, is refused so by the model, where these messages were delivered
 abbrev pub RefusesIn : List TreeEntry → World → List Bool → List Event → Refusal → Type 0

@@ -15,7 +15,7 @@ use Rattle.tree_model.specs.declared.events.Happening.TheVariants.{Input as Hand
 use Rattle.tree_model.specs.declared.events.Entry.{Entry}
 use Rattle.tree_model.specs.declared.events.Reaction.{Reaction}
 use Rattle.tree_model.specs.declared.events.StepError.{StepError}
-use Rattle.tree_model.specs.declared.events.StepError.TheVariants.{Memory, Device, Failed, NoSuch}
+use Rattle.tree_model.specs.declared.events.StepError.TheVariants.{Memory, Device, Failed, NoSuch, Exhausted}
 use Rattle.tree_model.specs.declared.trees.TreeEntry.{TreeEntry}
 use Rattle.tree_model.specs.Names.{same_process}
 use Rattle.tree_model.specs.Nodes.{AtLeaf, DataAnswer, Role}
@@ -24,8 +24,8 @@ use Rattle.tree_model.specs.Plays.{process_of_act, sent_as}
 use Rattle.rec_log.specs.Sights.{left_by, records_of}
 use Rattle.core_model.specs.States.{CoreState, SameCore}
 use Rattle.core_model.specs.Turns.{Finds, Refuses, asked_by, no_answer, turn_of}
-use Rattle.core_model.specs.Makes.{IsBroken, Makes}
-use Rattle.core_model.specs.Restarting.{NotRestarted, NotTrimmed, Restarts, Trims}
+use Rattle.core_model.specs.Makes.{IsBroken, Makes, WantsNumbers}
+use Rattle.core_model.specs.Restarting.{CannotReopen, NotRestarted, NotTrimmed, Restarts, Trims}
 use Rattle.manager_model.specs.Data.{HoldWrites, ManagerData, Rests}
 use Rattle.manager_model.specs.Turns.{AnswersInput, MovesData, case_xid, data_turn}
 use Rattle.manager_model.specs.Restarting.{is_left, writes_left}
@@ -223,16 +223,29 @@ abbrev pub DeviceFailsUnder : WorldState → WorldState → ℕ → Option Envel
 DeviceFailsUnder old new k None = ⊥
 DeviceFailsUnder old new k (Some l) = DeviceFails old new l.to (MessageInput k l.message)
 
--- why one message was not delivered, and what that leaves: Memory and a refusal change nothing
+-- there is a process, at which the input wants numbers that are used up
+abbrev pub WantsNumbersAt : Option CoreState → Input → Type 0
+WantsNumbersAt None i = ⊥
+WantsNumbersAt (Some s) i = (a : DataAnswer) × WantsNumbers s a i
+
+-- the receiver of the message has none left for it
+abbrev pub WantsNumbersFor : WorldState → ℕ → Option Envelope → Type 0
+WantsNumbersFor w k None = ⊥
+WantsNumbersFor w k (Some l) = WantsNumbersAt (w.node_at l.to) (MessageInput k l.message)
+
+-- why one message was not delivered, and what that leaves: Memory, numbers that are used up and a refusal change
+-- nothing
 abbrev pub NotDelivered : WorldState → WorldState → ℕ → StepError → Type 0
 NotDelivered old new k Memory = Same old new
 NotDelivered old new k Device = DeviceFailsUnder old new k (sent_as old.net k)
+NotDelivered old new k Exhausted = Same old new × WantsNumbersFor old k (sent_as old.net k)
 NotDelivered old new k e = Same old new × RefusesMessage old k (sent_as old.net k) e
 
 -- why an act was not made, and what that leaves
 abbrev pub NotActed : WorldState → WorldState → ProcessId → Act → StepError → Type 0
 NotActed old new q a Memory = Same old new
 NotActed old new q a Device = DeviceFails old new q (ActInput a)
+NotActed old new q a Exhausted = Same old new × WantsNumbersAt (old.node_at q) (ActInput a)
 NotActed old new q a e = Same old new × RefusesAt (old.node_at q) (ActInput a) e
 
 -- a settle went no further: for memory, also as it looked for the next message, or as that one was not
@@ -261,12 +274,18 @@ pub record RestartFails (old new : WorldState) (q : ProcessId) (bytes : Option �
   pub delivered : new.delivered ≡ old.delivered
   pub entries : new.entries ≡ old.entries
 
--- why a process was not restarted, and what that leaves: there is no such process, or Memory, which changes
--- nothing, or its device failed
+-- there is a process that cannot append to its log what such a restart would
+abbrev pub CannotReopenAt : Option CoreState → Option ℕ → Type 0
+CannotReopenAt None bytes = ⊥
+CannotReopenAt (Some s) bytes = (keep : ℕ) × KeepsBytes s bytes keep × CannotReopen s keep
+
+-- why a process was not restarted, and what that leaves: there is no such process, or Memory, or no log holds
+-- what its restart would append, none of which changes anything, or its device failed
 abbrev pub NotRestartedAt : WorldState → WorldState → ProcessId → Option ℕ → StepError → Type 0
 NotRestartedAt old new q bytes Memory = Same old new
 NotRestartedAt old new q bytes Device = RestartFails old new q bytes
 NotRestartedAt old new q bytes NoSuch = Same old new × (old.node_at q ≡ None)
+NotRestartedAt old new q bytes Exhausted = Same old new × CannotReopenAt (old.node_at q) bytes
 NotRestartedAt old new q bytes e = ⊥
 
 -- the device of the process failed in a trim of its log; the step was not entered

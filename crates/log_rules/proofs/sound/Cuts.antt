@@ -23,6 +23,12 @@ bytes_behind n xs h i = subst (λ b. b < 256) (sym (get_or-drop n xs i 0)) (h (n
 pub tail_bytes : (a : ℕ) (xs : List ℕ) → AreBytes (a ∷ xs) → AreBytes xs
 tail_bytes a xs h i = h (suc i)
 
+pub first_bytes : (n : ℕ) (xs : List ℕ) → AreBytes xs → AreBytes (take n xs)
+first_bytes zero xs h i = omega arith
+first_bytes (suc n) [] h i = omega arith
+first_bytes (suc n) (x ∷ xs) h zero = h 0
+first_bytes (suc n) (x ∷ xs) h (suc i) = first_bytes n xs (tail_bytes x xs h) i
+
 -- Numbers.
 
 -- a number's highest byte and the rest of it are one

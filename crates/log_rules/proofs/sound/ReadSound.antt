@@ -1,6 +1,6 @@
 -- What is read of a payload can stand in a log.
 use Rattle.std.proofs.Common.{◌≡◌, ◌≤◌, ◌<◌, ◌+◌, ◌*◌, ◌^◌, ℕ, zero, suc, Bool, true, false, ◌&&◌, ◌||◌, cond, nat_le, nat_lt, List, [], ◌∷◌, ◌++◌, length, take, drop, Option, Some, None, option_map, refl, sym, ap, subst, ◌∙◌, arith}
-use Rattle.std.specs.Prelude.{◌==◌, is_some, All}
+use Rattle.std.specs.Prelude.{◌==◌, is_some, All, bytes_eq, if◌then◌else◌}
 use Rattle.std.specs.Int.{w32, from_be_bytes}
 use Rattle.std.specs.List.{AllByRecursion}
 use Rattle.std.specs.Option.{option_or}
@@ -27,11 +27,15 @@ use Rattle.tree_model.specs.declared.records.Record.TheVariants.{Opened, Collect
 use Rattle.tree_model.specs.declared.records.Reports.{Reports}
 use Rattle.tree_model.specs.declared.records.Write.{Write}
 use Rattle.log_text.specs.Parts.{Front, Name, all_of, and_more, fits_ticket, front_of, key_at, left_at, name_at, name_in, piece_at, put_of, reports_by, reports_of, ticket_at, ticket_in, tickets_at, tickets_of, value_at, with_first, write_at, write_by, writes_of, xid_at}
-use Rattle.log_text.specs.Reading.{alone_record, bare, below, branch_record, case_record, coordinator_record, listing, manager_record, named, of_branch, of_case, of_name, pair_by, pair_of, read_record, told, writing}
+use Rattle.log_text.specs.declared.form.LogForm.{LogForm}
+use Rattle.log_text.specs.declared.form.LogFormat.{LogFormat}
+use Rattle.log_text.specs.declared.form.LogFormat.TheVariants.{First, Second}
+use Rattle.log_text.specs.Payloads.{owner_text}
+use Rattle.log_text.specs.Reading.{alone_record, bare, below, boot_by, branch_record, case_record, coordinator_record, kind_record, listing, manager_record, named, of_branch, of_case, of_name, opened_boot, pair_by, pair_of, read_record, told, writing}
 use Rattle.tree_model.specs.LogNames.{unnamed}
 use Rattle.log_rules.specs.sound.Sound.{AreSoundReports, AreSoundTickets, AreSoundWrites, IsSound, IsSoundEntry, IsSoundKey, IsSoundName, IsSoundTicket, IsSoundWrite}
 use Rattle.log_rules.specs.sound.Written.{AreBytes, ReadIsSound}
-use Rattle.log_rules.proofs.sound.Cuts.{IsCut, alone_is, at_most, both, bytes_behind, front_tickets_cut, key_cut, none_some, passed, piece_cut, some_is, tail_bytes, ticket_cut, value_cut, write_cut}
+use Rattle.log_rules.proofs.sound.Cuts.{IsCut, alone_is, at_most, both, bytes_behind, first_bytes, front_tickets_cut, key_cut, none_some, passed, piece_cut, some_is, tail_bytes, ticket_cut, value_cut, write_cut}
 use Rattle.log_rules.proofs.sound.CutNames.{enough, four_below, name_cut, no_fault, xid_cut}
 use Rattle.log_rules.proofs.sound.OwnNames.{names_are_sound}
 
@@ -43,12 +47,6 @@ less n m h = grind (arith, nat_tests)
 bytes_all : (xs : List ℕ) → AreBytes xs → All (λ b. b < 256) xs
 bytes_all [] h = All-nil (λ b. b < 256)
 bytes_all (x ∷ xs) h = All-cons (λ b. b < 256) x xs (h 0) (bytes_all xs (tail_bytes x xs h))
-
-pub first_bytes : (n : ℕ) (xs : List ℕ) → AreBytes xs → AreBytes (take n xs)
-first_bytes zero xs h i = omega arith
-first_bytes (suc n) [] h i = omega arith
-first_bytes (suc n) (x ∷ xs) h zero = h 0
-first_bytes (suc n) (x ∷ xs) h (suc i) = first_bytes n xs (tail_bytes x xs h) i
 
 taken : (n : ℕ) (xs : List ℕ) → n ≤ length xs → length (take n xs) ≡ n
 taken zero xs h = refl
@@ -462,21 +460,30 @@ manager_sound kind xs l h e = by_kind (kind == 25) (kind == 26) e
 
 -- Both.
 
+boot_sound : (f : LogFormat) (form : LogForm) (xs : List ℕ) (n : ℕ) → boot_by f form xs ≡ Some n → n < 2 ^ 63
+boot_sound First form xs n e = number_sound xs n e
+boot_sound Second form xs n e = by_owner (bytes_eq (drop 8 xs) (owner_text form)) e
+  where
+    by_owner : (b : Bool) → (if b then below (take 8 xs) else None) ≡ Some n → n < 2 ^ 63
+    by_owner true q = number_sound (take 8 xs) n q
+    by_owner false q = absurd (none_some n q)
+
+opened_sound : (k : Kind) (n : ℕ) → n < 2 ^ 63 → IsSound k (unnamed (Opened n))
+opened_sound Coordinator n h = (refl, h)
+opened_sound Manager n h = (refl, h)
+
+kind_sound : (k : Kind) (kind : ℕ) (xs : List ℕ) (l : LogRecord) → AreBytes xs → kind_record k kind xs ≡ Some l
+    → IsSound k l
+kind_sound Coordinator kind xs l h e = coordinator_sound kind xs l h e
+kind_sound Manager kind xs l h e = manager_sound kind xs l h e
+
 pub read_is_sound : ReadIsSound
 unfolding read_record
-read_is_sound Coordinator kind xs l h e = by_kind (kind == 1) e
+read_is_sound form kind xs l h e = by_kind (kind == 1) e
   where
-    by_kind : (a : Bool) → cond a (option_map (λ n. unnamed (Opened n)) (below xs))
-        (coordinator_record kind xs) ≡ Some l
-        → IsSound Coordinator l
-    by_kind true f = unnamed_by Coordinator Opened l (below xs) (λ n is. (refl, is))
-        (λ n is. number_sound xs n is) f
-    by_kind false f = coordinator_sound kind xs l h f
-read_is_sound Manager kind xs l h e = by_kind (kind == 1) e
-  where
-    by_kind : (a : Bool) → cond a (option_map (λ n. unnamed (Opened n)) (below xs))
-        (manager_record kind xs) ≡ Some l
-        → IsSound Manager l
-    by_kind true f = unnamed_by Manager Opened l (below xs) (λ n is. (refl, is))
-        (λ n is. number_sound xs n is) f
-    by_kind false f = manager_sound kind xs l h f
+    by_kind : (a : Bool) → cond a (option_map (λ n. unnamed (Opened n)) (opened_boot form xs))
+        (kind_record form.kind kind xs) ≡ Some l
+        → IsSound form.kind l
+    by_kind true f = unnamed_by form.kind Opened l (opened_boot form xs) (opened_sound form.kind)
+        (λ n is. boot_sound form.format form xs n is) f
+    by_kind false f = kind_sound form.kind kind xs l h f

@@ -13,12 +13,17 @@ use Rattle.tree_model.specs.declared.names.ProcessId.{ProcessId}
 use Rattle.tree_model.specs.declared.names.Ticket.{Ticket}
 use Rattle.tree_model.specs.declared.records.Branch.{Branch}
 use Rattle.tree_model.specs.declared.records.Branch.TheVariants.{Case as CaseBranch}
+use Rattle.tree_model.specs.declared.records.LogRecord.{LogRecord}
 use Rattle.tree_model.specs.declared.records.Record.{Record}
 use Rattle.tree_model.specs.declared.records.Record.TheVariants.{Opened, Collecting, Prepare, Commit, Abort, End, Prepared, Committed, RolledBack, Direct, HeurCommit, HeurRollback, Told, Forgot, Base, Pair, Cleared}
 use Rattle.tree_model.specs.declared.records.Reports.{Reports}
 use Rattle.tree_model.specs.declared.records.Write.{Write}
 use Rattle.tree_model.specs.LogNames.{name_xid}
-use Rattle.log_text.specs.Payloads.{IsSized, SizedValue, SizedWrite, key_text, left_text, name_text, outcome_byte, payload_text, reports_text, ticket_text, tickets_text, value_text, write_text, writes_text}
+use Rattle.log_text.specs.declared.form.LogForm.{LogForm}
+use Rattle.log_text.specs.declared.form.LogFormat.{LogFormat}
+use Rattle.log_text.specs.declared.form.LogFormat.TheVariants.{First, Second}
+use Rattle.log_text.specs.Forms.{size_limit, unowned}
+use Rattle.log_text.specs.Payloads.{FitsFrame, IsSized, SizedValue, SizedWrite, key_text, left_text, name_text, opened_by, outcome_byte, payload_text, reports_text, ticket_text, tickets_text, value_text, write_text, writes_text}
 use Rattle.log_rules.specs.sound.Sound.{AreSoundReports, AreSoundTickets, AreSoundWrites, IsSoundEntry, IsSoundLeft, IsSoundName, IsSoundWrite, RecordsFitFrames}
 use Rattle.log_rules.proofs.sound.Names.{name_is_xid}
 
@@ -150,58 +155,76 @@ with_writes : (n : List ℕ) (ws : List Write) → length n ≤ 134 → AreSound
     → length (n ++ writes_text ws) < 65536
 with_writes n ws h s = omega (arith, length-append n (writes_text ws), h, size_of_writes ws s.each, s.few)
 
-short : (k : Kind) (p : Option ProcessId) (r : Record) → IsSoundEntry k p r
-    → length (payload_text p r) < 65536
-short Coordinator p (Opened n) h = omega arith
-short Manager p (Opened n) h = omega arith
-short Coordinator p (Collecting c ts) h = with_tickets (name_text p (CaseBranch c)) ts
+short_boot : (f : LogFormat) (form : LogForm) (n : ℕ) → length (opened_by f form n) < 65536
+short_boot First form n = omega arith
+short_boot Second form n = omega arith
+
+within_limit : (f : LogFormat) (n : ℕ) → n < 65536 → n < size_limit f
+within_limit First n h = h
+within_limit Second n h = omega (arith, h)
+
+short : (form : LogForm) (k : Kind) (p : Option ProcessId) (r : Record) → IsSoundEntry k p r
+    → length (payload_text form p r) < 65536
+short form Coordinator p (Opened n) h = short_boot form.format form n
+short form Manager p (Opened n) h = short_boot form.format form n
+short form Coordinator p (Collecting c ts) h = with_tickets (name_text p (CaseBranch c)) ts
     (short_name p (CaseBranch c) h.0) h.1
-short Coordinator p (Prepare c ts) h = with_tickets (name_text p (CaseBranch c)) ts
+short form Coordinator p (Prepare c ts) h = with_tickets (name_text p (CaseBranch c)) ts
     (short_name p (CaseBranch c) h.0) h.1
-short Coordinator p (Commit c ts) h = with_tickets (name_text p (CaseBranch c)) ts
+short form Coordinator p (Commit c ts) h = with_tickets (name_text p (CaseBranch c)) ts
     (short_name p (CaseBranch c) h.0) h.1
-short Coordinator p (Abort c ts) h = with_tickets (name_text p (CaseBranch c)) ts
+short form Coordinator p (Abort c ts) h = with_tickets (name_text p (CaseBranch c)) ts
     (short_name p (CaseBranch c) h.0) h.1
-short Coordinator p (End c None) h = omega (arith, short_name p (CaseBranch c) h)
-short Coordinator p (End c (Some r)) h = with_reports (name_text p (CaseBranch c)) r
+short form Coordinator p (End c None) h = omega (arith, short_name p (CaseBranch c) h)
+short form Coordinator p (End c (Some r)) h = with_reports (name_text p (CaseBranch c)) r
     (short_name p (CaseBranch c) h.0) h.1
-short Coordinator p (Cleared c) h = omega (arith, short_name p (CaseBranch c) h)
-short Manager p (Prepared b ws) h = with_writes (name_text p b) ws (short_name p b h.0) h.1
-short Manager p (Direct b ws) h = with_writes (name_text p b) ws (short_name p b h.0) h.1
-short Manager p (Committed b) h = omega (arith, short_name p b h)
-short Manager p (RolledBack b) h = omega (arith, short_name p b h)
-short Manager p (HeurCommit b) h = omega (arith, short_name p b h)
-short Manager p (HeurRollback b) h = omega (arith, short_name p b h)
-short Manager p (Told b o) h = omega (
+short form Coordinator p (Cleared c) h = omega (arith, short_name p (CaseBranch c) h)
+short form Manager p (Prepared b ws) h = with_writes (name_text p b) ws (short_name p b h.0) h.1
+short form Manager p (Direct b ws) h = with_writes (name_text p b) ws (short_name p b h.0) h.1
+short form Manager p (Committed b) h = omega (arith, short_name p b h)
+short form Manager p (RolledBack b) h = omega (arith, short_name p b h)
+short form Manager p (HeurCommit b) h = omega (arith, short_name p b h)
+short form Manager p (HeurRollback b) h = omega (arith, short_name p b h)
+short form Manager p (Told b o) h = omega (
   arith,
   length-append (name_text p b) (outcome_byte o ∷ []),
   short_name p b h,
 )
-short Manager p (Forgot b) h = omega (arith, short_name p b h)
-short Manager p (Base n) h = omega arith
-short Manager p (Pair k v) h = omega (
+short form Manager p (Forgot b) h = omega (arith, short_name p b h)
+short form Manager p (Base n) h = omega arith
+short form Manager p (Pair k v) h = omega (
   arith,
   length-append (key_text k) (value_text v),
   size_of_value v,
   h.1.0.short,
   h.1.1,
 )
-short Coordinator p (Prepared b ws) h = absurd h.1
-short Coordinator p (Committed b) h = absurd h.1
-short Coordinator p (RolledBack b) h = absurd h.1
-short Coordinator p (Direct b ws) h = absurd h.1
-short Coordinator p (HeurCommit b) h = absurd h.1
-short Coordinator p (HeurRollback b) h = absurd h.1
-short Coordinator p (Told b o) h = absurd h.1
-short Coordinator p (Forgot b) h = absurd h.1
-short Coordinator p (Base n) h = absurd h.1
-short Coordinator p (Pair k v) h = absurd h.1
-short Manager p (Collecting c ts) h = absurd h.1
-short Manager p (Prepare c ts) h = absurd h.1
-short Manager p (Commit c ts) h = absurd h.1
-short Manager p (Abort c ts) h = absurd h.1
-short Manager p (End c rep) h = absurd h.1
-short Manager p (Cleared c) h = absurd h.1
+short form Coordinator p (Prepared b ws) h = absurd h.1
+short form Coordinator p (Committed b) h = absurd h.1
+short form Coordinator p (RolledBack b) h = absurd h.1
+short form Coordinator p (Direct b ws) h = absurd h.1
+short form Coordinator p (HeurCommit b) h = absurd h.1
+short form Coordinator p (HeurRollback b) h = absurd h.1
+short form Coordinator p (Told b o) h = absurd h.1
+short form Coordinator p (Forgot b) h = absurd h.1
+short form Coordinator p (Base n) h = absurd h.1
+short form Coordinator p (Pair k v) h = absurd h.1
+short form Manager p (Collecting c ts) h = absurd h.1
+short form Manager p (Prepare c ts) h = absurd h.1
+short form Manager p (Commit c ts) h = absurd h.1
+short form Manager p (Abort c ts) h = absurd h.1
+short form Manager p (End c rep) h = absurd h.1
+short form Manager p (Cleared c) h = absurd h.1
 
 pub records_fit_frames : RecordsFitFrames
-records_fit_frames k l h = record { sized = sized k l.parent l.entry h; short = short k l.parent l.entry h }
+records_fit_frames f l h = record {
+  sized = sized f.kind l.parent l.entry h;
+  short = within_limit f.format _ (short f f.kind l.parent l.entry h);
+}
+
+-- a sound record of whatever sort of process fits a frame of the log of a process
+pub sound_fits : (k : Kind) (l : LogRecord) → IsSoundEntry k l.parent l.entry → FitsFrame l
+sound_fits k l h = record {
+  sized = sized k l.parent l.entry h;
+  short = within_limit Second _ (short unowned k l.parent l.entry h);
+}

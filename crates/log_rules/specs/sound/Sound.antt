@@ -15,8 +15,9 @@ use Rattle.tree_model.specs.declared.records.Reports.{Reports}
 use Rattle.tree_model.specs.declared.records.Write.{Write}
 use Rattle.tree_model.specs.Branches.{FitsBelow, FitsTxn}
 use Rattle.tree_model.specs.LogNames.{IsWholeName, below_of, name_xid}
+use Rattle.log_text.specs.declared.form.LogForm.{LogForm}
 use Rattle.log_text.specs.Parts.{name_in}
-use Rattle.log_text.specs.Payloads.{FitsFrame, kind_byte, payload_text}
+use Rattle.log_text.specs.Payloads.{FitsFrameIn, kind_byte, payload_text}
 use Rattle.log_text.specs.Reading.{read_record}
 
 -- numbers that a name's fields can be; a foreign name is an XID
@@ -109,11 +110,11 @@ NamesAreSound = (x : XidParts) → IsXid x → IsSoundName (name_in x).0 (name_i
 abbrev pub NamesAreWrittenBack : Type 0
 NamesAreWrittenBack = (x : XidParts) → name_xid (name_in x).0 (name_in x).1 ≡ x
 
--- the payload of a sound record reads as this record
+-- the payload of a sound record reads as this record, in a log of either format
 abbrev pub RecordsReadBack : Type 0
-RecordsReadBack = (k : Kind) (l : LogRecord) → IsSound k l
-    → read_record k (kind_byte l.entry) (payload_text l.parent l.entry) ≡ Some l
+RecordsReadBack = (f : LogForm) (l : LogRecord) → IsSound f.kind l
+    → read_record f (kind_byte l.entry) (payload_text f l.parent l.entry) ≡ Some l
 
--- a sound record fits a frame
+-- a sound record fits a frame of a log of either format
 abbrev pub RecordsFitFrames : Type 0
-RecordsFitFrames = (k : Kind) (l : LogRecord) → IsSound k l → FitsFrame l
+RecordsFitFrames = (f : LogForm) (l : LogRecord) → IsSound f.kind l → FitsFrameIn f l

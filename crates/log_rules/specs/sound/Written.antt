@@ -1,7 +1,7 @@
 -- What is read of a payload was so written.
 use Rattle.std.specs.Prelude.{◌≡◌, ◌<◌, ℕ, List, Some, slice_index}
-use Rattle.tree_model.specs.declared.names.Kind.{Kind}
 use Rattle.tree_model.specs.declared.records.LogRecord.{LogRecord}
+use Rattle.log_text.specs.declared.form.LogForm.{LogForm}
 use Rattle.log_text.specs.Payloads.{kind_byte, payload_text}
 use Rattle.log_text.specs.Reading.{read_record}
 use Rattle.log_rules.specs.sound.Sound.{IsSound}
@@ -10,17 +10,17 @@ use Rattle.log_rules.specs.sound.Sound.{IsSound}
 abbrev pub AreBytes : List ℕ → Type 0
 AreBytes xs = (i : ℕ) → slice_index xs i < 256
 
--- a frame of this kind and this payload is what the record is written as
-pub record IsWrittenAs (l : LogRecord) (kind : ℕ) (payload : List ℕ) : Type 0 where
+-- a frame of this kind and this payload is what the record is written as in a log of this form
+pub record IsWrittenAs (f : LogForm) (l : LogRecord) (kind : ℕ) (payload : List ℕ) : Type 0 where
   pub same_kind : kind_byte l.entry ≡ kind
-  pub same_payload : payload_text l.parent l.entry ≡ payload
+  pub same_payload : payload_text f l.parent l.entry ≡ payload
 
 -- the record that a frame reads as is written as this frame
 abbrev pub ReadIsWritten : Type 0
-ReadIsWritten = (p : Kind) (kind : ℕ) (payload : List ℕ) (l : LogRecord) → AreBytes payload
-    → read_record p kind payload ≡ Some l → IsWrittenAs l kind payload
+ReadIsWritten = (f : LogForm) (kind : ℕ) (payload : List ℕ) (l : LogRecord) → AreBytes payload
+    → read_record f kind payload ≡ Some l → IsWrittenAs f l kind payload
 
 -- what is read of a payload can stand in a log
 abbrev pub ReadIsSound : Type 0
-ReadIsSound = (p : Kind) (kind : ℕ) (payload : List ℕ) (l : LogRecord) → AreBytes payload
-    → read_record p kind payload ≡ Some l → IsSound p l
+ReadIsSound = (f : LogForm) (kind : ℕ) (payload : List ℕ) (l : LogRecord) → AreBytes payload
+    → read_record f kind payload ≡ Some l → IsSound f.kind l

@@ -1,7 +1,7 @@
 use Rattle.std.proofs.Common.{rules, ◌≡◌, ◌++◌, ◌∷◌, [], true}
 use Rattle.tree_model.specs.Memory.{is_counted}
 use Rattle.tree_model.specs.SameViews.{SameView}
-use Rattle.coord_rows.proofs.Counting.{does_vote, takes_back}
+use Rattle.coord_rows.proofs.Counting.{does_vote, takes_back, unwritten_vote}
 use Rattle.coord_rows.proofs.collecting.collecting_vote.Goals as goal
 
 pub returns-in-Ok-clause-ok : goal.returns-in-Ok-clause-ok
@@ -20,3 +20,10 @@ returns-in-Err-clause-err c =
     rw c.in-Err.ensures.err c.count_vote.ensures in
     takes_back c.args.live.now c.collecting_after.new.live c.uncount_vote.new.self c.args.ticket c.args.vote
     counted counts c.uncount_vote.ensures
+
+pub returns-in-Err-clause-unwritten : goal.returns-in-Err-clause-unwritten
+returns-in-Err-clause-unwritten c =
+    let counted : is_counted c.args.live.now.accepted c.args.live.now.votes
+    c.args.ticket ≡ true = search rules in
+    unwritten_vote c.args.seat c.args.ticket c.args.vote c.args.live.now c.count_vote.new.self c.in-Err.refusal
+    counted c.count_vote.ensures c.in-Err.ensures.unwritten

@@ -1,11 +1,11 @@
-use Rattle.std.proofs.Common.{rules, ◌≡◌, ◌∙◌, None, [], IfOk, ap, sym, false}
+use Rattle.std.proofs.Common.{rules, ◌≡◌, ◌∙◌, None, [], ◌∷◌, IfErr, IfOk, ap, subst, sym, false}
 use Rattle.tree_model.specs.declared.messages.Message.TheVariants.{Ack}
 use Rattle.tree_model.specs.declared.records.Record.TheVariants.{End as EndRecord}
 use Rattle.tree_model.specs.Records.{in_order}
 use Rattle.tree_model.specs.CoordinatorRows.{decided_ack_by, end_reports, up}
 use Rattle.core_model.specs.Turns.{this_version}
 use Rattle.coord_effects.specs.declared.effect.Written.{Written}
-use Rattle.coord_effects.specs.Rows.{ShowsRecord, end_written, seat}
+use Rattle.coord_effects.specs.Rows.{NotWritten, ShowsRecord, end_written, meant, seat}
 use Rattle.coord_rows.proofs.Ending.{does_ending, ending, ending_below, root_ending}
 use Rattle.coord_rows.proofs.decided.ends.Goals as goal
 
@@ -33,3 +33,23 @@ returns-clause-ok c =
     c.forgets_behind-in-Some.new.live c.forgets_behind-in-Some.result
     (ending_below s c.in-Some.field-0 c.args.outcome fs c.args.live.now c.in-Some.is)
     shows c.forgets_behind-in-Some.ensures.forgotten
+
+pub returns-in-None-clause-unwritten : goal.returns-in-None-clause-unwritten
+returns-in-None-clause-unwritten c =
+    let s = c.args.seat in
+    let fs = c.args.found.items in
+    let w = c.in_ok-written-in-None.written in
+    let written : w ≡ end_written s.case (end_reports this_version None fs) = search rules in
+    let kept : IfErr c.forgets_behind.result (NotWritten s.parent (meant w ∷ [])) = search rules in
+    subst (λ row. IfErr c.forgets_behind.result (NotWritten s.parent row.written))
+    (sym (root_ending s c.args.outcome fs c.args.live.now c.in-None.is ∙ sym (ap (λ r. ending r []) written)))
+    kept
+
+pub returns-clause-unwritten : goal.returns-clause-unwritten
+returns-clause-unwritten c =
+    let s = c.args.seat in
+    let fs = c.args.found.items in
+    let w : Written = record { entry = EndRecord s.case None; forced = false } in
+    let kept : IfErr c.forgets_behind-in-Some.result (NotWritten s.parent (meant w ∷ [])) = search rules in
+    subst (λ row. IfErr c.forgets_behind-in-Some.result (NotWritten s.parent row.written))
+    (sym (ending_below s c.in-Some.field-0 c.args.outcome fs c.args.live.now c.in-Some.is)) kept

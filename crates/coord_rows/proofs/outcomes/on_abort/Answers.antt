@@ -1,9 +1,8 @@
 use Rattle.std.proofs.Common.{rules, ◌≡◌, ap, subst, sym}
 use Rattle.tree_model.specs.declared.standings.Standing.TheVariants.{Aborting, Unknown}
-use Rattle.tree_model.specs.CoordinatorRows.{on_abort, unknown_abort}
+use Rattle.tree_model.specs.CoordinatorRows.{on_abort}
 use Rattle.core_model.specs.Turns.{this_version}
 use Rattle.coord_effects.specs.Rows.{Does, seat}
-use Rattle.coord_rows.proofs.AnyView.{at_view}
 use Rattle.coord_rows.proofs.outcomes.on_abort.Goals as goal
 
 pub returns-in-Aborting-clause-ok : goal.returns-in-Aborting-clause-ok
@@ -13,8 +12,9 @@ returns-in-Aborting-clause-ok c =
     (sym (ap (on_abort this_version (seat c.args.seat) c.args.live.now) stands))
     (c.aborting_abort.ensures c.args.seat c.args.live.now)
 
-pub returns-in-Unknown-clause-ok : goal.returns-in-Unknown-clause-ok
-returns-in-Unknown-clause-ok c =
+pub returns-in_ok-unknown_abort-in-Unknown-clause-ok : goal.returns-in_ok-unknown_abort-in-Unknown-clause-ok
+returns-in_ok-unknown_abort-in-Unknown-clause-ok c =
     let stands : c.args.live.now.standing ≡ Unknown = search rules in
-    at_view c.args.seat (unknown_abort this_version (seat c.args.seat)) _ c.args.live.now c.unknown_abort.result
-    (ap (on_abort this_version (seat c.args.seat) c.args.live.now) stands) c.unknown_abort.ensures
+    subst (λ row. Does c.args.seat row c.in_ok-unknown_abort-in-Unknown.field-0 c.args.live.now)
+    (sym (ap (on_abort this_version (seat c.args.seat) c.args.live.now) stands))
+    (c.in_ok-unknown_abort-in-Unknown.ensures c.args.live.now)

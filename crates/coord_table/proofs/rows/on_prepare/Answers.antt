@@ -1,18 +1,19 @@
-use Rattle.std.proofs.Common.{rules, ◌≡◌, ap}
+use Rattle.std.proofs.Common.{rules, ◌≡◌, ap, subst, sym}
 use Rattle.tree_model.specs.declared.standings.Standing.TheVariants.{Aborting, Unknown}
-use Rattle.tree_model.specs.CoordinatorRows.{aborting_prepare, on_prepare, unknown_prepare}
-use Rattle.coord_effects.specs.Rows.{seat}
-use Rattle.coord_rows.proofs.AnyView.{at_view}
+use Rattle.tree_model.specs.CoordinatorRows.{on_prepare}
+use Rattle.coord_effects.specs.Rows.{Does, seat}
 use Rattle.coord_table.proofs.rows.on_prepare.Goals as goal
 
-pub returns-in-Aborting-clause-ok : goal.returns-in-Aborting-clause-ok
-returns-in-Aborting-clause-ok c =
+pub returns-in_ok-aborting_prepare-in-Aborting-clause-ok : goal.returns-in_ok-aborting_prepare-in-Aborting-clause-ok
+returns-in_ok-aborting_prepare-in-Aborting-clause-ok c =
     let stands : c.args.live.now.standing ≡ Aborting = search rules in
-    at_view c.args.seat (aborting_prepare (seat c.args.seat)) _ c.args.live.now c.aborting_prepare.result
-    (ap (on_prepare (seat c.args.seat) c.args.live.now) stands) c.aborting_prepare.ensures
+    subst (λ row. Does c.args.seat row c.in_ok-aborting_prepare-in-Aborting.field-0 c.args.live.now)
+    (sym (ap (on_prepare (seat c.args.seat) c.args.live.now) stands))
+    (c.in_ok-aborting_prepare-in-Aborting.ensures c.args.live.now)
 
-pub returns-in-Unknown-clause-ok : goal.returns-in-Unknown-clause-ok
-returns-in-Unknown-clause-ok c =
+pub returns-in_ok-unknown_prepare-in-Unknown-clause-ok : goal.returns-in_ok-unknown_prepare-in-Unknown-clause-ok
+returns-in_ok-unknown_prepare-in-Unknown-clause-ok c =
     let stands : c.args.live.now.standing ≡ Unknown = search rules in
-    at_view c.args.seat (unknown_prepare (seat c.args.seat)) _ c.args.live.now c.unknown_prepare.result
-    (ap (on_prepare (seat c.args.seat) c.args.live.now) stands) c.unknown_prepare.ensures
+    subst (λ row. Does c.args.seat row c.in_ok-unknown_prepare-in-Unknown.field-0 c.args.live.now)
+    (sym (ap (on_prepare (seat c.args.seat) c.args.live.now) stands))
+    (c.in_ok-unknown_prepare-in-Unknown.ensures c.args.live.now)

@@ -1,6 +1,8 @@
-use Rattle.std.proofs.Common.{rules, ◌≡◌, Some, subst}
+use Rattle.std.proofs.Common.{rules, ◌≡◌, IfErr, Some, subst, sym}
 use Rattle.coord_table.specs.Cases.{live_at}
-use Rattle.coord_table.specs.Asks.{Accepts}
+use Rattle.coord_effects.specs.Rows.{seat}
+use Rattle.coord_table.specs.Asks.{Accepts, asked_row}
+use Rattle.coord_table.specs.Takes.{NotTaken}
 use Rattle.coord_table.proofs.Lent.{held_at, refuses_live, takes_live, view_at}
 use Rattle.coord_table.proofs.taking.take_live.Goals as goal
 
@@ -29,3 +31,12 @@ returns-clause-err c =
     refuses_live c.args.cases.now c.args.key c.args.seat c.args.asked
     c.unwrap-live.result.now c.get_mut.ensures.fits c.get_mut.ensures.apart at c.take_row.new.live
     c.take_row.result c.take_row.ensures.err
+
+pub returns-clause-untaken : goal.returns-clause-untaken
+returns-clause-untaken c =
+    let live : live_at c.args.cases.now c.args.key ≡ Some c.unwrap-live.result.now = search rules in
+    let at = held_at c.args.cases.now c.args.key c.args.seat.case
+    c.unwrap-live.result.now c.requires.at live in
+    subst (λ v. IfErr c.take_row.result (NotTaken c.args.seat (asked_row (seat c.args.seat) c.args.asked v)))
+    (sym (view_at c.args.cases.now c.args.key c.args.seat c.args.asked
+    c.unwrap-live.result.now c.get_mut.ensures.fits c.get_mut.ensures.apart at)) c.take_row.ensures.untaken

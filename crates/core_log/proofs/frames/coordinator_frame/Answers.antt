@@ -1,10 +1,13 @@
+use Rattle.std.proofs.Common.{subst, sym}
 use Rattle.tree_model.specs.declared.names.Kind.TheVariants.{Coordinator}
-use Rattle.core_log.proofs.Sound.{frame_is_record, sound_fits}
+use Rattle.log_rules.proofs.sound.Sizes.{sound_fits}
+use Rattle.rec_log.specs.Sights.{IsRecord}
+use Rattle.rec_log.proofs.SoundRecords.{sound_is_record}
 use Rattle.core_log.proofs.frames.coordinator_frame.Goals as goal
 
 pub of-requires : goal.of-requires
-of-requires c = sound_fits Coordinator _ (c.is_writable.ensures c.if-not-is_writable.false)
+of-requires c = sound_fits Coordinator _ (c.is_writable.ensures.yes c.if-not-is_writable.false)
 
 pub returns-clause-sound : goal.returns-clause-sound
-returns-clause-sound c =
-    frame_is_record Coordinator _ (c.is_writable.ensures c.if-not-is_writable.false) c.of.result c.of.ensures
+returns-clause-sound c = subst (IsRecord Coordinator) (sym c.in_ok-of.ensures)
+    (sound_is_record Coordinator _ (c.is_writable.ensures.yes c.if-not-is_writable.false))

@@ -5,8 +5,8 @@ use Rattle.inquire_core.specs.Readings.{noted, place_below}
 use Rattle.inquire_core.proofs.Readings.{planned}
 use Rattle.inquire_core.proofs.planning.plan.Goals as goal
 
-pub returns : goal.returns
-returns c =
+pub returns-clause-ok : goal.returns-clause-ok
+returns-clause-ok c =
     let mine = own_records (place_below c.args.me c.args.parent c.args.tree.now) c.args.records.now in
     let both =
     planned mine c.in_ok-appended.appended.items c.in_ok-reading.reading c.note_all.new.self

@@ -1,8 +1,7 @@
 use Rattle.std.proofs.Common.{◌≡◌, refl, sym, subst}
 use Rattle.tree_model.specs.declared.names.Kind.TheVariants.{Manager}
 use Rattle.log_text.specs.Made.{frame_record}
-use Rattle.log_rules.proofs.sound.Records.{records_read_back}
-use Rattle.log_rules.proofs.sound.Sizes.{records_fit_frames}
+use Rattle.rec_log.proofs.SoundRecords.{sound_is_record}
 use Rattle.rec_log.specs.Sights.{IsRecord}
 use Rattle.kv_manager.specs.Restarts.{opened}
 use Rattle.kv_manager.proofs.Keeping.{map_ok}
@@ -13,7 +12,4 @@ returns-clause-sound c =
     map_ok (λ frame. frame_record frame ≡ opened c.args.boot)
     (λ frame. IsRecord Manager (frame_record frame)) c.new.result c.new.ensures
     (λ frame is. subst (IsRecord Manager) (sym is)
-    (record {
-      fits = records_fit_frames Manager (opened c.args.boot) (refl, c.requires);
-      again = records_read_back Manager (opened c.args.boot) (refl, c.requires);
-    }))
+    (sound_is_record Manager (opened c.args.boot) (refl, c.requires)))

@@ -1,6 +1,6 @@
-use Rattle.std.proofs.Common.{◌≤◌, ◌∙◌, length, sym, subst}
+use Rattle.std.proofs.Common.{◌≤◌, ◌∙◌, ap, sym, subst}
 use Rattle.log_text.specs.Made.{frame_record}
-use Rattle.rec_log.specs.Sights.{IsRecord}
+use Rattle.rec_log.specs.Sights.{IsRecord, LogSight}
 use Rattle.kv_manager.specs.declared.restart.RecordsError.TheVariants.{Memory}
 use Rattle.kv_manager.specs.Restarts.{NotBegun, opened}
 use Rattle.kv_manager.proofs.Keeping.{made_error}
@@ -14,22 +14,22 @@ returns-in_err-reserve-clause-err g c =
     c.from_residual-in_err-reserve.ensures.1 c.reserve.ensures.stays
 
 pub write-requires-clause-room : goal.write-requires-clause-room
-write-requires-clause-room g c = subst (λ bs. length bs ≤ c.reserve.new.self.room) c.bytes.ensures
+write-requires-clause-room g c = subst (λ n. n ≤ c.reserve.new.self.room) c.size.ensures
     c.in_ok-reserve.ensures.room
 
 pub write-requires-clause-sound : goal.write-requires-clause-sound
 write-requires-clause-sound g c =
     subst (λ k. IsRecord k (frame_record c.in_ok-opened.opened))
-    (sym (c.reserve.ensures.kind ∙ c.requires.kind)) c.in_ok-opened.ensures.sound
+    (sym (ap (λ (s : LogSight). s.form.kind) c.reserve.ensures.stays ∙ c.requires.kind)) c.in_ok-opened.ensures.sound
 
 pub returns-in-Ok-clause-ok : goal.returns-in-Ok-clause-ok
 returns-in-Ok-clause-ok g c =
     writes_behind c.args.log.now c.reserve.new.self c.write.new.log
     (frame_record c.in_ok-opened.opened) (opened c.args.boot)
-    c.reserve.ensures.kind c.reserve.ensures.stays c.in_ok-opened.ensures.spells c.in-Ok.ensures.ok
+    c.reserve.ensures.stays c.in_ok-opened.ensures.spells c.in-Ok.ensures.ok
 
 pub returns-clause-err : goal.returns-clause-err
 returns-clause-err g c =
     breaks_behind c.args.log.now c.reserve.new.self c.write.new.log
     (frame_record c.in_ok-opened.opened) (opened c.args.boot)
-    c.reserve.ensures.kind c.reserve.ensures.stays c.in_ok-opened.ensures.spells c.in-Err.ensures.err.1
+    c.reserve.ensures.stays c.in_ok-opened.ensures.spells c.in-Err.ensures.err.1

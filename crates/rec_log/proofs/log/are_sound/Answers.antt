@@ -4,4 +4,4 @@ use Rattle.rec_log.proofs.SoundRecords.{sound_in}
 use Rattle.rec_log.proofs.log.are_sound.Goals as goal
 
 pub returns : goal.returns
-returns c = sound_in c.args.kind 0 c.args.bytes.now (λ k. Fits-lt-pow {w = w8} (c.type_inv.bytes k))
+returns c = sound_in c.args.form 0 c.args.bytes.now (λ k. Fits-lt-pow {w = w8} (c.type_inv.bytes k))

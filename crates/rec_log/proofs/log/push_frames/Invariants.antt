@@ -4,5 +4,5 @@ use Rattle.log_text.specs.Payloads.{records_text}
 use Rattle.rec_log.proofs.log.push_frames.Given as goal
 
 abbrev pub invariant-loop-frame : goal.invariant-loop-frame
-invariant-loop-frame l = l.text.items ++ records_text (map frame_record (drop l.frame-index l.frames))
-    ≡ l.initial.text.items ++ records_text (map frame_record l.frames)
+invariant-loop-frame l = l.text.items ++ records_text l.form (map frame_record (drop l.frame-index l.frames))
+    ≡ l.initial.text.items ++ records_text l.form (map frame_record l.frames)

@@ -2,7 +2,7 @@ use Rattle.std.proofs.Common.{refl}
 use Rattle.xa_tables.specs.declared.call.Call.TheVariants as call
 use Rattle.xa_tables.specs.declared.call.Verb.TheVariants as verb
 use Rattle.manager_model.specs.Sights.{ManagerSight}
-use Rattle.sub_deeds.proofs.Ends.{breaks, finishes, prepare_row, vote_by}
+use Rattle.sub_deeds.proofs.Ends.{breaks, finishes, prepare_row, stays, vote_by}
 use Rattle.sub_deeds.proofs.deeds.promise.Goals as goal
 
 pub returns-in-RmFail-clause-err : goal.returns-in-RmFail-clause-err
@@ -27,3 +27,12 @@ returns-in_default g c =
       ok = made.1;
       err = tt;
     }
+
+pub returns-in-RmErr-clause-err : goal.returns-in-RmErr-clause-err
+returns-in-RmErr-clause-err g c =
+    let old : ManagerSight = g.M.ResourceManager.sight c.args.manager.now in
+    let new : ManagerSight = g.M.ResourceManager.sight c.prepare.new.self in
+    stays old new verb.Prepare c.args.xid.now call.Prepare _ c.requires.up
+    c.requires.idle c.requires.named refl
+    (prepare_row old c.args.xid.now c.requires.state) c.in_ok-prepare.field-0 c.in-RmErr.is
+    c.in_ok-prepare.ensures.answer

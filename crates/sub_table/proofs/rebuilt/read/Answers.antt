@@ -19,4 +19,4 @@ loop-next-preserved c =
     (ap (λ l. take c.loop-next.next-index c.args.records.now ++ l ∷ []) c.next-item.is ∙ sym more)
     (taken c.args.me c.args.parent c.args.tree.now (take c.loop-next.next-index c.args.records.now)
     c.loop-next.cases c.loop-next.invariant c.take.new.self c.next-item.result
-    (c.in_ok-take.ensures))
+    c.in_ok-take.ensures.ok)

@@ -5,12 +5,12 @@ use Rattle.tree_model.specs.Views.{leaf_place}
 use Rattle.sub_table.proofs.Rebuilding.{rebuilds}
 use Rattle.sub_table.proofs.rebuilt.rebuild.Goals as goal
 
-pub returns : goal.returns
-returns c =
+pub returns-clause-ok : goal.returns-clause-ok
+returns-clause-ok c =
     let s = c.in_ok-branches.field-0 in
     let low = c.if-boot-gt-LAST_BOOT.false in
     let within = c.if-newest-boot.false in
     rebuilds (leaf_place c.args.me c.args.parent c.args.tree.now) c.args.parent c.args.records.now s
-    c.in_ok-branches.ensures c.in_ok-messages.messages
+    c.in_ok-branches.ensures.ok c.in_ok-messages.messages
     (c.in_ok-messages.ensures ∙ ap (flat_map (asks c.args.me c.args.parent s.branches))
     c.as_slice.ensures.keys) (omega arith) (omega arith)

@@ -7,9 +7,9 @@ use Rattle.tree_audit.proofs.logs.noted.Given as goal
 abbrev pub invariant-loop-kind : goal.invariant-loop-kind
 invariant-loop-kind l =
     (fold noted l.notes (own_records (place_at l.tree l.entry)
-    (map (λ x. x.read) (placed_in l.entry.kind (5 + (length l.frames - length l.rest)) 0 l.rest)))
+    (map (λ x. x.read) (placed_in l.form (5 + (length l.frames - length l.rest)) 0 l.rest)))
     ≡ fold noted no_notes (own_records (place_at l.tree l.entry)
-    (map (λ x. x.read) (placed_in l.entry.kind 5 0 l.frames))))
+    (map (λ x. x.read) (placed_in l.form 5 0 l.frames))))
     × (length l.rest ≤ length l.frames)
 
 abbrev pub decreases-loop-kind : goal.decreases-loop-kind

@@ -1,4 +1,5 @@
-use Rattle.std.proofs.Common.{◌∙◌, ap, subst, sym}
+use Rattle.std.proofs.Common.{◌∙◌, ap, drop, subst, sym}
+use Rattle.rec_log.specs.Openings.{IsFound}
 use Rattle.tree_audit.specs.Tables.{NotesLog, frames_notes}
 use Rattle.tree_audit.proofs.Passes.{empty_notes, sound_notes}
 use Rattle.tree_audit.proofs.logs.notes_of.Goals as goal
@@ -7,13 +8,17 @@ pub returns-in-Ok-Empty-clause-ok : goal.returns-in-Ok-Empty-clause-ok
 returns-in-Ok-Empty-clause-ok c =
     subst (λ t. NotesLog c.args.tree.now c.args.entry.now c.args.bytes.now t) (sym c.new.ensures)
     (empty_notes c.args.tree.now c.args.entry.now c.args.bytes.now
-    c.in-Ok-Empty.field-0 c.in-Ok-Empty.ensures.ok
+    c.in-Ok-Empty.field-0
+    (subst (λ f. IsFound f c.args.bytes.now c.in-Ok-Empty.field-0) c.of_bytes-form.ensures c.in-Ok-Empty.ensures.ok)
     c.in-Ok-Empty.field-0-is)
 
 pub returns-in_ok-noted-in-Ok-Sound-clause-ok : goal.returns-in_ok-noted-in-Ok-Sound-clause-ok
 returns-in_ok-noted-in-Ok-Sound-clause-ok c =
     sound_notes c.args.tree.now c.args.entry.now c.args.bytes.now
     c.in-Ok-Sound.field-0 c.in-Ok-Sound.field-0-0
-    c.in_ok-noted-in-Ok-Sound.field-0 c.in-Ok-Sound.ensures.ok c.in-Ok-Sound.field-0-is
-    (c.in_ok-noted-in-Ok-Sound.ensures ∙ ap (frames_notes c.args.tree.now
-    c.args.entry.now) c.split_at.ensures.back)
+    c.in_ok-noted-in-Ok-Sound.field-0
+    (subst (λ f. IsFound f c.args.bytes.now c.in-Ok-Sound.field-0) c.of_bytes-form.ensures c.in-Ok-Sound.ensures.ok)
+    c.in-Ok-Sound.field-0-is
+    (c.in_ok-noted-in-Ok-Sound.ensures
+    ∙ ap (frames_notes c.of_bytes-form.result c.args.tree.now c.args.entry.now) c.split_at.ensures.back
+    ∙ ap (λ f. frames_notes f c.args.tree.now c.args.entry.now (drop 5 c.args.bytes.now)) c.of_bytes-form.ensures)

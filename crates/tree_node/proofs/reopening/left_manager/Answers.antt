@@ -3,4 +3,4 @@ use Rattle.tree_node.proofs.reopening.left_manager.Goals as goal
 
 pub returns-in-Err-clause-err : goal.returns-in-Err-clause-err
 returns-in-Err-clause-err g c = rw (c.refused.ensures, c.of_manager.ensures)
-    (manager_fails _ _ _ c.args.store c.in-Err.store c.in-Err.error c.in-Err.ensures.err)
+    (manager_fails _ _ _ c.args.me c.args.store c.in-Err.store c.in-Err.error c.in-Err.ensures.err)

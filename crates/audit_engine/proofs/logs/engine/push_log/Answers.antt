@@ -8,7 +8,7 @@ pub returns-in-Empty : goal.returns-in-Empty
 returns-in-Empty c =
     c.in_ok-push_heading.ensures
     ∙ ap (λ t. c.args.out.now.items ++ t) (sym
-    (held_empty c.args.entry.now.id c.args.entry.now.kind c.args.bytes.now c.args.found c.requires
+    (held_empty c.args.form c.args.bytes.now c.args.found c.requires
     c.in-Empty.is))
 
 pub returns-in_ok-push_torn-in-Sound : goal.returns-in_ok-push_torn-in-Sound
@@ -16,9 +16,9 @@ returns-in_ok-push_torn-in-Sound c =
     joined c.args.out.now.items _ _ _ c.push_heading.new.out.items c.push_records.new.out.items
     c.push_torn.new.out.items c.in_ok-push_heading.ensures
     (c.in_ok-push_records-in-Sound.ensures ∙ ap
-    (λ t. c.push_heading.new.out.items ++ records_text (placed_in c.args.entry.now.kind 5 0 t))
+    (λ t. c.push_heading.new.out.items ++ records_text (placed_in c.args.form 5 0 t))
     c.split_at.ensures.back)
     c.in_ok-push_torn-in-Sound.ensures
     ∙ ap (λ t. c.args.out.now.items ++ t) (sym
-    (held_sound c.args.entry.now.id c.args.entry.now.kind c.args.bytes.now c.args.found c.in-Sound.torn
+    (held_sound c.args.form c.args.bytes.now c.args.found c.in-Sound.torn
     c.requires c.in-Sound.is))

@@ -5,8 +5,8 @@ use Rattle.audit_engine.proofs.logs.engine.push_records.Given as goal
 
 abbrev pub invariant-loop-frame_kind : goal.invariant-loop-frame_kind
 invariant-loop-frame_kind l =
-    (l.out.items ++ records_text (placed_in l.kind (5 + (length l.frames - length l.rest)) 0 l.rest)
-    ≡ l.initial.out.items ++ records_text (placed_in l.kind 5 0 l.frames))
+    (l.out.items ++ records_text (placed_in l.form (5 + (length l.frames - length l.rest)) 0 l.rest)
+    ≡ l.initial.out.items ++ records_text (placed_in l.form 5 0 l.frames))
     × (length l.rest ≤ length l.frames)
 
 abbrev pub decreases-loop-frame_kind : goal.decreases-loop-frame_kind

@@ -1,25 +1,27 @@
-use Rattle.std.proofs.Common.{rules, ◌≡◌, ◌∙◌, false, true, subst, sym}
+use Rattle.std.proofs.Common.{rules, ap, ◌≡◌, ◌∙◌, IfErr, false, true, subst, sym}
 use Rattle.tree_model.specs.declared.events.Input.{Input}
 use Rattle.tree_model.specs.Records.{is_reported}
 use Rattle.tree_model.specs.CoordinatorRows.{unknown_forget}
 use Rattle.tree_model.specs.Standings.{CoordinatorView, unknown_view}
-use Rattle.rec_log.specs.Sights.{Breaks}
+use Rattle.rec_log.specs.Sights.{Breaks, LogSight}
 use Rattle.core_model.specs.Turns.{kept_records}
 use Rattle.core_model.specs.Makes.{BreaksIn}
 use Rattle.coord_effects.specs.declared.seat.Seat.{Seat}
-use Rattle.coord_effects.specs.Rows.{AreFramed, Does, seat}
+use Rattle.coord_effects.specs.Rows.{AreFramed, Does, NotWritten, seat}
 use Rattle.coord_core.specs.declared.turn.Turn.TheVariants.{Clears}
 use Rattle.coord_core.specs.States.{CoordinatorValue, state}
 use Rattle.coord_core.specs.Meets.{RetiresNone, meant}
-use Rattle.coord_core.specs.Turned.{Turned, WritesDown, framed_of}
-use Rattle.coord_core.proofs.Made.{clear_breaks, cleared_turn, seat_for}
-use Rattle.coord_core.proofs.Kept.{broken_logged, clear_of_case, never_both, reached_reported, written_logged, written_opened}
+use Rattle.coord_core.specs.Turned.{Stopped, Turned, WritesDown, framed_of}
+use Rattle.coord_core.proofs.Made.{clear_breaks, clear_untaken, cleared_turn, seat_for}
+use Rattle.coord_core.proofs.Restarted.{same_log}
+use Rattle.coord_table.proofs.Framed.{made_error}
+use Rattle.coord_core.proofs.Kept.{broken_logged, clear_of_case, never_both, reached_reported, written_form, written_logged, written_opened}
 use Rattle.coord_core.proofs.coordinator.Coordinator.clears.Goals as goal
 
 pub write_down-requires-clause-framed : goal.write_down-requires-clause-framed
 write_down-requires-clause-framed g c =
     subst (λ (s : Seat). AreFramed s.parent c.in_ok-effect.effect.written) c.seat.ensures
-    (c.in_ok-effect.ensures unknown_view).framed
+    (c.in_ok-effect.ensures.ok unknown_view).framed
 
 pub returns-in-Err-clause-err : goal.returns-in-Err-clause-err
 returns-in-Err-clause-err g c =
@@ -36,7 +38,7 @@ returns-in-Err-clause-err g c =
     let does : (view : CoordinatorView) → Does (seat_for v c.args.case)
     (unknown_forget (seat (seat_for v c.args.case)) view) c.in_ok-effect.effect view =
     subst (λ (s : Seat). (view : CoordinatorView) → Does s (unknown_forget (seat s) view)
-    c.in_ok-effect.effect view) c.seat.ensures c.in_ok-effect.ensures in
+    c.in_ok-effect.effect view) c.seat.ensures c.in_ok-effect.ensures.ok in
     let told : is_reported (kept_records (state c.args.self.now)) c.args.case ≡ true = search rules in
     let reported : is_reported (kept_records (state v)) c.args.case ≡ true =
     subst (λ (w : CoordinatorValue). is_reported (kept_records (state w)) c.args.case ≡ true)
@@ -63,7 +65,7 @@ returns-clause-ok g c =
     let does : (view : CoordinatorView) → Does (seat_for v c.args.case)
     (unknown_forget (seat (seat_for v c.args.case)) view) c.in_ok-effect.effect view =
     subst (λ (s : Seat). (view : CoordinatorView) → Does s (unknown_forget (seat s) view)
-    c.in_ok-effect.effect view) c.seat.ensures c.in_ok-effect.ensures in
+    c.in_ok-effect.effect view) c.seat.ensures c.in_ok-effect.ensures.ok in
     let told : is_reported (kept_records (state c.args.self.now)) c.args.case ≡ true = search rules in
     let reported : is_reported (kept_records (state v)) c.args.case ≡ true =
     subst (λ (w : CoordinatorValue). is_reported (kept_records (state w)) c.args.case ≡ true)
@@ -94,7 +96,7 @@ invariant_of-self-in-Err g c =
     let does : Does (seat_for v c.args.case)
     (unknown_forget (seat (seat_for v c.args.case)) unknown_view) c.in_ok-effect.effect unknown_view =
     subst (λ (s : Seat). Does s (unknown_forget (seat s) unknown_view) c.in_ok-effect.effect unknown_view)
-    c.seat.ensures (c.in_ok-effect.ensures unknown_view) in
+    c.seat.ensures (c.in_ok-effect.ensures.ok unknown_view) in
     let told : is_reported (kept_records (state c.args.self.now)) c.args.case ≡ true = search rules in
     let reported : is_reported (kept_records (state v)) c.args.case ≡ true =
     subst (λ (w : CoordinatorValue). is_reported (kept_records (state w)) c.args.case ≡ true)
@@ -104,7 +106,7 @@ invariant_of-self-in-Err g c =
     let breaks : Breaks c.make_room.new.log c.write_down.new.log
     (framed_of c.in_ok-effect.effect.written) = search rules in
     record {
-      kind = breaks.kind ∙ c.make_room.ensures.kind ∙ c.self.invariant.kind;
+      form = breaks.form ∙ ap (λ (s : LogSight). s.form) c.make_room.ensures.stays ∙ c.self.invariant.form;
       active = c.self.invariant.active;
       begun = c.self.invariant.begun;
       given = c.self.invariant.given;
@@ -129,7 +131,7 @@ invariant_of-self-3 g c =
     let does : Does (seat_for v c.args.case)
     (unknown_forget (seat (seat_for v c.args.case)) unknown_view) c.in_ok-effect.effect unknown_view =
     subst (λ (s : Seat). Does s (unknown_forget (seat s) unknown_view) c.in_ok-effect.effect unknown_view)
-    c.seat.ensures (c.in_ok-effect.ensures unknown_view) in
+    c.seat.ensures (c.in_ok-effect.ensures.ok unknown_view) in
     let told : is_reported (kept_records (state c.args.self.now)) c.args.case ≡ true = search rules in
     let reported : is_reported (kept_records (state v)) c.args.case ≡ true =
     subst (λ (w : CoordinatorValue). is_reported (kept_records (state w)) c.args.case ≡ true)
@@ -141,7 +143,8 @@ invariant_of-self-3 g c =
     let writes : WritesDown c.make_room.new.log c.write_down.new.log
     c.in_ok-effect.effect.written = search rules in
     record {
-      kind = writes.kind ∙ c.make_room.ensures.kind ∙ c.self.invariant.kind;
+      form = written_form c.make_room.new.log c.write_down.new.log c.in_ok-effect.effect.written writes
+          ∙ ap (λ (s : LogSight). s.form) c.make_room.ensures.stays ∙ c.self.invariant.form;
       active = c.self.invariant.active;
       begun = c.self.invariant.begun;
       given = c.self.invariant.given;
@@ -151,3 +154,31 @@ invariant_of-self-3 g c =
       opened = λ works. written_opened v c.self.invariant c.args.case c.in_ok-effect.effect.written
           c.make_room.new.log c.write_down.new.log c.make_room.ensures.stays reached all up writes;
     }
+
+pub returns-in_err-effect-clause-err : goal.returns-in_err-effect-clause-err
+returns-in_err-effect-clause-err g c =
+    let v : CoordinatorValue = record {
+      me = c.self.inside.me;
+      parent = c.self.inside.parent;
+      tree = c.self.inside.tree;
+      log = c.self.inside.log;
+      boot = c.self.inside.boot;
+      begun = c.self.inside.begun;
+      given = c.self.inside.given;
+      slots = c.self.inside.cases;
+    } in
+    let new : CoordinatorValue = record v { log = c.make_room.new.log } in
+    let told : is_reported (kept_records (state c.args.self.now)) c.args.case ≡ true = search rules in
+    let reported : is_reported (kept_records (state v)) c.args.case ≡ true =
+    subst (λ (w : CoordinatorValue). is_reported (kept_records (state w)) c.args.case ≡ true)
+    (sym c.self.view_is) told in
+    let unwritten : (view : CoordinatorView) → NotWritten v.parent
+    (unknown_forget (seat (seat_for v c.args.case)) view).written c.in_err-effect.field-0.0 =
+    subst (λ (s : Seat). (view : CoordinatorView) → NotWritten s.parent (unknown_forget (seat s) view).written
+    c.in_err-effect.field-0.0) c.seat.ensures c.in_err-effect.ensures.unwritten in
+    subst (λ (w : CoordinatorValue). IfErr c.from_residual-in_err-effect.result
+    (Stopped (state w) (state new) (meant w (Clears c.args.case)))) c.self.view_is
+    (made_error (Stopped (state v) (state new) (meant v (Clears c.args.case)))
+    c.in_err-effect.field-0.0 c.from_residual-in_err-effect.result c.from_residual-in_err-effect.ensures.1
+    (clear_untaken v (state new) c.args.case c.in_err-effect.field-0.0
+    (same_log v c.make_room.new.log c.make_room.ensures.stays) reported unwritten))

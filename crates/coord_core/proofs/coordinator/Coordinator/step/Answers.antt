@@ -4,7 +4,7 @@ use Rattle.coord_core.specs.declared.turn.Turn.TheVariants.{Begins, Issues, Take
 use Rattle.coord_core.specs.States.{state}
 use Rattle.coord_core.specs.Meets.{Meets, RetiresAs, RetiresNone, meant}
 use Rattle.coord_core.specs.Turned.{Turned}
-use Rattle.coord_core.proofs.Made.{for_any, for_input, makes_of, said_turn, step_ok}
+use Rattle.coord_core.proofs.Made.{for_any, for_input, makes_of, said_turn, step_err, step_ok}
 use Rattle.coord_core.proofs.coordinator.Coordinator.step.Goals as goal
 
 pub returns-in-Begins-clause-ok : goal.returns-in-Begins-clause-ok
@@ -37,6 +37,13 @@ returns-in-Takes-clause-ok g c =
     i (meant c.args.self.now (Takes c.in-Takes.key c.in-Takes.case c.in-Takes.asked)) reaction)
     c.takes.result c.takes.ensures.ok (input_of c.args.input) meets.may.retiring)
 
+pub returns-in-Takes-clause-err : goal.returns-in-Takes-clause-err
+returns-in-Takes-clause-err g c =
+    let meets : Meets c.args.self.now (input_of c.args.input)
+    (Takes c.in-Takes.key c.in-Takes.case c.in-Takes.asked) = search rules in
+    step_err c.args.self.now (state c.takes.new.self) (input_of c.args.input)
+    (Takes c.in-Takes.key c.in-Takes.case c.in-Takes.asked) c.takes.result meets c.takes.ensures.err
+
 pub returns-in-Clears-clause-ok : goal.returns-in-Clears-clause-ok
 returns-in-Clears-clause-ok g c =
     let meets : Meets c.args.self.now (input_of c.args.input) (Clears c.in-Clears.case) = search rules in
@@ -44,6 +51,12 @@ returns-in-Clears-clause-ok g c =
     c.clears.result meets (for_input RetiresNone (λ i reaction. Turned (state c.args.self.now)
     (state c.clears.new.self) i (meant c.args.self.now (Clears c.in-Clears.case)) reaction) c.clears.result
     c.clears.ensures.ok (input_of c.args.input) meets.may.retiring)
+
+pub returns-in-Clears-clause-err : goal.returns-in-Clears-clause-err
+returns-in-Clears-clause-err g c =
+    let meets : Meets c.args.self.now (input_of c.args.input) (Clears c.in-Clears.case) = search rules in
+    step_err c.args.self.now (state c.clears.new.self) (input_of c.args.input) (Clears c.in-Clears.case)
+    c.clears.result meets c.clears.ensures.err
 
 pub returns-in-Answers-clause-ok : goal.returns-in-Answers-clause-ok
 returns-in-Answers-clause-ok g c =

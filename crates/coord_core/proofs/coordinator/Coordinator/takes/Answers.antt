@@ -1,14 +1,20 @@
-use Rattle.std.proofs.Common.{rules, ◌≡◌, false, subst, sym, ◌∙◌}
+use Rattle.std.proofs.Common.{rules, ap, ◌≡◌, false, IfErr, subst, sym, ◌∙◌}
 use Rattle.tree_model.specs.declared.events.Input.{Input}
-use Rattle.rec_log.specs.Sights.{Breaks}
+use Rattle.rec_log.specs.Sights.{Breaks, LogSight}
+use Rattle.core_model.specs.States.{SameCore}
 use Rattle.core_model.specs.Turns.{Takes}
 use Rattle.core_model.specs.Makes.{BreaksIn}
-use Rattle.coord_table.specs.Takes.{IsAt, TakesRowOf}
+use Rattle.coord_effects.specs.declared.seat.Seat.{Seat}
+use Rattle.coord_effects.specs.Rows.{seat}
+use Rattle.coord_table.specs.Asks.{asked_row}
+use Rattle.coord_table.specs.Cases.{view_in}
+use Rattle.coord_table.specs.Takes.{IsAt, NotTaken, TakesRowOf}
+use Rattle.coord_table.proofs.Framed.{made_error}
 use Rattle.coord_core.specs.States.{CoordinatorValue, state}
 use Rattle.coord_core.specs.Meets.{RetiresAs, met}
-use Rattle.coord_core.specs.Turned.{Turned, WritesDown, framed_of}
-use Rattle.coord_core.proofs.Made.{case_before, row_breaks, row_turn, seat_for}
-use Rattle.coord_core.proofs.Kept.{broken_logged, never_both, reached_at, row_of_case, written_logged, written_opened}
+use Rattle.coord_core.specs.Turned.{Stopped, Turned, WritesDown, framed_of}
+use Rattle.coord_core.proofs.Made.{case_before, row_breaks, row_turn, row_untaken, same_cases, seat_for}
+use Rattle.coord_core.proofs.Kept.{broken_logged, never_both, reached_at, row_of_case, written_form, written_logged, written_opened}
 use Rattle.coord_core.proofs.coordinator.Coordinator.takes.Goals as goal
 
 pub returns-in-Err-clause-err : goal.returns-in-Err-clause-err
@@ -90,7 +96,7 @@ invariant_of-self-in-Err g c =
     let breaks : Breaks c.make_room.new.log c.write_down.new.log
     (framed_of c.in_ok-effect.effect.written) = search rules in
     record {
-      kind = breaks.kind ∙ c.make_room.ensures.kind ∙ c.self.invariant.kind;
+      form = breaks.form ∙ ap (λ (s : LogSight). s.form) c.make_room.ensures.stays ∙ c.self.invariant.form;
       active = takes.given;
       begun = λ k p n is. c.self.invariant.begun k p n (case_before _ _ k _ takes.cases is);
       given = λ k x n is. c.self.invariant.given k x n (case_before _ _ k _ takes.cases is);
@@ -126,7 +132,8 @@ invariant_of-self-3 g c =
     let writes : WritesDown c.make_room.new.log c.write_down.new.log
     c.in_ok-effect.effect.written = search rules in
     record {
-      kind = writes.kind ∙ c.make_room.ensures.kind ∙ c.self.invariant.kind;
+      form = written_form c.make_room.new.log c.write_down.new.log c.in_ok-effect.effect.written writes
+          ∙ ap (λ (s : LogSight). s.form) c.make_room.ensures.stays ∙ c.self.invariant.form;
       active = takes.given;
       begun = λ k p n is. c.self.invariant.begun k p n (case_before _ _ k _ takes.cases is);
       given = λ k x n is. c.self.invariant.given k x n (case_before _ _ k _ takes.cases is);
@@ -136,3 +143,28 @@ invariant_of-self-3 g c =
       opened = λ works. written_opened v c.self.invariant c.args.case c.in_ok-effect.effect.written
           c.make_room.new.log c.write_down.new.log c.make_room.ensures.stays reached all up writes;
     }
+
+pub returns-in_err-effect-clause-err : goal.returns-in_err-effect-clause-err
+returns-in_err-effect-clause-err g c =
+    let v : CoordinatorValue = record {
+      me = c.self.inside.me;
+      parent = c.self.inside.parent;
+      tree = c.self.inside.tree;
+      log = c.self.inside.log;
+      boot = c.self.inside.boot;
+      begun = c.self.inside.begun;
+      given = c.self.inside.given;
+      slots = c.self.inside.cases;
+    } in
+    let new : CoordinatorValue = record v { log = c.make_room.new.log; slots = c.take.new.cases } in
+    let same : SameCore (state v) (state new) =
+    same_cases v c.make_room.new.log c.take.new.cases c.make_room.ensures.stays c.in_err-effect.ensures.err in
+    let untaken : NotTaken (seat_for v c.args.case) (asked_row (seat (seat_for v c.args.case)) c.args.asked
+    (view_in v.slots c.args.case)) c.in_err-effect.field-0.0 =
+    subst (λ (s : Seat). NotTaken s (asked_row (seat s) c.args.asked (view_in v.slots s.case)) c.in_err-effect.field-0.0)
+    c.seat-seat.ensures c.in_err-effect.ensures.untaken in
+    subst (λ (w : CoordinatorValue). IfErr c.from_residual-in_err-effect.result
+    (Stopped (state w) (state new) (Takes c.args.case (met w c.args.case c.args.asked)))) c.self.view_is
+    (made_error (Stopped (state v) (state new) (Takes c.args.case (met v c.args.case c.args.asked)))
+    c.in_err-effect.field-0.0 c.from_residual-in_err-effect.result c.from_residual-in_err-effect.ensures.1
+    (row_untaken v (state new) c.args.case c.args.asked c.in_err-effect.field-0.0 same untaken))

@@ -16,7 +16,7 @@ invariant_of-self g c =
       slots = c.self.inside.cases;
     } in
     record {
-      kind = c.trim.ensures.kind ∙ c.self.invariant.kind;
+      form = c.trim.ensures.form ∙ c.self.invariant.form;
       active = c.self.invariant.active;
       begun = c.self.invariant.begun;
       given = c.self.invariant.given;

@@ -2,8 +2,7 @@ use Rattle.std.proofs.Common.{rules}
 use Rattle.tree_model.specs.declared.names.Kind.TheVariants.{Manager}
 use Rattle.log_text.specs.Made.{frame_record}
 use Rattle.log_rules.specs.sound.Sound.{IsSound}
-use Rattle.log_rules.proofs.sound.Records.{records_read_back}
-use Rattle.log_rules.proofs.sound.Sizes.{records_fit_frames}
+use Rattle.rec_log.proofs.SoundRecords.{sound_is_record}
 use Rattle.rec_log.specs.Sights.{IsRecord}
 use Rattle.kv_manager.proofs.manager.KvManager.frame.Goals as goal
 
@@ -11,5 +10,5 @@ pub returns-clause-sound : goal.returns-clause-sound
 returns-clause-sound g c =
     let sound : IsSound Manager (frame_record c.in_ok-frame.frame) = search rules in
     let is : IsRecord Manager (frame_record c.in_ok-frame.frame) =
-    record { fits = records_fit_frames Manager _ sound; again = records_read_back Manager _ sound } in
+    sound_is_record Manager _ sound in
     search rules

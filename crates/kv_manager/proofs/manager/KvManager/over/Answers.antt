@@ -4,4 +4,4 @@ use Rattle.kv_manager.proofs.manager.KvManager.over.Goals as goal
 pub invariant_of-result : goal.invariant_of-result
 invariant_of-result g c =
     kept_over c.args.log c.started.new.log c.in-Ok.store c.in-Ok.boot c.requires.kind
-    c.started.ensures.kind c.in-Ok.ensures.ok
+    c.started.ensures.form c.in-Ok.ensures.ok

@@ -23,7 +23,7 @@ invariant_of-self g c =
     kept_unstarted s c.restart_log.new.log c.args.keep (frame_record c.args.ready.now.opened) _
     c.self.invariant (ready_ordered (left_by s.log.sight c.args.keep) c.args.ready.now ready)
     (ready_counted (left_by s.log.sight c.args.keep) c.args.ready.now ready)
-    c.restart_log.ensures.kind why
+    why
 
 pub invariant_of-self-2 : goal.invariant_of-self-2
 invariant_of-self-2 g c =

@@ -11,6 +11,6 @@ returns-in-Err-over-clause-err g c =
       holds = ap (λ (l : LogState). l.sight) (sym c.into_store.ensures)
           ∙ ap (λ k. (log_state k (g.L.LogStore.bytes c.into_store.result)
           (g.L.LogStore.forced c.into_store.result) (g.L.LogStore.failures c.into_store.result) 0
-          c.in-Err-over.log.sight.failed).sight) c.in-Err-over.ensures.err.1;
+          c.in-Err-over.log.sight.failed).sight) (c.in-Err-over.ensures.err.1 ∙ c.in-Ok.ensures.ok.form);
       why = c.in-Err-over.ensures.err.0;
     }

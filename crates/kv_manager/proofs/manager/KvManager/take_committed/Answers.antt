@@ -128,3 +128,6 @@ invariant_of-self-in-Err g c =
     (due_same c.args.self.now s c.args.xid.now c.requires.due.0 c.args.turn room c.requires.due.1)
     c.requires.entry (λ commits. fits))
     broke
+
+pub write-requires-clause-sound : goal.write-requires-clause-sound
+write-requires-clause-sound g c = λ p own. c.in_ok-frame.ensures.sound p (own ∙ c.self.invariant.kind)

@@ -47,4 +47,4 @@ invariant_of-self-2 g c =
     ap (map frame_record) c.deref.ensures.value ∙ c.in_ok-frames.ensures.frames
     ∙ ap (λ (v : KvSight). map unnamed (base_records (logged v))) (sym c.self.view_is) in
     kept_untrimmed s c.trim.new.self (map frame_record c.deref.result.now) c.in-Err.error
-    c.self.invariant works sound spell c.trim.ensures.kind why
+    c.self.invariant works sound spell why

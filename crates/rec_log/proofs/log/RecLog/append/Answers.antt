@@ -1,20 +1,21 @@
-use Rattle.std.proofs.Common.{◌≡◌, ◌∙◌, ◌++◌, take, false, length, refl, sym, ap, subst, arith}
+use Rattle.std.proofs.Common.{◌≡◌, ◌∙◌, false, length, refl, sym, ap, subst, arith}
 use Rattle.log_text.specs.Made.{frame_record}
-use Rattle.rec_log.specs.Sights.{IsRecord}
-use Rattle.rec_log.proofs.Indexes.{index_follows}
-use Rattle.rec_log.proofs.Known.{known_more}
+use Rattle.rec_log.specs.Sights.{IsRecord, Stands}
+use Rattle.rec_log.specs.declared.index.Reach.{Reach}
+use Rattle.rec_log.proofs.Indexes.{indexed_follows}
 use Rattle.rec_log.proofs.Turns.{append_breaks, appended, appended_of, breaks_of, by_device, record_long, text_goes_on}
+use Rattle.rec_log.proofs.Within.{frame_size}
 use Rattle.rec_log.proofs.log.RecLog.append.Goals as goal
 
 pub returns-in-Err-clause-err : goal.returns-in-Err-clause-err
 returns-in-Err-clause-err g c =
     let works : c.self.inside.failed ≡ false = ap (λ s. s.sight.failed) c.self.view_is ∙ c.requires.works in
     let room = ap (λ s. s.room) c.self.view_is in
-    let size = ap length c.bytes.ensures in
+    let size = frame_size c.self.inside.form c.self.invariant.0.second (frame_record c.args.frame.now) in
     let b = by_device c.in-Err.field-0 _ _ c.in-Err.ensures.memory
     (λ m. omega (
       arith,
-      record_long (frame_record c.args.frame.now),
+      record_long c.self.inside.form (frame_record c.args.frame.now),
       m.small,
       room,
       size,
@@ -23,28 +24,28 @@ returns-in-Err-clause-err g c =
       refl,
       breaks_of _ _ _ _ c.self.view_is
           (append_breaks _ _ _ _ _ _ _ (g.L.LogStore.room c.self.inside.store)
-          (g.L.LogStore.room c.append.new.self) b.came _ _ works
+          (g.L.LogStore.room c.append_frame.new.store) b.came _ _ works
           (subst (λ k. IsRecord k (frame_record c.args.frame.now))
-          (sym (ap (λ s. s.kind) c.self.view_is)) c.requires.sound) c.self.invariant.0
+          (sym (ap (λ s. s.sight.form.kind) c.self.view_is)) c.requires.sound c.self.inside.form refl) c.self.invariant.0
           (g.met.L.LogStore.front c.self.inside.store)
-          (b.text ∙ ap (λ t. g.L.LogStore.bytes c.self.inside.store ++ take b.came t) c.bytes.ensures)
-          b.forced_stays b.cause),
+          b.text b.forced_stays b.cause),
     )
 
 pub invariant_of-self-2 : goal.invariant_of-self-2
 invariant_of-self-2 g c =
     let works : c.self.inside.failed ≡ false = ap (λ s. s.sight.failed) c.self.view_is ∙ c.requires.works in
     let a = c.in_default.ensures.ok in
-    let text = a.text ∙ ap (λ t. g.L.LogStore.bytes c.self.inside.store ++ t) c.bytes.ensures in
-    let is_record : IsRecord c.self.inside.kind (frame_record c.args.frame.now) =
-    subst (λ k. IsRecord k (frame_record c.args.frame.now)) (sym (ap (λ s. s.kind) c.self.view_is))
-    c.requires.sound in
+    let text = a.text in
+    let is_record : Stands c.self.inside.form (frame_record c.args.frame.now) =
+    subst (λ k. IsRecord k (frame_record c.args.frame.now)) (sym (ap (λ s. s.sight.form.kind) c.self.view_is))
+    c.requires.sound c.self.inside.form refl in
     let within = g.met.L.LogStore.front c.self.inside.store in (
       text_goes_on _ _ _ _ _ _ _ works is_record c.self.invariant.0 within text
           a.forced_stays,
-      known_more _ _ _ _ _ _ _ c.self.invariant.1 within text (omega (arith, a.forced_stays)),
-      index_follows _ _ _ _ _ _ _ _ _ _ c.self.invariant.2 is_record text
-          (ap length c.bytes-from.ensures) (ap length c.bytes-to.ensures) c.follow.ensures,
+      indexed_follows _ _ _ _ _ _ _ _ _ _ _ _ c.self.invariant.1 is_record text
+          (ap length c.bytes-from.ensures) (ap length c.bytes-to.ensures) c.follow.ensures.follows
+          c.follow.ensures.forced,
+      omega (arith, c.self.invariant.2, a.forced_stays, ap (λ (r : Reach). r.size) c.follow.ensures.forced),
     )
 
 pub returns-clause-ok : goal.returns-clause-ok
@@ -53,9 +54,9 @@ returns-clause-ok g c =
     let a = c.in_default.ensures.ok in
     appended_of _ _ _ _ c.self.view_is
     (appended _ _ _ _ _ _ _ (g.L.LogStore.room c.self.inside.store)
-    (g.L.LogStore.room c.append.new.self) _ _ works
+    (g.L.LogStore.room c.append_frame.new.store) _ _ works
     (subst (λ k. IsRecord k (frame_record c.args.frame.now))
-    (sym (ap (λ s. s.kind) c.self.view_is)) c.requires.sound) c.self.invariant.0
+    (sym (ap (λ s. s.sight.form.kind) c.self.view_is)) c.requires.sound c.self.inside.form refl) c.self.invariant.0
     (g.met.L.LogStore.front c.self.inside.store)
-    (a.text ∙ ap (λ t. g.L.LogStore.bytes c.self.inside.store ++ t) c.bytes.ensures) a.forced_stays
+    a.text a.forced_stays
     a.failures_stay c.in_default.ensures.room)

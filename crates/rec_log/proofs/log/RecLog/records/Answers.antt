@@ -7,7 +7,7 @@ use Rattle.rec_log.proofs.log.RecLog.records.Goals as goal
 
 pub returns : goal.returns
 returns g c =
-    let is = ap (records_in c.self.inside.kind 0) (c.body.ensures ∙ ap body c.bytes.ensures)
-    ∙ sym (records_stand c.self.inside.kind (g.L.LogStore.bytes c.self.inside.store)
+    let is = ap (records_in c.self.inside.form 0) (c.body.ensures ∙ ap body c.bytes.ensures)
+    ∙ sym (records_stand c.self.inside.form (g.L.LogStore.bytes c.self.inside.store)
     (g.L.LogStore.forced c.self.inside.store)) ∙ ap (λ s. records_of s.sight.kept) c.self.view_is in
     IfOk-weaker c.records_in.result _ _ (λ v e. e ∙ is) c.records_in.ensures

@@ -8,8 +8,8 @@ use Rattle.rec_log.proofs.log.RecLog.records_are_sound.Goals as goal
 
 pub returns : goal.returns
 returns g c =
-    let is = ap (records_in c.self.inside.kind 0) (c.body.ensures ∙ ap body c.bytes.ensures)
-    ∙ sym (records_stand c.self.inside.kind (g.L.LogStore.bytes c.self.inside.store)
+    let is = ap (records_in c.self.inside.form 0) (c.body.ensures ∙ ap body c.bytes.ensures)
+    ∙ sym (records_stand c.self.inside.form (g.L.LogStore.bytes c.self.inside.store)
     (g.L.LogStore.forced c.self.inside.store)) in
-    subst (λ s. AllByRecursion (IsSound s.kind) (records_of s.sight.kept)) c.self.view_is
-    (subst (AllByRecursion (IsSound c.self.inside.kind)) is c.are_sound.ensures)
+    subst (λ s. AllByRecursion (IsSound s.sight.form.kind) (records_of s.sight.kept)) c.self.view_is
+    (subst (AllByRecursion (IsSound c.self.inside.form.kind)) is c.are_sound.ensures)

@@ -10,6 +10,7 @@ use Rattle.sub_table.specs.Tables.{IsKept}
 use Rattle.sub_core.specs.Subordinates.{Hears, IsAt, NotHeard, SubState, outcome_reply, prepared, seen}
 use Rattle.sub_core.proofs.Ties.{behind}
 use Rattle.sub_core.proofs.Outcomes.{ended, ended_tied, not_ended, rolled_row}
+use Rattle.sub_core.proofs.Ends.{not_tied}
 use Rattle.sub_core.proofs.subordinate.Subordinate.abort_prepared.Goals as goal
 
 pub roll_back-requires-clause-named : goal.roll_back-requires-clause-named
@@ -50,6 +51,19 @@ invariant_of-self g c =
     let m : ManagerSight = g.M.ResourceManager.sight c.roll_back.new.manager in
     ended_tied s c.args.key c.args.case b call.Rollback c.remove.new.self m c.self.invariant at
     c.remove.ensures c.in-Ok.ensures.ok
+
+pub invariant_of-self-in-Err-1 : goal.invariant_of-self-in-Err-1
+invariant_of-self-in-Err-1 g c =
+    let s : SubState = record {
+      me = c.self.inside.me;
+      parent = c.self.inside.parent;
+      tree = c.self.inside.tree;
+      given = c.self.inside.given;
+      table = c.self.inside.branches;
+      manager = g.M.ResourceManager.sight c.self.inside.manager;
+    } in
+    not_tied s (g.M.ResourceManager.sight c.roll_back.new.manager) c.args.xid call.Rollback c.in-Err.error
+    c.self.invariant c.in-Err.ensures.err
 
 pub returns-in-Ok-clause-ok : goal.returns-in-Ok-clause-ok
 returns-in-Ok-clause-ok g c =

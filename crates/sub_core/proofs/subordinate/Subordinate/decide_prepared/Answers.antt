@@ -7,6 +7,7 @@ use Rattle.sub_core.specs.Subordinates.{IsAt, SubState, logged_alone, prepared, 
 use Rattle.sub_core.specs.Steps.{Acts, NotActed}
 use Rattle.sub_core.proofs.Ties.{behind}
 use Rattle.sub_core.proofs.Decisions.{decides, decides_tied, not_decided}
+use Rattle.sub_core.proofs.Ends.{undecided_tied}
 use Rattle.sub_core.proofs.subordinate.Subordinate.decide_prepared.Goals as goal
 
 pub decide-requires-clause-state : goal.decide-requires-clause-state
@@ -39,6 +40,19 @@ invariant_of-self g c =
     let m : ManagerSight = g.M.ResourceManager.sight c.decide.new.manager in
     decides_tied s c.args.key c.args.case c.args.xid c.args.outcome c.self.invariant at
     c.decide-in-Ok.new.self m c.decide-in-Ok.ensures c.in-Ok.ensures.ok
+
+pub invariant_of-self-in-Err-1 : goal.invariant_of-self-in-Err-1
+invariant_of-self-in-Err-1 g c =
+    let s : SubState = record {
+      me = c.self.inside.me;
+      parent = c.self.inside.parent;
+      tree = c.self.inside.tree;
+      given = c.self.inside.given;
+      table = c.self.inside.branches;
+      manager = g.M.ResourceManager.sight c.self.inside.manager;
+    } in
+    undecided_tied s (g.M.ResourceManager.sight c.decide.new.manager) c.args.xid c.args.outcome c.in-Err.error
+    c.self.invariant c.in-Err.ensures.err
 
 pub returns-in-Ok-clause-ok : goal.returns-in-Ok-clause-ok
 returns-in-Ok-clause-ok g c =

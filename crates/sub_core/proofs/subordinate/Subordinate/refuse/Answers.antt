@@ -7,6 +7,7 @@ use Rattle.sub_branch.specs.declared.branch.Branch.{Branch}
 use Rattle.sub_core.specs.Subordinates.{Hears, IsAt, NotHeard, SubState, active, seen}
 use Rattle.sub_core.proofs.Ties.{behind}
 use Rattle.sub_core.proofs.Outcomes.{ended, ended_tied, not_ended, refuse_row, rollable}
+use Rattle.sub_core.proofs.Ends.{not_tied}
 use Rattle.sub_core.proofs.subordinate.Subordinate.refuse.Goals as goal
 
 pub roll_back-requires-clause-named : goal.roll_back-requires-clause-named
@@ -48,6 +49,19 @@ invariant_of-self g c =
     let m : ManagerSight = g.M.ResourceManager.sight c.roll_back.new.manager in
     ended_tied s c.args.key c.args.case b call.Rollback c.remove.new.self m c.self.invariant at
     c.remove.ensures c.in-Ok.ensures.ok
+
+pub invariant_of-self-in-Err-1 : goal.invariant_of-self-in-Err-1
+invariant_of-self-in-Err-1 g c =
+    let s : SubState = record {
+      me = c.self.inside.me;
+      parent = c.self.inside.parent;
+      tree = c.self.inside.tree;
+      given = c.self.inside.given;
+      table = c.self.inside.branches;
+      manager = g.M.ResourceManager.sight c.self.inside.manager;
+    } in
+    not_tied s (g.M.ResourceManager.sight c.roll_back.new.manager) c.args.xid call.Rollback c.in-Err.error
+    c.self.invariant c.in-Err.ensures.err
 
 pub returns-in-Ok-clause-ok : goal.returns-in-Ok-clause-ok
 returns-in-Ok-clause-ok g c =

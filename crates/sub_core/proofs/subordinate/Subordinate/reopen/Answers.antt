@@ -1,11 +1,12 @@
-use Rattle.std.proofs.Common.{◌≡◌, List, None, sym, subst}
+use Rattle.std.proofs.Common.{◌≡◌, ◌∙◌, List, None, refl, ap, sym, subst}
 use Rattle.xa_codes.specs.declared.code.Code.TheVariants as code
 use Rattle.tree_model.specs.declared.records.Logged.{Logged}
+use Rattle.rec_log.specs.Sights.{LogSight}
 use Rattle.core_model.specs.Restarting.{Restarts}
 use Rattle.manager_model.specs.Sights.{ManagerSight}
 use Rattle.sub_table.specs.declared.rebuilt.Rebuilt.{Rebuilt}
 use Rattle.sub_core.specs.Subordinates.{SubState, core_of}
-use Rattle.sub_core.proofs.Reopened.{over_left, over_promises, over_tied}
+use Rattle.sub_core.proofs.Reopened.{only_memory, over_left, over_promises, over_tied}
 use Rattle.sub_core.proofs.subordinate.Subordinate.reopen.Goals as goal
 
 pub invariant_of-subordinate : goal.invariant_of-subordinate
@@ -17,11 +18,12 @@ invariant_of-subordinate g c =
       tree = c.args.tree;
       given = 0;
       table = r.branches;
-      manager = c.requires.old;
+      manager = c.requires.restarted.old;
     } in
-    over_tied s c.requires.keep r (g.M.ResourceManager.sight c.args.manager)
+    over_tied s c.requires.restarted.keep r (g.M.ResourceManager.sight c.args.manager)
     (g.M.ResourceManager.sight c.open.new.self) (λ answer. answer ≡ code.RmFail) c.open.result
-    c.in-Ok.ensures.ok c.requires.restarts c.open.ensures
+    c.in-Ok.ensures.ok c.requires.restarted.restarts c.open.ensures
+    (sym (ap (λ (l : LogSight). l.form) c.requires.restarted.restarts.log) ∙ c.requires.own)
 
 pub returns-in-Ok-clause-ok : goal.returns-in-Ok-clause-ok
 returns-in-Ok-clause-ok g c = λ before all restarts old so keep left.
@@ -47,7 +49,8 @@ returns-in-Ok-clause-ok g c = λ before all restarts old so keep left.
     (record { begun = None; written = ws; told = None; messages = r.messages; kept = None }))
     (sym c.in-Ok.ensures.written)
     (over_left s all r (g.M.ResourceManager.sight c.args.manager) m (λ answer. answer ≡ code.RmFail) c.open.result
-    c.in-Ok.ensures.ok restarts c.open.ensures old so keep left)
+    c.in-Ok.ensures.ok restarts c.open.ensures
+    (sym (ap (λ (l : LogSight). l.form) restarts.log) ∙ c.requires.own) old so keep left)
 
 pub returns-in-Ok-clause-writes : goal.returns-in-Ok-clause-writes
 returns-in-Ok-clause-writes g c = λ before all restarts.
@@ -62,3 +65,11 @@ returns-in-Ok-clause-writes g c = λ before all restarts.
     } in
     over_promises s all r (g.M.ResourceManager.sight c.args.manager) (g.M.ResourceManager.sight c.open.new.self)
     (λ answer. answer ≡ code.RmFail) c.open.result c.in-Ok.ensures.ok restarts c.open.ensures
+    (sym (ap (λ (l : LogSight). l.form) restarts.log) ∙ c.requires.own)
+
+pub returns-in-Err-clause-err : goal.returns-in-Err-clause-err
+returns-in-Err-clause-err g c = (
+  only_memory (g.M.ResourceManager.sight c.args.manager) c.args.me c.args.parent c.args.tree
+      c.records_are_sound.ensures c.requires.restarted c.in-Err.error c.in-Err.ensures.err,
+  refl,
+)

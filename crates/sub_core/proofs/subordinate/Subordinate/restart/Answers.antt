@@ -2,7 +2,7 @@ use Rattle.std.proofs.Common.{◌≡◌, None, sym, subst}
 use Rattle.xa_codes.specs.declared.code.Code.TheVariants as code
 use Rattle.rec_log.specs.Sights.{left_by}
 use Rattle.core_model.specs.Restarting.{NotRestarted, Restarts}
-use Rattle.tree_model.specs.declared.events.StepError.TheVariants.{Device}
+use Rattle.tree_model.specs.declared.events.StepError.TheVariants.{Device, Exhausted}
 use Rattle.manager_model.specs.Sights.{ManagerSight}
 use Rattle.manager_model.specs.Restarting.{NotRestarted as NotRestartedBy}
 use Rattle.sub_table.specs.declared.rebuilt.Rebuilt.{Rebuilt}
@@ -10,7 +10,7 @@ use Rattle.sub_table.specs.Rebuilt.{Rebuilds}
 use Rattle.tree_model.specs.Views.{leaf_place}
 use Rattle.sub_core.specs.Subordinates.{SubState, core_of, seen}
 use Rattle.sub_core.specs.Steps.{LeavesPromises, Reopens, state}
-use Rattle.sub_core.proofs.Restarted.{broken, broken_tied, promises_left, reopened_tied, restarted}
+use Rattle.sub_core.proofs.Restarted.{boots_used, broken, broken_tied, promises_left, reopened_tied, restarted}
 use Rattle.sub_core.proofs.Ties.{behind, same_tied}
 use Rattle.sub_core.proofs.subordinate.Subordinate.restart.Goals as goal
 
@@ -32,7 +32,7 @@ invariant_of-self g c =
     subst (λ v. Rebuilds (leaf_place v.me v.parent v.tree) v.parent (left_by (g.M.ResourceManager.sight
     v.manager).log c.args.keep) r) (sym c.self.view_is) c.in_ok-rebuilt.ensures.ok in
     reopened_tied s c.args.keep r re.mid m (λ answer. answer ≡ code.RmFail)
-    re.answer made re.restarts re.calls
+    re.answer made re.restarts re.calls c.self.invariant.own
 
 pub returns-in-Ok-clause-ok : goal.returns-in-Ok-clause-ok
 returns-in-Ok-clause-ok g c =
@@ -70,7 +70,8 @@ returns-in-Ok-clause-ok g c =
     (subst (λ w. Restarts (core_of s) c.args.keep (core_of n)
     (record { begun = None; written = w; told = None; messages = r.messages; kept = None }))
     (sym c.in_ok-rebuilt.ensures.written)
-    (restarted s c.args.keep r re.mid m (λ answer. answer ≡ code.RmFail) re.answer made re.restarts re.calls))
+    (restarted s c.args.keep r re.mid m (λ answer. answer ≡ code.RmFail) re.answer made re.restarts re.calls
+    c.self.invariant.own))
 
 pub invariant_of-self-in-Err-Memory : goal.invariant_of-self-in-Err-Memory
 invariant_of-self-in-Err-Memory g c =
@@ -130,6 +131,23 @@ returns-clause-err g c =
     (broken s m c.args.keep
     (subst (λ e. NotRestartedBy s.manager m c.args.keep e) c.in-Err-Device.field-0-is
     c.in-Err-Device.ensures.err))
+
+pub returns-in-Err-Exhausted-clause-err : goal.returns-in-Err-Exhausted-clause-err
+returns-in-Err-Exhausted-clause-err g c =
+    let s : SubState = record {
+      me = c.self.inside.me;
+      parent = c.self.inside.parent;
+      tree = c.self.inside.tree;
+      given = c.self.inside.given;
+      table = c.self.inside.branches;
+      manager = g.M.ResourceManager.sight c.self.inside.manager;
+    } in
+    let m : ManagerSight = g.M.ResourceManager.sight c.reopen.new.manager in
+    let why = subst (λ e. NotRestartedBy s.manager m c.args.keep e) c.in-Err-Exhausted.field-0-is
+    c.in-Err-Exhausted.ensures.err in
+    subst (λ v. NotRestarted (state g.M.ResourceManager.sight v) c.args.keep
+    (core_of (behind s s.table m)) Exhausted) c.self.view_is
+    (boots_used s m c.args.keep why.0 why.1)
 
 pub returns-in-Ok-clause-writes : goal.returns-in-Ok-clause-writes
 returns-in-Ok-clause-writes g c =

@@ -3,11 +3,13 @@ use Rattle.tree_model.specs.declared.records.RecordKind.TheVariants as kind
 use Rattle.tree_model.specs.CoordinatorRows.{tells_outcome}
 use Rattle.live_table.specs.Tables.{value_of}
 use Rattle.manager_model.specs.Sights.{ManagerSight}
+use Rattle.sub_deeds.specs.Deeds.{outcome_call}
 use Rattle.sub_branch.specs.declared.branch.Branch.{Branch}
 use Rattle.sub_table.specs.Tables.{IsKept}
 use Rattle.sub_core.specs.Subordinates.{Hears, IsAt, NotHeard, SubState, decided, decided_found, outcome_reply, seen}
 use Rattle.sub_core.proofs.Ties.{behind}
 use Rattle.sub_core.proofs.Decisions.{not_told, told_first, told_tied}
+use Rattle.sub_core.proofs.Ends.{not_tied}
 use Rattle.sub_core.proofs.subordinate.Subordinate.told_first.Goals as goal
 
 pub findings-requires : goal.findings-requires
@@ -51,6 +53,19 @@ invariant_of-self g c =
     let m : ManagerSight = g.M.ResourceManager.sight c.tell.new.manager in
     told_tied s c.args.key c.args.case c.args.xid c.args.outcome c.self.invariant kept at c.decide.new.self m
     c.decide.ensures c.in-Ok.ensures.ok
+
+pub invariant_of-self-in-Err-1 : goal.invariant_of-self-in-Err-1
+invariant_of-self-in-Err-1 g c =
+    let s : SubState = record {
+      me = c.self.inside.me;
+      parent = c.self.inside.parent;
+      tree = c.self.inside.tree;
+      given = c.self.inside.given;
+      table = c.self.inside.branches;
+      manager = g.M.ResourceManager.sight c.self.inside.manager;
+    } in
+    not_tied s (g.M.ResourceManager.sight c.tell.new.manager) c.args.xid (outcome_call c.args.outcome)
+    c.in-Err.error c.self.invariant c.in-Err.ensures.err
 
 pub returns-in-Ok-clause-ok : goal.returns-in-Ok-clause-ok
 returns-in-Ok-clause-ok g c =

@@ -30,7 +30,7 @@ returns-clause-ok g c =
       | in-Ok w ↦ subst P (sym w.result-is)
           (subst (λ v. Trims (state g.M.ResourceManager.sight v) (core_of (behind s s.table m))
           w.in-Ok.count) c.self.view_is
-          (trims s m c.records_are_sound.ensures w.in-Ok.count w.in-Ok.ensures.ok))
+          (trims s m c.records_are_sound.ensures c.self.invariant.own w.in-Ok.count w.in-Ok.ensures.ok))
       | in-Err-Memory w ↦ subst P (sym w.result-is) tt
       | in-Err-Device w ↦ subst P (sym w.result-is) tt
       | in-Err-Failed w ↦ subst P (sym w.result-is) tt
@@ -54,16 +54,16 @@ returns-clause-err g c =
       | in-Err-Memory w ↦ subst P (sym w.result-is)
           (subst (λ v. NotTrimmed (state g.M.ResourceManager.sight v) (core_of (behind s s.table m))
           error.Memory) c.self.view_is
-          (not_trimmed s m c.records_are_sound.ensures trim_error.Memory
+          (not_trimmed s m c.records_are_sound.ensures c.self.invariant.own trim_error.Memory
           (subst (λ e. NotTrimmedBy s.manager m e) w.in-Err-Memory.field-0-is w.in-Err-Memory.ensures.err)))
       | in-Err-Device w ↦ subst P (sym w.result-is)
           (subst (λ v. NotTrimmed (state g.M.ResourceManager.sight v) (core_of (behind s s.table m))
           error.Device) c.self.view_is
-          (not_trimmed s m c.records_are_sound.ensures trim_error.Device
+          (not_trimmed s m c.records_are_sound.ensures c.self.invariant.own trim_error.Device
           (subst (λ e. NotTrimmedBy s.manager m e) w.in-Err-Device.field-0-is w.in-Err-Device.ensures.err)))
       | in-Err-Failed w ↦ subst P (sym w.result-is)
           (subst (λ v. NotTrimmed (state g.M.ResourceManager.sight v) (core_of (behind s s.table m))
           error.Failed) c.self.view_is
-          (not_trimmed s m c.records_are_sound.ensures trim_error.Failed
+          (not_trimmed s m c.records_are_sound.ensures c.self.invariant.own trim_error.Failed
           (subst (λ e. NotTrimmedBy s.manager m e) w.in-Err-Failed.field-0-is w.in-Err-Failed.ensures.err)))
     ]

@@ -18,11 +18,11 @@ returns-in-Ok-clause-goes_on c =
     (one_led (state old.world) (state c.apply.new.self) c.args.event c.in-Ok.ensures.ok)
     (search rules)
 
-pub returns-else-eq-2-clause-goes_on : goal.returns-else-eq-2-clause-goes_on
-returns-else-eq-2-clause-goes_on c =
+pub returns-else-eq-3-clause-goes_on : goal.returns-else-eq-3-clause-goes_on
+returns-else-eq-3-clause-goes_on c =
     let old = c.args.self.now in
     let is : is_some old.refusal ≡ false = search rules in
     λ start given h. one_refused start (state old.world) (state c.apply.new.self) given (c.args.event ∷ [])
     old.refusal old.made 0 old.made c.in-Err.refusal is h
     (one_stopped (state old.world) (state c.apply.new.self) c.args.event c.in-Err.refusal c.in-Err.ensures.err)
-    (omega arith) (search rules) (search rules) (search rules)
+    (omega arith) (search rules) (search rules) (search rules) (search rules)

@@ -1,5 +1,6 @@
-use Rattle.std.proofs.Common.{false}
+use Rattle.std.proofs.Common.{false, rules}
 use Rattle.tree_model.specs.Nodes.{ReadsOnly}
+use Rattle.core_model.specs.Makes.{NoneLeft}
 use Rattle.tree_node.proofs.Same.{rests, same_core}
 use Rattle.tree_node.proofs.node.Node.handle.Goals as goal
 
@@ -7,6 +8,6 @@ pub returns-then-not-has_numbers-clause-err : goal.returns-then-not-has_numbers-
 returns-then-not-has_numbers-clause-err g c =
     record {
       answer = record { starts = false; does = false; holding = ReadsOnly };
-      not_made = same_core _;
+      not_made = record { same = same_core _; why = NoneLeft (λ has. search rules) };
       keeps = λ _. rests _;
     }

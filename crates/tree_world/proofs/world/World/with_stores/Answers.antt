@@ -1,19 +1,29 @@
-use Rattle.std.proofs.Common.{subst}
 use Rattle.tree_world.specs.Nodes.{kept_at}
-use Rattle.tree_world.specs.Openings.{AreOpened}
+use Rattle.tree_world.proofs.FromPlaces.{all_opened}
+use Rattle.tree_world.proofs.HandedBack.{handed_back_all}
 use Rattle.tree_world.proofs.Modelled.{keeps_headline, opened_modelled}
-use Rattle.tree_world.proofs.OpenNodes.{opened_tree}
+use Rattle.tree_world.proofs.StorePlaces.{none_open}
 use Rattle.tree_world.proofs.world.World.with_stores.Goals as goal
+
+pub returns-in-Err-clause-err : goal.returns-in-Err-clause-err
+returns-in-Err-clause-err g c =
+    none_open g.L.LogStore.bytes g.L.LogStore.failures c.args.tree c.args.stores.items c.requires
+
+pub returns-in-Err-clause-handed_back : goal.returns-in-Err-clause-handed_back
+returns-in-Err-clause-handed_back g c =
+    handed_back_all g.L.LogStore.bytes g.L.LogStore.forced g.L.LogStore.failures c.args.tree c.args.stores.items
+
+pub invariant_of-result : goal.invariant_of-result
+invariant_of-result g c =
+    opened_modelled c.args.tree _ c.requires
+    (all_opened c.args.tree c.entries-2.result.now (kept_at c.open_from.new.nodes.entries) c.new.result
+    c.entries-2.ensures c.in_default.ensures.ok c.new.ensures.net c.new.ensures.delivered c.new.ensures.entries)
 
 pub returns-clause-opened : goal.returns-clause-opened
 returns-clause-opened g c =
-    let nodes = kept_at c.in_ok-nodes.nodes.entries in
-    opened_tree c.args.tree nodes c.new.result
-    (subst (λ tree. AreOpened tree tree nodes) c.entries.ensures c.in_ok-nodes.ensures.ok)
-    c.new.ensures.net c.new.ensures.delivered c.new.ensures.entries
-
-pub invariant_of-result : goal.invariant_of-result
-invariant_of-result g c = opened_modelled c.args.tree _ c.requires (returns-clause-opened g c)
+    all_opened c.args.tree c.entries-2.result.now (kept_at c.open_from.new.nodes.entries) c.new.result
+    c.entries-2.ensures c.in_default.ensures.ok c.new.ensures.net c.new.ensures.delivered c.new.ensures.entries
 
 pub returns-clause-headline : goal.returns-clause-headline
-returns-clause-headline g c = keeps_headline _ (invariant_of-result g c)
+returns-clause-headline g c =
+    keeps_headline _ (opened_modelled c.args.tree _ c.requires (returns-clause-opened g c))

@@ -1,0 +1,2 @@
+pub mod Migrations
+pub mod Laws

@@ -1,0 +1,26 @@
+use Rattle.std.proofs.Common.{◌≡◌, ◌∙◌, sym, ap, subst, true, arith}
+use Rattle.std.proofs.lemmas.Grind.{common_steps}
+use Rattle.tree_model.specs.Records.{same_bytes}
+use Rattle.log_text.specs.Forms.{header}
+use Rattle.log_rules.specs.order.Logs.{read_frames}
+use Rattle.log_rules.specs.order.Orders.{nothing_seen}
+use Rattle.rec_log.specs.Openings.{Ends, marks_read}
+use Rattle.rec_log.proofs.Settling.{found_sound, read_sound}
+use Rattle.rec_log.proofs.opening.find_marks.Goals as goal
+
+pub returns-clause-ok : goal.returns-clause-ok
+returns-clause-ok c =
+    let t : same_bytes c.split_at.result.0.now (header c.args.form.format) ≡ true =
+    grind (arith, common_steps, c.if-not-is_same.false, c.is_same-2.ensures) in
+    found_sound c.args.form c.args.bytes.now c.in_ok-torn.torn (omega arith)
+    (ap (λ h. same_bytes h (header c.args.form.format)) (sym c.split_at.ensures.front) ∙ t)
+    (subst (λ xs. Ends c.args.form xs c.in_ok-torn.torn) c.split_at.ensures.back c.in_ok-torn.ensures.ok)
+
+pub returns-clause-marks : goal.returns-clause-marks
+returns-clause-marks c =
+    let t : same_bytes c.split_at.result.0.now (header c.args.form.format) ≡ true =
+    grind (arith, common_steps, c.if-not-is_same.false, c.is_same-2.ensures) in
+    c.in_ok-torn.ensures.marks
+    ∙ ap (λ xs. marks_read (read_frames c.args.form 5 nothing_seen 0 xs)) c.split_at.ensures.back
+    ∙ ap marks_read (sym (read_sound c.args.form c.args.bytes.now (omega arith)
+    (ap (λ h. same_bytes h (header c.args.form.format)) (sym c.split_at.ensures.front) ∙ t)))
