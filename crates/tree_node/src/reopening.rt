@@ -32,7 +32,7 @@ use tree_model::{Kind, ProcessId, Reaction, StepError, Tree, TreeEntry};
 /// Why no process goes on over the log in a store.
 #[derive(Clone, Copy, Debug, PartialEq, Eq, Error)]
 pub enum ReopenError {
-    /// A growth was refused; or a coordinator's boots are used up.
+    /// A growth was refused; or a subordinate reads records of its manager that no run makes.
     #[error("no memory")]
     Memory,
     /// The device of the store failed.
@@ -42,7 +42,7 @@ pub enum ReopenError {
     /// header.
     #[error("damaged at byte {0}")]
     Damaged(usize),
-    /// The records are those of no such process.
+    /// The records are those of no such process; or numbers are used up behind them.
     #[error("the records are those of no such process")]
     Unfit,
     /// The log is of the first format, and is to be migrated before.
