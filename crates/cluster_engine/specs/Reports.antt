@@ -2,6 +2,7 @@
 use Rattle.std.specs.Prelude.{◌≡◌, ◌+◌, ◌<◌, ◌⊎◌, ℕ, Option, Some, None, List, [], ◌∷◌, ◌++◌, codes, length}
 use Rattle.tree_model.specs.declared.events.Entry.{Entry}
 use Rattle.tree_model.specs.declared.events.Event.{Event}
+use Rattle.tree_model.specs.declared.events.StepError.TheVariants as steps
 use Rattle.tree_model.specs.declared.records.LogRecord.{LogRecord}
 use Rattle.tree_model.specs.declared.trees.TreeEntry.{TreeEntry}
 use Rattle.tree_model.specs.Errors.{step_error_number}
@@ -72,10 +73,14 @@ pub record RunsTree (output : Output) (status : Status) (tree : List TreeEntry) 
   pub met : IsMet journal pass
   pub tells : Tells output status tree journal logs text
 
--- the number of a refusal as it is printed: a step's own; 9 for what the journal has not; 10 where it is full
+-- the number of a refusal as it is printed, if it is one of the event itself: a step's own; 9 for what the journal
+-- has not; 10 where it is full
 abbrev pub refusal_number : PostError → Option ℕ
 refusal_number Stranger = Some 9
 refusal_number JournalFull = Some 10
+refusal_number (Step steps.Memory) = None
+refusal_number (Step steps.Device) = None
+refusal_number (Step steps.Exhausted) = None
 refusal_number (Step e) = Some (step_error_number e)
 refusal_number Memory = None
 

@@ -1,8 +1,9 @@
 //! What is written of a run that has ended.
 
-ghost use Rattle.std.specs.Prelude.{◌≡◌, IfErr, IfOk, map};
+ghost use Rattle.std.specs.Prelude.{◌≡◌, ◌+◌, ◌<◌, ◌^◌, IfErr, IfOk, Some, map};
 ghost use Rattle.tree_model.specs.Trees.{IsTree};
 ghost use Rattle.report_io.specs.declared.status.Status.TheVariants as ends;
+ghost use Rattle.report_io.specs.Streams.{IsOfRun};
 ghost use Rattle.cluster_engine.specs.Reports.{RefusesBehind, Tells, TellsClosed, refusal_number};
 
 use crate::engine::Output;
@@ -12,21 +13,22 @@ use crate::trace::push_trace;
 use report_io::{Failure, Status};
 use std::alloc::Global;
 use tree_cluster::{Cluster, Journal};
-use tree_engine::push_refused;
+use tree_engine::{own_refusal, push_refused};
 use tree_model::{Entry, LogRecord, StepError, Tree};
 use tree_threads::{Pass, PostError};
 use tree_ties::seats::Seats;
 
 /// The number of a refusal as it is printed: a step's own; 9 for what the journal has not; 10 where it is
-/// full. None: for want of memory.
-fn refusal_number(why: PostError) -> Option<u8>
-    ensures { result ≡ refusal_number why }
+/// full.
+fn refusal_number(why: PostError) -> Result<u8, Failure>
+    ensures number { IfOk result (λ number. refusal_number why ≡ Some number) }
+    ensures why { IfErr result IsOfRun }
 {
     match why {
-        PostError::Stranger => Some(StepError::NoSuch.number()),
-        PostError::JournalFull => Some(10),
-        PostError::Step(error) => Some(error.number()),
-        PostError::Memory => None,
+        PostError::Stranger => Ok(StepError::NoSuch.number()),
+        PostError::JournalFull => Ok(10),
+        PostError::Step(error) => Ok(own_refusal(error)?.number()),
+        PostError::Memory => Err(Failure::Memory),
     }
 }
 
@@ -36,18 +38,14 @@ pub(crate) fn refused_line(
     made: usize,
     why: PostError,
 ) -> Result<(Vec<u8>, Status), Failure>
+    requires { made + 1 < 2 ^ 64 }
     ensures line { IfOk result (λ r. RefusesBehind made r.0.items) }
     ensures status { IfOk result (λ r. r.1 ≡ ends.Stopped) }
-    ensures memory { IfErr result (λ e. e ≡ Failure.Memory) }
+    ensures why { IfErr result IsOfRun }
 {
-    let Some(number) = refusal_number(why) else {
-        return Err(Failure::Memory);
-    };
-    let Some(event) = (made as u64).checked_add(1) else {
-        return Err(Failure::Memory);
-    };
+    let number = refusal_number(why)?;
     let mut out = Vec::new(alloc);
-    push_refused(alloc, &mut out, event, number)?;
+    push_refused(alloc, &mut out, made as u64 + 1, number)?;
     Ok((out, Status::Stopped))
 }
 
@@ -61,7 +59,7 @@ pub(crate) fn closed_text<N: Seats>(
 ) -> Result<(Vec<u8>, Status), Failure>
     requires { (tree ≡ N.tree) × IsTree tree }
     ensures text { IfOk result (λ r. TellsClosed output r.1 tree passes.old r.0.items) }
-    ensures memory { IfErr result (λ e. e ≡ Failure.Memory) }
+    ensures why { IfErr result IsOfRun }
 {
     match cluster.close(passes) {
         Ok((journal, logs)) => {
@@ -93,7 +91,7 @@ fn journal_told(
     requires { IsTree tree }
     ensures text { IfOk result (λ r. Tells output r.1 tree journal.now
         (map (λ log. log.items) logs.now) r.0.items) }
-    ensures memory { IfErr result (λ e. e ≡ Failure.Memory) }
+    ensures why { IfErr result IsOfRun }
 {
     match output {
         Output::Trace => {
@@ -116,7 +114,7 @@ fn told_text(
     requires { IsTree tree }
     ensures text { IfOk result (λ r. Tells Output.Told r.1 tree journal.now
         (map (λ log. log.items) logs.now) r.0.items) }
-    ensures memory { IfErr result (λ e. e ≡ Failure.Memory) }
+    ensures why { IfErr result IsOfRun }
 {
     let mut out = Vec::new(alloc);
     push_told(alloc, &mut out, journal)?;

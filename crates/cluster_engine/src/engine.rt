@@ -3,7 +3,7 @@
 ghost use Rattle.std.specs.Prelude.{◌≡◌, ◌<◌, ◌≤◌, ℕ, List, IfErr, IfOk};
 ghost use Rattle.std.specs.Io.KnownBytes.{Appends, Keeps};
 ghost use Rattle.report_io.specs.declared.status.Status.{Status as AnyStatus};
-ghost use Rattle.report_io.specs.Streams.{IsInput, WritesFront};
+ghost use Rattle.report_io.specs.Streams.{IsInput, IsOfRun, WritesFront};
 ghost use Rattle.tree_model.specs.Trees.{IsTree};
 ghost use Rattle.tree_cluster.specs.Opening.{SeatsTree};
 ghost use Rattle.cluster_engine.specs.Reports.{IsClusterReport, Writes};
@@ -41,8 +41,8 @@ pub enum Output {
 ///
 /// What is told is that of a journal which is a run of the script's tree in the model, of which the
 /// headline holds, and in which mismatches are reported; it has the script's events in order, each under
-/// one caller's number. After a failed read, or where memory is refused, nothing was written; after a
-/// failed write, a beginning of the text. The call may wait.
+/// one caller's number. After a failed read, or where memory is refused, a device fails or numbers are used up,
+/// nothing was written; after a failed write, a beginning of the text. The call may wait.
 pub fn run_cluster<R: Threads + Wait + Sync, G: Gate + Sync, I: Read, W: Write>(
     rt: &R,
     alloc: Global,
@@ -62,7 +62,7 @@ pub fn run_cluster<R: Threads + Wait + Sync, G: Gate + Sync, I: Read, W: Write>(
         × WritesFront (W.contents writer.old) (W.contents writer.new) text) }
     ensures unread { IfErr result (λ e. e ≡ Failure.Read
         → Keeps (W.contents writer.old) (W.contents writer.new)) }
-    ensures memory { IfErr result (λ e. e ≡ Failure.Memory
+    ensures unmade { IfErr result (λ e. IsOfRun e
         → Keeps (W.contents writer.old) (W.contents writer.new)) }
 {
     let input = read_all(alloc, reader)?;
@@ -84,7 +84,7 @@ fn report<R: Threads + Wait + Sync, G: Gate + Sync>(
 ) -> Result<(Vec<u8>, Status), Failure>
     requires { (0 < workers) × (workers ≤ 16) }
     ensures report { IfOk result (λ r. IsClusterReport output r.1 input.now r.0.items) }
-    ensures memory { IfErr result (λ e. e ≡ Failure.Memory) }
+    ensures why { IfErr result IsOfRun }
 {
     match read(alloc, input) {
         Ok((tree, events)) => run_script(rt, alloc, output, workers, gate, tree, &events),
@@ -106,7 +106,7 @@ fn run_script<R: Threads + Wait + Sync, G: Gate + Sync>(
     requires workers { (0 < workers) × (workers ≤ 16) }
     requires tree { IsTree tree }
     ensures text { IfOk result (λ r. Writes output r.1 tree events.now r.0.items) }
-    ensures memory { IfErr result (λ e. e ≡ Failure.Memory) }
+    ensures why { IfErr result IsOfRun }
 {
     let opened = seats(alloc, &tree)?;
     run_seated::<Brand, R, G>(rt, alloc, output, workers, gate, tree, opened, events)
@@ -126,7 +126,7 @@ fn run_seated<N: Seats + Send + Sync, R: Threads + Wait + Sync, G: Gate + Sync>(
     requires workers { (0 < workers) × (workers ≤ 16) }
     requires seats { SeatsTree N.table N.tree tree opened.ties.shared.table_id opened.ties.shared.key.items }
     ensures text { IfOk result (λ r. Writes output r.1 tree events.now r.0.items) }
-    ensures memory { IfErr result (λ e. e ≡ Failure.Memory) }
+    ensures why { IfErr result IsOfRun }
 {
     let copy = copied_tree(alloc, tree.entries())?;
     let Ok((cluster, mut passes)) = Cluster::<N>::new(alloc, copy, opened, workers) else {

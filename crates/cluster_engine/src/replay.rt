@@ -2,6 +2,7 @@
 
 ghost use Rattle.std.specs.Prelude.{◌≡◌, IfErr, IfOk, IsTrue, map};
 ghost use Rattle.tree_model.specs.Trees.{IsTree};
+ghost use Rattle.report_io.specs.Streams.{IsOfRun};
 ghost use Rattle.tree_threads.specs.Posts.{IsFor};
 ghost use Rattle.tree_world.specs.Worlds.{state};
 ghost use Rattle.cluster_engine.specs.Replays.{LeavesLogs, Repeats, RepeatsOne, Replays};
@@ -10,7 +11,8 @@ use crate::records::are_same_logs;
 use log_store::MemoryStore;
 use report_io::Failure;
 use std::alloc::{AllocError, Global};
-use tree_model::{Entry, Event, Happening, Input, LogRecord, StepError, Tree};
+use tree_engine::own_refusal;
+use tree_model::{Entry, Event, Happening, Input, LogRecord, Tree};
 use tree_world::World;
 
 /// How many bytes the first so many of these take.
@@ -44,13 +46,15 @@ fn event_of(alloc: Global, world: &World<MemoryStore>, entry: &Entry) -> Result<
 fn make(alloc: Global, world: &mut World<MemoryStore>, entry: &Entry) -> Result<bool, Failure>
     ensures made { IfOk result (λ made. IsTrue made
         → RepeatsOne entry.now (state world.old) (state world.new)) }
-    ensures memory { IfErr result (λ e. e ≡ Failure.Memory) }
+    ensures why { IfErr result IsOfRun }
 {
     let event = event_of(alloc, world, entry)?;
     match world.apply(event) {
         Ok(()) => Ok(true),
-        Err(StepError::Memory) => Err(Failure::Memory),
-        Err(_) => Ok(false),
+        Err(refusal) => {
+            own_refusal(refusal)?;
+            Ok(false)
+        }
     }
 }
 
@@ -62,7 +66,7 @@ fn make_all(
 ) -> Result<bool, Failure>
     ensures made { IfOk result (λ made. IsTrue made
         → Repeats journal.now (state world.old) (state world.new)) }
-    ensures memory { IfErr result (λ e. e ≡ Failure.Memory) }
+    ensures why { IfErr result IsOfRun }
 {
     for place in 0..journal.len() {
         if !make(alloc, world, &journal[place].1)? {
@@ -81,7 +85,7 @@ fn leaves(
 ) -> Result<bool, Failure>
     ensures same { IfOk result (λ same. IsTrue same
         → LeavesLogs journal.now (map (λ log. log.items) logs.now) (state world.old) (state world.new)) }
-    ensures memory { IfErr result (λ e. e ≡ Failure.Memory) }
+    ensures why { IfErr result IsOfRun }
 {
     if !make_all(alloc, world, journal)? {
         return Ok(false);
@@ -101,7 +105,7 @@ pub fn is_replayed(
     requires { IsTree tree }
     ensures same { IfOk result (λ same. IsTrue same
         → Replays tree journal.now (map (λ log. log.items) logs.now)) }
-    ensures memory { IfErr result (λ e. e ≡ Failure.Memory) }
+    ensures why { IfErr result IsOfRun }
 {
     let Ok(mut world) = World::new(alloc, tree) else {
         return Err(Failure::Memory);

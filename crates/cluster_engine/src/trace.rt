@@ -1,6 +1,7 @@
 //! The journal as a trace.
 
 ghost use Rattle.std.specs.Prelude.{◌≡◌, ◌+◌, ◌++◌, IfErr, IfOk, OnOk, length, string_bytes};
+ghost use Rattle.report_io.specs.Streams.{IsUsedUp};
 ghost use Rattle.trace_lines.specs.Trace.{entries_text, entry_text};
 ghost use Rattle.tree_engine.specs.Trees.{opened_text, opening_text};
 ghost use Rattle.tree_ties.specs.Views.{entries_in};
@@ -37,16 +38,16 @@ fn push_opened(alloc: Global, out: &mut Vec<u8>, tree: &[TreeEntry]) -> Result<(
     Ok(())
 }
 
-/// The lines of an entry, before which so many messages were sent. How many were with its own. 2^64
-/// messages are taken for want of memory.
+/// The lines of an entry, before which so many messages were sent. How many were with its own. Exhausted: 2^64
+/// or more.
 #[tactic(auto, unfolding(trace_lines::specs::Trace::entry_text))]
 fn push_entry(out: &mut Vec<u8>, sent: u64, entry: &Entry) -> Result<u64, Failure>
     ensures sent { IfOk result (λ next. next ≡ sent + length entry.now.reaction.messages) }
     ensures text { OnOk result (out.new.items ≡ out.old.items ++ entry_text sent entry.now) }
-    ensures memory { IfErr result (λ e. e ≡ Failure.Memory) }
+    ensures why { IfErr result IsUsedUp }
 {
     let Some(next) = sent.checked_add(entry.reaction.messages.len() as u64) else {
-        return Err(Failure::Memory);
+        return Err(Failure::Exhausted);
     };
     let process = entry.step.process.0;
     push_begun(out, &entry.reaction.begun)?;
@@ -60,7 +61,7 @@ fn push_entry(out: &mut Vec<u8>, sent: u64, entry: &Entry) -> Result<u64, Failur
 /// The lines of these entries.
 fn push_entries(out: &mut Vec<u8>, journal: &[(u64, Entry)]) -> Result<(), Failure>
     ensures text { OnOk result (out.new.items ≡ out.old.items ++ entries_text 0 (entries_in journal.now)) }
-    ensures memory { IfErr result (λ e. e ≡ Failure.Memory) }
+    ensures why { IfErr result IsUsedUp }
 {
     let mut sent = 0;
     for place in 0..journal.len() {
@@ -69,7 +70,8 @@ fn push_entries(out: &mut Vec<u8>, journal: &[(u64, Entry)]) -> Result<(), Failu
     Ok(())
 }
 
-/// Adds the trace of these entries, as a tree on one thread that makes their events writes it.
+/// Adds the trace of these entries, as a tree on one thread that makes their events writes it. Exhausted: they
+/// sent 2^64 messages.
 pub(crate) fn push_trace(
     alloc: Global,
     out: &mut Vec<u8>,
@@ -77,7 +79,7 @@ pub(crate) fn push_trace(
     journal: &[(u64, Entry)],
 ) -> Result<(), Failure>
     ensures text { OnOk result (out.new.items ≡ out.old.items ++ journal_text tree.now journal.now) }
-    ensures memory { IfErr result (λ e. e ≡ Failure.Memory) }
+    ensures why { IfErr result IsUsedUp }
 {
     push_opened(alloc, out, tree)?;
     push_entries(out, journal)?;

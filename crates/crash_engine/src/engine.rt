@@ -3,7 +3,7 @@
 ghost use Rattle.std.specs.Prelude.{◌≡◌, ℕ, List, IfErr, IfOk};
 ghost use Rattle.std.specs.Io.KnownBytes.{Appends, Keeps};
 ghost use Rattle.tree_model.specs.Trees.{IsTree};
-ghost use Rattle.report_io.specs.Streams.{IsInput, WritesFront};
+ghost use Rattle.report_io.specs.Streams.{IsInput, IsOfRun, WritesFront};
 ghost use Rattle.crash_engine.specs.Trials.{GoesOver, known_by};
 ghost use Rattle.crash_engine.specs.Crashes.{IsCrashReport};
 ghost use Rattle.crash_engine.specs.Texts.{ending_by};
@@ -55,7 +55,7 @@ fn try_events<P: Write>(
 ) -> Result<(Vec<Trial>, Refusal), Failure>
     requires { IsTree tree.now }
     ensures goes { IfOk result (λ r. GoesOver tree.now (known_by known.now) events.now r.1 r.0.items) }
-    ensures memory { IfErr result (λ e. e ≡ Failure.Memory) }
+    ensures why { IfErr result IsOfRun }
 {
     let mut trials = Vec::new(alloc);
     for made in 0..events.len() {
@@ -86,7 +86,7 @@ fn answer<P: Write>(
     progress: &mut P,
 ) -> Result<(Vec<u8>, Ending), Failure>
     ensures report { IfOk result (λ r. IsCrashReport r.1 input.now r.0.items) }
-    ensures memory { IfErr result (λ e. e ≡ Failure.Memory) }
+    ensures why { IfErr result IsOfRun }
 {
     match read(alloc, input) {
         Ok((tree, events)) => {
@@ -109,11 +109,11 @@ fn answer<P: Write>(
 /// more than that, and the numbers of crashes; behind them which event was refused, if one was, or alone why
 /// the script was.
 ///
-/// Each of these runs is one of the model: the headline holds of it, and mismatches are reported in it. The time goes with the square of the
-/// number of events. `progress` gets a line for each percent of them; a failed write there is no failure of
-/// the run.
-/// After a failed read, or where memory is refused, nothing was written; after a failed write, a beginning
-/// of the text.
+/// Each of these runs is one of the model: the headline holds of it, and mismatches are reported in it. The
+/// time goes with the square of the number of events. `progress` gets a line for each percent of them; a failed
+/// write there is no failure of the run.
+/// After a failed read, or where memory is refused, a device fails or numbers are used up, nothing was written;
+/// after a failed write, a beginning of the text.
 pub fn run_crash<R: Read, W: Write, P: Write>(
     alloc: Global,
     reader: &mut R,
@@ -129,7 +129,7 @@ pub fn run_crash<R: Read, W: Write, P: Write>(
         × WritesFront (W.contents writer.old) (W.contents writer.new) text) }
     ensures unread { IfErr result (λ e. e ≡ Failure.Read
         → Keeps (W.contents writer.old) (W.contents writer.new)) }
-    ensures memory { IfErr result (λ e. e ≡ Failure.Memory
+    ensures unmade { IfErr result (λ e. IsOfRun e
         → Keeps (W.contents writer.old) (W.contents writer.new)) }
 {
     let input = read_all(alloc, reader)?;

@@ -1,10 +1,12 @@
 //! Where crashes are tried.
 
-ghost use Rattle.std.specs.Prelude.{◌≡◌, ◌++◌, IfOk, OnOk};
+ghost use Rattle.std.specs.Prelude.{◌≡◌, ◌++◌, IfErr, IfOk, OnOk};
+ghost use Rattle.report_io.specs.Streams.{IsUsedUp};
 ghost use Rattle.tree_world.specs.Worlds.{state};
 ghost use Rattle.crash_engine.specs.Points.{crash_of, points_at, points_in};
 
 use log_store::MemoryStore;
+use report_io::Failure;
 use std::alloc::{AllocError, Global};
 use tree_model::{Event, ProcessId};
 use tree_world::World;
@@ -17,15 +19,16 @@ pub struct Point {
 }
 
 /// The points of a process whose unforced records take so many bytes: it keeps none of them, or the first,
-/// and so on to all. 2^64 bytes are taken for want of memory.
-fn push_points(points: &mut Vec<Point>, process: ProcessId, sizes: &[u64]) -> Result<(), AllocError>
-    ensures { OnOk result (points.new.items ≡ points.old.items ++ points_at process sizes.now) }
+/// and so on to all. Exhausted: they take 2^64 bytes or more.
+fn push_points(points: &mut Vec<Point>, process: ProcessId, sizes: &[u64]) -> Result<(), Failure>
+    ensures ok { OnOk result (points.new.items ≡ points.old.items ++ points_at process sizes.now) }
+    ensures why { IfErr result IsUsedUp }
 {
     let mut keep: u64 = 0;
     for size in sizes {
         points.push(Point { process, keep })?;
         let Some(next) = keep.checked_add(*size) else {
-            return Err(AllocError);
+            return Err(Failure::Exhausted);
         };
         keep = next;
     }
@@ -34,10 +37,11 @@ fn push_points(points: &mut Vec<Point>, process: ProcessId, sizes: &[u64]) -> Re
 }
 
 /// The points of a tree as it stands: for each process, in the order of the tree, each number of its
-/// unforced records that a crash may leave.
+/// unforced records that a crash may leave. Exhausted: those of one take 2^64 bytes or more.
 #[tactic(auto, unfolding(crate::specs::Points::points_in))]
-pub fn points_of(alloc: Global, world: &World<MemoryStore>) -> Result<Vec<Point>, AllocError>
-    ensures { IfOk result (λ points. points.items ≡ points_in (state world.now)) }
+pub fn points_of(alloc: Global, world: &World<MemoryStore>) -> Result<Vec<Point>, Failure>
+    ensures ok { IfOk result (λ points. points.items ≡ points_in (state world.now)) }
+    ensures why { IfErr result IsUsedUp }
 {
     let mut points = Vec::new(alloc);
     for entry in world.tree().entries() {

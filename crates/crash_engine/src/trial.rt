@@ -9,6 +9,7 @@ ghost use Rattle.tree_model.specs.declared.trees.TreeEntry.{TreeEntry};
 ghost use Rattle.tree_model.specs.Trees.{IsTree};
 ghost use Rattle.tree_world.specs.Worlds.{state};
 ghost use Rattle.tree_engine.specs.Runs.{Begins};
+ghost use Rattle.report_io.specs.Streams.{IsOfRun};
 ghost use Rattle.crash_engine.specs.Trials.{Adds, AddsTrials, EndsAlone, EndsWith, Leaves, Tries, known_by, known_of, left_beyond, made_by, nothing_known, trial_of};
 
 use crate::auditing::{Left, asks_of, audit_of, cases_beyond, doubts_of, mismatches_of};
@@ -95,7 +96,7 @@ fn crash(
     requires { (tree : List TreeEntry) × Begins tree run.old }
     ensures tries { IfOk result (λ found. (tree : List TreeEntry) → Begins tree run.old
         → Tries tree (known_by known.now) events.now point found) }
-    ensures memory { IfErr result (λ e. e ≡ Failure.Memory) }
+    ensures why { IfErr result IsOfRun }
 {
     run.make_all(alloc, events)?;
     run.make_all(alloc, &crash_events(alloc, point)?)?;
@@ -118,7 +119,7 @@ pub fn try_point(
 ) -> Result<Found, Failure>
     requires { IsTree tree.now }
     ensures tries { IfOk result (λ found. Tries tree.now (known_by known.now) events.now point found) }
-    ensures memory { IfErr result (λ e. e ≡ Failure.Memory) }
+    ensures why { IfErr result IsOfRun }
 {
     let mut run = opened(alloc, tree)?;
     let found = crash(alloc, known, &mut run, events, point);
@@ -155,7 +156,7 @@ fn try_points(
     requires { IsTree tree.now }
     ensures tried { OnOk result (AddsTrials tree.now (known_by known.now) events.now points.now
         trials.old.items trials.new.items) }
-    ensures memory { IfErr result (λ e. e ≡ Failure.Memory) }
+    ensures why { IfErr result IsOfRun }
 {
     for point in points {
         let found = try_point(alloc, tree, known, events, Some(*point))?;
@@ -176,7 +177,7 @@ fn try_behind(
     requires { Begins tree.now run.old }
     ensures adds { IfOk result (λ refusal. Adds tree.now (known_by known.now) events.now refusal
         trials.old.items trials.new.items) }
-    ensures memory { IfErr result (λ e. e ≡ Failure.Memory) }
+    ensures why { IfErr result IsOfRun }
 {
     run.make_all(alloc, events)?;
     let refusal = run.refusal();
@@ -199,7 +200,7 @@ pub fn try_event(
     requires { IsTree tree.now }
     ensures adds { IfOk result (λ refusal. Adds tree.now (known_by known.now) events.now refusal
         trials.old.items trials.new.items) }
-    ensures memory { IfErr result (λ e. e ≡ Failure.Memory) }
+    ensures why { IfErr result IsOfRun }
 {
     let mut run = opened(alloc, tree)?;
     let refusal = try_behind(alloc, tree, known, &mut run, events, trials);
@@ -212,7 +213,7 @@ fn made_of(alloc: Global, tree: &Tree, events: &[Event]) -> Result<usize, Failur
     requires { IsTree tree.now }
     ensures made { IfOk result (λ made. (refusal : AnyRefusal) × (end : WorldState)
         × Plays tree.now events.now refusal end × (made ≡ made_by events.now refusal)) }
-    ensures memory { IfErr result (λ e. e ≡ Failure.Memory) }
+    ensures why { IfErr result IsOfRun }
 {
     let mut run = opened(alloc, tree)?;
     let made = run.make_all(alloc, events);
@@ -230,7 +231,7 @@ fn made_of(alloc: Global, tree: &Tree, events: &[Event]) -> Result<usize, Failur
 pub fn try_alone(alloc: Global, tree: &Tree, events: &[Event]) -> Result<Found, Failure>
     requires { IsTree tree.now }
     ensures ends { IfOk result (λ found. EndsAlone tree.now events.now found) }
-    ensures memory { IfErr result (λ e. e ≡ Failure.Memory) }
+    ensures why { IfErr result IsOfRun }
 {
     let made = made_of(alloc, tree, events)?;
     let nothing = Left::nothing(alloc);

@@ -40,11 +40,9 @@ fn push_reason(
     input: &[u8],
     run: &mut Run,
     events: &[Event],
-) -> Result<(), AllocError> {
+) -> Result<(), Failure> {
     let mut steps = Vec::new(alloc);
-    if play(alloc, run, events, &mut steps).is_err() {
-        return Err(AllocError);
-    }
+    play(alloc, run, events, &mut steps)?;
     let Some((made, refusal)) = run.refusal() else {
         return Ok(());
     };
@@ -59,7 +57,8 @@ fn push_reason(
         steps: steps.as_slice(),
     };
     let fault = history.reason(event, refusal);
-    push_refused(alloc, out, input, number, fault)
+    push_refused(alloc, out, input, number, fault)?;
+    Ok(())
 }
 
 /// Adds why an event of a script is refused, if one is.
@@ -69,24 +68,24 @@ fn push_events(
     input: &[u8],
     tree: Tree,
     events: &[Event],
-) -> Result<(), AllocError> {
+) -> Result<(), Failure> {
     if let Err(_) = tree.check() {
         return Ok(());
     }
-    let Ok(mut run) = Run::open(alloc, tree) else {
-        return Err(AllocError);
-    };
+    let mut run = Run::open(alloc, tree)?;
     let told = push_reason(alloc, out, input, &mut run, events);
     run.close();
     told
 }
 
 /// Adds why a tree script, or an event of it, was refused.
-fn push_tree(alloc: Global, out: &mut String, input: &[u8]) -> Result<(), AllocError> {
+fn push_tree(alloc: Global, out: &mut String, input: &[u8]) -> Result<(), Failure> {
     match read(alloc, input) {
         Ok((tree, events)) => push_events(alloc, out, input, tree, &events),
-        Err(ScriptError::Fault(fault)) => push_fault(alloc, out, Script::Tree, input, fault),
-        Err(ScriptError::Memory) => Err(AllocError),
+        Err(ScriptError::Fault(fault)) => {
+            Ok(push_fault(alloc, out, Script::Tree, input, fault)?)
+        }
+        Err(ScriptError::Memory) => Err(Failure::Memory),
     }
 }
 
@@ -118,23 +117,25 @@ fn push_logs(alloc: Global, out: &mut String, input: &[u8]) -> Result<(), AllocE
 }
 
 /// Why the program that reads such a script refused this input, or an event of it, in some lines; none, where
-/// it did not.
-pub fn refusal_text(alloc: Global, script: Script, input: &[u8]) -> Result<String, AllocError> {
+/// it did not. An error says why the run could not be made again, or that memory was refused.
+pub fn refusal_text(alloc: Global, script: Script, input: &[u8]) -> Result<String, Failure> {
     let mut out = String::new(alloc);
     match script {
         Script::Tree => push_tree(alloc, &mut out, input)?,
         Script::Xa => push_xa(alloc, &mut out, input)?,
         Script::Logs => push_logs(alloc, &mut out, input)?,
     }
-    cleaned(alloc, &out)
+    Ok(cleaned(alloc, &out)?)
 }
 
-/// Which of reading, writing and memory failed, and what may be done.
+/// Which of reading, writing, memory, devices and numbers failed, and what may be done.
 pub fn failure_text(alloc: Global, failure: Failure) -> Result<String, AllocError> {
     let advice = match failure {
         Failure::Read => "standard input cannot be read; is it a file, and no directory?",
         Failure::Write => "standard output takes no more; is its disk full?",
         Failure::Memory => "there is too little memory for this input",
+        Failure::Device => "nothing was kept of the run; run it again",
+        Failure::Exhausted => "this input wants more numbers than there are; split it",
     };
     format!(in alloc; "rstar: {failure}\n{advice}\n")
 }

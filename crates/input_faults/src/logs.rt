@@ -80,7 +80,8 @@ pub fn damaged_log(
                     place,
                 }));
             }
-            Err(_) => return Err(AllocError),
+            Err(OpenError::Memory) => return Err(AllocError),
+            Err(OpenError::Device | OpenError::OldFormat) => unreachable!(),
         }
     }
     Ok(None)

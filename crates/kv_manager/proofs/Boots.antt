@@ -1,10 +1,10 @@
 -- The record of the next boot may follow, and what a crash leaves may follow one another.
-use Rattle.std.proofs.Common.{◌≡◌, ◌<◌, ◌+◌, ◌^◌, ◌-◌, ℕ, Bool, true, false, ◌||◌, cond, List, [], ◌∷◌, ◌++◌, append_assoc, Option, Some, None, refl, sym, ap, subst, ◌∙◌, is_some, nat_lt, nat_le, arith, inl, inr}
+use Rattle.std.proofs.Common.{◌≡◌, ◌<◌, ◌+◌, ◌^◌, ◌-◌, ℕ, Bool, true, false, ◌||◌, cond, List, [], ◌∷◌, ◌++◌, Option, Some, None, refl, sym, ap, subst, ◌∙◌, is_some, nat_lt, arith, inl, inr}
 use Rattle.std.proofs.lemmas.Bool.Decides.{nat_tests}
 use Rattle.tree_model.specs.declared.records.LogRecord.{LogRecord}
 use Rattle.log_rules.specs.order.Orders.{SeenLog, after, boot_rises, opened as opens_log}
 use Rattle.log_text.specs.Made.{frame_record}
-use Rattle.rec_log.specs.Sights.{LogSight, left_by, record_size, records_of, whole_within}
+use Rattle.rec_log.specs.Sights.{LogSight, left_by, records_of}
 use Rattle.tree_model.specs.Store.{Data}
 use Rattle.tree_model.specs.declared.names.Kind.TheVariants.{Manager}
 use Rattle.log_rules.specs.sound.Sound.{IsSound}
@@ -16,7 +16,8 @@ use Rattle.kv_manager.specs.declared.restart.RecordsError.TheVariants.{Exhausted
 use Rattle.kv_manager.specs.Restarts.{AreLastBoots, IsReady, NotRebuilt, next_boot, opened}
 use Rattle.kv_manager.specs.Sights.{IsKept, KvSight, are_ordered}
 use Rattle.kv_manager.proofs.Bounds.{never_unfit}
-use Rattle.kv_manager.proofs.Fronts.{each_front, ordered_front, seen_one}
+use Rattle.manager_model.proofs.Lefts.{each_left, left_rest}
+use Rattle.kv_manager.proofs.Fronts.{ordered_front, seen_one}
 use Rattle.kv_manager.proofs.Turns.{data_behind}
 
 rises_next : (o : Option ℕ) (b : ℕ) → next_boot o ≡ Some b → boot_rises o b ≡ true
@@ -65,24 +66,6 @@ ready_ordered ls r ready =
 
 -- What a crash leaves is a front.
 
-whole_rest : (n : ℕ) (ls : List LogRecord) → (rest : List LogRecord) × (whole_within n ls ++ rest ≡ ls)
-unfolding whole_within
-whole_rest n [] = ([], refl)
-whole_rest n (l ∷ ls) = by_test (nat_le (record_size l) n) (whole_rest (n - record_size l) ls)
-  where
-    by_test : (b : Bool) → (rest : List LogRecord) × (whole_within (n - record_size l) ls ++ rest ≡ ls)
-        → (rest : List LogRecord) × (cond b (l ∷ whole_within (n - record_size l) ls) [] ++ rest ≡ l ∷ ls)
-    by_test true h = (h.0, ap (λ ks. l ∷ ks) h.1)
-    by_test false h = (l ∷ ls, refl)
-
-pub left_rest : (s : LogSight) (keep : ℕ) → (rest : List LogRecord) × (left_by s keep ++ rest ≡ records_of s.kept)
-left_rest s keep =
-    let rest = whole_rest (s.behind + keep) s.kept.unforced in (
-      rest.0,
-      append_assoc s.kept.forced (whole_within (s.behind + keep) s.kept.unforced) rest.0
-          ∙ ap (λ us. s.kept.forced ++ us) rest.1,
-    )
-
 pub left_ordered : (s : LogSight) (keep : ℕ) → are_ordered (records_of s.kept) ≡ true
     → are_ordered (left_by s keep) ≡ true
 left_ordered s keep h =
@@ -98,9 +81,8 @@ left_counted s keep h =
 pub left_fits : (s : KvSight) (keep : ℕ) → IsKept s → AllByRecursion (IsSound Manager) (records_of s.log.sight.kept)
     → NotRebuilt (left_by s.log.sight keep) Unfit → ⊥
 left_fits s keep kept sound why =
-    let rest = left_rest s.log.sight keep in
     never_unfit (left_by s.log.sight keep) (left_ordered s.log.sight keep kept.ordered)
-    (each_front (IsSound Manager) (left_by s.log.sight keep) rest.0 (subst (AllByRecursion (IsSound Manager)) (sym rest.1) sound)) why
+    (each_left (IsSound Manager) s.log.sight keep sound) why
 
 pub left_spent : (s : KvSight) (keep : ℕ) → IsKept s → NotRebuilt (left_by s.log.sight keep) Exhausted
     → AreLastBoots (left_by s.log.sight keep)

@@ -1,7 +1,6 @@
 -- What has been seen of a front of records, and behind one record more.
 use Rattle.std.proofs.Common.{◌≡◌, ℕ, true, List, [], ◌∷◌, ◌++◌, append_assoc, Option, Some, None, refl, sym, ap, ◌∙◌, is_some, take, drop}
 use Rattle.std.proofs.lemmas.List.{take-append-drop}
-use Rattle.std.specs.List.{AllByRecursion}
 use Rattle.tree_model.specs.declared.records.LogRecord.{LogRecord}
 use Rattle.log_rules.specs.order.Orders.{SeenLog, after, nothing_seen}
 use Rattle.kv_core.specs.Replays.{seen_after, seen_of}
@@ -58,9 +57,3 @@ seen_one ls s l h = seen_more (Some nothing_seen) ls (l ∷ []) ∙ ap (λ o. se
 pub has_more : (ls : List LogRecord) (l : LogRecord) → has_records (ls ++ l ∷ []) ≡ true
 has_more [] l = refl
 has_more (k ∷ ls) l = refl
-
--- what holds of each record holds of each of a front
-pub each_front : (P : LogRecord → Type 0) (ls ks : List LogRecord) → AllByRecursion P (ls ++ ks)
-    → AllByRecursion P ls
-each_front P [] ks h = tt
-each_front P (l ∷ ls) ks h = (h.0, each_front P ls ks h.1)

@@ -16,6 +16,7 @@ pub mod From
 pub mod Follows
 pub mod Staying
 pub mod Ordered
+pub mod InOrder
 pub mod Boots
 pub mod TrimOrder
 pub mod TrimCounts

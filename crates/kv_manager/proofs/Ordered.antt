@@ -1,37 +1,35 @@
 -- The record that a branch writes may follow those of the log.
-use Rattle.std.proofs.Common.{◌≡◌, ◌≤◌, ◌<◌, ◌+◌, ◌^◌, ◌-◌, ℕ, Bool, true, false, not, ◌||◌, cond, List, [], ◌∷◌, ◌++◌, Option, Some, None, refl, sym, ap, subst, ◌∙◌, is_some, nat_lt, nat_le, length, arith}
-use Rattle.std.proofs.lemmas.Bool.Decides.{nat_tests}
+use Rattle.std.proofs.Common.{◌≡◌, ◌≤◌, ◌<◌, ◌+◌, ◌^◌, true, not, Option, Some, None, refl, sym, ap, ◌∙◌, is_some, length}
 use Rattle.xa_tables.specs.declared.call.Call.{Call}
 use Rattle.xa_tables.specs.declared.states.BranchState.{BranchState}
 use Rattle.xa_tables.specs.declared.states.BranchState.TheVariants.{S0, S1, S2, S3, S4, S5}
 use Rattle.xa_xid.specs.declared.xid.Xid.{Xid}
 use Rattle.xa_assoc.specs.Restored.{state_left}
 use Rattle.xa_heur.specs.declared.decision.Decision.{Decision}
-use Rattle.tree_model.specs.declared.records.LogRecord.{LogRecord}
 use Rattle.log_rules.specs.declared.order.seen.Mark.{Mark}
 use Rattle.log_rules.specs.declared.order.seen.Mark.TheVariants.{Open, Decided, Told}
 use Rattle.log_rules.specs.declared.order.seen.Promise.{Promise}
-use Rattle.log_rules.specs.order.Orders.{SeenLog, after, boot_rises, found, is_open}
-use Rattle.rec_log.specs.Sights.{LogSight, left_by, record_size, records_of, whole_within}
+use Rattle.log_rules.specs.order.Orders.{SeenLog, found, is_open}
+use Rattle.rec_log.specs.Sights.{records_of}
 use Rattle.kv_store.specs.writes.Writes.{AreWrites, writes_of}
 use Rattle.kv_turns.specs.declared.entries.Entry.{Entry}
 use Rattle.kv_turns.specs.declared.turns.Turn.{Turn}
 use Rattle.kv_turns.specs.Turns.{applies, entry_record}
-use Rattle.kv_core.specs.Stores.{IsTidy, KeySight, state_of}
+use Rattle.kv_core.specs.Stores.{IsTidy, state_of}
 use Rattle.kv_core.specs.Replays.{seen_of}
 use Rattle.kv_core.proofs.Lawful.{lawful_of}
-use Rattle.kv_manager.specs.Restarts.{LeavesStore, next_boot, opened}
-use Rattle.kv_manager.specs.Sights.{IsKept, IsLogged, KvSight, are_ordered, doubt_of}
+use Rattle.kv_manager.specs.Restarts.{opened}
+use Rattle.kv_manager.specs.Sights.{IsKept, IsLogged, KvSight, doubt_of}
 use Rattle.kv_manager.specs.Turns.{IsDueTurn}
 use Rattle.kv_manager.proofs.Marks.{agrees_of, state_by}
 use Rattle.kv_manager.proofs.Turns.{IsFollowed, due_untold, record_counts}
-use Rattle.kv_manager.proofs.Fronts.{ordered_front, seen_one, seen_where}
+use Rattle.kv_manager.proofs.Fronts.{seen_one, seen_where}
 use Rattle.kv_manager.proofs.Steps.{boots_of}
 use Rattle.kv_manager.proofs.Told.{is_told, told_mark, told_of}
 use Rattle.kv_manager.proofs.From.{due_from}
 use Rattle.kv_manager.proofs.Follows.{StandsWith, follows}
 
-open_three : (o : Option Promise) → is_open o ≡ true → state_by o ≡ S3
+pub open_three : (o : Option Promise) → is_open o ≡ true → state_by o ≡ S3
 open_three None h = absurd (cc)
 open_three (Some p) h = ap (λ b. state_left (not b)) h
 

@@ -96,6 +96,10 @@ impl<L: LogStore> ResourceManager for KvManager<L> {
         KvManager::records_are_sound(self);
     }
 
+    fn records_are_in_order(&self) {
+        self.records_are_ordered();
+    }
+
     fn branches_are_listed_once(&self) {
         KvManager::branches_are_listed_once(self);
     }

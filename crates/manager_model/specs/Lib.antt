@@ -4,6 +4,7 @@ pub mod Turns
 pub mod Works
 pub mod Ends
 pub mod Opening
+pub mod Orders
 pub mod Numbers
 pub mod Restarting
 pub mod Trimming

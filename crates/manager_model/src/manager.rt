@@ -10,6 +10,7 @@ ghost use Rattle.manager_model.specs.Works.{WorkRefused, Works};
 ghost use Rattle.manager_model.specs.Ends.{Finishes, is_left};
 ghost use Rattle.manager_model.specs.Deciding.{Decides, NotDecided};
 ghost use Rattle.manager_model.specs.Restarting.{NotRestarted, Restarts};
+ghost use Rattle.manager_model.specs.Orders.{AreInOrder};
 ghost use Rattle.manager_model.specs.Trimming.{NotTrimmed, Trims};
 ghost use Rattle.rec_log.specs.Sights.{left_by, records_of};
 ghost use Rattle.log_rules.specs.sound.Sound.{IsSound};
@@ -146,6 +147,10 @@ pub trait ResourceManager {
     /// Each record of its log can stand in a manager's log: it was read off bytes.
     fn records_are_sound(&self)
         ensures { AllByRecursion (IsSound kind.Manager) (records_of (sight self.now).log.kept) };
+
+    /// Each record of its log may stand behind those before it, also where its device has failed.
+    fn records_are_in_order(&self)
+        ensures { AreInOrder (records_of (sight self.now).log.kept) };
 
     /// Each branch that it knows is listed once, and none that is in S0.
     fn branches_are_listed_once(&self)

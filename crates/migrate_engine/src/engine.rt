@@ -72,7 +72,8 @@ fn migrated(
             Err(MigrateError::Damaged(place)) => {
                 return Ok((damaged(alloc, entry.id, place)?, Status::Refused));
             }
-            Err(_) => return Err(AllocError),
+            Err(MigrateError::Memory) => return Err(AllocError),
+            Err(MigrateError::Device) => unreachable!(),
         }
     }
     Ok((logs_text(alloc, entries, &new)?, Status::Ended))

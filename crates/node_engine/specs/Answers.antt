@@ -81,7 +81,12 @@ IsRefusal e = ⊤
 abbrev pub IsUnanswered : NodeFailure → Type 0
 IsUnanswered failure.Memory = ⊤
 IsUnanswered failure.Device = ⊤
+IsUnanswered failure.Exhausted = ⊤
 IsUnanswered _ = ⊥
+
+-- a failure behind which the lines of a reaction are not shown: memory was refused, or numbers are used up
+abbrev pub IsUnshown : NodeFailure → Type 0
+IsUnshown e = (e ≡ failure.Memory) ⊎ (e ≡ failure.Exhausted)
 
 -- Inputs.
 

@@ -7,7 +7,7 @@ use Rattle.std.specs.Io.KnownBytes.{Appends, Consumes}
 use Rattle.tree_model.specs.declared.events.Reaction.{Reaction}
 use Rattle.report_io.specs.Streams.{WritesFront}
 use Rattle.node_engine.specs.declared.failure.NodeFailure.{NodeFailure}
-use Rattle.node_engine.specs.declared.failure.NodeFailure.TheVariants.{Read, Memory, Write, Device}
+use Rattle.node_engine.specs.declared.failure.NodeFailure.TheVariants.{Read, Memory, Write, Device, Exhausted}
 use Rattle.node_engine.specs.Answers.{AnswersLine, NodeState, Shows, TakesLine}
 
 -- a line with its end, as it stands in an input: no byte but the last is a line feed
@@ -88,6 +88,7 @@ abbrev pub Stops : Stand → Reaction → Stand → NodeFailure → Type 0
 Stops start opening now Read = Unread start opening now
 Stops start opening now Memory = Unanswered start opening now
 Stops start opening now Device = Unanswered start opening now
+Stops start opening now Exhausted = Unanswered start opening now
 Stops start opening now Write = Partly start opening now
 
 -- of what it did as it opened a front was written
@@ -106,6 +107,7 @@ abbrev pub StopsOpening : Stand → Reaction → Stand → NodeFailure → Type 
 StopsOpening start opening now Read = ⊥
 StopsOpening start opening now Memory = ShowsNothing start now
 StopsOpening start opening now Device = ⊥
+StopsOpening start opening now Exhausted = ShowsNothing start now
 StopsOpening start opening now Write = ShowsFront start opening now
 
 -- how a node stands that ended before its input did

@@ -13,7 +13,7 @@ use Rattle.rec_log.specs.Openings.{Opens}
 use Rattle.rec_log.specs.Sights.{LogState, records_of}
 use Rattle.inquire_core.specs.Readings.{place_below}
 use Rattle.tree_node.specs.Nodes.{core_of, data_of}
-use Rattle.tree_node.specs.Reopenings.{NotReopened, ReopensAs, form_by}
+use Rattle.tree_node.specs.Reopenings.{NotReopened, ReopensAs, form_by, place_by}
 use Rattle.node_engine.specs.declared.serving.Serving.{Serving}
 use Rattle.node_engine.specs.declared.starting.StartError.{StartError}
 use Rattle.node_engine.specs.declared.starting.StartError.TheVariants.{Reopen, Stranger}
@@ -47,4 +47,4 @@ abbrev pub NoStart : {L : Type 0} → (L → List ℕ) → (L → ℕ) → (L �
     → StartError → Type 0
 NoStart bytes forced failures tree e store Stranger = NamesOthers tree e (bytes store)
 NoStart bytes forced failures tree e store (Reopen error) =
-    NotReopened bytes forced failures (form_by e) store error
+    NotReopened bytes forced failures (form_by e) (place_by tree e) store error

@@ -18,6 +18,9 @@ pub enum NodeFailure {
     /// The device failed under a line, which was made or not, and was not answered.
     #[error("the device failed")]
     Device,
+    /// The messages since the opening count 2^64 or more, with those of a line that was made and was not answered.
+    #[error("numbers are used up")]
+    Exhausted,
 }
 
 impl From<AllocError> for NodeFailure {

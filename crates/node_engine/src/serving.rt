@@ -14,6 +14,7 @@ ghost use Rattle.node_engine.specs.Answers.{
   AnswersTrim,
   IsRefusal,
   IsUnanswered,
+  IsUnshown,
   Shows,
   Takes,
   TakesFor,
@@ -103,15 +104,15 @@ impl<L: LogStore> Serving<L> {
         &self.node
     }
 
-    /// The lines of a reaction that was made.
+    /// The lines of a reaction that was made. Exhausted: with its messages 2^64 or more were sent.
     pub fn show(&mut self, reaction: &Reaction) -> Result<Vec<u8>, NodeFailure>
         ensures ok { IfOk result (λ text. Shows (state_of self.old) (state_of self.new) reaction.now text.items) }
         ensures err { OnErr result (state_of self.new ≡ state_of self.old) }
-        ensures why { IfErr result (λ e. e ≡ NodeFailure.Memory) }
+        ensures why { IfErr result IsUnshown }
     {
         let count = reaction.messages.as_slice().len() as u64;
         let Some(sent) = self.sent.checked_add(count) else {
-            return Err(NodeFailure::Memory);
+            return Err(NodeFailure::Exhausted);
         };
         let text = shown_text(self.alloc, self.me, self.sent, reaction)?;
         self.sent = sent;

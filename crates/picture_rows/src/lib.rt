@@ -5,6 +5,7 @@
 #![tactic(auto)]
 
 mod drawn;
+mod error;
 mod fates;
 mod rows;
 mod seats;
@@ -12,6 +13,7 @@ mod standings;
 mod stretches;
 
 pub use drawn::{Arrow, Mark, Stub, arrows, marks, stubs};
+pub use error::PictureError;
 pub use fates::{Fate, fates_of, heard_by, messages_of};
 pub use rows::{LONG, Rows, Rule, StepRows, Turn, rows_of};
 pub use seats::{Seat, place_of, seats_of};

@@ -3,9 +3,10 @@
 ghost use Rattle.std.specs.Prelude.{◌≡◌, ◌+◌, ◌<◌, ◌≤◌, IfOk, OnOk};
 ghost use Rattle.picture_rows.specs.Rising.{HasRows, IsNext, RiseTo};
 
+use crate::error::PictureError;
 use crate::fates::Fate;
 use crate::standings::Mismatch;
-use std::alloc::{AllocError, Global};
+use std::alloc::Global;
 use tree_model::{Entry, Happening};
 
 /// A ruler follows every so many rows; and an arrow over more steps is drawn as two stubs.
@@ -56,19 +57,19 @@ struct Count {
 
 impl Count {
     /// So many rows more.
-    fn take(&mut self, rows: u32) -> Result<u32, AllocError>
+    fn take(&mut self, rows: u32) -> Result<u32, PictureError>
         ensures row { OnOk result (self.new.row ≡ self.old.row + rows) }
         ensures answer { IfOk result (λ row. row ≡ self.new.row) }
     {
         let Some(row) = self.row.checked_add(rows) else {
-            return Err(AllocError);
+            return Err(PictureError::TooLong);
         };
         self.row = row;
         Ok(row)
     }
 
     /// The first row of what comes next: behind a ruler, where the last one is far.
-    fn begin(&mut self) -> Result<u32, AllocError>
+    fn begin(&mut self) -> Result<u32, PictureError>
         ensures later { OnOk result (self.old.row ≤ self.new.row) }
         ensures answer { IfOk result (λ row. row ≡ self.new.row) }
     {
@@ -100,11 +101,11 @@ fn count_stubs(fates: &[Fate], sent: usize, messages: usize) -> usize {
 }
 
 /// How many rows a step has for its cause, its records and its word to the application.
-fn height_of(entry: &Entry, mixed: bool) -> Result<u32, AllocError>
+fn height_of(entry: &Entry, mixed: bool) -> Result<u32, PictureError>
     ensures { IfOk result (λ height. 0 < height) }
 {
     let Ok(records) = u32::try_from(entry.reaction.written.len()) else {
-        return Err(AllocError);
+        return Err(PictureError::TooLong);
     };
     let crash: u64 = match entry.step.happening {
         Happening::Restart(_) => 1,
@@ -114,12 +115,12 @@ fn height_of(entry: &Entry, mixed: bool) -> Result<u32, AllocError>
     let told = u64::from(entry.reaction.told.is_some());
     match u32::try_from(written.max(1) + told) {
         Ok(height) => Ok(height),
-        Err(_) => Err(AllocError),
+        Err(_) => Err(PictureError::TooLong),
     }
 }
 
 /// The rows of a step.
-fn step_rows(count: &mut Count, height: u32, stubs: usize) -> Result<StepRows, AllocError>
+fn step_rows(count: &mut Count, height: u32, stubs: usize) -> Result<StepRows, PictureError>
     requires { 0 < height }
     ensures rows { IfOk result (λ rows. HasRows count.old.row rows) }
     ensures next { IfOk result (λ rows. count.new.row ≡ rows.next) }
@@ -127,7 +128,7 @@ fn step_rows(count: &mut Count, height: u32, stubs: usize) -> Result<StepRows, A
     let first = count.begin()?;
     let last = count.take(height)? - 1;
     let Ok(stubs) = u32::try_from(stubs) else {
-        return Err(AllocError);
+        return Err(PictureError::TooLong);
     };
     let next = count.take(stubs)?;
     Ok(StepRows { first, last, next })
@@ -146,7 +147,7 @@ struct Steps<'a> {
 
 impl Steps<'_> {
     /// The rows of the next step, if there is one.
-    fn next(&mut self, count: &mut Count) -> Result<Option<StepRows>, AllocError>
+    fn next(&mut self, count: &mut Count) -> Result<Option<StepRows>, PictureError>
         ensures rows { IfOk result (λ found. IsNext count.old.row count.new.row found) }
     {
         let Some(entry) = self.entries.get(self.made) else {
@@ -176,7 +177,7 @@ fn add_step(
     steps: &mut Steps,
     count: &mut Count,
     rows: &mut Rows,
-) -> Result<bool, AllocError>
+) -> Result<bool, PictureError>
     ensures { OnOk result (RiseTo 1 rows.old.steps.items count.old.row
         → RiseTo 1 rows.new.steps.items count.new.row) }
 {
@@ -200,7 +201,7 @@ fn add_idle(
     is_refused: bool,
     count: &mut Count,
     rows: &mut Rows,
-) -> Result<(), AllocError>
+) -> Result<(), PictureError>
     ensures steps { rows.new.steps.items ≡ rows.old.steps.items }
     ensures later { OnOk result (count.old.row ≤ count.new.row) }
 {
@@ -223,7 +224,7 @@ fn event_rows(
     steps: &mut Steps,
     count: &mut Count,
     rows: &mut Rows,
-) -> Result<(), AllocError>
+) -> Result<(), PictureError>
     ensures { OnOk result (RiseTo 1 rows.old.steps.items count.old.row
         → RiseTo 1 rows.new.steps.items count.new.row) }
 {
@@ -244,7 +245,7 @@ pub fn rows_of(
     entries: &[Entry],
     fates: &[Fate],
     mismatches: &[Mismatch],
-) -> Result<Rows, AllocError>
+) -> Result<Rows, PictureError>
     ensures { IfOk result (λ rows. RiseTo 1 rows.steps.items rows.end) }
 {
     let mut count = Count {

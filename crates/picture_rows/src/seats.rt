@@ -1,6 +1,7 @@
 //! The places of the processes, side by side.
 
-use std::alloc::{AllocError, Global};
+use crate::error::PictureError;
+use std::alloc::Global;
 use tree_model::{Kind, ProcessId, TreeEntry};
 
 /// The most levels of a tree.
@@ -26,14 +27,14 @@ fn sit_below(
     above: Option<u32>,
     levels: u32,
     seats: &mut Vec<Seat>,
-) -> Result<(), AllocError> {
+) -> Result<(), PictureError> {
     if levels == 0 {
         return Ok(());
     }
     for entry in tree {
         if entry.parent == parent {
             let Ok(place) = u32::try_from(seats.len()) else {
-                return Err(AllocError);
+                return Err(PictureError::TooLong);
             };
             seats.push(Seat {
                 place,
@@ -49,7 +50,7 @@ fn sit_below(
 }
 
 /// The processes of a tree, depth first, the children of each in the order of the tree.
-pub fn seats_of(alloc: Global, tree: &[TreeEntry]) -> Result<Vec<Seat>, AllocError> {
+pub fn seats_of(alloc: Global, tree: &[TreeEntry]) -> Result<Vec<Seat>, PictureError> {
     let mut seats = Vec::new(alloc);
     sit_below(tree, None, None, LEVELS, &mut seats)?;
     Ok(seats)

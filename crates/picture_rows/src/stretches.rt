@@ -1,5 +1,6 @@
 //! The stretches of rows in which cases of a process are in doubt, or decided by an operator.
 
+use crate::error::PictureError;
 use crate::rows::StepRows;
 use std::alloc::{AllocError, Global};
 
@@ -108,7 +109,7 @@ pub fn stretches_of(
     changes: &[Change],
     rows: &[StepRows],
     end: u32,
-) -> Result<Vec<Stretch>, AllocError> {
+) -> Result<Vec<Stretch>, PictureError> {
     let mut bands = Bands {
         doubts: Vec::new(alloc),
         operators: Vec::new(alloc),
@@ -126,7 +127,7 @@ pub fn stretches_of(
         bands.change(change, first.saturating_add(change.offset))?;
     }
     let Ok(places) = u32::try_from(places) else {
-        return Err(AllocError);
+        return Err(PictureError::TooLong);
     };
     for place in 0..places {
         bands.close(place, Band::Doubt, end, true)?;

@@ -4,8 +4,8 @@ use crate::Met;
 use crate::refuser::Refuser;
 use link_script::read;
 use log_store::MemoryStore;
-use std::alloc::{AllocError, Global};
-use tree_engine::trace_text;
+use std::alloc::Global;
+use tree_engine::{Failure, trace_text};
 use tree_model::{Event, Happening, Input, StepError, Tree};
 use tree_world::{World, copied_tree};
 
@@ -43,10 +43,8 @@ fn opened(alloc: Global, tree: &Tree) -> Option<Opened> {
 }
 
 /// What is seen of a tree as it stands.
-fn sight_of(alloc: Global, world: &Opened) -> Result<Sight, AllocError> {
-    let Ok((trace, _)) = trace_text(alloc, world, None) else {
-        return Err(AllocError);
-    };
+fn sight_of(alloc: Global, world: &Opened) -> Result<Sight, Failure> {
+    let (trace, _) = trace_text(alloc, world, None)?;
     let mut logs = Vec::new(alloc);
     let mut live = Vec::new(alloc);
     for entry in world.tree().entries() {

@@ -1,6 +1,6 @@
 //! Reads all there is, and writes a text and nothing else.
 
-ghost use Rattle.std.specs.Prelude.{◌≡◌, ◌≢◌, OnOk, IfOk, IfErr, IfSome};
+ghost use Rattle.std.specs.Prelude.{◌≡◌, ◌⊎◌, OnOk, IfOk, IfErr, IfSome};
 ghost use Rattle.std.specs.Io.KnownBytes.{Appends, Keeps};
 ghost use Rattle.report_io.specs.Streams.{WritesFront};
 
@@ -17,6 +17,13 @@ pub enum Failure {
     /// Memory was refused. Nothing was written.
     #[error("out of memory")]
     Memory,
+    /// The device of a log failed, which no log in memory has. Nothing was written.
+    #[error("the device of a log failed")]
+    Device,
+    /// Numbers are used up: the run wants one of 2^63, or a record that no log holds, or a count of 2^64.
+    /// Nothing was written.
+    #[error("numbers are used up")]
+    Exhausted,
     /// A write failed, took no byte, or was the 2^30th. What was written is a beginning of the text.
     #[error("writing failed")]
     Write,
@@ -50,7 +57,7 @@ const CALL_LIMIT: u32 = 1 << 30;
 /// Reads all there is. A read that is interrupted is made again, and counts as a call.
 pub fn read_all<R: Read>(alloc: Global, reader: &mut R) -> Result<Vec<u8>, Failure>
     ensures all { IfOk result (λ v. IfSome (R.remaining reader.old) (λ input. v.items ≡ input)) }
-    ensures err { IfErr result (λ e. e ≢ Failure.Write) }
+    ensures err { IfErr result (λ e. (e ≡ Failure.Read) ⊎ (e ≡ Failure.Memory)) }
 {
     let mut bytes = Vec::new(alloc);
     let mut buffer = [0u8; 4096];
@@ -65,8 +72,8 @@ pub fn read_all<R: Read>(alloc: Global, reader: &mut R) -> Result<Vec<u8>, Failu
     Err(Failure::Read)
 }
 
-/// Writes these bytes. A write that is interrupted is made again, and counts as a call. After a failure a front
-/// of the bytes was written.
+/// Writes these bytes. A write that is interrupted is made again, and counts as a call. After a failure a
+/// front of the bytes was written.
 pub fn write_all<W: Write>(writer: &mut W, text: &[u8]) -> Result<(), Failure>
     ensures ok { OnOk result (Appends (W.contents writer.old) (W.contents writer.new) text.now) }
     ensures err { IfErr result (λ e. (e ≡ Failure.Write)

@@ -2,7 +2,7 @@
 
 use explanation::{Script, refusal_text};
 use std::alloc::{AllocError, Global};
-use tree_engine::{Output, Status, run_tree};
+use tree_engine::{Failure, Output, Status, run_tree};
 use xa_engine::run_xa;
 
 /// A script that commits one transaction of two managers.
@@ -50,13 +50,13 @@ fn long_script(alloc: Global, lines: u32) -> Result<Vec<u8>, AllocError> {
 }
 
 /// Whether a script that is refused gets these lines.
-fn is_told(alloc: Global, script: Script, input: &[u8], text: &str) -> Result<bool, AllocError> {
+fn is_told(alloc: Global, script: Script, input: &[u8], text: &str) -> Result<bool, Failure> {
     let told = refusal_text(alloc, script, input)?;
     Ok(told.as_str() == text)
 }
 
 /// 100,000 event lines are run, and one more is refused, and explained.
-pub(crate) fn too_many_event_lines(alloc: Global) -> Result<bool, AllocError> {
+pub(crate) fn too_many_event_lines(alloc: Global) -> Result<bool, Failure> {
     let most = long_script(alloc, 100_000)?;
     let more = long_script(alloc, 100_001)?;
     let text = b"log 1 Opened 1 forced\nend\n";
@@ -70,7 +70,7 @@ pub(crate) fn too_many_event_lines(alloc: Global) -> Result<bool, AllocError> {
 }
 
 /// 100,001 request lines are refused, and explained.
-pub(crate) fn too_many_request_lines(alloc: Global) -> Result<bool, AllocError> {
+pub(crate) fn too_many_request_lines(alloc: Global) -> Result<bool, Failure> {
     let mut script = Vec::new(alloc);
     for _ in 0..100_001 {
         script.extend_from_slice(b"trim\n")?;

@@ -109,7 +109,7 @@ impl Witness for Explainer {
             return;
         }
         if let Ok(Some(text)) = told(self.rt.alloc(), self.line, line, answer) {
-            tell(&self.rt, Ok(text));
+            tell(&self.rt, Some(text));
         }
     }
 }

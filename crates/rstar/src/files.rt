@@ -20,7 +20,7 @@ pub(crate) fn refused(told: Result<String, AllocError>) -> End {
     End { status: 1, told }
 }
 
-/// An end for want of memory, or since reading, writing or the device failed.
+/// An end for want of memory, since numbers are used up, or since reading, writing or the device failed.
 pub(crate) fn failed(told: Result<String, AllocError>) -> End {
     End { status: 4, told }
 }
@@ -32,7 +32,7 @@ pub(crate) fn status_of(rt: &HostRuntime, name: &str, ended: Result<(), End>) ->
         Err(End { status, told }) => {
             let alloc = rt.alloc();
             if let Ok(told) = told {
-                tell(rt, format!(in alloc; "rstar {name}: {told}\n"));
+                tell(rt, format!(in alloc; "rstar {name}: {told}\n").ok());
             }
             status
         }

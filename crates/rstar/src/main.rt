@@ -85,7 +85,7 @@ Examples:
 
 Exit status: 0 the script was run to its end, 1 it was refused, 2 an event was refused,
 3 an audit found a mismatch, or a run of crash ends with one or a case in doubt, 4 reading,
-writing or memory failed, or the device of a log in a file.";
+writing or memory failed, or the device of a log, or numbers are used up.";
 
 /// What `rstar tree --help` says below its usage.
 const TREE_HELP: &str = "\
@@ -477,7 +477,9 @@ fn run<R: Read, T: Threads + Wait + Sync>(
 fn status_by(ended: Result<u8, Failure>) -> u8 {
     match ended {
         Ok(number) => number,
-        Err(Failure::Read | Failure::Memory | Failure::Write) => 4,
+        Err(
+            Failure::Read | Failure::Memory | Failure::Device | Failure::Exhausted | Failure::Write,
+        ) => 4,
     }
 }
 
@@ -490,9 +492,9 @@ fn script_of(request: Request) -> Script {
     }
 }
 
-/// Writes to standard error, as far as it takes it.
-fn tell(rt: &HostRuntime, text: Result<String, AllocError>) {
-    if let Ok(text) = text {
+/// Writes a text, if there is one, to standard error, as far as it takes it.
+fn tell(rt: &HostRuntime, text: Option<String>) {
+    if let Some(text) = text {
         let _ = write_all(&mut rt.stderr(), text.as_bytes());
     }
 }
@@ -509,7 +511,7 @@ fn explained<T: Threads + Wait + Sync>(
     let mut reader = input.as_slice();
     let status = run(rt, threads, request, &mut reader)?;
     if status == 1 || status == 2 {
-        tell(rt, refusal_text(alloc, script_of(request), &input));
+        tell(rt, refusal_text(alloc, script_of(request), &input).ok());
     }
     Ok(status)
 }
@@ -526,7 +528,7 @@ fn perform<T: Threads + Wait + Sync>(
     }
     let ended = explained(rt, threads, request);
     if let Err(failure) = ended {
-        tell(rt, failure_text(rt.alloc(), failure));
+        tell(rt, failure_text(rt.alloc(), failure).ok());
     }
     status_by(ended)
 }

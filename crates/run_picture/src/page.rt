@@ -10,7 +10,7 @@ use crate::endings::draw_refusal;
 use crate::plan::{Plan, Scene, plan_of};
 use crate::sheet::Sheet;
 use crate::tree::draw_tree;
-use picture_rows::{Seat, place_of};
+use picture_rows::{PictureError, Seat, place_of};
 use picture_shapes::{Frame, Square, Stroke, Summary, push_head, push_squares, push_strokes};
 use std::alloc::{AllocError, Global};
 use trace_lines::push;
@@ -99,7 +99,7 @@ fn text_of(
     sheet: &Sheet,
     strokes: &[Stroke],
     squares: &[Square],
-) -> Result<Vec<u8>, AllocError>
+) -> Result<Vec<u8>, PictureError>
     ensures { IfOk result (λ text. text.items ≡ (head.items ++ below_text sheet.now)
         ++ strokes_text strokes.now ++ between_text sheet.now ++ squares_text squares.now
         ++ (shapes_text sheet.now.words.items ++ codes "</svg>\n")) }
@@ -123,9 +123,9 @@ fn push_end(out: &mut Vec<u8>, sheet: &Sheet) -> Result<(), AllocError>
 }
 
 /// A sheet for a plan.
-fn drawing_of(alloc: Global, plan: &Plan) -> Result<Drawing, AllocError> {
+fn drawing_of(alloc: Global, plan: &Plan) -> Result<Drawing, PictureError> {
     let Ok(processes) = u32::try_from(plan.seats.len()) else {
-        return Err(AllocError);
+        return Err(PictureError::TooLong);
     };
     Ok(Drawing {
         alloc,
@@ -138,8 +138,8 @@ fn drawing_of(alloc: Global, plan: &Plan) -> Result<Drawing, AllocError> {
 }
 
 /// The picture of a run, as one SVG file: time goes downward; each process is a line, each delivery an arrow and
-/// each record a mark.
-pub fn picture(alloc: Global, scene: &Scene) -> Result<Vec<u8>, AllocError>
+/// each record a mark. TooLong: it has 2^32 rows or more.
+pub fn picture(alloc: Global, scene: &Scene) -> Result<Vec<u8>, PictureError>
     ensures { IfOk result (λ text. IsPicture scene.now.entries.now text.items) }
 {
     let plan = plan_of(alloc, scene)?;

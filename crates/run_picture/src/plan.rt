@@ -6,10 +6,10 @@ ghost use Rattle.picture_rows.specs.declared.drawn.Mark.{Mark as AnyMark};
 ghost use Rattle.picture_rows.specs.Whole.{deliveries, records_in, sent_in};
 
 use picture_rows::{
-    Arrow, History, Mark, Rows, Seat, Stretch, Stub, Turn, arrows, fates_of, history_of, marks,
-    messages_of, rows_of, seats_of, stretches_of, stubs,
+    Arrow, History, Mark, PictureError, Rows, Seat, Stretch, Stub, Turn, arrows, fates_of,
+    history_of, marks, messages_of, rows_of, seats_of, stretches_of, stubs,
 };
-use std::alloc::{AllocError, Global};
+use std::alloc::Global;
 use tree_model::{Entry, Envelope, Event, StepError, TreeEntry};
 
 /// What is drawn: a tree, the events of its script, how many steps were made behind each of them up to the
@@ -37,7 +37,7 @@ pub(crate) struct Plan {
     pub(crate) messages: Vec<Envelope>,
 }
 
-pub(crate) fn plan_of(alloc: Global, scene: &Scene) -> Result<Plan, AllocError>
+pub(crate) fn plan_of(alloc: Global, scene: &Scene) -> Result<Plan, PictureError>
     ensures arrows { IfOk result (λ plan. map (λ (a : AnyArrow). a.number) plan.arrows.items
         ≡ deliveries (length (sent_in scene.now.entries.now)) scene.now.entries.now) }
     ensures marks { IfOk result (λ plan. map (λ (m : AnyMark). m.logged) plan.marks.items

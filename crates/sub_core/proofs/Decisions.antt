@@ -41,6 +41,7 @@ use Rattle.sub_table.specs.Tables.{BranchTable, IsKept, Notes, Retires, branch_i
 use Rattle.sub_core.specs.Subordinates.{Hears, IsAt, IsNamed, IsTied, NotHeard, NotTurned, SubState, Turns, answer_for, core_of, decided, decided_at, decided_found, decision_kind, found_against, logged_alone, outcome_reply, prepared, turn_for, xid_of}
 use Rattle.sub_deeds.specs.Replies.{shown}
 use Rattle.sub_core.specs.Steps.{Acts, NotActed, turn_at}
+use Rattle.sub_core.proofs.Reached.{decides_reached, finishes_reached}
 use Rattle.sub_core.proofs.Ties.{behind, keeps_decided, moved_tied}
 use Rattle.sub_core.proofs.Rows.{handled}
 use Rattle.sub_core.proofs.Ends.{AreOf, log_by, log_is, not_done, not_turned, retires_at}
@@ -118,6 +119,7 @@ module _ (s : SubState) (key : ℕ) (c : Case) (x : Xid) (o : Outcome) (tied : I
       moved_tied s t m c (prepared x) (Some (decided x None)) S5 tied at.live
       (notes_at s.table t key (Heuristic None) c (prepared x) at notes).branches
       (refl, refl, ap (λ (d : Decision). d.told) made.decided) made.comes
+      (decides_reached s c (prepared x) o m tied at.live made)
 
   pub not_decided : (m : ManagerSight) (e : StepError) → NotDecided s.manager m x o e
       → NotActed s (behind s s.table m) (Decide c o) e
@@ -305,6 +307,7 @@ module _ (s : SubState) (key : ℕ) (c : Case) (x : Xid) (o : Outcome) (tied : I
             ∙ ap (first_told o) none_told,
       )
       (subst (λ (q : BranchState). Comes s.manager m x q) there f.comes)
+      (finishes_reached s c (decided x None) (outcome_call o) m tied at.live f)
 
   pub not_told : (m : ManagerSight) (e : StepError) → NotFinished s.manager m x (outcome_call o) e
       → NotHeard s (behind s s.table m) (tells_outcome o c) e

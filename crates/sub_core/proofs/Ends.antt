@@ -28,8 +28,11 @@ use Rattle.manager_model.specs.Ends.{logged_under, state_of, written_by, written
 use Rattle.live_table.specs.Tables.{Moves}
 use Rattle.sub_deeds.specs.Deeds.{NotDecided, NotDone, NotFinished}
 use Rattle.sub_branch.specs.declared.branch.Branch.{Branch}
-use Rattle.sub_table.specs.Tables.{BranchTable, Retires, retired_at, ticket_in}
-use Rattle.sub_core.specs.Subordinates.{IsAt, IsGiven, IsNamed, IsTied, NotTurned, SubState, core_of}
+use Rattle.sub_table.specs.Tables.{BranchTable, Retires, branch_in, retired_at, ticket_in}
+use Rattle.sub_core.specs.Subordinates.{IsAt, IsGiven, IsNamed, IsTied, NotTurned, SubState, core_of, place_of}
+use Rattle.std.specs.List.{AllByRecursion}
+use Rattle.sub_table.specs.Rebuilt.{IsReached}
+use Rattle.sub_core.proofs.Reached.{broke_reached, call_reached, decided_reached}
 use Rattle.sub_core.proofs.Ties.{behind, same_tied, still_tied}
 use Rattle.sub_core.proofs.Rows.{same_keeps}
 
@@ -128,21 +131,27 @@ module _ (s : SubState) (c : Case) (x : Xid) (named : IsNamed s.parent c x) (giv
 
 -- the tie behind a piece of work that was not done
 pub none_tied : (s : SubState) (m : ManagerSight) (ls : List LogRecord) (e : StepError)
-    → IsTied s → NotDone s.manager m ls e
+    → IsTied s → AllByRecursion (IsReached (place_of s) s.manager.boot) ls → NotDone s.manager m ls e
     → IsTied (behind s s.table m)
-none_tied s m ls Memory tied h = same_tied s m tied h
-none_tied s m ls Device tied h = still_tied s m tied h.idle h.states h.decided h.boot h.log.form
-none_tied s m ls Exhausted tied h = same_tied s m tied h.0
-none_tied s m ls _ tied h = absurd h
+none_tied s m ls Memory tied each h = same_tied s m tied h
+none_tied s m ls Device tied each h =
+    still_tied s m tied h.idle h.states h.decided h.boot h.log.form
+    (broke_reached (place_of s) s.manager m ls h.log.appended tied.reached h.boot h.log.stand h.log.no_less each)
+none_tied s m ls Exhausted tied each h = same_tied s m tied h.0
+none_tied s m ls _ tied each h = absurd h
 
 -- the tie behind a call that was not made
-pub not_tied : (s : SubState) (m : ManagerSight) (x : Xid) (call : Call) (e : StepError) → IsTied s
-    → NotFinished s.manager m x call e
+pub not_tied : (s : SubState) (m : ManagerSight) (c : Case) (b : Branch) (call : Call) (e : StepError) → IsTied s
+    → branch_in s.table c ≡ Some b → NotFinished s.manager m b.xid call e
     → IsTied (behind s s.table m)
-not_tied s m x call e tied h = none_tied s m (logged_under x (written_for s.manager x call)) e tied h
+not_tied s m c b call e tied at h =
+    none_tied s m (logged_under b.xid (written_for s.manager b.xid call)) e tied
+    (call_reached s c b.xid call (tied.named c b at) (tied.given_before c b at)) h
 
 -- the tie behind a decision that was not made
-pub undecided_tied : (s : SubState) (m : ManagerSight) (x : Xid) (o : Outcome) (e : StepError) → IsTied s
-    → NotDecided s.manager m x o e
+pub undecided_tied : (s : SubState) (m : ManagerSight) (c : Case) (b : Branch) (o : Outcome) (e : StepError)
+    → IsTied s → branch_in s.table c ≡ Some b → NotDecided s.manager m b.xid o e
     → IsTied (behind s s.table m)
-undecided_tied s m x o e tied h = none_tied s m (logged_under x (decision_writes x o)) e tied h
+undecided_tied s m c b o e tied at h =
+    none_tied s m (logged_under b.xid (decision_writes b.xid o)) e tied
+    (decided_reached s c b.xid o (tied.named c b at) (tied.given_before c b at)) h

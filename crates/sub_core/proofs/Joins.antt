@@ -32,9 +32,10 @@ use Rattle.sub_core.proofs.Staying.{rests}
 use Rattle.sub_deeds.specs.Deeds.{Begins, HasBegun, starts}
 use Rattle.sub_branch.specs.declared.branch.Branch.{Branch}
 use Rattle.sub_table.specs.Tables.{BranchTable, Opens, SameTable, branch_in, kept_view, opened, ticket_in, view_in}
-use Rattle.sub_core.specs.Subordinates.{AgreesWith, Hears, IsGiven, IsNamed, IsTied, Joins, Keeps, SubState, Turns, core_of, decided_at, next_case, stage_state, xid_of}
+use Rattle.sub_core.specs.Subordinates.{AgreesWith, Hears, IsGiven, IsNamed, IsTied, Joins, Keeps, SubState, Turns, core_of, decided_at, next_case, place_of, stage_state, xid_of}
 use Rattle.sub_deeds.specs.Replies.{shown}
 use Rattle.sub_deeds.proofs.Kept.{same_kept}
+use Rattle.sub_core.proofs.Reached.{same_reached}
 use Rattle.sub_core.proofs.Ties.{apart_xids, behind, one, same_tied}
 use Rattle.sub_core.proofs.Rows.{no_view, same_decided}
 
@@ -191,12 +192,18 @@ module _ (s : SubState) (d : Case) (t : BranchTable) (m : ManagerSight) (x : Xid
       → branch_in t c ≡ Some w → IsGiven new c
   given_at b c w true e h =
       subst (λ (q : Case). IsGiven new q) (one own c e)
-      (record { ticket = next_ticket (core_of s); has = refl; before = λ f. omega arith })
+      (record {
+        ticket = next_ticket (core_of s);
+        has = refl;
+        within = subst (λ n. s.manager.boot ≤ n) (sym b.comes.boot) (omega arith);
+        before = λ f. omega arith;
+      })
   given_at b c w false e h =
       let g = tied.given_before c w (sym (opens.branches.others c e) ∙ h) in
       record {
         ticket = g.ticket;
         has = g.has;
+        within = subst (λ n. g.ticket.boot ≤ n) (sym b.comes.boot) g.within;
         before = λ f. let before : g.ticket.number ≤ s.given = g.before (f ∙ b.comes.boot) in omega arith;
       }
 
@@ -208,6 +215,7 @@ module _ (s : SubState) (d : Case) (t : BranchTable) (m : ManagerSight) (x : Xid
     stands = λ c w h. stands_at b c w (same_case own c) refl h;
     told = λ c w h. told_at b c w (same_case own c) refl h;
     given_before = λ c w h. given_at b c w (same_case own c) refl h;
+    reached = same_reached (place_of s) s.manager m tied.reached b.comes.boot b.log;
   }
 
   begun_decided : Begins s.manager m x → (c : Case) (r : Bool) → same_case own c ≡ r
@@ -259,7 +267,8 @@ table_tied s t tied same = record {
   stands = λ c w h. tied.stands c w (sym (same.branches c) ∙ h);
   told = λ c w h. tied.told c w (sym (same.branches c) ∙ h);
   given_before = λ c w h. let g = tied.given_before c w (sym (same.branches c) ∙ h)
-      in record { ticket = g.ticket; has = g.has; before = g.before };
+      in record { ticket = g.ticket; has = g.has; within = g.within; before = g.before };
+  reached = tied.reached;
 }
 
 pub undone_tied : (s : SubState) (t : BranchTable) (m : ManagerSight) → IsTied s → SameTable s.table t

@@ -1,4 +1,5 @@
 pub mod Ties
+pub mod Reached
 pub mod Rows
 pub mod Ends
 pub mod LetGo

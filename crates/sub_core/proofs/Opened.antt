@@ -23,7 +23,9 @@ use Rattle.manager_model.specs.Data.{Rests, is_begun, no_data}
 use Rattle.manager_model.specs.Sights.{Calls, ManagerSight, manager_data}
 use Rattle.sub_deeds.specs.Deeds.{IsIdle, IsQuiet}
 use Rattle.sub_table.specs.Tables.{BranchTable, branch_in, kept_view, ticket_in, view_in}
+use Rattle.tree_model.specs.Views.{leaf_place}
 use Rattle.sub_core.specs.Subordinates.{IsTied, core_of}
+use Rattle.sub_core.proofs.Reached.{new_reached}
 
 abbrev none : BranchTable
 none = record { tickets = []; branches = [] }
@@ -80,6 +82,8 @@ module _ (old m : ManagerSight) (new : IsNew old) (refuses : Code → Type 0) (a
     stands = λ c b e. absurd (let f = sym e ∙ bare c in cc);
     told = λ c b e. absurd (let f = sym e ∙ bare c in cc);
     given_before = λ c b e. absurd (let f = sym e ∙ bare c in cc);
+    reached = new_reached (leaf_place me parent tree) m old.log.form old.log.failures (calls.boot ∙ new.boot)
+        (calls.log ∙ new.log);
   }
     where
       bare : (c : Case) → branch_in t c ≡ None

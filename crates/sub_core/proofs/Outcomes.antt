@@ -24,7 +24,6 @@ use Rattle.manager_model.specs.Sights.{ManagerSight, manager_data}
 use Rattle.xa_heur.specs.declared.decision.Decision.{Decision}
 use Rattle.xa_tables.specs.declared.states.BranchState.{BranchState}
 use Rattle.xa_tables.specs.declared.states.BranchState.TheVariants.{S0}
-use Rattle.manager_model.specs.Data.{held_with}
 use Rattle.manager_model.specs.Ends.{row_of, written_by}
 use Rattle.manager_model.specs.Data as model_data
 use Rattle.sub_deeds.specs.Deeds.{Finishes, NotFinished, can_roll_back}
@@ -35,6 +34,7 @@ use Rattle.sub_branch.specs.declared.branch.Stage.TheVariants.{Active, Heuristic
 use Rattle.sub_table.specs.Tables.{BranchTable, IsGivenFor, IsKept, Retires, branch_in, has_promised, kept_view, nothing, retired_at, ticket_in}
 use Rattle.sub_core.specs.Subordinates.{Hears, IsAt, IsTied, NotHeard, NotTurned, SubState, Turns, active, answer_for, core_of, prepared, stage_state, turn_for, xid_of}
 use Rattle.sub_deeds.specs.Replies.{shown}
+use Rattle.sub_core.proofs.Reached.{finishes_reached}
 use Rattle.sub_core.proofs.Ties.{behind, keeps_decided, moved_tied, one}
 use Rattle.sub_core.proofs.Rows.{handled}
 use Rattle.sub_core.proofs.Ends.{AreOf, log_is, not_turned, retires_at}
@@ -103,7 +103,7 @@ pub ended_tied : (s : SubState) (key : ℕ) (c : Case) (b : Branch) (call : Call
     → Retires s.table t key nothing → Finishes s.manager m b.xid call → IsTied (behind s t m)
 ended_tied s key c b call t m tied at gone f =
     moved_tied s t m c b None _ tied at.live (retires_at s.table t key nothing c b
-    at gone).branches tt f.comes
+    at gone).branches tt f.comes (finishes_reached s c b call m tied at.live f)
 
 -- The rows.
 

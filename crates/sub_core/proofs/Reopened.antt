@@ -1,5 +1,5 @@
 -- A subordinate over the log that an earlier one left.
-use Rattle.std.proofs.Common.{◌≡◌, ◌≤◌, ◌∙◌, ◌+◌, ◌-◌, ◌^◌, ◌∷◌, ◌++◌, [], ℕ, false, List, length, take, refl, ap, subst, arith, length-append}
+use Rattle.std.proofs.Common.{◌≡◌, ◌≤◌, ◌∙◌, ◌+◌, ◌-◌, ◌^◌, ◌∷◌, ◌++◌, [], ℕ, false, List, length, take, ap, subst, arith, length-append}
 use Rattle.std.proofs.lemmas.List.{append-nil, take_at}
 use Rattle.std.specs.List.{AllByRecursion}
 use Rattle.xa_codes.specs.declared.code.Code.{Code}
@@ -8,8 +8,6 @@ use Rattle.log_text.specs.Forms.{log_form}
 use Rattle.log_text.specs.declared.form.LogForm.{LogForm}
 use Rattle.tree_model.specs.declared.names.Kind.TheVariants.{Manager}
 use Rattle.tree_model.specs.declared.names.ProcessId.{ProcessId}
-use Rattle.tree_model.specs.declared.events.StepError.{StepError}
-use Rattle.tree_model.specs.declared.events.StepError.TheVariants.{Exhausted, Memory}
 use Rattle.tree_model.specs.declared.records.LogRecord.{LogRecord}
 use Rattle.tree_model.specs.declared.trees.TreeEntry.{TreeEntry}
 use Rattle.tree_model.specs.LogNames.{own_records}
@@ -24,8 +22,10 @@ use Rattle.manager_model.specs.Restarting.{IsRestarted, Restarts as ManagerResta
 use Rattle.manager_model.specs.Sights.{Calls, ManagerSight}
 use Rattle.sub_table.proofs.Marks.{boots_alike}
 use Rattle.sub_table.specs.declared.rebuilt.Rebuilt.{Rebuilt}
-use Rattle.sub_table.specs.Rebuilt.{Rebuilds}
-use Rattle.sub_core.specs.Steps.{NotReady, PromisesLeft, left_before}
+use Rattle.sub_table.specs.declared.names.RebuildError.{RebuildError}
+use Rattle.sub_table.specs.declared.names.RebuildError.TheVariants.{Exhausted, Memory, Unfit}
+use Rattle.sub_table.specs.Rebuilt.{NotRebuilt, Rebuilds}
+use Rattle.sub_core.specs.Steps.{NotReopenedOver, PromisesLeft, left_before}
 use Rattle.sub_core.specs.Subordinates.{IsTied, SubState, core_of}
 use Rattle.sub_core.proofs.Restarted.{promises_left, reopened_tied, restarted, shown_restart}
 
@@ -68,13 +68,13 @@ boot_left m me p tree sound h used =
     (left_is h.old m h.keep h.restarts) used in
     absurd (omega (arith, last.1, from, boots_alike me p tree ls))
 
--- so nothing but memory keeps its records from being made ready
-pub only_memory : (m : ManagerSight) (me p : ProcessId) (tree : List TreeEntry)
-    → AllByRecursion (IsSound Manager) (records_of m.log.kept) → IsRestarted m → (e : StepError)
-    → NotReady (leaf_place me p tree) (left_before m) e → e ≡ Memory
-only_memory m me p tree sound h Memory why = refl
-only_memory m me p tree sound h Exhausted why = absurd (boot_left m me p tree sound h why)
-only_memory m me p tree sound h e why = absurd why
+-- so it is never for want of a boot that no process goes on over its records
+pub not_over : (m : ManagerSight) (me p : ProcessId) (tree : List TreeEntry)
+    → AllByRecursion (IsSound Manager) (records_of m.log.kept) → IsRestarted m → (e : RebuildError)
+    → NotRebuilt (leaf_place me p tree) (left_before m) e → NotReopenedOver (leaf_place me p tree) m e
+not_over m me p tree sound h Memory why = tt
+not_over m me p tree sound h Unfit why = why
+not_over m me p tree sound h Exhausted why = absurd (boot_left m me p tree sound h why)
 
 module _ (s : SubState) (all : ℕ) (r : Rebuilt) (mid m : ManagerSight)
     (refuses : Code → Type 0) (answer : Code)

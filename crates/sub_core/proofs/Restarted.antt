@@ -50,11 +50,12 @@ use Rattle.sub_core.proofs.Told.{left_mark, left_state, told_by_mark}
 use Rattle.sub_branch.specs.declared.branch.Branch.{Branch}
 use Rattle.sub_branch.specs.declared.branch.Stage.{Stage}
 use Rattle.sub_branch.specs.declared.branch.Stage.TheVariants.{Active, Heuristic, Prepared}
-use Rattle.sub_core.specs.Subordinates.{AgreesWith, IsGiven, IsNamed, IsTied, SubState, core_of, decided_at, stage_state}
+use Rattle.sub_core.specs.Subordinates.{AgreesWith, IsGiven, IsNamed, IsTied, SubState, core_of, decided_at, place_of, stage_state}
 use Rattle.sub_core.specs.Steps.{PromisesLeft}
 use Rattle.sub_core.proofs.Joins.{is_real}
 use Rattle.sub_core.proofs.Rows.{same_keeps}
 use Rattle.sub_core.proofs.Opened.{bare_quiet}
+use Rattle.sub_core.proofs.Reached.{restart_broke_reached, restarted_reached}
 use Rattle.sub_core.proofs.Ties.{behind, still_tied}
 
 -- the reaction of a restart
@@ -173,12 +174,23 @@ module _ (s : SubState) (keep : ℕ) (r : Rebuilt) (mid m : ManagerSight)
   given_by c b d = record {
     ticket = d.own.given.ticket;
     has = d.own.given.has;
+    within =
+        let within = d.own.given.within in
+        let last = made.boot in
+        let now = boot_is in
+        omega (arith);
     before = λ e.
         let within = d.own.given.within in
         let last = made.boot in
         let now = boot_is in
         absurd (omega arith);
   }
+
+  reached_before : r.boot ≤ next_boot (left_by s.manager.log keep)
+  reached_before =
+      let last = made.boot in
+      let alike = boots_alike s.me s.parent s.tree (left_by s.manager.log keep) in
+      omega (arith)
 
   pub reopened_tied : IsTied reopened
   reopened_tied = record {
@@ -188,6 +200,8 @@ module _ (s : SubState) (keep : ℕ) (r : Rebuilt) (mid m : ManagerSight)
     stands = λ c b e. stands c b (made.live c b e);
     told = λ c b e. agrees c b (made.live c b e);
     given_before = λ c b e. given_by c b (made.live c b e);
+    reached = restarted_reached (place_of s) m s.manager.log.form (left_by s.manager.log keep) s.manager.log.failures
+        r.boot (calls.boot ∙ restarts.boot) (calls.log ∙ restarts.log) reached_before made.reached;
   }
 
   -- what an operator decided is what the records say that he did
@@ -263,6 +277,8 @@ broken_tied s m keep tied fails =
     still_tied s m tied (same_idle s.manager m fails.tables tied.idle)
     (λ y. ap (λ (bs : List (Xid × BranchState)). state_in bs y)
     fails.tables.branches.branches) fails.decided fails.boot fails.log.form
+    (restart_broke_reached (place_of s) s.manager m keep (next_boot (left_by s.manager.log keep)) fails.log.appended
+    tied.reached fails.boot fails.log.stand fails.log.no_less)
 
 pub broken : (s : SubState) (m : ManagerSight) (keep : ℕ) → RestartFails s.manager m keep
     → NotRestarted (core_of s) keep (core_of (behind s s.table m)) error.Device

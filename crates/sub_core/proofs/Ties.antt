@@ -1,5 +1,5 @@
 -- What keeps the live branches tied with the manager's.
-use Rattle.std.proofs.Common.{◌≡◌, ◌∙◌, List, Bool, true, false, Option, Some, None, refl, sym, ap, subst}
+use Rattle.std.proofs.Common.{◌≡◌, ◌≤◌, ◌∙◌, List, Bool, true, false, Option, Some, None, refl, sym, ap, subst}
 use Rattle.xa_tables.specs.declared.states.BranchState.{BranchState}
 use Rattle.xa_xid.specs.declared.xid.Xid.{Xid}
 use Rattle.xa_branch.specs.Names.{same}
@@ -26,7 +26,8 @@ use Rattle.sub_deeds.specs.Deeds.{Comes, IsIdle}
 use Rattle.sub_deeds.proofs.Quiet.{same_idle}
 use Rattle.sub_branch.specs.declared.branch.Branch.{Branch}
 use Rattle.sub_table.specs.Tables.{BranchTable, branch_in, kept_view, view_in}
-use Rattle.sub_core.specs.Subordinates.{AgreesWith, IsGiven, IsNamed, IsTied, SubState, decided_at, stage_state}
+use Rattle.sub_core.specs.Subordinates.{AgreesWith, HasReached, IsGiven, IsNamed, IsTied, SubState, decided_at, place_of, stage_state}
+use Rattle.sub_core.proofs.Reached.{same_reached}
 
 -- a subordinate with another table and another manager
 abbrev pub behind : SubState → BranchTable → ManagerSight → SubState
@@ -103,6 +104,16 @@ module _ (s : SubState) (t : BranchTable) (m : ManagerSight) (owner : Case) (b :
           → decided_at m (branch_in t k) ≡ decided_by i k (decided_at s.manager (branch_in s.table k)))
           (one owner c e) here h
 
+-- a case was given its ticket, where the manager's boot stays
+given_still : (s : SubState) (t : BranchTable) (m : ManagerSight) (c : Case) → m.boot ≡ s.manager.boot → IsGiven s c
+    → IsGiven (behind s t m) c
+given_still s t m c boot g = record {
+  ticket = g.ticket;
+  has = g.has;
+  within = subst (λ n. g.ticket.boot ≤ n) (sym boot) g.within;
+  before = λ e. g.before (e ∙ boot);
+}
+
 -- one branch moved, here and at the manager
 module _ (s : SubState) (t : BranchTable) (m : ManagerSight) (owner : Case) (b : Branch) (v : Option Branch)
     (st : BranchState) (tied : IsTied s)
@@ -167,31 +178,32 @@ module _ (s : SubState) (t : BranchTable) (m : ManagerSight) (owner : Case) (b :
   given_at o is c w false e h = tied.given_before c w (sym (moves.others c e) ∙ h)
 
   same_given : (c : Case) → IsGiven s c → IsGiven (behind s t m) c
-  same_given c g = record { ticket = g.ticket; has = g.has; before = λ e. g.before (e ∙ comes.boot) }
+  same_given c g = given_still s t m c comes.boot g
 
-  pub moved_tied : IsTied (behind s t m)
-  moved_tied = record {
+  pub moved_tied : HasReached (place_of s) m → IsTied (behind s t m)
+  moved_tied reached = record {
     own = comes.form ∙ tied.own;
     idle = comes.idle;
     named = λ c w h. named_at v refl c w (same_case owner c) refl h;
     stands = λ c w h. stands_at v refl c w (same_case owner c) refl h;
     told = λ c w h. told_at v refl c w (same_case owner c) refl h;
     given_before = λ c w h. same_given c (given_at v refl c w (same_case owner c) refl h);
+    reached = reached;
   }
 
 -- no branch moved
 pub still_tied : (s : SubState) (m : ManagerSight) → IsTied s → IsIdle m
     → ((y : Xid) → state_at m.tables y ≡ state_at s.manager.tables y)
     → ((y : Xid) → m.decided y ≡ s.manager.decided y) → m.boot ≡ s.manager.boot
-    → m.log.form ≡ s.manager.log.form → IsTied (behind s s.table m)
-still_tied s m tied idle states decided boot form = record {
+    → m.log.form ≡ s.manager.log.form → HasReached (place_of s) m → IsTied (behind s s.table m)
+still_tied s m tied idle states decided boot form reached = record {
   own = form ∙ tied.own;
   idle = idle;
   named = λ c w h. tied.named c w h;
   stands = λ c w h. states w.xid ∙ tied.stands c w h;
   told = λ c w h. subst (λ (d : Decision). AgreesWith w.stage d) (sym (decided w.xid)) (tied.told c w h);
-  given_before = λ c w h. let g = tied.given_before c w h
-      in record { ticket = g.ticket; has = g.has; before = λ e. g.before (e ∙ boot) };
+  given_before = λ c w h. given_still s s.table m c boot (tied.given_before c w h);
+  reached = reached;
 }
 
 pub same_tied : (s : SubState) (m : ManagerSight) → IsTied s → SameManager s.manager m
@@ -200,3 +212,4 @@ same_tied s m tied stays =
     still_tied s m tied (same_idle s.manager m stays.tables tied.idle)
     (λ y. ap (λ (bs : List (Xid × BranchState)). state_in bs y) stays.tables.branches.branches)
     stays.rest.decided stays.boot (ap (λ (l : LogSight). l.form) stays.log)
+    (same_reached (place_of s) s.manager m tied.reached stays.boot stays.log)

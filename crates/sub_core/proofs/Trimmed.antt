@@ -3,6 +3,8 @@ use Rattle.std.proofs.Common.{◌≡◌, ◌∙◌, inl, inr, ◌+◌, ◌++◌,
 use Rattle.std.proofs.lemmas.Grind.{fold-append}
 use Rattle.std.specs.List.{AllByRecursion}
 use Rattle.xa_xid.specs.declared.xid.Xid.{Xid}
+use Rattle.xa_tables.specs.declared.states.BranchState.{BranchState}
+use Rattle.xa_branch.specs.Branches.{state_in}
 use Rattle.log_text.specs.Forms.{log_form}
 use Rattle.tree_model.specs.declared.events.StepError.{StepError}
 use Rattle.tree_model.specs.declared.events.StepError.TheVariants as error
@@ -25,19 +27,22 @@ use Rattle.log_rules.specs.trim.Trims.{front_of_trim}
 use Rattle.log_rules.proofs.trim.Names.{same_by_parts}
 use Rattle.log_rules.specs.sound.Sound.{IsSound, IsSoundName}
 use Rattle.log_rules.proofs.reads.Branches.{alike, read_as, read_name}
-use Rattle.rec_log.specs.Sights.{records_of}
+use Rattle.rec_log.specs.Sights.{LogSight, records_of}
 use Rattle.core_model.specs.Restarting.{NotTrimmed, Trims, trimmed_log}
 use Rattle.core_model.specs.States.{SameCore, forced_sight}
 use Rattle.core_model.proofs.Alike.{same_view}
+use Rattle.manager_model.specs.Orders.{AreInOrder}
 use Rattle.manager_model.specs.Sights.{ManagerSight, SameManager}
 use Rattle.manager_model.specs.declared.errors.TrimError.{TrimError}
 use Rattle.manager_model.specs.declared.errors.TrimError.TheVariants as trim_error
 use Rattle.manager_model.specs.Trimming.{NotTrimmed as NotTrimmedBy, TrimFails, Trims as ManagerTrims, trimmed}
 use Rattle.tree_model.specs.Views.{leaf_place}
 use Rattle.sub_table.specs.Tables.{branch_in}
-use Rattle.sub_core.specs.Subordinates.{SubState, core_of}
+use Rattle.sub_core.specs.Subordinates.{IsTied, SubState, core_of, place_of}
+use Rattle.sub_deeds.proofs.Quiet.{same_idle}
 use Rattle.sub_core.proofs.Rows.{same_decided}
-use Rattle.sub_core.proofs.Ties.{behind}
+use Rattle.sub_core.proofs.Reached.{trim_broke_reached, trimmed_reached}
+use Rattle.sub_core.proofs.Ties.{behind, same_tied, still_tied}
 
 -- A manager's data are those of its log's records by their XIDs.
 
@@ -231,3 +236,21 @@ module _ (s : SubState) (m : ManagerSight) (sound : AllByRecursion (IsSound Mana
   not_trimmed trim_error.Memory h = stays h
   not_trimmed trim_error.Device h = breaks h
   not_trimmed trim_error.Failed h = (stays h.0, h.1)
+
+-- The tie.
+
+module _ (s : SubState) (m : ManagerSight) (order : AreInOrder (records_of s.manager.log.kept)) (tied : IsTied s) where
+  pub trimmed_tied : (remain : ℕ) → ManagerTrims s.manager m remain → IsTied (behind s s.table m)
+  trimmed_tied remain h =
+      still_tied s m tied (same_idle s.manager m h.tables tied.idle)
+      (λ y. ap (λ (bs : List (Xid × BranchState)). state_in bs y) h.tables.branches.branches)
+      h.rest.decided h.boot (ap (λ (l : LogSight). l.form) h.log)
+      (trimmed_reached (place_of s) s.manager m tied.reached order h.boot h.log)
+
+  pub untrimmed_tied : (e : TrimError) → NotTrimmedBy s.manager m e → IsTied (behind s s.table m)
+  untrimmed_tied trim_error.Memory h = same_tied s m tied h
+  untrimmed_tied trim_error.Failed h = same_tied s m tied h.0
+  untrimmed_tied trim_error.Device h =
+      still_tied s m tied (same_idle s.manager m h.tables tied.idle)
+      (λ y. ap (λ (bs : List (Xid × BranchState)). state_in bs y) h.tables.branches.branches)
+      h.decided h.boot h.form (trim_broke_reached (place_of s) s.manager m tied.reached order h)

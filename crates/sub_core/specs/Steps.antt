@@ -23,6 +23,7 @@ use Rattle.manager_model.specs.Data.{HoldWrites}
 use Rattle.manager_model.specs.Turns.{MovesData, act_data}
 use Rattle.sub_table.specs.declared.names.RebuildError.{RebuildError}
 use Rattle.sub_table.specs.declared.names.RebuildError.TheVariants as rebuilds
+use Rattle.sub_table.specs.Rebuilt.{AreFit}
 use Rattle.sub_core.specs.Subordinates.{NotTurned, SubState, SubValue, Turns, Writes, answer_for, core_of, seen, xid_of}
 
 -- the process that a subordinate is
@@ -80,14 +81,16 @@ pub record PromisesLeft (left : List LogRecord) (m : ManagerSight) : Type 0 wher
 abbrev pub LeavesPromises : SubState → ℕ → SubState → Type 0
 LeavesPromises old keep new = PromisesLeft (left_by old.manager.log keep) new.manager
 
--- the error of a step, for that of what records leave
-abbrev pub error_of_rebuild : RebuildError → StepError
-error_of_rebuild rebuilds.Exhausted = steps.Exhausted
-error_of_rebuild e = steps.Memory
-
 -- why no restart was made ready where these records are left: boots are used up where none below 2^63 comes behind
 -- the last one
 abbrev pub NotReady : Place → List LogRecord → StepError → Type 0
 NotReady place ls steps.Memory = ⊤
 NotReady place ls steps.Exhausted = 2 ^ 63 ≤ boot_of (own_records place ls) + 1
 NotReady place ls e = ⊥
+
+-- why no process goes on over the log of a manager that restarted, but for want of memory: no such process can have
+-- written the records that were left
+abbrev pub NotReopenedOver : Place → ManagerSight → RebuildError → Type 0
+NotReopenedOver place m rebuilds.Memory = ⊤
+NotReopenedOver place m rebuilds.Unfit = AreFit place (left_before m) → ⊥
+NotReopenedOver place m rebuilds.Exhausted = ⊥

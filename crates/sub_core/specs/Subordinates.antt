@@ -1,5 +1,5 @@
 -- A subordinate: a process below a parent, with a resource manager.
-use Rattle.std.specs.Prelude.{◌≡◌, ◌≢◌, ◌≤◌, ℕ, Bool, true, false, is_none, if◌then◌else◌, Option, Some, None, List, [], ◌∷◌}
+use Rattle.std.specs.Prelude.{◌≡◌, ◌≢◌, ◌≤◌, ◌⊎◌, ℕ, Bool, true, false, is_none, if◌then◌else◌, Option, Some, None, List, [], ◌∷◌}
 use Rattle.xa_tables.specs.declared.states.BranchState.{BranchState}
 use Rattle.xa_tables.specs.declared.states.BranchState.TheVariants.{S2, S3, S4, S5}
 use Rattle.xa_xid.specs.declared.xid.Xid.{Xid}
@@ -31,6 +31,11 @@ use Rattle.tree_model.specs.ManagerRows.{is_acknowledged}
 use Rattle.tree_model.specs.CoordinatorRows.{post}
 use Rattle.tree_model.specs.Nodes.{AtLeaf, DataAnswer, Effect, Place, ReadsOnly, reaction_of}
 use Rattle.tree_model.specs.LogNames.{name_xid}
+use Rattle.tree_model.specs.declared.records.LogRecord.{LogRecord}
+use Rattle.tree_model.specs.Records.{boot_after}
+use Rattle.std.specs.List.{AllByRecursion}
+use Rattle.rec_log.specs.Sights.{records_of}
+use Rattle.sub_table.specs.Rebuilt.{IsReached}
 use Rattle.tree_model.specs.Plays.{held_writes}
 use Rattle.tree_model.specs.Reactions.{Does}
 use Rattle.tree_model.specs.Standings.{decided_against, decided_findings, own_finding, unknown_view}
@@ -145,14 +150,27 @@ pub record IsNamed (p : ProcessId) (c : Case) (x : Xid) : Type 0 where
   pub reads : name_in x ≡ (Some p, CaseBranch c)
   pub real : x ≢ null_xid
 
--- a case has a ticket, and one of this boot was given already
+-- a case has a ticket of a boot that was reached, and one of this boot was given already
 pub record IsGiven (s : SubState) (c : Case) : Type 0 where
   pub ticket : Ticket
   pub has : c.ticket ≡ Some ticket
+  pub within : ticket.boot ≤ s.manager.boot
   pub before : ticket.boot ≡ s.manager.boot → ticket.number ≤ s.given
 
+-- one of these records is that of a boot which is at least this
+abbrev pub Reaches : ℕ → List LogRecord → Type 0
+Reaches n [] = n ≤ 0
+Reaches n (l ∷ ls) = (n ≤ boot_after 0 l.entry) ⊎ Reaches n ls
+
+-- the forced records of a manager's log have reached its boot, and the cases of the process's own that promise in it
+-- do so by tickets of boots that were reached
+pub record HasReached (place : Place) (m : ManagerSight) : Type 0 where
+  pub boot : Reaches m.boot m.log.kept.forced
+  pub promises : AllByRecursion (IsReached place m.boot) (records_of m.log.kept)
+
 -- the manager's log is this process's, it is idle, and each live branch stands there as the subordinate keeps
--- it, under its case's XID, with what it was told behind an operator's decision
+-- it, under its case's XID, with what it was told behind an operator's decision; and the log has reached the boots of
+-- the tickets by which cases of its own promise
 pub record IsTied (s : SubState) : Type 0 where
   pub own : s.manager.log.form ≡ log_form s.me Manager
   pub idle : IsIdle s.manager
@@ -162,6 +180,7 @@ pub record IsTied (s : SubState) : Type 0 where
   pub told : (c : Case) (b : Branch) → branch_in s.table c ≡ Some b
       → AgreesWith b.stage (s.manager.decided b.xid)
   pub given_before : (c : Case) (b : Branch) → branch_in s.table c ≡ Some b → IsGiven s c
+  pub reached : HasReached (place_of s) s.manager
 
 -- Turns.
 

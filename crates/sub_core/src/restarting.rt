@@ -15,10 +15,10 @@ ghost use Rattle.manager_model.specs.Sights.{ManagerSight};
 ghost use Rattle.tree_model.specs.Nodes.{AtLeaf};
 ghost use Rattle.rec_log.specs.Sights.{left_by};
 ghost use Rattle.sub_deeds.specs.Deeds.{KeepsManager};
-ghost use Rattle.sub_table.specs.Rebuilt.{Rebuilds};
+ghost use Rattle.sub_table.specs.Rebuilt.{NotRebuilt, Rebuilds};
 ghost use Rattle.tree_model.specs.Views.{leaf_place};
 ghost use Rattle.sub_core.specs.Subordinates.{seen};
-ghost use Rattle.sub_core.specs.Steps.{LeavesPromises, NotReady, PromisesLeft, Reopens, error_of_rebuild, left_before, state};
+ghost use Rattle.sub_core.specs.Steps.{LeavesPromises, NotReady, NotReopenedOver, PromisesLeft, Reopens, left_before, state};
 ghost use Rattle.tree_model.specs.declared.records.RecordKind.TheVariants as kind;
 ghost use Rattle.tree_model.specs.declared.records.Subject.TheVariants as subject;
 
@@ -55,29 +55,23 @@ fn reopen<M: ResourceManager>(manager: &mut M, keep: usize) -> Result<(), Restar
     Ok(())
 }
 
-/// The error of a step, for that of what records leave. Memory: also where no run makes such records.
-fn step_error(error: RebuildError) -> StepError
-    ensures { result ≡ error_of_rebuild error }
-{
-    match error {
-        RebuildError::Memory | RebuildError::Unfit => StepError::Memory,
-        RebuildError::Exhausted => StepError::Exhausted,
-    }
-}
-
 impl<M: ResourceManager> Subordinate<M> {
-    /// What the records leave that a crash would leave. Memory: also where no run makes such records. Exhausted:
-    /// no boot below 2^63 comes behind the last one.
+    /// What the records leave that a crash would leave, which it wrote itself. Exhausted: no boot below 2^63 comes
+    /// behind the last one.
     fn rebuilt(&self, keep: usize) -> Result<Rebuilt, StepError>
         ensures ok { IfOk result (Rebuilds (leaf_place self.now.me self.now.parent self.now.tree) self.now.parent
             (left_by (M.sight self.now.manager).log keep)) }
         ensures err { IfErr result (NotReady (leaf_place self.now.me self.now.parent self.now.tree)
             (left_by (M.sight self.now.manager).log keep)) }
     {
+        self.manager.records_are_sound();
+        self.manager.records_are_in_order();
         let records = self.manager.left(keep)?;
         match rebuild(self.me, self.parent, &self.tree, &records, self.alloc) {
             Ok(rebuilt) => Ok(rebuilt),
-            Err(error) => Err(step_error(error)),
+            Err(RebuildError::Memory) => Err(StepError::Memory),
+            Err(RebuildError::Exhausted) => Err(StepError::Exhausted),
+            Err(RebuildError::Unfit) => unreachable!(),
         }
     }
 
@@ -99,9 +93,8 @@ impl<M: ResourceManager> Subordinate<M> {
 
     /// Restarts behind a crash that keeps so many of the log's unforced bytes: each case in doubt asks for
     /// its outcome, and so does one that an operator decided and that was not told. All memory is taken
-    /// before the crash. Memory: nothing changed, also where the records that are left are none that a run
-    /// makes, as with a ticket of a boot to come. Exhausted: no boot below 2^63 comes behind their last one;
-    /// nothing changed. Device: it has failed until it is restarted.
+    /// before the crash. Its own records are never refused. Memory: nothing changed. Exhausted: no boot below 2^63
+    /// comes behind the last one; nothing changed. Device: it has failed until it is restarted.
     pub fn restart(&mut self, keep: usize) -> Result<Reaction, StepError>
         ensures ok { IfOk result (Restarts (state M.sight self.old) keep (state M.sight self.new)) }
         ensures writes { OnOk result (LeavesPromises (seen M.sight self.old) keep (seen M.sight self.new)) }
@@ -144,6 +137,7 @@ impl<M: ResourceManager> Subordinate<M> {
             → KeepsManager (M.sight self.old.manager) (M.sight self.new.manager)) }
     {
         self.manager.records_are_sound();
+        self.manager.records_are_in_order();
         match self.manager.trim() {
             Ok(count) => Ok(count as u64),
             Err(TrimError::Memory) => Err(StepError::Memory),
@@ -162,22 +156,19 @@ fn left_before<M: ResourceManager>(manager: &M) -> Result<Vec<LogRecord>, AllocE
     Ok(records)
 }
 
-/// What these records leave. The errors are those of `rebuilt`.
+/// What these records leave. The errors are those of `rebuild`.
 fn rebuilt_before<M: ResourceManager>(
     alloc: Global,
     me: ProcessId,
     parent: ProcessId,
     tree: &Tree,
     manager: &M,
-) -> Result<Rebuilt, StepError>
+) -> Result<Rebuilt, RebuildError>
     ensures ok { IfOk result (Rebuilds (leaf_place me parent tree.now) parent (left_before (M.sight manager.now))) }
-    ensures err { IfErr result (NotReady (leaf_place me parent tree.now) (left_before (M.sight manager.now))) }
+    ensures err { IfErr result (NotRebuilt (leaf_place me parent tree.now) (left_before (M.sight manager.now))) }
 {
     let records = left_before(manager)?;
-    match rebuild(me, parent, tree, &records, alloc) {
-        Ok(rebuilt) => Ok(rebuilt),
-        Err(error) => Err(step_error(error)),
-    }
+    rebuild(me, parent, tree, &records, alloc)
 }
 
 /// The same, and the record of the boot behind them, as a reaction shows it.
@@ -187,12 +178,12 @@ fn ready_before<M: ResourceManager>(
     parent: ProcessId,
     tree: &Tree,
     manager: &M,
-) -> Result<(Rebuilt, Sequence<Logged>), StepError>
+) -> Result<(Rebuilt, Sequence<Logged>), RebuildError>
     ensures ok { IfOk result (λ ready. Rebuilds (leaf_place me parent tree.now) parent
         (left_before (M.sight manager.now)) ready.0) }
     ensures written { IfOk result (λ ready.
         ready.1 ≡ record { kind = kind.Opened; subject = subject.Boot (ready.0.boot + 1); forced = true } ∷ []) }
-    ensures err { IfErr result (NotReady (leaf_place me parent tree.now) (left_before (M.sight manager.now))) }
+    ensures err { IfErr result (NotRebuilt (leaf_place me parent tree.now) (left_before (M.sight manager.now))) }
 {
     let rebuilt = rebuilt_before(alloc, me, parent, tree, manager)?;
     let written = opened(rebuilt.boot + 1, alloc)?;
@@ -201,15 +192,16 @@ fn ready_before<M: ResourceManager>(
 
 impl<M: ResourceManager + Drop> Subordinate<M> {
     /// The manager `me` of this tree below this parent, as it restarts over the log that an earlier one left:
-    /// it drives a manager that restarted over that log, and opens it. Memory: also where the records that
-    /// were left are none that a run makes, as of `restart`. With a refusal the manager is handed back.
+    /// it drives a manager that restarted over that log, and opens it. Unfit: no such process can have written the
+    /// records that were left, as with a ticket of a boot that they have not reached. Exhausted: never, since the
+    /// manager had a boot left. With a refusal the manager is handed back.
     pub fn reopen(
         alloc: Global,
         me: ProcessId,
         parent: ProcessId,
         tree: Tree,
         mut manager: M,
-    ) -> Result<(Subordinate<M>, Reaction), (StepError, M)>
+    ) -> Result<(Subordinate<M>, Reaction), (RebuildError, M)>
         requires restarted { IsRestarted (M.sight manager) }
         requires own { (M.sight manager).log.form ≡ log_form me Manager }
         ensures ok { IfOk result (λ made. (before : ManagerSight) (all : ℕ)
@@ -221,7 +213,8 @@ impl<M: ResourceManager + Drop> Subordinate<M> {
         ensures writes { IfOk result (λ made. (before : ManagerSight) (all : ℕ)
             → RestartsManager before (M.sight manager) all
             → PromisesLeft (left_by before.log all) (M.sight made.0.manager)) }
-        ensures err { IfErr result (λ e. (e.0 ≡ StepError.Memory) × (e.1 ≡ manager)) }
+        ensures err { IfErr result (λ e. NotReopenedOver (leaf_place me parent tree) (M.sight manager) e.0
+            × (e.1 ≡ manager)) }
     {
         manager.records_are_sound();
         match ready_before(alloc, me, parent, &tree, &manager) {

@@ -6,3 +6,4 @@ pub mod Noting
 pub mod Rebuilding
 pub mod Marks
 pub mod Booting
+pub mod Fitting

@@ -11,7 +11,7 @@ use Rattle.tree_model.specs.declared.records.LogRecord.{LogRecord}
 use Rattle.tree_model.specs.declared.records.Record.{Record}
 use Rattle.tree_model.specs.declared.records.Record.TheVariants.{Opened, Collecting, Prepare, Commit, Abort, End, Prepared, Committed, RolledBack, Direct, HeurCommit, HeurRollback, Told, Forgot, Base, Pair, Cleared}
 use Rattle.tree_model.specs.declared.trees.TreeEntry.{TreeEntry}
-use Rattle.tree_model.specs.LogNames.{foreign_to, is_own, name_xid, own_records, renamed, same_parent}
+use Rattle.tree_model.specs.LogNames.{by_xid, foreign_to, is_own, name_xid, own_records, renamed, renamed_by, same_parent}
 use Rattle.tree_model.specs.Names.{same_case}
 use Rattle.tree_model.specs.Nodes.{AtLeaf}
 use Rattle.tree_model.specs.Records.{boot_after, boot_of, branch_case, record_branch, record_case, same_branch, same_xid}
@@ -25,14 +25,6 @@ use Rattle.log_text.proofs.NameReading.{same_xid_is, same_xid_refl}
 use Rattle.sub_table.specs.Rebuilt.{NameReads, ReadsBack, own_case}
 use Rattle.tree_model.specs.Views.{leaf_place}
 use Rattle.sub_table.proofs.Reading.{is_it, own_append, read_as, read_is, read_name}
-
--- a record of a log, its branch named by its XID
-abbrev pub named_by : Option ProcessId → Option Branch → Record → Record
-named_by q None r = r
-named_by q (Some b) r = renamed (Foreign (name_xid q b)) r
-
-abbrev pub by_xid : LogRecord → Record
-by_xid l = named_by l.parent (record_branch l.entry) l.entry
 
 case_is_one : (c d : Case) → CaseBranch c ≡ CaseBranch d → c ≡ d
 case_is_one c d e = cc
@@ -126,7 +118,7 @@ module _ (me p : ProcessId) (tree : List TreeEntry) (c : Case)
   one_marked : (r : Record) (q : Option ProcessId) (m : Mark) → ReadsBack (record { entry = r; parent = q })
       → fold (mark_after (CaseBranch c)) m (own_records (leaf_place me p tree)
       (record { entry = r; parent = q } ∷ []))
-      ≡ mark_after (Foreign x) m (named_by q (record_branch r) r)
+      ≡ mark_after (Foreign x) m (renamed_by q (record_branch r) r)
   unfolding own_records
   one_marked (Opened n) q m h = refl
   one_marked (Base n) q m h = refl
@@ -211,7 +203,7 @@ module _ (me p : ProcessId) (tree : List TreeEntry) (c : Case)
   one_decided : (r : Record) (q : Option ProcessId) (k : Decision) → ReadsBack (record { entry = r; parent = q })
       → fold (decision_after (CaseBranch c)) k (own_records (leaf_place me p tree)
       (record { entry = r; parent = q } ∷ []))
-      ≡ decision_after (Foreign x) k (named_by q (record_branch r) r)
+      ≡ decision_after (Foreign x) k (renamed_by q (record_branch r) r)
   unfolding own_records
   one_decided (Opened n) q k h = refl
   one_decided (Base n) q k h = refl

@@ -14,7 +14,7 @@ use Rattle.tree_model.specs.Standings.{Decided, Finished, Mark, Promised, ToldOf
 use Rattle.sub_table.specs.Tables.{kept_view, view_in}
 use Rattle.sub_table.specs.declared.cases.Cases.{Cases}
 use Rattle.sub_table.specs.Rebuilt.{Leaves, Rebuilds, asks, asks_by, branch_left}
-use Rattle.sub_table.proofs.Steps.{more_own}
+use Rattle.sub_table.proofs.Steps.{more_own, reached_later}
 
 -- how a case stands
 view_left : (p : ProcessId) (c : Case) (m : Mark)
@@ -63,6 +63,7 @@ module _ (place : Place) (p : ProcessId) (ls : List LogRecord) (s : Cases) (left
       own = more_own place p s.newest s.boot c within (left.live c b e);
       kept = sym (left.branches c) ∙ e;
     };
+    reached = reached_later place s.newest s.boot ls within left.reached;
     recalls = left.recalls;
     messages = sent ∙ same_flat (asks place.me p s.branches)
         (manager_resumes place.me p (own_records place ls)) asked s.order.keys

@@ -25,7 +25,7 @@ use Rattle.sub_branch.specs.declared.branch.Branch.{Branch}
 use Rattle.sub_branch.specs.declared.branch.Stage.TheVariants.{Heuristic, Prepared}
 use Rattle.sub_table.specs.Tables.{branch_in, ticket_in}
 use Rattle.sub_table.specs.declared.cases.Cases.{Cases}
-use Rattle.sub_table.specs.Rebuilt.{DecidesBy, DecidesCase, Ends, EndsBy, IsGivenBy, IsOwn, Leaves, NameReads, Promises, PromisesBy, ReadsBack, Recalls, RecallsCase, Takes, branch_left, fits_told, kept_at, own_case}
+use Rattle.sub_table.specs.Rebuilt.{DecidesBy, DecidesCase, Ends, EndsBy, IsGivenBy, IsGivenWhere, IsOwn, IsReached, Leaves, NameReads, Promises, PromisesBy, ReachesBy, ReadsBack, Recalls, RecallsCase, Takes, branch_left, fits_told, kept_at, own_case, saying_of}
 use Rattle.tree_model.specs.Views.{leaf_place}
 use Rattle.sub_table.proofs.Reading.{FitsTold, IsDecidedMark, MayFollow, One, is_it, one_base, one_committed, one_committed_so, one_direct, one_forgot, one_opened, one_pair, one_prepared, one_rolled_back, one_rolled_back_so, one_told, own_append}
 
@@ -39,6 +39,35 @@ all_more : {A : Type 0} (P : A → Type 0) (xs : List A) (x : A) → AllByRecurs
     → AllByRecursion P (xs ++ x ∷ [])
 all_more P [] x all own = (own, tt)
 all_more P (y ∷ ys) x all own = (all.0, all_more P ys x all.1 own)
+
+-- the others, and the last
+all_but_last : {A : Type 0} (P : A → Type 0) (xs : List A) (x : A) → AllByRecursion P (xs ++ x ∷ [])
+    → AllByRecursion P xs × P x
+all_but_last P [] x all = (tt, all.0)
+all_but_last P (y ∷ ys) x all = let rest = all_but_last P ys x all.1 in ((all.0, rest.0), rest.1)
+
+-- a boot that is reached later is at least as high
+given_later : (m n : ℕ) (o : Option Case) → m ≤ n → IsGivenWhere m o → IsGivenWhere n o
+given_later m n None le h = tt
+given_later m n (Some c) le h =
+    record { ticket = h.ticket; has = h.has; within = let w = h.within in omega (arith, w, le) }
+
+reached_one : (place : Place) (m n : ℕ) (q : Option ProcessId) (r : Record) → m ≤ n
+    → ReachesBy place m q (saying_of r) → ReachesBy place n q (saying_of r)
+reached_one place m n q (PreparedRecord b ws) le h = given_later m n (own_case place q b) le h
+reached_one place m n q _ le h = tt
+
+pub reached_later : (place : Place) (m n : ℕ) (ls : List LogRecord) → m ≤ n
+    → AllByRecursion (IsReached place m) ls → AllByRecursion (IsReached place n) ls
+reached_later place m n [] le h = tt
+reached_later place m n (l ∷ ls) le h =
+    (reached_one place m n l.parent l.entry le h.0, reached_later place m n ls le h.1)
+
+not_above : (a b n : ℕ) → b ≡ a → a ≤ n → b ≤ n
+not_above a b n is h = subst (λ k. k ≤ n) (sym is) h
+
+no_lower : (a b : ℕ) → b ≡ a → a ≤ b
+no_lower a b is = subst (λ k. a ≤ k) (sym is) (omega arith)
 
 -- Lists with one record more.
 
@@ -163,8 +192,10 @@ module _ (place : Place) (p : ProcessId) (ls : List LogRecord) (l : LogRecord) (
       → ((c : Case) (b : Branch) → branch_in new.branches c ≡ Some b → IsOwn place p new.newest c)
       → ((c : Case) → is_it o c ≡ true → MayFollow (x (mark_of (CaseBranch c) (own_records place ls)))
       (mark_of (CaseBranch c) (own_records place ls)))
+      → ((n : ℕ) → old.newest ≤ n → IsReached place n l → new.newest ≤ n)
+      → old.newest ≤ new.newest → IsReached place new.newest l
       → Leaves place p (ls ++ l ∷ []) new
-  leaves_more old new left back boot order tickets branches live may = record {
+  leaves_more old new left back boot order tickets branches live may least grows reaches = record {
     reads = all_more ReadsBack ls l left.reads back;
     boot = boot ∙ ap (λ n. boot_after n l.entry) left.boot ∙ sym (reads.boot (boot_of (own_records place ls)))
         ∙ sym (boot_more (own_records place ls) reads.read) ∙ ap boot_of (sym behind);
@@ -175,6 +206,10 @@ module _ (place : Place) (p : ProcessId) (ls : List LogRecord) (l : LogRecord) (
     branches = λ c. branches c ∙ by_branch c (is_it o c) ∙ ap (branch_left p c) (sym (marked c));
     recalls = λ c. recalled c (left.recalls c) (may c);
     live = live;
+    reached = all_more (IsReached place new.newest) ls l
+        (reached_later place old.newest new.newest ls grows left.reached) reaches;
+    newest = λ n all. let parts = all_but_last (IsReached place n) ls l all in
+        least n (left.newest n parts.0) parts.1;
   }
     where
       by_branch : (c : Case) (t : Bool)
@@ -233,7 +268,7 @@ more_own place p a b c grows o = record {
 }
 
 -- a case of the process's own
-own_is : (place : Place) (q : Option ProcessId) (b : AnyBranch) (c : Case) → own_case place q b ≡ Some c
+pub own_is : (place : Place) (q : Option ProcessId) (b : AnyBranch) (c : Case) → own_case place q b ≡ Some c
     → (b ≡ CaseBranch c) × (is_own place q c ≡ true)
 own_is place q (Foreign x) c e = absurd (cc)
 own_is place q (CaseBranch d) c e = by_test (is_own place q d) refl e
@@ -251,7 +286,7 @@ parent_is (Some r) p h = ap Some ((process_tells r p).0 h)
 
 module _ (me p : ProcessId) (tree : List TreeEntry) (ls : List LogRecord) (old : Cases)
     (left : Leaves (leaf_place me p tree) p ls old) where
-  own_parent : (q : Option ProcessId) (c : Case) → is_own (leaf_place me p tree) q c ≡ true → q ≡ Some p
+  pub own_parent : (q : Option ProcessId) (c : Case) → is_own (leaf_place me p tree) q c ≡ true → q ≡ Some p
   own_parent q c is = parent_is q p (below_is is)
     where
       below_is : is_own (leaf_place me p tree) q c ≡ true → same_parent q (Some p) ≡ true
@@ -260,29 +295,34 @@ module _ (me p : ProcessId) (tree : List TreeEntry) (ls : List LogRecord) (old :
   -- a record that says nothing of a case of the process's own
   stays : (l : LogRecord) (new : Cases) (x : Mark → Mark) → One (leaf_place me p tree) l None x → ReadsBack l
       → new.branches ≡ old.branches → new.order ≡ old.order → new.newest ≡ old.newest
-      → new.boot ≡ boot_after old.boot l.entry
+      → new.boot ≡ boot_after old.boot l.entry → ((n : ℕ) → IsReached (leaf_place me p tree) n l)
       → Leaves (leaf_place me p tree) p (ls ++ l ∷ []) new
-  stays l new x reads back branches order newest boot =
+  stays l new x reads back branches order newest boot reach =
       leaves_more (leaf_place me p tree) p ls l None x reads old new left back boot (ap (λ s. s.keys) order)
       (λ d. ap (λ t. ticket_in t d) branches ∙ left.tickets d) (λ c. ap (λ t. branch_in t c) branches)
       (λ c b e. subst (λ n. IsOwn (leaf_place me p tree) p n c) (sym newest)
       (left.live c b (ap (λ t. branch_in t c) (sym branches) ∙ e)))
-      (λ c e. absurd (cc))
+      (λ c e. absurd (cc)) (λ n low h. not_above old.newest new.newest n newest low)
+      (no_lower old.newest new.newest newest) (reach new.newest)
 
   quiet : (l : LogRecord) (new : Cases) (x : Mark → Mark) → One (leaf_place me p tree) l None x → ReadsBack l
-      → boot_after old.boot l.entry ≡ old.boot → new ≡ old → Leaves (leaf_place me p tree) p (ls ++ l ∷ []) new
-  quiet l new x reads back boot is =
+      → boot_after old.boot l.entry ≡ old.boot → ((n : ℕ) → IsReached (leaf_place me p tree) n l) → new ≡ old
+      → Leaves (leaf_place me p tree) p (ls ++ l ∷ []) new
+  quiet l new x reads back boot reach is =
       stays l new x reads back (ap (λ s. s.branches) is) (ap (λ s. s.order) is) (ap (λ s. s.newest) is)
-      (ap (λ s. s.boot) is ∙ sym boot)
+      (ap (λ s. s.boot) is ∙ sym boot) reach
 
   -- a record of a case of the process's own that promised
   promised : (l : LogRecord) (mid new : Cases) (q : Option ProcessId) (b : AnyBranch) (o : Option Case)
       → own_case (leaf_place me p tree) q b ≡ o
       → One (leaf_place me p tree) l o (λ m. Promised) → NameReads q b → ReadsBack l
       → boot_after old.boot l.entry ≡ old.boot
+      → ((n : ℕ) → IsReached (leaf_place me p tree) n l → IsGivenWhere n o)
+      → ((n : ℕ) → IsGivenWhere n o → IsReached (leaf_place me p tree) n l)
       → PromisesBy old new p o → Leaves (leaf_place me p tree) p (ls ++ l ∷ []) new
-  promised l mid new q b None is reads name back boot made = quiet l new (λ m. Promised) reads back boot made
-  promised l mid new q b (Some c) is reads name back boot made =
+  promised l mid new q b None is reads name back boot reaches reach made =
+      quiet l new (λ m. Promised) reads back boot (λ n. reach n tt) made
+  promised l mid new q b (Some c) is reads name back boot reaches reach made =
       let adds = made.1 in
       let makes = made.2 in
       let own = own_is (leaf_place me p tree) q b c is in
@@ -297,6 +337,9 @@ module _ (me p : ProcessId) (tree : List TreeEntry) (ls : List LogRecord) (old :
       ∙ ap (λ s. ticket_in s.branches d) adds.0 ∙ left.tickets d)
       (λ d. by_case d (same_case c d) refl adds.0 makes)
       (λ d v e. by_live d v (same_case c d) refl adds.0 makes mine named e) (λ d e. tt)
+      (λ n low h. makes.least n (not_above old.newest made.0.newest n (ap (λ s. s.newest) adds.0) low)
+      (reaches n h)) (subst (λ n. n ≤ new.newest) (ap (λ s. s.newest) adds.0) makes.grows)
+      (reach new.newest makes.given)
     where
       by_case : (d : Case) (t : Bool) → same_case c d ≡ t
           → made.0 ≡ record old { order = made.0.order } → Promises made.0 new p c
@@ -322,10 +365,10 @@ module _ (me p : ProcessId) (tree : List TreeEntry) (ls : List LogRecord) (old :
   -- a record of a case of the process's own that is finished
   ended : (l : LogRecord) (mid new : Cases) (o : Option Case)
       → One (leaf_place me p tree) l o (λ m. Finished) → ReadsBack l
-      → boot_after old.boot l.entry ≡ old.boot → EndsBy old new o
+      → boot_after old.boot l.entry ≡ old.boot → ((n : ℕ) → IsReached (leaf_place me p tree) n l) → EndsBy old new o
       → Leaves (leaf_place me p tree) p (ls ++ l ∷ []) new
-  ended l mid new None reads back boot made = quiet l new (λ m. Finished) reads back boot made
-  ended l mid new (Some c) reads back boot made =
+  ended l mid new None reads back boot reach made = quiet l new (λ m. Finished) reads back boot reach made
+  ended l mid new (Some c) reads back boot reach made =
       let adds = made.1 in
       let makes = made.2 in
       leaves_more (leaf_place me p tree) p ls l (Some c) (λ m. Finished) reads old new left back
@@ -333,6 +376,8 @@ module _ (me p : ProcessId) (tree : List TreeEntry) (ls : List LogRecord) (old :
       (makes.tickets (λ d. ap (λ s. ticket_in s.branches d) adds.0 ∙ left.tickets d))
       (λ d. by_case d (same_case c d) refl adds.0 makes)
       (λ d v e. by_live d v (same_case c d) refl adds.0 makes e) (λ d e. tt)
+      (λ n low h. not_above old.newest new.newest n (makes.newest ∙ ap (λ s. s.newest) adds.0) low)
+      (no_lower old.newest new.newest (makes.newest ∙ ap (λ s. s.newest) adds.0)) (reach new.newest)
     where
       by_case : (d : Case) (t : Bool) → same_case c d ≡ t
           → made.0 ≡ record old { order = made.0.order } → Ends made.0 new c
@@ -352,10 +397,11 @@ module _ (me p : ProcessId) (tree : List TreeEntry) (ls : List LogRecord) (old :
   -- a record of a case of the process's own that an operator decided
   decided : (l : LogRecord) (new : Cases) (told : Option Outcome) (o : Option Case)
       → One (leaf_place me p tree) l o (λ m. mark_told told)
-      → ReadsBack l → boot_after old.boot l.entry ≡ old.boot → DecidesBy old new told o
+      → ReadsBack l → boot_after old.boot l.entry ≡ old.boot
+      → ((n : ℕ) → IsReached (leaf_place me p tree) n l) → DecidesBy old new told o
       → Leaves (leaf_place me p tree) p (ls ++ l ∷ []) new
-  decided l new told None reads back boot made = quiet l new (λ m. mark_told told) reads back boot made
-  decided l new told (Some c) reads back boot made =
+  decided l new told None reads back boot reach made = quiet l new (λ m. mark_told told) reads back boot reach made
+  decided l new told (Some c) reads back boot reach made =
       let adds = made.1 in
       let makes = made.2 in
       leaves_more (leaf_place me p tree) p ls l (Some c) (λ m. mark_told told) reads old new left back
@@ -368,6 +414,8 @@ module _ (me p : ProcessId) (tree : List TreeEntry) (ls : List LogRecord) (old :
       (branch_in old.branches d) makes.branch
       (subst (λ k. branch_in old.branches k ≡ Some makes.branch) (one c d e) (stood adds.0 makes))
       (left.branches d) makes.fits)
+      (λ n low h. not_above old.newest new.newest n (makes.newest ∙ ap (λ s. s.newest) adds.0) low)
+      (no_lower old.newest new.newest (makes.newest ∙ ap (λ s. s.newest) adds.0)) (reach new.newest)
     where
       stood : made.0 ≡ record old { order = made.0.order } → (m : DecidesCase made.0 new c told)
           → branch_in old.branches c ≡ Some m.branch
@@ -403,26 +451,26 @@ module _ (me p : ProcessId) (tree : List TreeEntry) (ls : List LogRecord) (old :
       → Leaves (leaf_place me p tree) p (ls ++ record { entry = r; parent = q } ∷ []) new
   by_entry new q (Opened n) made =
       stays (record { entry = Opened n; parent = q }) new (λ m. m) (one_opened me p tree q n) tt
-      (ap (λ s. s.branches) made) (ap (λ s. s.order) made) (ap (λ s. s.newest) made) (ap (λ s. s.boot) made)
-  by_entry new q (Base n) made = quiet _ new (λ m. m) (one_base me p tree q n) tt refl made
-  by_entry new q (Pair k v) made = quiet _ new (λ m. m) (one_pair me p tree q k v) tt refl made
+      (ap (λ s. s.branches) made) (ap (λ s. s.order) made) (ap (λ s. s.newest) made) (ap (λ s. s.boot) made) (λ k. tt)
+  by_entry new q (Base n) made = quiet _ new (λ m. m) (one_base me p tree q n) tt refl (λ k. tt) made
+  by_entry new q (Pair k v) made = quiet _ new (λ m. m) (one_pair me p tree q k v) tt refl (λ n. tt) made
   by_entry new q (PreparedRecord b ws) made =
       promised _ new new q b (own_case (leaf_place me p tree) q b) refl
-      (one_prepared me p tree q b ws) made.0 made.0 refl made.1
+      (one_prepared me p tree q b ws) made.0 made.0 refl (λ n h. h) (λ n h. h) made.1
   by_entry new q (Committed b) made = ended _ new new (own_case (leaf_place me p tree) q b)
-      (one_committed me p tree q b) made.0 refl made.1
+      (one_committed me p tree q b) made.0 refl (λ n. tt) made.1
   by_entry new q (RolledBack b) made = ended _ new new (own_case (leaf_place me p tree) q b)
-      (one_rolled_back me p tree q b) made.0 refl made.1
+      (one_rolled_back me p tree q b) made.0 refl (λ n. tt) made.1
   by_entry new q (Direct b ws) made = ended _ new new (own_case (leaf_place me p tree) q b)
-      (one_direct me p tree q b ws) made.0 refl made.1
+      (one_direct me p tree q b ws) made.0 refl (λ n. tt) made.1
   by_entry new q (Forgot b) made = ended _ new new (own_case (leaf_place me p tree) q b)
-      (one_forgot me p tree q b) made.0 refl made.1
+      (one_forgot me p tree q b) made.0 refl (λ n. tt) made.1
   by_entry new q (HeurCommit b) made =
-      decided _ new None (own_case (leaf_place me p tree) q b) (one_committed_so me p tree q b) made.0 refl made.1
+      decided _ new None (own_case (leaf_place me p tree) q b) (one_committed_so me p tree q b) made.0 refl (λ n. tt) made.1
   by_entry new q (HeurRollback b) made =
-      decided _ new None (own_case (leaf_place me p tree) q b) (one_rolled_back_so me p tree q b) made.0 refl made.1
+      decided _ new None (own_case (leaf_place me p tree) q b) (one_rolled_back_so me p tree q b) made.0 refl (λ n. tt) made.1
   by_entry new q (Told b o) made =
-      decided _ new (Some o) (own_case (leaf_place me p tree) q b) (one_told me p tree q b o) made.0 refl made.1
+      decided _ new (Some o) (own_case (leaf_place me p tree) q b) (one_told me p tree q b o) made.0 refl (λ n. tt) made.1
   by_entry new q (Collecting c ts) made = absurd made
   by_entry new q (Prepare c ts) made = absurd made
   by_entry new q (Commit c ts) made = absurd made
@@ -437,9 +485,9 @@ module _ (me p : ProcessId) (tree : List TreeEntry) (ls : List LogRecord) (old :
 -- no record leaves nothing
 pub nothing_left : (place : Place) (p : ProcessId) (s : Cases) → s.order.keys ≡ []
     → s.branches.tickets ≡ [] → s.branches.branches ≡ []
-    → s.boot ≡ 0 → Leaves place p [] s
+    → s.boot ≡ 0 → s.newest ≡ 0 → Leaves place p [] s
 unfolding own_records mark_of boot_of cases_in live_value case_decision decision_of
-nothing_left place p s order tickets branches boot = record {
+nothing_left place p s order tickets branches boot newest = record {
   reads = tt;
   boot = boot;
   order = order;
@@ -447,4 +495,6 @@ nothing_left place p s order tickets branches boot = record {
   branches = λ c. ap (λ bs. live_value bs c) branches;
   recalls = λ c. tt;
   live = λ c b e. absurd (let none = ap (λ bs. live_value bs c) branches in cc);
+  reached = tt;
+  newest = λ n all. subst (λ k. k ≤ n) (sym newest) (omega arith);
 }

@@ -1,7 +1,8 @@
 -- What the records of a log leave of a subordinate.
-use Rattle.std.specs.Prelude.{◌≡◌, ◌≤◌, ◌<◌, ◌+◌, ◌^◌, ⊤, ℕ, Bool, true, false, if◌then◌else◌, Option, Some, None, is_none, List, [], ◌∷◌}
+use Rattle.std.specs.Prelude.{◌≡◌, ◌≤◌, ◌<◌, ◌+◌, ◌^◌, ⊤, ℕ, Bool, true, false, if◌then◌else◌, Option, Some, None, is_none, is_some, List, [], ◌∷◌}
 use Rattle.std.specs.List.{AllByRecursion, flat_map}
 use Rattle.tree_model.specs.declared.names.Case.{Case}
+use Rattle.tree_model.specs.declared.names.Kind.TheVariants.{Manager}
 use Rattle.tree_model.specs.declared.names.Outcome.{Outcome}
 use Rattle.tree_model.specs.declared.names.ProcessId.{ProcessId}
 use Rattle.tree_model.specs.declared.names.Ticket.{Ticket}
@@ -21,6 +22,8 @@ use Rattle.tree_model.specs.Standings.{Decided, Mark, Promised, ToldOf, mark_of}
 use Rattle.xa_heur.specs.declared.decision.Decision.{Decision}
 use Rattle.xa_heur.specs.Decisions.{decision_of}
 use Rattle.log_text.specs.Parts.{name_in}
+use Rattle.log_rules.specs.sound.Sound.{IsSound}
+use Rattle.manager_model.specs.Orders.{AreInOrder}
 use Rattle.live_table.specs.Tables.{Moves}
 use Rattle.sub_branch.specs.declared.branch.Branch.{Branch}
 use Rattle.sub_branch.specs.declared.branch.Stage.{Stage}
@@ -88,6 +91,27 @@ pub record IsGivenBy (boot : ℕ) (c : Case) : Type 0 where
   pub has : c.ticket ≡ Some ticket
   pub within : ticket.boot ≤ boot
 
+-- a case of the process's own, where there is one, has a ticket of a boot that is at most this
+abbrev pub IsGivenWhere : ℕ → Option Case → Type 0
+IsGivenWhere boot None = ⊤
+IsGivenWhere boot (Some c) = IsGivenBy boot c
+
+-- the same of the case that promises by what a record under this parent says, where it does
+abbrev pub ReachesBy : Place → ℕ → Option ProcessId → Saying → Type 0
+ReachesBy place boot q (PromisesOf b) = IsGivenWhere boot (own_case place q b)
+ReachesBy place boot q _ = ⊤
+
+-- where a record is the promise of a case of the process's own, the case has a ticket of a boot that is at most this
+abbrev pub IsReached : Place → ℕ → LogRecord → Type 0
+IsReached place boot l = ReachesBy place boot l.parent (saying_of l.entry)
+
+-- records that a subordinate can have written: each can stand in a manager's log, and behind those before it; and its
+-- own cases promised by tickets of boots that the log has reached
+pub record AreFit (place : Place) (ls : List LogRecord) : Type 0 where
+  pub sound : AllByRecursion (IsSound Manager) ls
+  pub ordered : AreInOrder ls
+  pub reached : AllByRecursion (IsReached place (boot_of (own_records place ls))) ls
+
 -- a case that is live is the process's own, and its name reads back
 pub record IsOwn (place : Place) (p : ProcessId) (boot : ℕ) (c : Case) : Type 0 where
   pub own : is_own place (Some p) c ≡ true
@@ -115,6 +139,8 @@ pub record Leaves (place : Place) (p : ProcessId) (ls : List LogRecord) (s : Cas
       → branch_in s.branches c ≡ branch_left p c (mark_of (CaseBranch c) (own_records place ls))
   pub recalls : (c : Case) → RecallsCase (own_records place ls) c
   pub live : (c : Case) (b : Branch) → branch_in s.branches c ≡ Some b → IsOwn place p s.newest c
+  pub reached : AllByRecursion (IsReached place s.newest) ls
+  pub newest : (n : ℕ) → AllByRecursion (IsReached place n) ls → s.newest ≤ n
 
 -- One record more.
 
@@ -131,6 +157,7 @@ pub record Promises (old new : Cases) (p : ProcessId) (c : Case) : Type 0 where
   pub tickets : new.branches.tickets ≡ old.branches.tickets
   pub given : IsGivenBy new.newest c
   pub grows : old.newest ≤ new.newest
+  pub least : (n : ℕ) → old.newest ≤ n → IsGivenBy n c → new.newest ≤ n
 
 -- an operator can decide a branch at this stage, which promised; or it can be told an outcome since, where he did
 abbrev pub fits_told : Option Outcome → Stage → Bool
@@ -190,6 +217,39 @@ TakesBy place p old new q Coordinates = ⊥
 abbrev pub Takes : Place → ProcessId → Cases → Cases → LogRecord → Type 0
 Takes place p old new l = TakesBy place p old new l.parent (saying_of l.entry)
 
+-- a case has a ticket and is not live, so it can promise
+pub record CanPromise (s : Cases) (c : Case) : Type 0 where
+  pub given : is_some c.ticket ≡ true
+  pub fresh : branch_in s.branches c ≡ None
+
+-- a case promised, so an operator can decide it; or it can be told this outcome, as he did
+pub record CanDecide (s : Cases) (told : Option Outcome) (c : Case) : Type 0 where
+  pub branch : Branch
+  pub live : branch_in s.branches c ≡ Some branch
+  pub fits : fits_told told branch.stage ≡ true
+
+-- a case of the process's own can promise, where there is one
+abbrev pub PromisesWhere : Cases → Option Case → Type 0
+PromisesWhere s None = ⊤
+PromisesWhere s (Some c) = CanPromise s c
+
+-- the same of one that an operator decides, or that is told an outcome
+abbrev pub DecidesWhere : Cases → Option Outcome → Option Case → Type 0
+DecidesWhere s told None = ⊤
+DecidesWhere s told (Some c) = CanDecide s told c
+
+-- what a record under this parent says can come behind these cases
+abbrev pub CanComeBy : Place → Cases → Option ProcessId → Saying → Type 0
+CanComeBy place s q (PromisesOf b) = NameReads q b × PromisesWhere s (own_case place q b)
+CanComeBy place s q (EndsOf b) = NameReads q b
+CanComeBy place s q (Decides b told) = NameReads q b × DecidesWhere s told (own_case place q b)
+CanComeBy place s q Coordinates = ⊥
+CanComeBy place s q _ = ⊤
+
+-- a record can come behind these cases
+abbrev pub CanCome : Place → Cases → LogRecord → Type 0
+CanCome place s l = CanComeBy place s l.parent (saying_of l.entry)
+
 -- What is rebuilt.
 
 -- a case of which this is kept asks for its outcome
@@ -221,21 +281,24 @@ pub record Rebuilds (place : Place) (p : ProcessId) (ls : List LogRecord) (r : R
   pub views : (c : Case) → view_in r.branches c ≡ recorded_branch (own_records place ls) c
   pub live : (c : Case) (b : Branch) → branch_in r.branches c ≡ Some b
       → IsLeft place p (own_records place ls) r.boot c b
+  pub reached : AllByRecursion (IsReached place r.boot) ls
   pub recalls : (c : Case) → RecallsCase (own_records place ls) c
   pub messages : r.messages
       ≡ flat_map (manager_resumes place.me p (own_records place ls)) (cases_in (own_records place ls))
 
 -- Refusals.
 
--- records were not read, for another reason than that boots are used up
-abbrev pub IsUnread : RebuildError → Type 0
-IsUnread errors.Exhausted = ⊥
-IsUnread e = ⊤
+-- want of memory, or nothing that fits would be refused so
+abbrev pub IsRefusal : Type 0 → RebuildError → Type 0
+IsRefusal Fits errors.Memory = ⊤
+IsRefusal Fits errors.Unfit = Fits → ⊥
+IsRefusal Fits errors.Exhausted = ⊥
 
--- why nothing was rebuilt: boots are used up where none below 2^63 comes behind the last one
+-- why nothing was rebuilt: the records are none that a subordinate can have written; or boots are used up, where
+-- none below 2^63 comes behind the last one
 abbrev pub NotRebuilt : Place → List LogRecord → RebuildError → Type 0
 NotRebuilt place ls errors.Exhausted = 2 ^ 63 ≤ boot_of (own_records place ls) + 1
-NotRebuilt place ls e = ⊤
+NotRebuilt place ls e = IsRefusal (AreFit place ls) e
 
 -- the number of an error
 abbrev pub rebuild_number : RebuildError → ℕ

@@ -1,7 +1,7 @@
 //! The cases of the records that were read so far.
 
 ghost use Rattle.std.specs.Prelude.{◌≡◌, [], IfErr, OnOk};
-ghost use Rattle.sub_table.specs.Rebuilt.{AddsCase, DecidesCase, Ends, IsUnread, Promises, Takes, fits_told};
+ghost use Rattle.sub_table.specs.Rebuilt.{AddsCase, CanCome, CanDecide, CanPromise, DecidesCase, Ends, IsRefusal, Promises, Takes, fits_told};
 ghost use Rattle.tree_model.specs.Views.{leaf_place};
 
 use crate::names::{RebuildError, Saying, own_case, saying_of};
@@ -61,7 +61,7 @@ impl Cases {
     /// The case promised. Unfit: it has promised already, or has no ticket.
     fn promise(&mut self, parent: ProcessId, case: Case) -> Result<(), RebuildError>
         ensures ok { OnOk result (Promises self.old self.new parent case) }
-        ensures err { IfErr result IsUnread }
+        ensures err { IfErr result (IsRefusal (CanPromise self.old case)) }
     {
         let Some(ticket) = case.ticket else {
             return Err(RebuildError::Unfit);
@@ -81,7 +81,7 @@ impl Cases {
     /// before an operator decided it.
     fn decide(&mut self, case: &Case, told: Option<Outcome>) -> Result<(), RebuildError>
         ensures ok { OnOk result (DecidesCase self.old self.new case.now told) }
-        ensures err { IfErr result IsUnread }
+        ensures err { IfErr result (IsRefusal (CanDecide self.old told case.now)) }
     {
         let Some(key) = self.branches.find(case) else {
             return Err(RebuildError::Unfit);
@@ -116,7 +116,7 @@ impl Cases {
         next: &LogRecord,
     ) -> Result<(), RebuildError>
         ensures ok { OnOk result (Takes (leaf_place me parent tree.now) parent self.old self.new next.now) }
-        ensures err { IfErr result IsUnread }
+        ensures err { IfErr result (IsRefusal (CanCome (leaf_place me parent tree.now) self.old next.now)) }
     {
         match saying_of(&next.entry) {
             Saying::Nothing => Ok(()),

@@ -1,8 +1,8 @@
 //! What a record says of which branch, and whether the branch is a case of the process's own.
 
-ghost use Rattle.std.specs.Prelude.{◌≡◌, Some, IfErr, IfOk, IsTrue};
+ghost use Rattle.std.specs.Prelude.{◌≡◌, ◌↔◌, Some, IfErr, IfOk, IsTrue};
 ghost use Rattle.tree_model.specs.LogNames.{is_own};
-ghost use Rattle.sub_table.specs.Rebuilt.{IsUnread, NameReads, own_case, rebuild_number, saying_of};
+ghost use Rattle.sub_table.specs.Rebuilt.{IsRefusal, NameReads, own_case, rebuild_number, saying_of};
 ghost use Rattle.tree_model.specs.Views.{leaf_place};
 
 use log_text::{name_in, name_xid};
@@ -107,21 +107,21 @@ fn is_own(
 }
 
 fn is_same_xid(one: &Xid, other: &Xid) -> bool
-    ensures { IsTrue result → one.now ≡ other.now }
+    ensures { IsTrue result ↔ one.now ≡ other.now }
 {
     one == other
 }
 
 #[tactic(auto, using(tree_model::specs::NameLaws::same_case_tells))]
 fn is_same_case(one: &Case, other: &Case) -> bool
-    ensures { IsTrue result → one.now ≡ other.now }
+    ensures { IsTrue result ↔ one.now ≡ other.now }
 {
     one.is(other)
 }
 
 /// Whether two branches are one.
 fn is_same_branch(one: &Branch, other: &Branch) -> bool
-    ensures { IsTrue result → one.now ≡ other.now }
+    ensures { IsTrue result ↔ one.now ≡ other.now }
 {
     match (one, other) {
         (Branch::Case(one), Branch::Case(other)) => is_same_case(one, other),
@@ -132,7 +132,7 @@ fn is_same_branch(one: &Branch, other: &Branch) -> bool
 
 /// Whether the XID of a name reads as this name.
 fn reads_back(parent: Option<ProcessId>, branch: Branch) -> bool
-    ensures { IsTrue result → NameReads parent branch }
+    ensures { IsTrue result ↔ NameReads parent branch }
 {
     let xid = name_xid(parent, branch);
     let _parts = xid.parts();
@@ -151,7 +151,7 @@ pub(crate) fn own_case(
 ) -> Result<Option<Case>, RebuildError>
     ensures own { IfOk result (λ own. own ≡ own_case (leaf_place me parent tree.now) named branch) }
     ensures reads { IfOk result (λ own. NameReads named branch) }
-    ensures unread { IfErr result IsUnread }
+    ensures unread { IfErr result (IsRefusal (NameReads named branch)) }
 {
     if !reads_back(named, branch) {
         return Err(RebuildError::Unfit);

@@ -3,7 +3,7 @@
 ghost use Rattle.std.specs.Prelude.{◌≡◌, IfErr, IfOk};
 ghost use Rattle.std.specs.List.{flat_map};
 ghost use Rattle.sub_table.specs.Tables.{branch_in};
-ghost use Rattle.sub_table.specs.Rebuilt.{IsUnread, Leaves, NotRebuilt, Rebuilds, asks, is_asked};
+ghost use Rattle.sub_table.specs.Rebuilt.{AreFit, IsRefusal, Leaves, NotRebuilt, Rebuilds, asks, is_asked};
 ghost use Rattle.tree_model.specs.Views.{leaf_place};
 
 use crate::cases::Cases;
@@ -25,7 +25,7 @@ pub struct Rebuilt {
     pub boot: u64,
 }
 
-/// The cases of these records.
+/// The cases of these records. Unfit: no subordinate can have written them.
 fn read(
     me: ProcessId,
     parent: ProcessId,
@@ -34,7 +34,7 @@ fn read(
     alloc: Global,
 ) -> Result<Cases, RebuildError>
     ensures ok { IfOk result (Leaves (leaf_place me parent tree.now) parent records.now) }
-    ensures err { IfErr result IsUnread }
+    ensures err { IfErr result (IsRefusal (AreFit (leaf_place me parent tree.now) records.now)) }
 {
     let mut cases = Cases::new(alloc);
     for next in records {
@@ -79,8 +79,8 @@ fn inquiries(
     Ok(messages)
 }
 
-/// What these records leave. Unfit: no run of a subordinate makes such records, as with a ticket of a later
-/// boot. Exhausted: no boot below 2^63 comes behind the last one.
+/// What these records leave. Unfit: no subordinate can have written them, as with a ticket of a boot that they have
+/// not reached. Exhausted: no boot below 2^63 comes behind the last one.
 pub fn rebuild(
     me: ProcessId,
     parent: ProcessId,

@@ -61,7 +61,8 @@ fn notes_of(
             Ok(noted(alloc, form, tree, entry, frames)?)
         }
         Err(OpenError::Damaged(place)) => Err(AuditError::Damaged(entry.id, place)),
-        Err(_) => Err(AuditError::Memory),
+        Err(OpenError::Memory) => Err(AuditError::Memory),
+        Err(OpenError::Device | OpenError::OldFormat) => unreachable!(),
     }
 }
 

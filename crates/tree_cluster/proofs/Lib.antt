@@ -1,4 +1,5 @@
 mod Apart
+mod MemoryAlone
 mod Seating
 mod Leaving
 mod Passing

@@ -1,6 +1,6 @@
 //! A tree whose processes run at the same time.
 
-ghost use Rattle.std.specs.Prelude.{◌≡◌, ◌+◌, ◌<◌, ◌≤◌, IfOk, OnErr, map};
+ghost use Rattle.std.specs.Prelude.{◌≡◌, ◌+◌, ◌<◌, ◌≤◌, IfErr, IfOk, OnErr, map};
 ghost use Rattle.tree_model.specs.Plays.{process_of_act};
 ghost use Rattle.tree_model.specs.Trees.{IsTree, root_of as root_in};
 ghost use Rattle.tree_threads.specs.Posts.{PostsOne};
@@ -83,7 +83,7 @@ fn number_of<R: Wait>(rt: &R, place: usize) -> usize
 
 impl<N: Seats> Cluster<N> {
     /// A tree that has opened, and a pass for each of so many callers, whose numbers begin at 0. The table has
-    /// the names of the tree's processes, in the order of the tree.
+    /// the names of the tree's processes, in the order of the tree. Memory is the only refusal that comes.
     pub fn new(
         alloc: Global,
         tree: Tree,
@@ -92,7 +92,8 @@ impl<N: Seats> Cluster<N> {
     ) -> Result<(Cluster<N>, Vec<Pass<N>>), OpenError>
         requires seats { SeatsTree N.table N.tree tree opened.ties.shared.table_id opened.ties.shared.key.items }
         requires callers { (0 < callers) × (callers ≤ 64) }
-        ensures { IfOk result (λ r. r.1.items ≡ new_passes callers) }
+        ensures passes { IfOk result (λ r. r.1.items ≡ new_passes callers) }
+        ensures err { IfErr result (λ e. e ≡ OpenError.Memory) }
     {
         let Opened { ties, mut journal } = opened;
         let passes = give_passes::<N>(alloc, &ties, &mut journal, tree.entries(), callers)?;

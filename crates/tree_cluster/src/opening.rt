@@ -1,6 +1,6 @@
 //! A cluster that opens: its processes, each over an empty store, and the passes of its callers.
 
-ghost use Rattle.std.specs.Prelude.{◌≡◌, ◌+◌, ◌<◌, ◌≤◌, IfOk, OnOk, get_or, length};
+ghost use Rattle.std.specs.Prelude.{◌≡◌, ◌+◌, ◌<◌, ◌≤◌, IfErr, IfOk, OnOk, get_or, length};
 ghost use Rattle.manager_model.specs.Data.{Rests, no_data};
 ghost use Rattle.tree_model.specs.Trees.{IsTree};
 ghost use Rattle.tree_node.specs.Nodes.{core_of, data_of};
@@ -41,6 +41,7 @@ pub fn seats(alloc: Global, tree: &Tree) -> Result<Opened, AllocError>
 fn opened(alloc: Global, entry: &TreeEntry, tree: Tree) -> Result<Node<MemoryStore>, OpenError>
     ensures ok { IfOk result (λ node. OpenedAs tree entry.now (core_of node)) }
     ensures holdings { IfOk result (λ node. Rests no_data (data_of node)) }
+    ensures err { IfErr result (λ e. e ≡ OpenError.Memory) }
 {
     match open_node(alloc, entry, tree, MemoryStore::new(alloc)) {
         Ok(node) => Ok(node),
@@ -65,7 +66,9 @@ fn open_seated<N: Seats>(
     requires table { IsTableOf N.table tree.now ties.now.shared.table_id ties.now.shared.key.items }
     requires journal { KeepsSeats N.table tree.now place journal.old.me.0.journal.given journal.old }
     requires entry { (place < length tree.now) × (entry.now ≡ get_or tree.now place entry.now) }
-    ensures { OnOk result (KeepsSeats N.table tree.now (place + 1) journal.old.me.0.journal.given journal.new) }
+    ensures seats { OnOk result (KeepsSeats N.table tree.now (place + 1) journal.old.me.0.journal.given
+        journal.new) }
+    ensures err { IfErr result (λ e. e ≡ OpenError.Memory) }
 {
     let copy = copied_tree(alloc, tree)?;
     let node = opened(alloc, entry, copy)?;
@@ -83,8 +86,9 @@ fn open_each<N: Seats>(
     requires tree { IsTree tree.now × (tree.now ≡ N.tree) }
     requires table { IsTableOf N.table tree.now ties.now.shared.table_id ties.now.shared.key.items }
     requires journal { KeepsSeats N.table tree.now 0 journal.old.me.0.journal.given journal.old }
-    ensures { OnOk result (KeepsSeats N.table tree.now (length tree.now) journal.old.me.0.journal.given
+    ensures seats { OnOk result (KeepsSeats N.table tree.now (length tree.now) journal.old.me.0.journal.given
         journal.new) }
+    ensures err { IfErr result (λ e. e ≡ OpenError.Memory) }
 {
     for place in 0..tree.len() {
         let seated = open_seated::<N>(alloc, ties, journal, tree, &tree[place], place)?;
@@ -108,8 +112,9 @@ pub(crate) fn open_all<N: Seats>(
     requires tree { IsTree tree.now × (tree.now ≡ N.tree) }
     requires table { IsTableOf N.table tree.now ties.now.shared.table_id ties.now.shared.key.items }
     requires journal { KeepsSeats N.table tree.now 0 journal.old.me.0.journal.given journal.old }
-    ensures { OnOk result (KeepsSeats N.table tree.now (length tree.now) journal.old.me.0.journal.given
+    ensures seats { OnOk result (KeepsSeats N.table tree.now (length tree.now) journal.old.me.0.journal.given
         journal.new) }
+    ensures err { IfErr result (λ e. e ≡ OpenError.Memory) }
 {
     let mut processes = Vec::new(alloc);
     match open_each::<N>(alloc, ties, journal, tree, &mut processes) {

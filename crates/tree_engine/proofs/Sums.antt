@@ -1,7 +1,6 @@
 -- What a step adds to the counts.
 use Rattle.std.proofs.Common.{◌≡◌, ◌∙◌, ap, sym, ℕ, ◌+◌, ◌≤◌, take, drop, Result, Ok, Err, OnOk, Bool, true, false, if◌then◌else◌, List, [], ◌∷◌, ◌++◌, length, map, refl, arith, length-append}
 use Rattle.std.specs.List.{flat_map}
-use Rattle.std.specs.declared.alloc.AllocError.{AllocError}
 use Rattle.std.proofs.lemmas.List.{append-nil, drop_all, flat_map_more, length-map, take_all}
 use Rattle.std.proofs.lemmas.List.Sums.{sum_by-append}
 use Rattle.tree_model.specs.declared.names.ProcessId.{ProcessId}
@@ -10,6 +9,7 @@ use Rattle.tree_model.specs.declared.records.Logged.{Logged}
 use Rattle.tree_model.specs.declared.events.Entry.{Entry}
 use Rattle.tree_model.specs.declared.trees.TreeEntry.{TreeEntry}
 use Rattle.tree_model.specs.Names.{same_process}
+use Rattle.report_io.specs.declared.streams.Failure.{Failure}
 use Rattle.tree_engine.specs.declared.kinds.MessageKind.{MessageKind}
 use Rattle.tree_engine.specs.declared.kinds.MessageKind.TheVariants as kind
 use Rattle.tree_engine.specs.declared.rows.ProcessCounts.{ProcessCounts}
@@ -86,7 +86,7 @@ written_back new items n size is =
     ∙ ap (take n) (append-nil new) ∙ take_all n new all
 
 -- the counts behind a step more
-pub counted : (made : Result (Unit {0}) AllocError)
+pub counted : (made : Result (Unit {0}) Failure)
     (view items old new : List ProcessCounts) (n : ℕ) (e : Entry)
     → items ≡ view → old ≡ items → length old ≡ n → OnOk made (new ≡ map (row_behind e) old)
     → OnOk made ((tree : List TreeEntry) (es : List Entry) → view ≡ rows_of tree es

@@ -1,6 +1,8 @@
 -- A run that goes on until an event is refused.
-use Rattle.std.specs.Prelude.{◌≡◌, ℕ, None, List, [], length}
+use Rattle.std.specs.Prelude.{◌≡◌, ◌≢◌, ℕ, None, List, [], length}
 use Rattle.tree_model.specs.declared.events.Event.{Event}
+use Rattle.tree_model.specs.declared.events.StepError.{StepError}
+use Rattle.tree_model.specs.declared.events.StepError.TheVariants as steps
 use Rattle.tree_model.specs.declared.trees.TreeEntry.{TreeEntry}
 use Rattle.tree_model.specs.Trees.{IsTree}
 use Rattle.core_law.specs.worlds.Runs.{IsOpened}
@@ -9,9 +11,22 @@ use Rattle.core_law.specs.worlds.Worlds.{WorldState}
 use Rattle.tree_world.specs.Worlds.{state}
 use Rattle.tree_engine.specs.declared.run.Run.{Run}
 use Rattle.report_io.specs.declared.status.Status.{Status}
+use Rattle.report_io.specs.declared.streams.Failure.{Failure}
+use Rattle.report_io.specs.declared.streams.Failure.TheVariants as failure
 use Rattle.run_picture.specs.Pictures.{IsPicture}
 use Rattle.tree_engine.specs.Trees.{IsNumbered, Plays, ending}
 use Rattle.link_script.specs.Inputs.{IsScript}
+
+-- an event was refused for itself: memory was not refused, no device failed, and numbers are not used up
+abbrev pub IsOwn : StepError → Type 0
+IsOwn e = (e ≢ steps.Memory) × (e ≢ steps.Device) × (e ≢ steps.Exhausted)
+
+-- a run cannot go on behind this refusal of a step, for the same reason
+abbrev pub IsFailure : StepError → Failure → Type 0
+IsFailure steps.Memory why = why ≡ failure.Memory
+IsFailure steps.Device why = why ≡ failure.Device
+IsFailure steps.Exhausted why = why ≡ failure.Exhausted
+IsFailure e why = ⊥
 
 -- so many given events led from one state to another, up to the refused one, if one was
 pub record ComesTo (start : WorldState) (given : List Event) (refusal : Refusal) (count : ℕ)

@@ -1,6 +1,7 @@
 //! What the processes of a run have written and sent, counted.
 
 ghost use Rattle.std.specs.Prelude.{◌≡◌, ◌++◌, IfErr, IfOk};
+ghost use Rattle.report_io.specs.Streams.{IsUsedUp};
 ghost use Rattle.tree_engine.specs.Counts.{rows_of};
 ghost use Rattle.tree_world.specs.Worlds.{state};
 ghost use Rattle.tree_engine.specs.Trees.{IsNumbered, counts_text, ending, last_line, trace_of};
@@ -11,16 +12,17 @@ use crate::text::push_counts;
 use crate::trace::trace_text;
 use log_store::MemoryStore;
 use report_io::{Failure, Status};
-use std::alloc::{AllocError, Global};
+use std::alloc::Global;
 use tree_model::Entry;
 use tree_world::World;
 
 /// Lets go of a step.
 fn discard(_entry: Entry) {}
 
-/// The counts of all steps that were made, each of which is made anew once.
-fn counted(alloc: Global, world: &World<MemoryStore>) -> Result<RunCounts, AllocError>
-    ensures { IfOk result (λ counts. counts ≡ rows_of (state world.now).tree (state world.now).entries) }
+/// The counts of all steps that were made, each of which is made anew once. Exhausted: a sum is 2^64 or more.
+fn counted(alloc: Global, world: &World<MemoryStore>) -> Result<RunCounts, Failure>
+    ensures counts { IfOk result (λ counts. counts ≡ rows_of (state world.now).tree (state world.now).entries) }
+    ensures why { IfErr result IsUsedUp }
 {
     let mut counts = RunCounts::new(alloc, world.tree().entries())?;
     for place in 0..world.made() {
@@ -34,7 +36,8 @@ fn counted(alloc: Global, world: &World<MemoryStore>) -> Result<RunCounts, Alloc
     Ok(counts)
 }
 
-/// The trace of what the tree has come to, how its run ended, and the counts behind it.
+/// The trace of what the tree has come to, how its run ended, and the counts behind it. Exhausted: a sum is
+/// 2^64 or more.
 pub(crate) fn counted_trace(
     alloc: Global,
     world: &World<MemoryStore>,
@@ -44,7 +47,7 @@ pub(crate) fn counted_trace(
     ensures text { IfOk result (λ r. r.0.items ≡ (trace_of (state world.now) ++ last_line refusal)
         ++ counts_text (state world.now)) }
     ensures status { IfOk result (λ r. r.1 ≡ ending refusal) }
-    ensures memory { IfErr result (λ e. e ≡ Failure.Memory) }
+    ensures why { IfErr result IsUsedUp }
 {
     let (mut text, status) = trace_text(alloc, world, refusal)?;
     let counts = counted(alloc, world)?;

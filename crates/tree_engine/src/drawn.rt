@@ -3,6 +3,7 @@
 ghost use Rattle.std.specs.Prelude.{◌≡◌, ◌++◌, IfErr, IfOk, List, OnOk};
 ghost use Rattle.tree_model.specs.declared.events.Event.{Event as AnyEvent};
 ghost use Rattle.tree_model.specs.Trees.{IsTree};
+ghost use Rattle.report_io.specs.Streams.{IsOfRun, IsUsedUp};
 ghost use Rattle.core_law.specs.worlds.Worlds.{WorldState};
 ghost use Rattle.run_picture.specs.Pictures.{IsPicture};
 ghost use Rattle.tree_world.specs.Worlds.{state};
@@ -11,7 +12,7 @@ ghost use Rattle.tree_engine.specs.Trees.{ending};
 
 use crate::run::{Refusal, Run};
 use log_store::MemoryStore;
-use picture_rows::Turn;
+use picture_rows::{PictureError, Turn};
 use report_io::{Failure, Status};
 use run_picture::{Scene, picture};
 use std::alloc::{AllocError, Global};
@@ -38,7 +39,7 @@ fn entries_of(alloc: Global, world: &World<MemoryStore>) -> Result<Vec<Entry>, A
 fn make_turns(alloc: Global, run: &mut Run, events: &[Event]) -> Result<Vec<Turn>, Failure>
     ensures goes_on { OnOk result ((start : WorldState) (given : List AnyEvent)
         → HasCome start given run.old → HasCome start (given ++ events.now) run.new) }
-    ensures memory { IfErr result (λ e. e ≡ Failure.Memory) }
+    ensures why { IfErr result IsOfRun }
 {
     let mut turns = Vec::new(alloc);
     for event in events {
@@ -72,15 +73,16 @@ fn cause_of(refusal: Refusal) -> Option<StepError> {
     }
 }
 
-/// The picture of a run of these events.
+/// The picture of a run of these events. Exhausted: it has 2^32 rows or more.
 fn drawn(
     alloc: Global,
     world: &World<MemoryStore>,
     refusal: Refusal,
     events: &[Event],
     turns: &[Turn],
-) -> Result<Vec<u8>, AllocError>
-    ensures { IfOk result (λ text. IsPicture (state world.now).entries text.items) }
+) -> Result<Vec<u8>, Failure>
+    ensures text { IfOk result (λ text. IsPicture (state world.now).entries text.items) }
+    ensures why { IfErr result IsUsedUp }
 {
     let entries = entries_of(alloc, world)?;
     let scene = Scene {
@@ -90,7 +92,11 @@ fn drawn(
         entries: &entries,
         refusal: cause_of(refusal),
     };
-    picture(alloc, &scene)
+    match picture(alloc, &scene) {
+        Ok(text) => Ok(text),
+        Err(PictureError::Memory) => Err(Failure::Memory),
+        Err(PictureError::TooLong) => Err(Failure::Exhausted),
+    }
 }
 
 /// The same, and how the run ended.
@@ -102,7 +108,7 @@ fn drawn_run(
 ) -> Result<(Vec<u8>, Status), Failure>
     ensures text { IfOk result (λ r. IsPicture (state run.now.world).entries r.0.items) }
     ensures status { IfOk result (λ r. r.1 ≡ ending run.now.refusal) }
-    ensures memory { IfErr result (λ e. e ≡ Failure.Memory) }
+    ensures why { IfErr result IsUsedUp }
 {
     let text = drawn(alloc, &run.world, run.refusal, events, turns)?;
     Ok((text, status_of(run.refusal)))
@@ -116,7 +122,7 @@ pub(crate) fn draw_run(
 ) -> Result<(Vec<u8>, Status), Failure>
     requires { IsTree tree }
     ensures draws { IfOk result (λ r. Draws tree events.now r.1 r.0.items) }
-    ensures memory { IfErr result (λ e. e ≡ Failure.Memory) }
+    ensures why { IfErr result IsOfRun }
 {
     let mut run = Run::open(alloc, tree)?;
     match make_turns(alloc, &mut run, events) {

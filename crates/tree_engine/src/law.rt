@@ -2,8 +2,8 @@
 
 ghost use Rattle.tree_engine.specs.OneText.{InputsHaveOneText};
 
-/// One input has one text: what `run_tree` writes of it, where it reads all of it, has memory and is not cut, is
-/// the same each time; the trace, with the counts or without.
+/// One input has one text: what `run_tree` writes of it, where it reads all of it, has memory and numbers, no
+/// device fails and it is not cut, is the same each time; the trace, with the counts or without.
 pub fn inputs_have_one_text()
     ensures { InputsHaveOneText }
 {}

@@ -16,6 +16,6 @@ mod trace;
 mod tree;
 
 pub use report_io::{Failure, Status};
-pub use run::{Refusal, Run};
+pub use run::{Refusal, Run, own_refusal};
 pub use trace::{push_refused, trace_text};
 pub use tree::{Output, refusal, run_tree};

@@ -1,12 +1,13 @@
 //! The counts of all processes of a tree.
 
-ghost use Rattle.std.specs.Prelude.{◌≡◌, ◌++◌, ◌∷◌, [], IfOk, List, OnOk, map};
+ghost use Rattle.std.specs.Prelude.{◌≡◌, ◌++◌, ◌∷◌, [], IfErr, IfOk, List, OnOk, map};
 ghost use Rattle.tree_model.specs.declared.events.Entry.{Entry as AnyEntry};
 ghost use Rattle.tree_model.specs.declared.trees.TreeEntry.{TreeEntry as AnyTreeEntry};
 ghost use Rattle.tree_model.specs.Names.{same_process};
 ghost use Rattle.tree_engine.specs.Counts.{row_behind, rows_of, total_of};
 
 use crate::counts::Counts;
+use report_io::Failure;
 use std::alloc::{AllocError, Global};
 use std::marker::Model;
 use tree_model::{Entry, ProcessId, TreeEntry};
@@ -27,15 +28,16 @@ fn is_at(entry: &Entry, process: ProcessId) -> bool
 }
 
 impl ProcessCounts {
-    /// The same behind a step more. Sums of 2^64 are taken for want of memory.
-    fn behind(self, entry: &Entry) -> Result<ProcessCounts, AllocError>
-        ensures { IfOk result (λ row. row ≡ row_behind entry.now self) }
+    /// The same behind a step more. Exhausted: a sum is 2^64 or more.
+    fn behind(self, entry: &Entry) -> Result<ProcessCounts, Failure>
+        ensures ok { IfOk result (λ row. row ≡ row_behind entry.now self) }
+        ensures err { IfErr result (λ e. e ≡ Failure.Exhausted) }
     {
         if !is_at(entry, self.process) {
             return Ok(self);
         }
         match self.counts.plus(Counts::of(&entry.reaction)) {
-            None => Err(AllocError),
+            None => Err(Failure::Exhausted),
             Some(counts) => Ok(ProcessCounts {
                 process: self.process,
                 counts,
@@ -59,9 +61,10 @@ impl Model for RunCounts {
     ghost view = { λ c. c.rows.items };
 }
 
-/// The rows behind a step more.
-fn add_entry(rows: &mut [ProcessCounts], entry: &Entry) -> Result<(), AllocError>
-    ensures { OnOk result (rows.new ≡ map (row_behind entry.now) rows.old) }
+/// The rows behind a step more. Exhausted: a sum is 2^64 or more.
+fn add_entry(rows: &mut [ProcessCounts], entry: &Entry) -> Result<(), Failure>
+    ensures ok { OnOk result (rows.new ≡ map (row_behind entry.now) rows.old) }
+    ensures err { IfErr result (λ e. e ≡ Failure.Exhausted) }
 {
     for row in rows.iter_mut() {
         *row = row.behind(entry)?;
@@ -85,24 +88,25 @@ impl RunCounts {
         Ok(RunCounts { rows })
     }
 
-    /// Counts a step more of the run. Where memory is refused, or a sum is 2^64 or more, it counts nothing
-    /// that can be told.
-    pub fn add(&mut self, entry: &Entry) -> Result<(), AllocError>
-        ensures { OnOk result ((tree : List AnyTreeEntry) (entries : List AnyEntry)
+    /// Counts a step more of the run. Exhausted: a sum is 2^64 or more, and it counts nothing that can be told.
+    pub fn add(&mut self, entry: &Entry) -> Result<(), Failure>
+        ensures ok { OnOk result ((tree : List AnyTreeEntry) (entries : List AnyEntry)
             → self.old ≡ rows_of tree entries → self.new ≡ rows_of tree (entries ++ entry.now ∷ [])) }
+        ensures err { IfErr result (λ e. e ≡ Failure.Exhausted) }
     {
         add_entry(self.rows.as_mut_slice(), entry)
     }
 
-    /// The sums of all processes' counts. Sums of 2^64 are taken for want of memory.
+    /// The sums of all processes' counts. Exhausted: one is 2^64 or more.
     #[tactic(auto, unfolding(crate::specs::Counts::total_of))]
-    pub fn total(&self) -> Result<Counts, AllocError>
-        ensures { IfOk result (λ total. total ≡ total_of self.now) }
+    pub fn total(&self) -> Result<Counts, Failure>
+        ensures ok { IfOk result (λ total. total ≡ total_of self.now) }
+        ensures err { IfErr result (λ e. e ≡ Failure.Exhausted) }
     {
         let mut total = Counts::none();
         for row in self.rows() {
             let Some(sum) = total.plus(row.counts) else {
-                return Err(AllocError);
+                return Err(Failure::Exhausted);
             };
             total = sum;
         }

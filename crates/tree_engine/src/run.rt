@@ -1,10 +1,11 @@
 //! A run that goes on until an event is refused.
 
 ghost use Rattle.std.specs.Prelude.{◌≡◌, ◌+◌, ◌++◌, ◌∷◌, [], IfErr, IfOk, List, OnOk};
+ghost use Rattle.report_io.specs.Streams.{IsOfRun};
 ghost use Rattle.tree_model.specs.declared.events.Event.{Event as AnyEvent};
 ghost use Rattle.tree_model.specs.Trees.{IsTree};
 ghost use Rattle.core_law.specs.worlds.Worlds.{WorldState};
-ghost use Rattle.tree_engine.specs.Runs.{Begins, HasCome};
+ghost use Rattle.tree_engine.specs.Runs.{Begins, HasCome, IsFailure, IsOwn};
 
 use log_store::MemoryStore;
 use report_io::Failure;
@@ -14,6 +15,21 @@ use tree_world::World;
 
 /// How many events were made, and why the next was refused; or none was.
 pub type Refusal = Option<(usize, StepError)>;
+
+/// A refusal of an event itself; else why a run cannot go on: memory was refused, a device failed, or numbers
+/// are used up.
+pub fn own_refusal(refusal: StepError) -> Result<StepError, Failure>
+    ensures own { IfOk result (λ own. (own ≡ refusal) × IsOwn own) }
+    ensures err { IfErr result (IsFailure refusal) }
+    ensures why { IfErr result IsOfRun }
+{
+    match refusal {
+        StepError::Memory => Err(Failure::Memory),
+        StepError::Device => Err(Failure::Device),
+        StepError::Exhausted => Err(Failure::Exhausted),
+        _ => Ok(refusal),
+    }
+}
 
 /// A tree that runs, how many events were made, and which was refused, if one was: then none behind it is
 /// made.
@@ -64,18 +80,18 @@ impl Run {
         self.refusal
     }
 
-    /// Makes this event behind those that it was given. A store in memory has no device that fails; numbers that
-    /// are used up, and 2^64 events, are taken for want of memory.
+    /// Makes this event behind those that it was given. Exhausted: it wants numbers that are used up, or it is
+    /// the 2^64th. Device comes of no store in memory.
     pub fn make(&mut self, event: Event) -> Result<(), Failure>
         ensures goes_on { OnOk result ((start : WorldState) (given : List AnyEvent)
             → HasCome start given self.old → HasCome start (given ++ event ∷ []) self.new) }
-        ensures memory { IfErr result (λ e. e ≡ Failure.Memory) }
+        ensures why { IfErr result IsOfRun }
     {
         if self.refusal.is_some() {
             return Ok(());
         }
         let Some(made) = self.made.checked_add(1) else {
-            return Err(Failure::Memory);
+            return Err(Failure::Exhausted);
         };
         match self.world.apply(event) {
             Ok(()) => {
@@ -83,13 +99,7 @@ impl Run {
                 Ok(())
             }
             Err(refusal) => {
-                if refusal == StepError::Memory
-                    || refusal == StepError::Device
-                    || refusal == StepError::Exhausted
-                {
-                    return Err(Failure::Memory);
-                }
-                self.refusal = Some((self.made, refusal));
+                self.refusal = Some((self.made, own_refusal(refusal)?));
                 Ok(())
             }
         }
@@ -99,7 +109,7 @@ impl Run {
     pub fn make_all(&mut self, alloc: Global, events: &[Event]) -> Result<(), Failure>
         ensures goes_on { OnOk result ((start : WorldState) (given : List AnyEvent)
             → HasCome start given self.old → HasCome start (given ++ events.now) self.new) }
-        ensures memory { IfErr result (λ e. e ≡ Failure.Memory) }
+        ensures why { IfErr result IsOfRun }
     {
         for event in events {
             self.make(event.copied(alloc)?)?;

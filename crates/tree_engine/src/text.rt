@@ -1,11 +1,13 @@
 //! The lines of counts.
 
-ghost use Rattle.std.specs.Prelude.{◌≡◌, ◌++◌, OnOk};
+ghost use Rattle.std.specs.Prelude.{◌≡◌, ◌++◌, IfErr, OnOk};
+ghost use Rattle.report_io.specs.Streams.{IsUsedUp};
 ghost use Rattle.tree_engine.specs.Texts.{count_text, kind_text, outcomes_text, row_text, rows_text, sent_text, tasks_text, total_text, totals_text, votes_text};
 ghost use Rattle.tree_engine.specs.Counts.{total_of};
 
 use crate::counts::{Counts, Sent};
 use crate::rows::{ProcessCounts, RunCounts};
+use report_io::Failure;
 use std::alloc::AllocError;
 use trace_lines::{push, push_number};
 
@@ -97,14 +99,17 @@ fn push_total(out: &mut Vec<u8>, total: &Counts) -> Result<(), AllocError>
 }
 
 /// Adds a line for each process, how many records it wrote, how many of them forced, and how many messages it
-/// sent, in all and of each kind that it sent, and a line of the sums. Where memory is refused, a beginning of
-/// them may stand.
-pub fn push_counts(out: &mut Vec<u8>, counts: &RunCounts) -> Result<(), AllocError>
-    ensures { OnOk result (out.new.items ≡ out.old.items
+/// sent, in all and of each kind that it sent, and a line of the sums. Exhausted: a sum is 2^64 or more. Behind
+/// an error a beginning of the lines may stand.
+pub fn push_counts(out: &mut Vec<u8>, counts: &RunCounts) -> Result<(), Failure>
+    ensures ok { OnOk result (out.new.items ≡ out.old.items
         ++ (rows_text counts.now ++ total_text (total_of counts.now))) }
+    ensures why { IfErr result IsUsedUp }
 {
+    let total = counts.total()?;
     push_rows(out, counts)?;
-    push_total(out, &counts.total()?)
+    push_total(out, &total)?;
+    Ok(())
 }
 
 #[tactic(auto, unfolding(crate::specs::Texts::rows_text))]

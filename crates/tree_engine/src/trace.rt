@@ -1,6 +1,7 @@
 //! The trace of a run.
 
 ghost use Rattle.std.specs.Prelude.{◌≡◌, ◌+◌, ◌++◌, IfErr, IfOk, OnOk, length, slice_get, string_bytes};
+ghost use Rattle.report_io.specs.Streams.{IsUsedUp};
 ghost use Rattle.trace_lines.specs.Trace.{entries_text};
 ghost use Rattle.short_steps.specs.Shown.{shown_part};
 ghost use Rattle.tree_world.specs.Worlds.{state};
@@ -15,7 +16,7 @@ use tree_model::TreeEntry;
 use tree_world::World;
 use world_journal::Shown;
 
-/// The trace of what the tree has come to, and how its run ended. An error says that memory was refused.
+/// The trace of what the tree has come to, and how its run ended. Exhausted: 2^64 messages were sent.
 pub fn trace_text(
     alloc: Global,
     world: &World<MemoryStore>,
@@ -24,7 +25,7 @@ pub fn trace_text(
     requires { IsNumbered refusal }
     ensures text { IfOk result (λ r. r.0.items ≡ trace_of (state world.now) ++ last_line refusal) }
     ensures status { IfOk result (λ r. r.1 ≡ ending refusal) }
-    ensures memory { IfErr result (λ e. e ≡ Failure.Memory) }
+    ensures why { IfErr result IsUsedUp }
 {
     let mut out = Vec::new(alloc);
     push_opened(alloc, &mut out, world.tree().entries())?;
@@ -79,16 +80,15 @@ fn opening_line(alloc: Global, process: u64) -> Result<String, AllocError>
     Ok(line)
 }
 
-/// The lines of a step, behind so many messages. How many were sent with its own. 2^64 messages are taken
-/// for want of memory.
+/// The lines of a step, behind so many messages. How many were sent with its own. Exhausted: 2^64 or more.
 #[tactic(auto, unfolding(trace_lines::specs::Trace::entry_text))]
 fn push_step(out: &mut Vec<u8>, sent: u64, step: &Shown) -> Result<u64, Failure>
     ensures sent { IfOk result (λ next. next ≡ sent + length step.now.messages.now) }
     ensures text { OnOk result (out.new.items ≡ out.old.items ++ part_text sent (shown_part step.now)) }
-    ensures memory { IfErr result (λ e. e ≡ Failure.Memory) }
+    ensures why { IfErr result IsUsedUp }
 {
     let Some(next) = sent.checked_add(step.messages.len() as u64) else {
-        return Err(Failure::Memory);
+        return Err(Failure::Exhausted);
     };
     let process = step.process.0;
     push_begun(out, &step.begun)?;
@@ -108,7 +108,7 @@ fn push_place(
 ) -> Result<Option<u64>, Failure>
     ensures text { IfOk result (AddsStep (slice_get (state world.now).entries place)
         out.old.items out.new.items sent) }
-    ensures memory { IfErr result (λ e. e ≡ Failure.Memory) }
+    ensures why { IfErr result IsUsedUp }
 {
     match world.shown(place) {
         None => Ok(None),
@@ -119,7 +119,7 @@ fn push_place(
 /// The lines of a run's steps.
 fn push_entries(out: &mut Vec<u8>, world: &World<MemoryStore>) -> Result<(), Failure>
     ensures text { OnOk result (out.new.items ≡ out.old.items ++ entries_text 0 (state world.now).entries) }
-    ensures memory { IfErr result (λ e. e ≡ Failure.Memory) }
+    ensures why { IfErr result IsUsedUp }
 {
     let mut sent: u64 = 0;
     for place in 0..world.made() {

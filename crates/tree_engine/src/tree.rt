@@ -3,9 +3,9 @@
 ghost use Rattle.std.specs.Prelude.{◌≡◌, ℕ, [], List, IfErr, IfOk, Ok, OnOk, string_bytes};
 ghost use Rattle.std.specs.Io.KnownBytes.{Appends, Keeps};
 ghost use Rattle.tree_model.specs.declared.events.Event.{Event as AnyEvent};
-ghost use Rattle.link_script.specs.Inputs.{IsLineError, IsScriptError, asked_by};
+ghost use Rattle.link_script.specs.Inputs.{IsLineError, IsScriptFault, asked_by};
 ghost use Rattle.report_io.specs.declared.status.Status.{Status as AnyStatus};
-ghost use Rattle.report_io.specs.Streams.{IsInput, WritesFront};
+ghost use Rattle.report_io.specs.Streams.{IsInput, IsOfRun, IsUsedUp, WritesFront};
 ghost use Rattle.tree_world.specs.Worlds.{state};
 ghost use Rattle.tree_engine.specs.Runs.{HasCome, PlaysScript};
 ghost use Rattle.tree_engine.specs.Trees.{IsNumbered, IsTreeReport, Tells, ending, fault_text, output_of};
@@ -53,8 +53,8 @@ enum LineOutput {
 /// an operator's decision; commit is decided only where every participant voted yes or read-only; every
 /// answer that finds its asker in doubt tells the root's outcome; a mismatch stands until it is forgotten;
 /// an operator's record comes from an operator alone; and each End of the root reports mismatches truly (R*).
-/// After a failed read, or where memory is refused, nothing was written; after a failed write, a beginning of
-/// the text.
+/// After a failed read, or where memory is refused, a device fails or numbers are used up, nothing was written;
+/// after a failed write, a beginning of the text.
 pub fn run_tree<R: Read, W: Write>(
     alloc: Global,
     output: Output,
@@ -70,7 +70,7 @@ pub fn run_tree<R: Read, W: Write>(
         × WritesFront (W.contents writer.old) (W.contents writer.new) text) }
     ensures unread { IfErr result (λ e. e ≡ Failure.Read
         → Keeps (W.contents writer.old) (W.contents writer.new)) }
-    ensures memory { IfErr result (λ e. e ≡ Failure.Memory
+    ensures unmade { IfErr result (λ e. IsOfRun e
         → Keeps (W.contents writer.old) (W.contents writer.new)) }
 {
     let input = read_all(alloc, reader)?;
@@ -84,7 +84,7 @@ pub fn run_tree<R: Read, W: Write>(
 /// The answer to an input.
 fn report(alloc: Global, output: Output, input: &[u8]) -> Result<(Vec<u8>, Status), Failure>
     ensures report { IfOk result (λ r. IsTreeReport output r.1 input.now r.0.items) }
-    ensures memory { IfErr result (λ e. e ≡ Failure.Memory) }
+    ensures why { IfErr result IsOfRun }
 {
     match output {
         Output::Picture => picture_report(alloc, input),
@@ -97,7 +97,7 @@ fn report(alloc: Global, output: Output, input: &[u8]) -> Result<(Vec<u8>, Statu
 /// The picture of the run of a script, or what is wrong with it.
 fn picture_report(alloc: Global, input: &[u8]) -> Result<(Vec<u8>, Status), Failure>
     ensures report { IfOk result (λ r. IsTreeReport Output.Picture r.1 input.now r.0.items) }
-    ensures memory { IfErr result (λ e. e ≡ Failure.Memory) }
+    ensures why { IfErr result IsOfRun }
 {
     match read(alloc, input) {
         Ok((tree, events)) => draw_run(alloc, tree, &events),
@@ -113,16 +113,15 @@ fn line_report(
     input: &[u8],
 ) -> Result<(Vec<u8>, Status), Failure>
     ensures report { IfOk result (λ r. IsTreeReport (output_of output) r.1 input.now r.0.items) }
-    ensures memory { IfErr result (λ e. e ≡ Failure.Memory) }
+    ensures why { IfErr result IsOfRun }
 {
-    match play(alloc, input) {
+    match play(alloc, input)? {
         Ok(run) => {
             let told = told(alloc, output, run.world(), run.refusal());
             run.close();
             told
         }
-        Err(ScriptError::Fault(fault)) => Ok((refusal(alloc, fault)?, Status::Refused)),
-        Err(ScriptError::Memory) => Err(Failure::Memory),
+        Err(fault) => Ok((refusal(alloc, fault)?, Status::Refused)),
     }
 }
 
@@ -156,45 +155,62 @@ fn refusal_line(alloc: Global, fault: ScriptFault) -> Result<String, AllocError>
     }
 }
 
-/// Reads a script, and makes the event of each line as it is read.
-fn play(alloc: Global, input: &[u8]) -> Result<Run, ScriptError>
-    ensures ok { IfOk result (λ run. PlaysScript input.now run) }
-    ensures err { IfErr result (λ error. IsScriptError input.now error) }
+/// What is wrong with a script that could not be read; else memory was refused.
+fn fault_of(error: ScriptError) -> Result<ScriptFault, Failure>
+    ensures fault { IfOk result (λ fault. error ≡ ScriptError.Fault fault) }
+    ensures memory { IfErr result (λ e. e ≡ Failure.Memory) }
+{
+    match error {
+        ScriptError::Fault(fault) => Ok(fault),
+        ScriptError::Memory => Err(Failure::Memory),
+    }
+}
+
+/// Reads a script, and makes the event of each line as it is read; or tells what is wrong with it.
+fn play(alloc: Global, input: &[u8]) -> Result<Result<Run, ScriptFault>, Failure>
+    ensures run { IfOk result (λ played. IfOk played (PlaysScript input.now)) }
+    ensures fault { IfOk result (λ played. IfErr played (IsScriptFault input.now)) }
+    ensures why { IfErr result IsOfRun }
 {
     let (tree, lines) = match open(alloc, input) {
         Ok(opened) => opened,
-        Err(error) => return Err(error),
+        Err(error) => return Ok(Err(fault_of(error)?)),
     };
-    let Ok(mut run) = Run::open(alloc, tree) else {
-        return Err(ScriptError::Memory);
-    };
+    let mut run = Run::open(alloc, tree)?;
     match make_lines(alloc, &mut run, &lines) {
-        Ok(()) => Ok(run),
-        Err(error) => {
+        Ok(Ok(())) => Ok(Ok(run)),
+        Ok(Err(fault)) => {
             run.close();
-            Err(error)
+            Ok(Err(fault))
+        }
+        Err(failure) => {
+            run.close();
+            Err(failure)
         }
     }
 }
 
-/// Makes the event of each of these lines in a tree that has just opened.
-fn make_lines(alloc: Global, run: &mut Run, lines: &Lines) -> Result<(), ScriptError>
+/// Makes the event of each of these lines in a tree that has just opened; or tells the first line of no event.
+fn make_lines(
+    alloc: Global,
+    run: &mut Run,
+    lines: &Lines,
+) -> Result<Result<(), ScriptFault>, Failure>
     requires { HasCome (state run.old.world) [] run.old }
-    ensures ok { OnOk result ((events : List AnyEvent) × (asked_by lines.now ≡ Ok events)
-        × HasCome (state run.old.world) events run.new) }
-    ensures err { IfErr result (λ error. IsLineError error (asked_by lines.now)) }
+    ensures made { IfOk result (λ made. OnOk made ((events : List AnyEvent)
+        × (asked_by lines.now ≡ Ok events) × HasCome (state run.old.world) events run.new)) }
+    ensures fault { IfOk result (λ made. IfErr made
+        (λ fault. IsLineError (ScriptError.Fault fault) (asked_by lines.now))) }
+    ensures why { IfErr result IsOfRun }
 {
     for place in 0..lines.len() {
         match lines.event(alloc, place) {
-            Err(error) => return Err(error),
+            Err(error) => return Ok(Err(fault_of(error)?)),
             Ok(None) => continue,
-            Ok(Some(event)) => match run.make(event) {
-                Ok(()) => continue,
-                Err(_) => return Err(ScriptError::Memory),
-            },
+            Ok(Some(event)) => run.make(event)?,
         }
     }
-    Ok(())
+    Ok(Ok(()))
 }
 
 /// What is written of the tree that has come so far, and how its run ended.
@@ -207,7 +223,7 @@ fn told(
     requires { IsNumbered refusal }
     ensures text { IfOk result (λ r. Tells (output_of output) (state world.now) refusal r.0.items) }
     ensures status { IfOk result (λ r. r.1 ≡ ending refusal) }
-    ensures memory { IfErr result (λ e. e ≡ Failure.Memory) }
+    ensures why { IfErr result IsUsedUp }
 {
     match output {
         LineOutput::Trace => trace_text(alloc, world, refusal),

@@ -21,7 +21,11 @@ use Rattle.core_law.specs.worlds.Worlds.{RestartsData}
 use Rattle.coord_core.specs.States.{role_below}
 use Rattle.manager_model.specs.Data.{ManagerData, no_data}
 use Rattle.manager_model.specs.Sights.{ManagerSight, manager_data}
-use Rattle.sub_core.specs.Steps.{PromisesLeft}
+use Rattle.sub_table.specs.declared.names.RebuildError.{RebuildError}
+use Rattle.sub_table.specs.declared.names.RebuildError.TheVariants as rebuilds
+use Rattle.sub_table.specs.Rebuilt.{AreFit}
+use Rattle.sub_core.specs.Steps.{NotReopenedOver, PromisesLeft, left_before}
+use Rattle.sub_core.proofs.Reopened.{left_is}
 use Rattle.manager_model.specs.Restarting.{IsRestarted, Restarts as ManagerRestarts}
 use Rattle.coord_core.specs.Reopened.{NotReopened as CoordinatorNotReopened}
 use Rattle.coord_core.specs.declared.restarting.ReopenError.{ReopenError as CoordinatorError}
@@ -33,7 +37,7 @@ use Rattle.kv_manager.specs.Resources.{sight_of}
 use Rattle.kv_manager.specs.Restarts.{LeavesStore, NotRestored, Restarted, RestoredFrom, StartsOver, opened}
 use Rattle.kv_manager.specs.Sights.{KvSight}
 use Rattle.kv_manager.proofs.Restarted.{restarted}
-use Rattle.tree_node.specs.Reopenings.{HoldsNoRestart, NotReopened, Reopens, error_of_coordinator, error_of_log, error_of_manager}
+use Rattle.tree_node.specs.Reopenings.{HoldsNoRestart, NotLeft, NotReopened, Reopens, error_of_coordinator, error_of_log, error_of_manager, error_of_subordinate}
 
 -- Managers.
 
@@ -145,7 +149,7 @@ coordinator_left me parent tree bytes forced failures log core reaction opens re
 
 pub log_fails : {S : Type 0} (bytes : S → List ℕ) (forced failures : S → ℕ) (k : LogForm) (old new : S)
     (e : LogError) → LogNotOpened bytes forced failures k old new e
-    → NotReopened bytes forced failures k old (error_of_log e)
+    → NotLeft bytes forced failures k old (error_of_log e)
 log_fails bytes forced failures k old new logs.Memory h = tt
 log_fails bytes forced failures k old new logs.Device h = record { left = new; more = h.breaks.cause }
 log_fails bytes forced failures k old new (logs.Damaged place) h = h.2
@@ -155,7 +159,7 @@ pub coordinator_fails : {S : Type 0} (bytes : S → List ℕ) (forced failures :
     (opened left : LogState) (e : CoordinatorError)
     → Opens (log_form place.me Coordinator) (bytes old) (forced old) (failures old) opened → left.sight.failures ≡ failures new
     → CoordinatorNotReopened place opened.sight left.sight e
-    → NotReopened bytes forced failures (log_form place.me Coordinator) old (error_of_coordinator e)
+    → NotLeft bytes forced failures (log_form place.me Coordinator) old (error_of_coordinator e)
 coordinator_fails bytes forced failures place old new opened left coordinators.Memory opens to h = tt
 coordinator_fails bytes forced failures place old new opened left coordinators.Device opens to h =
     let from : h.before.log.failures ≡ failures old =
@@ -177,7 +181,7 @@ coordinator_fails bytes forced failures place old new opened left coordinators.E
 
 pub manager_fails : {S : Type 0} (bytes : S → List ℕ) (forced failures : S → ℕ) (p : ProcessId) (old new : S)
     (e : RestoreError) → NotRestored bytes forced failures p old new e
-    → NotReopened bytes forced failures (log_form p Manager) old (error_of_manager e)
+    → NotLeft bytes forced failures (log_form p Manager) old (error_of_manager e)
 manager_fails bytes forced failures p old new (restores.Log e) h =
     log_fails bytes forced failures (log_form p Manager) old new e h
 manager_fails bytes forced failures p old new (restores.Records restarts.Memory) h = tt
@@ -190,3 +194,24 @@ manager_fails bytes forced failures p old new (restores.Records restarts.Unfit) 
     record { log = h.opened_as; opens = h.opens; why = inl h.why.0 }
 manager_fails bytes forced failures p old new (restores.Records restarts.Exhausted) h =
     record { log = h.opened_as; opens = h.opens; why = inr h.why.0 }
+
+-- the records that the key store restarted over
+read_before : (log : LogState) (s : KvSight) → StartsOver log s → left_before (sight_of s) ≡ records_of log.sight.kept
+read_before log s h =
+    left_is (sight_of (before log s)) (sight_of s) 0 (starts_over log s h)
+    ∙ all_left log.sight.form (records_of log.sight.kept) log.sight.failures
+
+pub subordinate_fails : {S : Type 0} (bytes : S → List ℕ) (forced failures : S → ℕ) (place : Place) (store : S)
+    (s : KvSight) → RestoredFrom place.me (bytes store) (forced store) (failures store) s → (e : RebuildError)
+    → NotReopenedOver place (sight_of s) e
+    → NotReopened bytes forced failures (log_form place.me Manager) place store (error_of_subordinate e)
+subordinate_fails bytes forced failures place store s r rebuilds.Memory h = inl tt
+subordinate_fails bytes forced failures place store s r rebuilds.Unfit h = inr (
+  refl,
+  record {
+    log = r.log;
+    opens = r.opens;
+    unfit = λ fit. h (subst (AreFit place) (sym (read_before r.log s r.starts)) fit);
+  },
+)
+subordinate_fails bytes forced failures place store s r rebuilds.Exhausted h = absurd h

@@ -4,8 +4,6 @@ use Rattle.tree_model.specs.declared.names.Kind.{Kind}
 use Rattle.tree_model.specs.declared.names.Kind.TheVariants.{Coordinator, Manager}
 use Rattle.tree_model.specs.declared.names.ProcessId.{ProcessId}
 use Rattle.tree_model.specs.declared.events.Reaction.{Reaction}
-use Rattle.tree_model.specs.declared.events.StepError.{StepError}
-use Rattle.tree_model.specs.declared.events.StepError.TheVariants as steps
 use Rattle.tree_model.specs.declared.trees.TreeEntry.{TreeEntry}
 use Rattle.tree_model.specs.Nodes.{Place, role_by}
 use Rattle.log_store.specs.Stores.{MoreFailures}
@@ -27,6 +25,9 @@ use Rattle.kv_manager.specs.Restarts.{NotRebuilt}
 use Rattle.coord_core.specs.declared.restarting.ReopenError.{ReopenError as CoordinatorError}
 use Rattle.coord_core.specs.declared.restarting.ReopenError.TheVariants as coordinators
 use Rattle.inquire_core.specs.Numbered.{are_numbered}
+use Rattle.sub_table.specs.declared.names.RebuildError.{RebuildError}
+use Rattle.sub_table.specs.declared.names.RebuildError.TheVariants as rebuilds
+use Rattle.sub_table.specs.Rebuilt.{AreFit}
 use Rattle.tree_node.specs.declared.reopening.ReopenError.{ReopenError}
 use Rattle.tree_node.specs.declared.reopening.ReopenError.TheVariants.{Memory, Device, Damaged, Unfit, OldFormat}
 
@@ -50,11 +51,14 @@ kind_by _ parent = Coordinator
 abbrev pub form_by : TreeEntry → LogForm
 form_by e = log_form e.id (kind_by e.kind e.parent)
 
+-- where the process of an entry of the tree sits
+abbrev pub place_by : List TreeEntry → TreeEntry → Place
+place_by tree e = record { me = e.id; role = role_by e.kind e.parent; tree = tree }
+
 -- the same of the process of an entry of the tree
 abbrev pub ReopensAs : List TreeEntry → TreeEntry → List ℕ → ℕ → ℕ → CoreState → ManagerData → Reaction → Type 0
 ReopensAs tree e bytes forced failures s values reaction =
-    Reopens (form_by e) (record { me = e.id; role = role_by e.kind e.parent; tree = tree })
-    bytes forced failures s values reaction
+    Reopens (form_by e) (place_by tree e) bytes forced failures s values reaction
 
 -- Refusals.
 
@@ -91,13 +95,33 @@ pub record FailsOver {L : Type 0} (failures : L → ℕ) (store : L) : Type 0 wh
   pub left : L
   pub more : MoreFailures (failures store) (failures left)
 
--- why no process goes on over the log in a store; want of memory may come at any time
-abbrev pub NotReopened : {L : Type 0} → (L → List ℕ) → (L → ℕ) → (L → ℕ) → LogForm → L → ReopenError → Type 0
-NotReopened bytes forced failures p store Memory = ⊤
-NotReopened bytes forced failures p store Device = FailsOver failures store
-NotReopened bytes forced failures p store (Damaged place) = read_log p (bytes store) ≡ DamagedLog place
-NotReopened bytes forced failures p store OldFormat = is_old (bytes store) ≡ true
-NotReopened bytes forced failures p store Unfit = LeavesNone p.kind p (bytes store) (forced store) (failures store)
+-- why no process goes on over the log in a store, whose records do not leave one of this kind; want of memory may
+-- come at any time
+abbrev pub NotLeft : {L : Type 0} → (L → List ℕ) → (L → ℕ) → (L → ℕ) → LogForm → L → ReopenError → Type 0
+NotLeft bytes forced failures p store Memory = ⊤
+NotLeft bytes forced failures p store Device = FailsOver failures store
+NotLeft bytes forced failures p store (Damaged place) = read_log p (bytes store) ≡ DamagedLog place
+NotLeft bytes forced failures p store OldFormat = is_old (bytes store) ≡ true
+NotLeft bytes forced failures p store Unfit = LeavesNone p.kind p (bytes store) (forced store) (failures store)
+
+-- the bytes are the log of records that no subordinate which sits here can have written
+pub record NoneWrote (p : LogForm) (place : Place) (bytes : List ℕ) (forced failures : ℕ) : Type 0 where
+  pub log : LogState
+  pub opens : Opens p bytes forced failures log
+  pub unfit : AreFit place (records_of log.sight.kept) → ⊥
+
+-- the same, as a refusal
+abbrev pub NotWritten : {L : Type 0} → (L → List ℕ) → (L → ℕ) → (L → ℕ) → LogForm → Place → L → ReopenError → Type 0
+NotWritten bytes forced failures p place store Unfit = NoneWrote p place (bytes store) (forced store) (failures store)
+NotWritten bytes forced failures p place store e = ⊥
+
+-- why no process goes on here over the log in a store: its records leave none, or it is a manager's and no subordinate
+-- which sits here can have written them
+abbrev pub NotReopened : {L : Type 0} → (L → List ℕ) → (L → ℕ) → (L → ℕ) → LogForm → Place → L → ReopenError
+    → Type 0
+NotReopened bytes forced failures p place store e =
+    NotLeft bytes forced failures p store e
+    ⊎ ((p.kind ≡ Manager) × NotWritten bytes forced failures p place store e)
 
 -- the number of an error
 abbrev pub reopen_error_number : ReopenError → ℕ
@@ -114,10 +138,11 @@ error_of_log logs.Device = Device
 error_of_log (logs.Damaged place) = Damaged place
 error_of_log logs.OldFormat = OldFormat
 
--- likewise, where it did not restart
-abbrev pub error_of_step : StepError → ReopenError
-error_of_step steps.Memory = Memory
-error_of_step e = Device
+-- likewise, where no subordinate goes on
+abbrev pub error_of_subordinate : RebuildError → ReopenError
+error_of_subordinate rebuilds.Memory = Memory
+error_of_subordinate rebuilds.Unfit = Unfit
+error_of_subordinate rebuilds.Exhausted = Unfit
 
 -- likewise, where no coordinator goes on
 abbrev pub error_of_coordinator : CoordinatorError → ReopenError

@@ -4,18 +4,21 @@ ghost use Rattle.log_text.specs.Forms.{log_form};
 ghost use Rattle.std.specs.Prelude.{◌≡◌, IfErr, IfOk};
 ghost use Rattle.tree_model.specs.declared.names.Kind.TheVariants as kind;
 ghost use Rattle.tree_model.specs.Nodes.{Role, role_by};
+ghost use Rattle.tree_model.specs.Views.{leaf_place};
 ghost use Rattle.rec_log.specs.Openings.{Opens};
 ghost use Rattle.kv_manager.specs.Restarts.{RestoredFrom};
 ghost use Rattle.tree_node.specs.Nodes.{core_of, data_of};
 ghost use Rattle.tree_node.specs.Reopenings.{
+  NotLeft,
   NotReopened,
   Reopens,
   ReopensAs,
   error_of_coordinator,
   error_of_log,
   error_of_manager,
-  error_of_step,
+  error_of_subordinate,
   form_by,
+  place_by,
   reopen_error_number,
 };
 
@@ -26,13 +29,14 @@ use log_store::LogStore;
 use rec_log::{OpenError, RecLog};
 use std::alloc::Global;
 use sub_core::Subordinate;
+use sub_table::RebuildError;
 use thiserror::Error;
-use tree_model::{Kind, ProcessId, Reaction, StepError, Tree, TreeEntry};
+use tree_model::{Kind, ProcessId, Reaction, Tree, TreeEntry};
 
 /// Why no process goes on over the log in a store.
 #[derive(Clone, Copy, Debug, PartialEq, Eq, Error)]
 pub enum ReopenError {
-    /// A growth was refused; or a subordinate reads records of its manager that no run makes.
+    /// A growth was refused.
     #[error("no memory")]
     Memory,
     /// The device of the store failed.
@@ -83,12 +87,12 @@ fn of_log(error: OpenError) -> ReopenError
     }
 }
 
-fn of_step(error: StepError) -> ReopenError
-    ensures { result ≡ error_of_step error }
+fn of_subordinate(error: RebuildError) -> ReopenError
+    ensures { result ≡ error_of_subordinate error }
 {
     match error {
-        StepError::Memory => ReopenError::Memory,
-        _ => ReopenError::Device,
+        RebuildError::Memory => ReopenError::Memory,
+        RebuildError::Unfit | RebuildError::Exhausted => ReopenError::Unfit,
     }
 }
 
@@ -121,7 +125,7 @@ fn left_log<L: LogStore + Drop>(
 ) -> Result<RecLog<L>, ReopenError>
     ensures ok { IfOk result (Opens (log_form me kind.Coordinator) (L.bytes store) (L.forced store)
         (L.failures store)) }
-    ensures err { IfErr result (NotReopened L.bytes L.forced L.failures (log_form me kind.Coordinator) store) }
+    ensures err { IfErr result (NotLeft L.bytes L.forced L.failures (log_form me kind.Coordinator) store) }
 {
     match RecLog::open(store, me, Kind::Coordinator, alloc) {
         Ok(log) => Ok(log),
@@ -136,7 +140,7 @@ fn left_manager<L: LogStore + Drop>(
     store: L,
 ) -> Result<KvManager<L>, ReopenError>
     ensures ok { IfOk result (RestoredFrom me (L.bytes store) (L.forced store) (L.failures store)) }
-    ensures err { IfErr result (NotReopened L.bytes L.forced L.failures (log_form me kind.Manager) store) }
+    ensures err { IfErr result (NotLeft L.bytes L.forced L.failures (log_form me kind.Manager) store) }
 {
     match KvManager::restore(store, me, alloc) {
         Ok(manager) => Ok(manager),
@@ -155,7 +159,7 @@ fn reopen_coordinator<L: LogStore + Drop>(
     ensures ok { IfOk result (λ made. Reopens (log_form me kind.Coordinator)
         (record { me = me; role = role_by kind.Coordinator parent; tree = tree })
         (L.bytes store) (L.forced store) (L.failures store) (core_of made.0) (data_of made.0) made.1) }
-    ensures err { IfErr result (NotReopened L.bytes L.forced L.failures (log_form me kind.Coordinator) store) }
+    ensures err { IfErr result (NotLeft L.bytes L.forced L.failures (log_form me kind.Coordinator) store) }
 {
     let log = left_log(alloc, me, store)?;
     match Coordinator::reopen(alloc, me, parent, tree, log) {
@@ -175,12 +179,16 @@ fn reopen_manager<L: LogStore + Drop>(
     ensures ok { IfOk result (λ made. Reopens (log_form me kind.Manager)
         (record { me = me; role = Role.AtLeaf parent; tree = tree })
         (L.bytes store) (L.forced store) (L.failures store) (core_of made.0) (data_of made.0) made.1) }
-    ensures err { IfErr result (NotReopened L.bytes L.forced L.failures (log_form me kind.Manager) store) }
+    ensures err { IfErr result (NotReopened L.bytes L.forced L.failures (log_form me kind.Manager)
+        (leaf_place me parent tree) store) }
 {
-    let manager = left_manager(alloc, me, store)?;
+    let manager = match left_manager(alloc, me, store) {
+        Ok(manager) => manager,
+        Err(error) => return Err(error),
+    };
     match Subordinate::reopen(alloc, me, parent, tree, manager) {
         Ok((subordinate, reaction)) => Ok((Node::Manager(subordinate), reaction)),
-        Err((error, manager)) => Err(refused(manager, of_step(error))),
+        Err((error, manager)) => Err(refused(manager, of_subordinate(error))),
     }
 }
 
@@ -189,9 +197,9 @@ fn reopen_manager<L: LogStore + Drop>(
 /// with it. A process without a parent is the root, whatever its kind.
 ///
 /// Memory: a growth was refused. Device: the device of the store failed. Damaged: the bytes are no log of such a
-/// process. OldFormat: they are a log of the first format. Unfit: the records leave no manager, or one of a
-/// coordinator's is of a case of a boot that the log had not reached; or numbers are used up behind them. Behind a
-/// refusal the store is let go.
+/// process. OldFormat: they are a log of the first format. Unfit: the records leave no manager, or one of them is of
+/// a case of a boot that the log had not reached; or numbers are used up behind them. Behind a refusal the store is
+/// let go.
 pub fn reopen_node<L: LogStore + Drop>(
     alloc: Global,
     entry: &TreeEntry,
@@ -201,7 +209,7 @@ pub fn reopen_node<L: LogStore + Drop>(
     ensures ok { IfOk result (λ made. ReopensAs tree entry.now
         (L.bytes store) (L.forced store) (L.failures store) (core_of made.0) (data_of made.0) made.1) }
     ensures err { IfErr result (NotReopened L.bytes L.forced L.failures
-        (form_by entry.now) store) }
+        (form_by entry.now) (place_by tree entry.now) store) }
 {
     match (entry.kind, entry.parent) {
         (Kind::Manager, Some(parent)) => reopen_manager(alloc, entry.id, parent, tree, store),

@@ -76,7 +76,8 @@ fn shown(
             Err(OpenError::Damaged(place)) => {
                 return Ok((damaged(alloc, entry.id, place)?, Status::Refused));
             }
-            Err(_) => return Err(AllocError),
+            Err(OpenError::Memory) => return Err(AllocError),
+            Err(OpenError::Device | OpenError::OldFormat) => unreachable!(),
         }
     }
     Ok((out, Status::Ended))

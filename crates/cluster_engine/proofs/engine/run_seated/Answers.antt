@@ -18,7 +18,7 @@ pub returns-in-None-clause-text : goal.returns-in-None-clause-text
 returns-in-None-clause-text g c =
     closed_written (λ r. r.0.items) c.args.output c.args.tree c.args.events.now c.args.workers
     c.as_mut_slice-passes.result.now c.play.new.passes c.closed_text.result c.requires.workers.0
-    (c.as_mut_slice-passes.ensures.value ∙ c.in-Ok.ensures)
+    (c.as_mut_slice-passes.ensures.value ∙ c.in-Ok.ensures.passes)
     (subst (λ t. FirstMade (root_of t) c.args.events.now c.as_mut_slice-passes.result.now c.play.new.passes)
     (sym c.requires.seats.tree_is) (c.in-None.ensures.made refl))
     c.closed_text.ensures.text

@@ -19,4 +19,4 @@ returns-in_ok-text-in-Ok-clause-report g c =
     (subst (λ es. GoesOver tree known es refusal trials) c.deref-in-Ok.ensures.value
     c.in_ok-trials-in-Ok.ensures.goes)
     (c.ending_of.ensures ∙ ap (λ ts. ending_by alone ts refusal) c.deref-in-Ok-3.ensures.value)
-    (c.in_ok-text-in-Ok.ensures ∙ ap (λ ts. crashes_text alone ts refusal) c.deref-in-Ok-2.ensures.value)
+    (c.in_ok-text-in-Ok.ensures.ok ∙ ap (λ ts. crashes_text alone ts refusal) c.deref-in-Ok-2.ensures.value)

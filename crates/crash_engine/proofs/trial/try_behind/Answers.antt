@@ -31,7 +31,7 @@ returns-clause-adds c =
     let same : c.refusal-refusal.result ≡ run.refusal = c.refusal-refusal.ensures in
     let made : is_some run.refusal ≡ false = ap (λ (r : Refusal). is_some r) (sym same) ∙ none in
     let points : c.deref.result.now ≡ points_in (state run.world) =
-    c.deref.ensures.value ∙ c.in_ok-points.ensures ∙ ap (λ w. points_in (state w)) c.world.ensures in
+    c.deref.ensures.value ∙ c.in_ok-points.ensures.ok ∙ ap (λ w. points_in (state w)) c.world.ensures in
     all_tried tree (known_by c.args.known.now) events (state run.world) run.refusal c.deref.result.now c.args.trials.now.items
     c.try_points.new.trials.items made
     (comes_to tree start events run c.requires.is_tree c.requires.opened come) points

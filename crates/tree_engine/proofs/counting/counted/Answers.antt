@@ -9,4 +9,4 @@ loop-place-preserved c =
     let w = state c.args.world.now in
     let k = c.loop-place.place in
     let at = taken_at w.entries k c.in-Some.entry (sym c.in_ok-entry.ensures ∙ c.in-Some.is) in
-    c.in_ok-added.ensures w.tree (take k w.entries) c.loop-place.invariant ∙ ap (rows_of w.tree) (sym at)
+    c.in_ok-added.ensures.ok w.tree (take k w.entries) c.loop-place.invariant ∙ ap (rows_of w.tree) (sym at)

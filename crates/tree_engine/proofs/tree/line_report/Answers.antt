@@ -5,11 +5,14 @@ use Rattle.tree_engine.proofs.TreeReports.{reported}
 use Rattle.tree_engine.proofs.tree.line_report.Goals as goal
 
 pub told-told-requires : goal.told-told-requires
-told-told-requires c = subst IsNumbered (sym c.refusal.ensures) c.in-Ok.ensures.ok.numbered
+told-told-requires c =
+    let s = rw c.in-Ok.is at c.in_ok-run.ensures.run in
+    subst IsNumbered (sym c.refusal.ensures) s.numbered
 
 pub returns-in-Ok-clause-report : goal.returns-in-Ok-clause-report
 returns-in-Ok-clause-report c =
-    let s = c.in-Ok.ensures.ok in
+    let s = rw c.in-Ok.is at c.in_ok-run.ensures.run in
     let plays = subst (λ w. Plays s.tree s.events c.refusal.result (state w)) (sym c.world.ensures)
     (subst (λ r. Plays s.tree s.events r (state c.in-Ok.run'.world)) (sym c.refusal.ensures) s.plays) in
-    reported (λ r. r.0.items) (output_of c.args.output) _ _ _ _ _ _ s.script plays c.told-told.ensures.text c.told-told.ensures.status
+    reported (λ r. r.0.items) (output_of c.args.output) _ _ _ _ _ _ s.script plays c.told-told.ensures.text
+    c.told-told.ensures.status

@@ -7,6 +7,7 @@ use Rattle.sub_deeds.specs.Replies.{shown}
 use Rattle.manager_model.specs.Sights.{ManagerSight}
 use Rattle.sub_branch.specs.declared.branch.Branch.{Branch}
 use Rattle.sub_core.specs.Subordinates.{Hears, IsAt, NotHeard, SubState, acknowledged, active, seen}
+use Rattle.sub_core.proofs.Ends.{not_tied}
 use Rattle.sub_core.proofs.Ties.{behind}
 use Rattle.sub_core.proofs.Outcomes.{ended, ended_tied, not_ended, abort_row, rollable}
 use Rattle.sub_core.proofs.subordinate.Subordinate.abort_active.Goals as goal
@@ -50,6 +51,22 @@ invariant_of-self g c =
     let m : ManagerSight = g.M.ResourceManager.sight c.roll_back.new.manager in
     ended_tied s c.args.key c.args.case b call.Rollback c.remove.new.self m c.self.invariant at
     c.remove.ensures c.in-Ok.ensures.ok
+
+pub invariant_of-self-in-Err-1 : goal.invariant_of-self-in-Err-1
+invariant_of-self-in-Err-1 g c =
+    let s : SubState = record {
+      me = c.self.inside.me;
+      parent = c.self.inside.parent;
+      tree = c.self.inside.tree;
+      given = c.self.inside.given;
+      table = c.self.inside.branches;
+      manager = g.M.ResourceManager.sight c.self.inside.manager;
+    } in
+    let b : Branch = active c.args.xid c.requires.at.0 c.requires.at.1 c.requires.at.2 in
+    let at : IsAt c.self.inside.branches c.args.key c.args.case b =
+    subst (λ v. IsAt v.table c.args.key c.args.case b) (sym c.self.view_is) c.requires.at.3 in
+    not_tied s (g.M.ResourceManager.sight c.roll_back.new.manager) c.args.case b call.Rollback c.in-Err.error
+    c.self.invariant at.live c.in-Err.ensures.err
 
 pub returns-in-Ok-clause-ok : goal.returns-in-Ok-clause-ok
 returns-in-Ok-clause-ok g c =

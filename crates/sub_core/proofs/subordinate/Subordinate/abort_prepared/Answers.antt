@@ -62,8 +62,11 @@ invariant_of-self-in-Err-1 g c =
       table = c.self.inside.branches;
       manager = g.M.ResourceManager.sight c.self.inside.manager;
     } in
-    not_tied s (g.M.ResourceManager.sight c.roll_back.new.manager) c.args.xid call.Rollback c.in-Err.error
-    c.self.invariant c.in-Err.ensures.err
+    let b : Branch = prepared c.args.xid in
+    let at : IsAt c.self.inside.branches c.args.key c.args.case b =
+    subst (λ v. IsAt v.table c.args.key c.args.case b) (sym c.self.view_is) c.requires.at in
+    not_tied s (g.M.ResourceManager.sight c.roll_back.new.manager) c.args.case b call.Rollback c.in-Err.error
+    c.self.invariant at.live c.in-Err.ensures.err
 
 pub returns-in-Ok-clause-ok : goal.returns-in-Ok-clause-ok
 returns-in-Ok-clause-ok g c =

@@ -6,6 +6,7 @@ use Rattle.sub_branch.specs.declared.branch.Branch.{Branch}
 use Rattle.sub_table.specs.Tables.{IsKept}
 use Rattle.sub_core.specs.Subordinates.{IsAt, SubState, decided, seen}
 use Rattle.sub_core.specs.Steps.{Acts, NotActed}
+use Rattle.sub_core.proofs.Ends.{not_tied}
 use Rattle.sub_core.proofs.Ties.{behind}
 use Rattle.sub_core.proofs.Outcomes.{ended_tied}
 use Rattle.sub_core.proofs.Decisions.{forgets, not_forgotten}
@@ -41,6 +42,22 @@ invariant_of-self g c =
     let m : ManagerSight = g.M.ResourceManager.sight c.forget.new.manager in
     ended_tied s c.args.key c.args.case b call.Forget c.remove.new.self m c.self.invariant at
     c.remove.ensures c.in-Ok.ensures.ok
+
+pub invariant_of-self-in-Err-1 : goal.invariant_of-self-in-Err-1
+invariant_of-self-in-Err-1 g c =
+    let s : SubState = record {
+      me = c.self.inside.me;
+      parent = c.self.inside.parent;
+      tree = c.self.inside.tree;
+      given = c.self.inside.given;
+      table = c.self.inside.branches;
+      manager = g.M.ResourceManager.sight c.self.inside.manager;
+    } in
+    let b : Branch = decided c.args.xid c.args.told in
+    let at : IsAt c.self.inside.branches c.args.key c.args.case b =
+    subst (λ v. IsAt v.table c.args.key c.args.case b) (sym c.self.view_is) c.requires.at in
+    not_tied s (g.M.ResourceManager.sight c.forget.new.manager) c.args.case b call.Forget c.in-Err.error
+    c.self.invariant at.live c.in-Err.ensures.err
 
 pub returns-in-Ok-clause-ok : goal.returns-in-Ok-clause-ok
 returns-in-Ok-clause-ok g c =

@@ -6,7 +6,7 @@ use Rattle.core_model.specs.Restarting.{Restarts}
 use Rattle.manager_model.specs.Sights.{ManagerSight}
 use Rattle.sub_table.specs.declared.rebuilt.Rebuilt.{Rebuilt}
 use Rattle.sub_core.specs.Subordinates.{SubState, core_of}
-use Rattle.sub_core.proofs.Reopened.{only_memory, over_left, over_promises, over_tied}
+use Rattle.sub_core.proofs.Reopened.{not_over, over_left, over_promises, over_tied}
 use Rattle.sub_core.proofs.subordinate.Subordinate.reopen.Goals as goal
 
 pub invariant_of-subordinate : goal.invariant_of-subordinate
@@ -69,7 +69,7 @@ returns-in-Ok-clause-writes g c = λ before all restarts.
 
 pub returns-in-Err-clause-err : goal.returns-in-Err-clause-err
 returns-in-Err-clause-err g c = (
-  only_memory (g.M.ResourceManager.sight c.args.manager) c.args.me c.args.parent c.args.tree
+  not_over (g.M.ResourceManager.sight c.args.manager) c.args.me c.args.parent c.args.tree
       c.records_are_sound.ensures c.requires.restarted c.in-Err.error c.in-Err.ensures.err,
   refl,
 )

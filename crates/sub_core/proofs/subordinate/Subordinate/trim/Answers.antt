@@ -3,15 +3,39 @@ use Rattle.std.specs.Prelude.{IfErr, IfOk}
 use Rattle.tree_model.specs.declared.events.StepError.{StepError}
 use Rattle.tree_model.specs.declared.events.StepError.TheVariants as error
 use Rattle.core_model.specs.Restarting.{NotTrimmed, Trims}
+use Rattle.rec_log.specs.Sights.{records_of}
+use Rattle.manager_model.specs.Orders.{AreInOrder}
 use Rattle.manager_model.specs.Sights.{ManagerSight}
 use Rattle.manager_model.specs.declared.errors.TrimError.TheVariants as trim_error
 use Rattle.manager_model.specs.Trimming.{NotTrimmed as NotTrimmedBy}
 use Rattle.sub_core.specs.Subordinates.{SubState, core_of}
 use Rattle.sub_core.specs.Steps.{state}
 use Rattle.sub_core.proofs.Ties.{behind}
-use Rattle.sub_core.proofs.Trimmed.{not_trimmed, trims}
+use Rattle.sub_core.proofs.Trimmed.{not_trimmed, trimmed_tied, trims, untrimmed_tied}
 use Rattle.sub_core.proofs.subordinate.Subordinate.trim.Goals as goal
 use Rattle.sub_core.proofs.subordinate.Subordinate.trim.Goals.{in-Ok, in-Err-Memory, in-Err-Device, in-Err-Failed}
+
+pub invariant_of-self : goal.invariant_of-self
+invariant_of-self g c =
+    let s : SubState = record {
+      me = c.self.inside.me;
+      parent = c.self.inside.parent;
+      tree = c.self.inside.tree;
+      given = c.self.inside.given;
+      table = c.self.inside.branches;
+      manager = g.M.ResourceManager.sight c.self.inside.manager;
+    } in
+    let m : ManagerSight = g.M.ResourceManager.sight c.trim.new.self in
+    let order : AreInOrder (records_of s.manager.log.kept) = c.records_are_in_order.ensures in
+    elim c.match-trim.branch [
+      | in-Ok w ↦ trimmed_tied s m order c.self.invariant w.in-Ok.count w.in-Ok.ensures.ok
+      | in-Err-Memory w ↦ untrimmed_tied s m order c.self.invariant trim_error.Memory
+          (subst (λ e. NotTrimmedBy s.manager m e) w.in-Err-Memory.field-0-is w.in-Err-Memory.ensures.err)
+      | in-Err-Device w ↦ untrimmed_tied s m order c.self.invariant trim_error.Device
+          (subst (λ e. NotTrimmedBy s.manager m e) w.in-Err-Device.field-0-is w.in-Err-Device.ensures.err)
+      | in-Err-Failed w ↦ untrimmed_tied s m order c.self.invariant trim_error.Failed
+          (subst (λ e. NotTrimmedBy s.manager m e) w.in-Err-Failed.field-0-is w.in-Err-Failed.ensures.err)
+    ]
 
 pub returns-clause-ok : goal.returns-clause-ok
 returns-clause-ok g c =

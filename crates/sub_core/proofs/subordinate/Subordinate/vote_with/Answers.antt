@@ -34,8 +34,11 @@ invariant_of-self g c =
       table = c.self.inside.branches;
       manager = g.M.ResourceManager.sight c.self.inside.manager;
     } in
-    not_tied s (g.M.ResourceManager.sight c.promise.new.manager) c.args.xid call.Prepare c.in-Err.error
-    c.self.invariant c.in-Err.ensures.err
+    let at = subst (λ v. IsAt v.table c.args.key c.args.case
+    (active c.args.xid c.requires.at.0 c.args.works false)) (sym c.self.view_is) c.requires.at.1 in
+    not_tied s (g.M.ResourceManager.sight c.promise.new.manager) c.args.case
+    (active c.args.xid c.requires.at.0 c.args.works false) call.Prepare c.in-Err.error
+    c.self.invariant at.live c.in-Err.ensures.err
 
 pub returns-in-Err-clause-err : goal.returns-in-Err-clause-err
 returns-in-Err-clause-err g c =

@@ -1,4 +1,5 @@
-use Rattle.std.proofs.Common.{◌≡◌, [], ◌∷◌, is_some, true, false, arith, rules}
+use Rattle.std.proofs.Common.{◌≡◌, [], ◌∷◌, is_some, true, false, arith, rules, subst, sym}
+use Rattle.core_law.specs.worlds.Worlds.{Stops}
 use Rattle.tree_world.specs.Worlds.{state}
 use Rattle.tree_engine.proofs.Going.{all_more, none_more, one_led, one_refused, one_stopped}
 use Rattle.tree_engine.proofs.run.Run.make.Goals as goal
@@ -18,11 +19,14 @@ returns-in-Ok-clause-goes_on c =
     (one_led (state old.world) (state c.apply.new.self) c.args.event c.in-Ok.ensures.ok)
     (search rules)
 
-pub returns-else-eq-3-clause-goes_on : goal.returns-else-eq-3-clause-goes_on
-returns-else-eq-3-clause-goes_on c =
+pub returns-in_ok-own_refusal-in-Err-clause-goes_on : goal.returns-in_ok-own_refusal-in-Err-clause-goes_on
+returns-in_ok-own_refusal-in-Err-clause-goes_on c =
     let old = c.args.self.now in
+    let new = state c.apply.new.self in
+    let (same, own) = c.in_ok-own_refusal-in-Err.ensures.own in
     let is : is_some old.refusal ≡ false = search rules in
-    λ start given h. one_refused start (state old.world) (state c.apply.new.self) given (c.args.event ∷ [])
-    old.refusal old.made 0 old.made c.in-Err.refusal is h
-    (one_stopped (state old.world) (state c.apply.new.self) c.args.event c.in-Err.refusal c.in-Err.ensures.err)
-    (omega arith) (search rules) (search rules) (search rules) (search rules)
+    let stops = subst (λ e. Stops (state old.world) c.args.event e new) (sym same) c.in-Err.ensures.err in
+    λ start given h. one_refused start (state old.world) new given (c.args.event ∷ [])
+    old.refusal old.made 0 old.made c.in_ok-own_refusal-in-Err.field-0 is h
+    (one_stopped (state old.world) new c.args.event c.in_ok-own_refusal-in-Err.field-0 stops)
+    (omega arith) (search rules) own.0 own.1 own.2
