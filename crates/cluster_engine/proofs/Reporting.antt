@@ -1,16 +1,19 @@
 -- What is written of a run, as the report of its script.
-use Rattle.std.proofs.Common.{◌≡◌, ◌∙◌, ◌<◌, sym, subst, inl, inr, ℕ, zero, suc, List, [], ◌∷◌, length, Result, Ok, Err, IfOk, arith}
+use Rattle.std.proofs.Common.{◌≡◌, ◌∙◌, ◌⊎◌, ◌<◌, sym, subst, inl, inr, ℕ, zero, suc, List, [], ◌∷◌, length, Result, Ok, Err, IfOk, arith}
 use Rattle.tree_model.specs.declared.events.Event.{Event}
 use Rattle.tree_model.specs.declared.trees.TreeEntry.{TreeEntry}
 use Rattle.tree_model.specs.Trees.{root_of}
 use Rattle.link_script.specs.Inputs.{IsScript}
+use Rattle.report_io.specs.declared.streams.Failure.{Failure}
+use Rattle.report_io.specs.declared.streams.Failure.TheVariants as failure
 use Rattle.report_io.specs.declared.status.Status.{Status}
 use Rattle.report_io.specs.declared.status.Status.TheVariants.{Ended, Refused, Stopped}
+use Rattle.tree_threads.specs.declared.errors.PostError.{PostError}
 use Rattle.tree_threads.specs.Passes.{PassState}
 use Rattle.tree_cluster.specs.Passes.{new_pass, new_passes}
 use Rattle.cluster_engine.specs.declared.engine.Output.{Output}
 use Rattle.cluster_engine.specs.Made.{AreMade, FirstMade}
-use Rattle.cluster_engine.specs.Reports.{IsClusterReport, RefusesBehind, RefusesOne, RunsTree, TellsClosed, Writes}
+use Rattle.cluster_engine.specs.Reports.{CannotReport, CannotWrite, ClosesUnnumbered, IsClusterReport, IsPostFailure, RefusesBehind, RefusesOne, RunsTree, TellsClosed, Writes}
 use Rattle.cluster_engine.proofs.Making.{first_new}
 
 by_status : (output : Output) (status : Status) (input : List ℕ) (tree : List TreeEntry) (events : List Event)
@@ -77,3 +80,27 @@ closed_written text_of output tree events (suc n) given passes (Ok r) some new f
     told_so output r.1 tree events rest.0 passes (text_of r)
     (subst (λ l. FirstMade (root_of tree) events l passes) (new ∙ rest.1) first) told
 closed_written text_of output tree events (suc n) given passes (Err e) some new first told = tt
+
+-- Why nothing is written.
+
+-- the journal of a closed cluster has too many messages to be told
+pub not_closed : (tree : List TreeEntry) (events : List Event) (why : Failure)
+    → (why ≡ failure.Memory) ⊎ ((why ≡ failure.Exhausted) × ClosesUnnumbered tree)
+    → (why ≡ failure.Memory) ⊎ CannotWrite tree events why
+not_closed tree events why (inl memory) = inl memory
+not_closed tree events why (inr (exhausted, closes)) = inr (inr (exhausted, closes))
+
+-- one of the events was refused for a reason behind which no run goes on
+pub not_posted : (tree : List TreeEntry) (events : List Event) (made : ℕ) (refusal : PostError) (why : Failure)
+    → made < length events → (why ≡ failure.Memory) ⊎ IsPostFailure refusal why
+    → (why ≡ failure.Memory) ⊎ CannotWrite tree events why
+not_posted tree events made refusal why within (inl memory) = inl memory
+not_posted tree events made refusal why within (inr fails) = inr (inl (made, within, refusal, fails))
+
+-- nothing is written of a script
+pub not_reported : (input : List ℕ) (tree : List TreeEntry) (events : List Event) (why : Failure)
+    → IsScript input tree events → (why ≡ failure.Memory) ⊎ CannotWrite tree events why
+    → (why ≡ failure.Memory) ⊎ CannotReport input why
+not_reported input tree events why script (inl memory) = inl memory
+not_reported input tree events why script (inr cannot) =
+    inr (record { tree = tree; events = events; script = script; cannot = cannot })

@@ -1,5 +1,5 @@
 -- What the engine of `rstar run` writes.
-use Rattle.std.specs.Prelude.{◌≡◌, ◌+◌, ◌<◌, ◌⊎◌, ℕ, Option, Some, None, List, [], ◌∷◌, ◌++◌, codes, length}
+use Rattle.std.specs.Prelude.{◌≡◌, ◌+◌, ◌<◌, ◌≤◌, ◌^◌, ◌⊎◌, ℕ, Option, Some, None, List, [], ◌∷◌, ◌++◌, codes, length}
 use Rattle.tree_model.specs.declared.events.Entry.{Entry}
 use Rattle.tree_model.specs.declared.events.Event.{Event}
 use Rattle.tree_model.specs.declared.events.StepError.TheVariants as steps
@@ -11,12 +11,16 @@ use Rattle.trace_lines.specs.Trace.{entries_text}
 use Rattle.link_script.specs.Inputs.{IsScript}
 use Rattle.report_io.specs.declared.status.Status.{Status}
 use Rattle.report_io.specs.declared.status.Status.TheVariants.{Ended, Refused, Stopped}
+use Rattle.report_io.specs.declared.streams.Failure.{Failure}
+use Rattle.report_io.specs.declared.streams.Failure.TheVariants as failure
 use Rattle.tree_ties.specs.Views.{entries_in}
 use Rattle.tree_threads.specs.Passes.{PassState}
 use Rattle.tree_threads.specs.declared.errors.PostError.{PostError}
 use Rattle.tree_threads.specs.declared.errors.PostError.TheVariants.{Stranger, JournalFull, Step, Memory}
 use Rattle.tree_cluster.specs.Closing.{AreMet, IsClosed, IsMet}
 use Rattle.tree_cluster.specs.Passes.{new_pass}
+use Rattle.tree_engine.specs.Failures.{message_count}
+use Rattle.tree_engine.specs.Runs.{IsFailure}
 use Rattle.tree_engine.specs.Trees.{RefusesScript, opened_text, refused_text}
 use Rattle.cluster_engine.specs.declared.engine.Output.{Output}
 use Rattle.cluster_engine.specs.declared.engine.Output.TheVariants.{Told, Trace}
@@ -113,3 +117,35 @@ abbrev pub IsClusterReport : Output → Status → List ℕ → List ℕ → Typ
 IsClusterReport output Ended input text = RunsScript output Ended input text
 IsClusterReport output Stopped input text = RunsScript output Stopped input text
 IsClusterReport output Refused input text = RefusesScript input text
+
+-- Why nothing is written, where memory was not refused and neither reading nor writing failed.
+
+-- no run goes on behind this refusal of an event, for the same reason
+abbrev pub IsPostFailure : PostError → Failure → Type 0
+IsPostFailure (Step e) why = IsFailure e why
+IsPostFailure Memory why = why ≡ failure.Memory
+IsPostFailure _ why = ⊥
+
+-- one of these events was refused so
+abbrev pub PostFails : List Event → Failure → Type 0
+PostFails events why = (made : ℕ) × (made < length events) × (refusal : PostError) × IsPostFailure refusal why
+
+-- 2^64 messages or more were sent in this journal
+abbrev pub IsUnnumbered : List (ℕ × Entry) → Type 0
+IsUnnumbered journal = 2 ^ 64 ≤ message_count (entries_in journal)
+
+-- so many were sent in the journal of a closed cluster on this tree
+abbrev pub ClosesUnnumbered : List TreeEntry → Type 0
+ClosesUnnumbered tree =
+    (journal : List (ℕ × Entry)) × (logs : List (List LogRecord)) × IsClosed tree journal logs × IsUnnumbered journal
+
+-- why nothing is written of a tree and these events
+abbrev pub CannotWrite : List TreeEntry → List Event → Failure → Type 0
+CannotWrite tree events why = PostFails events why ⊎ ((why ≡ failure.Exhausted) × ClosesUnnumbered tree)
+
+-- why nothing is written of an input, which is a script
+pub record CannotReport (input : List ℕ) (why : Failure) : Type 0 where
+  pub tree : List TreeEntry
+  pub events : List Event
+  pub script : IsScript input tree events
+  pub cannot : CannotWrite tree events why

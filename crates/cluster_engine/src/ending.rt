@@ -1,17 +1,17 @@
 //! What is written of a run that has ended.
 
-ghost use Rattle.std.specs.Prelude.{◌≡◌, ◌+◌, ◌<◌, ◌^◌, IfErr, IfOk, Some, map};
+ghost use Rattle.std.specs.Prelude.{◌≡◌, ◌⊎◌, ◌+◌, ◌<◌, ◌^◌, IfErr, IfOk, Some, map};
 ghost use Rattle.tree_model.specs.Trees.{IsTree};
 ghost use Rattle.report_io.specs.declared.status.Status.TheVariants as ends;
 ghost use Rattle.report_io.specs.Streams.{IsOfRun};
-ghost use Rattle.cluster_engine.specs.Reports.{RefusesBehind, Tells, TellsClosed, refusal_number};
+ghost use Rattle.cluster_engine.specs.Reports.{ClosesUnnumbered, IsPostFailure, IsUnnumbered, RefusesBehind, Tells, TellsClosed, refusal_number};
 
 use crate::engine::Output;
 use crate::replay::is_replayed;
 use crate::told::push_told;
 use crate::trace::push_trace;
 use report_io::{Failure, Status};
-use std::alloc::Global;
+use std::alloc::{AllocError, Global};
 use tree_cluster::{Cluster, Journal};
 use tree_engine::{own_refusal, push_refused};
 use tree_model::{Entry, LogRecord, StepError, Tree};
@@ -22,6 +22,7 @@ use tree_ties::seats::Seats;
 /// full.
 fn refusal_number(why: PostError) -> Result<u8, Failure>
     ensures number { IfOk result (λ number. refusal_number why ≡ Some number) }
+    ensures err { IfErr result (IsPostFailure why) }
     ensures why { IfErr result IsOfRun }
 {
     match why {
@@ -41,6 +42,7 @@ pub(crate) fn refused_line(
     requires { made + 1 < 2 ^ 64 }
     ensures line { IfOk result (λ r. RefusesBehind made r.0.items) }
     ensures status { IfOk result (λ r. r.1 ≡ ends.Stopped) }
+    ensures err { IfErr result (λ e. (e ≡ Failure.Memory) ⊎ IsPostFailure why e) }
     ensures why { IfErr result IsOfRun }
 {
     let number = refusal_number(why)?;
@@ -59,6 +61,8 @@ pub(crate) fn closed_text<N: Seats>(
 ) -> Result<(Vec<u8>, Status), Failure>
     requires { (tree ≡ N.tree) × IsTree tree }
     ensures text { IfOk result (λ r. TellsClosed output r.1 tree passes.old r.0.items) }
+    ensures err { IfErr result (λ e. (e ≡ Failure.Memory)
+        ⊎ ((e ≡ Failure.Exhausted) × ClosesUnnumbered tree)) }
     ensures why { IfErr result IsOfRun }
 {
     match cluster.close(passes) {
@@ -91,6 +95,8 @@ fn journal_told(
     requires { IsTree tree }
     ensures text { IfOk result (λ r. Tells output r.1 tree journal.now
         (map (λ log. log.items) logs.now) r.0.items) }
+    ensures err { IfErr result (λ e. (e ≡ Failure.Memory)
+        ⊎ ((e ≡ Failure.Exhausted) × IsUnnumbered journal.now)) }
     ensures why { IfErr result IsOfRun }
 {
     match output {
@@ -99,7 +105,7 @@ fn journal_told(
             push_trace(alloc, &mut out, tree.entries(), journal)?;
             Ok((out, Status::Ended))
         }
-        Output::Told => told_text(alloc, tree, journal, logs),
+        Output::Told => Ok(told_text(alloc, tree, journal, logs)?),
     }
 }
 
@@ -110,11 +116,10 @@ fn told_text(
     tree: Tree,
     journal: &[(u64, Entry)],
     logs: &[Vec<LogRecord>],
-) -> Result<(Vec<u8>, Status), Failure>
+) -> Result<(Vec<u8>, Status), AllocError>
     requires { IsTree tree }
     ensures text { IfOk result (λ r. Tells Output.Told r.1 tree journal.now
         (map (λ log. log.items) logs.now) r.0.items) }
-    ensures why { IfErr result IsOfRun }
 {
     let mut out = Vec::new(alloc);
     push_told(alloc, &mut out, journal)?;

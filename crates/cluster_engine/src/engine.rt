@@ -1,12 +1,13 @@
 //! The engine of `rstar run`.
 
-ghost use Rattle.std.specs.Prelude.{◌≡◌, ◌<◌, ◌≤◌, ℕ, List, IfErr, IfOk};
+ghost use Rattle.std.specs.Prelude.{◌≡◌, ◌⊎◌, ◌<◌, ◌≤◌, ℕ, List, IfErr, IfOk};
 ghost use Rattle.std.specs.Io.KnownBytes.{Appends, Keeps};
 ghost use Rattle.report_io.specs.declared.status.Status.{Status as AnyStatus};
 ghost use Rattle.report_io.specs.Streams.{IsInput, IsOfRun, WritesFront};
 ghost use Rattle.tree_model.specs.Trees.{IsTree};
 ghost use Rattle.tree_cluster.specs.Opening.{SeatsTree};
-ghost use Rattle.cluster_engine.specs.Reports.{IsClusterReport, Writes};
+ghost use Rattle.tree_engine.specs.Failures.{IsStop};
+ghost use Rattle.cluster_engine.specs.Reports.{CannotReport, CannotWrite, IsClusterReport, Writes};
 
 use crate::ending::{closed_text, let_go, refused_line};
 use crate::player::play;
@@ -64,6 +65,8 @@ pub fn run_cluster<R: Threads + Wait + Sync, G: Gate + Sync, I: Read, W: Write>(
         → Keeps (W.contents writer.old) (W.contents writer.new)) }
     ensures unmade { IfErr result (λ e. IsOfRun e
         → Keeps (W.contents writer.old) (W.contents writer.new)) }
+    ensures stopped { IfErr result (λ e. IsStop e → (input : List ℕ)
+        × IsInput (I.remaining reader.old) input × CannotReport input e) }
 {
     let input = read_all(alloc, reader)?;
     let (text, status) = report(rt, alloc, output, workers, gate, &input)?;
@@ -84,6 +87,7 @@ fn report<R: Threads + Wait + Sync, G: Gate + Sync>(
 ) -> Result<(Vec<u8>, Status), Failure>
     requires { (0 < workers) × (workers ≤ 16) }
     ensures report { IfOk result (λ r. IsClusterReport output r.1 input.now r.0.items) }
+    ensures err { IfErr result (λ e. (e ≡ Failure.Memory) ⊎ CannotReport input.now e) }
     ensures why { IfErr result IsOfRun }
 {
     match read(alloc, input) {
@@ -106,6 +110,7 @@ fn run_script<R: Threads + Wait + Sync, G: Gate + Sync>(
     requires workers { (0 < workers) × (workers ≤ 16) }
     requires tree { IsTree tree }
     ensures text { IfOk result (λ r. Writes output r.1 tree events.now r.0.items) }
+    ensures err { IfErr result (λ e. (e ≡ Failure.Memory) ⊎ CannotWrite tree events.now e) }
     ensures why { IfErr result IsOfRun }
 {
     let opened = seats(alloc, &tree)?;
@@ -126,6 +131,7 @@ fn run_seated<N: Seats + Send + Sync, R: Threads + Wait + Sync, G: Gate + Sync>(
     requires workers { (0 < workers) × (workers ≤ 16) }
     requires seats { SeatsTree N.table N.tree tree opened.ties.shared.table_id opened.ties.shared.key.items }
     ensures text { IfOk result (λ r. Writes output r.1 tree events.now r.0.items) }
+    ensures err { IfErr result (λ e. (e ≡ Failure.Memory) ⊎ CannotWrite tree events.now e) }
     ensures why { IfErr result IsOfRun }
 {
     let copy = copied_tree(alloc, tree.entries())?;

@@ -1,18 +1,15 @@
 //! The journal once more, on one thread.
 
-ghost use Rattle.std.specs.Prelude.{◌≡◌, IfErr, IfOk, IsTrue, map};
+ghost use Rattle.std.specs.Prelude.{IfOk, IsTrue, map};
 ghost use Rattle.tree_model.specs.Trees.{IsTree};
-ghost use Rattle.report_io.specs.Streams.{IsOfRun};
 ghost use Rattle.tree_threads.specs.Posts.{IsFor};
 ghost use Rattle.tree_world.specs.Worlds.{state};
 ghost use Rattle.cluster_engine.specs.Replays.{LeavesLogs, Repeats, RepeatsOne, Replays};
 
 use crate::records::are_same_logs;
 use log_store::MemoryStore;
-use report_io::Failure;
 use std::alloc::{AllocError, Global};
-use tree_engine::own_refusal;
-use tree_model::{Entry, Event, Happening, Input, LogRecord, Tree};
+use tree_model::{Entry, Event, Happening, Input, LogRecord, StepError, Tree};
 use tree_world::World;
 
 /// How many bytes the first so many of these take.
@@ -42,19 +39,16 @@ fn event_of(alloc: Global, world: &World<MemoryStore>, entry: &Entry) -> Result<
     }
 }
 
-/// Makes the event of an entry. Whether it was not refused.
-fn make(alloc: Global, world: &mut World<MemoryStore>, entry: &Entry) -> Result<bool, Failure>
+/// Makes the event of an entry. Whether it was not refused; want of memory is no refusal.
+fn make(alloc: Global, world: &mut World<MemoryStore>, entry: &Entry) -> Result<bool, AllocError>
     ensures made { IfOk result (λ made. IsTrue made
         → RepeatsOne entry.now (state world.old) (state world.new)) }
-    ensures why { IfErr result IsOfRun }
 {
     let event = event_of(alloc, world, entry)?;
     match world.apply(event) {
         Ok(()) => Ok(true),
-        Err(refusal) => {
-            own_refusal(refusal)?;
-            Ok(false)
-        }
+        Err(StepError::Memory) => Err(AllocError),
+        Err(_) => Ok(false),
     }
 }
 
@@ -63,10 +57,9 @@ fn make_all(
     alloc: Global,
     world: &mut World<MemoryStore>,
     journal: &[(u64, Entry)],
-) -> Result<bool, Failure>
+) -> Result<bool, AllocError>
     ensures made { IfOk result (λ made. IsTrue made
         → Repeats journal.now (state world.old) (state world.new)) }
-    ensures why { IfErr result IsOfRun }
 {
     for place in 0..journal.len() {
         if !make(alloc, world, &journal[place].1)? {
@@ -82,10 +75,9 @@ fn leaves(
     world: &mut World<MemoryStore>,
     journal: &[(u64, Entry)],
     logs: &[Vec<LogRecord>],
-) -> Result<bool, Failure>
+) -> Result<bool, AllocError>
     ensures same { IfOk result (λ same. IsTrue same
         → LeavesLogs journal.now (map (λ log. log.items) logs.now) (state world.old) (state world.new)) }
-    ensures why { IfErr result IsOfRun }
 {
     if !make_all(alloc, world, journal)? {
         return Ok(false);
@@ -101,14 +93,13 @@ pub fn is_replayed(
     tree: Tree,
     journal: &[(u64, Entry)],
     logs: &[Vec<LogRecord>],
-) -> Result<bool, Failure>
+) -> Result<bool, AllocError>
     requires { IsTree tree }
     ensures same { IfOk result (λ same. IsTrue same
         → Replays tree journal.now (map (λ log. log.items) logs.now)) }
-    ensures why { IfErr result IsOfRun }
 {
     let Ok(mut world) = World::new(alloc, tree) else {
-        return Err(Failure::Memory);
+        return Err(AllocError);
     };
     let same = leaves(alloc, &mut world, journal, logs);
     world.close();

@@ -1,11 +1,10 @@
 //! The journal as a trace.
 
-ghost use Rattle.std.specs.Prelude.{◌≡◌, ◌+◌, ◌++◌, IfErr, IfOk, OnOk, length, string_bytes};
-ghost use Rattle.report_io.specs.Streams.{IsUsedUp};
+ghost use Rattle.std.specs.Prelude.{◌≡◌, ◌⊎◌, ◌+◌, ◌≤◌, ◌^◌, ◌++◌, IfErr, IfOk, OnOk, length, string_bytes};
 ghost use Rattle.trace_lines.specs.Trace.{entries_text, entry_text};
 ghost use Rattle.tree_engine.specs.Trees.{opened_text, opening_text};
 ghost use Rattle.tree_ties.specs.Views.{entries_in};
-ghost use Rattle.cluster_engine.specs.Reports.{journal_text};
+ghost use Rattle.cluster_engine.specs.Reports.{IsUnnumbered, journal_text};
 
 use report_io::Failure;
 use std::alloc::{AllocError, Global};
@@ -38,13 +37,14 @@ fn push_opened(alloc: Global, out: &mut Vec<u8>, tree: &[TreeEntry]) -> Result<(
     Ok(())
 }
 
-/// The lines of an entry, before which so many messages were sent. How many were with its own. Exhausted: 2^64
-/// or more.
+/// The lines of an entry, before which so many messages were sent. How many were with its own. Exhausted:
+/// 2^64 or more.
 #[tactic(auto, unfolding(trace_lines::specs::Trace::entry_text))]
 fn push_entry(out: &mut Vec<u8>, sent: u64, entry: &Entry) -> Result<u64, Failure>
     ensures sent { IfOk result (λ next. next ≡ sent + length entry.now.reaction.messages) }
     ensures text { OnOk result (out.new.items ≡ out.old.items ++ entry_text sent entry.now) }
-    ensures why { IfErr result IsUsedUp }
+    ensures err { IfErr result (λ e. (e ≡ Failure.Memory)
+        ⊎ ((e ≡ Failure.Exhausted) × (2 ^ 64 ≤ sent + length entry.now.reaction.messages))) }
 {
     let Some(next) = sent.checked_add(entry.reaction.messages.len() as u64) else {
         return Err(Failure::Exhausted);
@@ -61,7 +61,8 @@ fn push_entry(out: &mut Vec<u8>, sent: u64, entry: &Entry) -> Result<u64, Failur
 /// The lines of these entries.
 fn push_entries(out: &mut Vec<u8>, journal: &[(u64, Entry)]) -> Result<(), Failure>
     ensures text { OnOk result (out.new.items ≡ out.old.items ++ entries_text 0 (entries_in journal.now)) }
-    ensures why { IfErr result IsUsedUp }
+    ensures err { IfErr result (λ e. (e ≡ Failure.Memory)
+        ⊎ ((e ≡ Failure.Exhausted) × IsUnnumbered journal.now)) }
 {
     let mut sent = 0;
     for place in 0..journal.len() {
@@ -70,8 +71,8 @@ fn push_entries(out: &mut Vec<u8>, journal: &[(u64, Entry)]) -> Result<(), Failu
     Ok(())
 }
 
-/// Adds the trace of these entries, as a tree on one thread that makes their events writes it. Exhausted: they
-/// sent 2^64 messages.
+/// Adds the trace of these entries, as a tree on one thread that makes their events writes it. Exhausted:
+/// they sent 2^64 messages or more.
 pub(crate) fn push_trace(
     alloc: Global,
     out: &mut Vec<u8>,
@@ -79,7 +80,8 @@ pub(crate) fn push_trace(
     journal: &[(u64, Entry)],
 ) -> Result<(), Failure>
     ensures text { OnOk result (out.new.items ≡ out.old.items ++ journal_text tree.now journal.now) }
-    ensures why { IfErr result IsUsedUp }
+    ensures err { IfErr result (λ e. (e ≡ Failure.Memory)
+        ⊎ ((e ≡ Failure.Exhausted) × IsUnnumbered journal.now)) }
 {
     push_opened(alloc, out, tree)?;
     push_entries(out, journal)?;

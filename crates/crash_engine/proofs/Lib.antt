@@ -1,3 +1,4 @@
 pub mod PointLaws
 pub mod Trying
 pub mod Reports
+pub mod Failing

@@ -1,10 +1,15 @@
 -- Points one after another.
-use Rattle.std.proofs.Common.{◌≡◌, ◌∙◌, ap, sym, ℕ, suc, ◌+◌, ◌<◌, ◌≤◌, List, [], ◌∷◌, ◌++◌, length, get_or, take, drop, map, append_assoc, add-one, drop-cons}
+use Rattle.std.proofs.Common.{◌≡◌, ◌∙◌, ◌⊎◌, ap, sym, subst, ℕ, suc, ◌+◌, ◌<◌, ◌≤◌, ◌^◌, List, [], ◌∷◌, ◌++◌, length, get_or, take, drop, map, inl, inr, append_assoc, add-one, drop-cons}
 use Rattle.std.specs.List.{flat_map}
+use Rattle.std.specs.Prelude.{sum}
 use Rattle.std.proofs.lemmas.List.{drop_all, flat_map_more, take_more}
 use Rattle.tree_model.specs.declared.names.ProcessId.{ProcessId}
+use Rattle.tree_model.specs.declared.trees.TreeEntry.{TreeEntry}
+use Rattle.core_law.specs.worlds.Worlds.{WorldState}
+use Rattle.report_io.specs.declared.streams.Failure.{Failure}
+use Rattle.report_io.specs.declared.streams.Failure.TheVariants.{Memory, Exhausted}
 use Rattle.crash_engine.specs.declared.points.Point.{Point}
-use Rattle.crash_engine.specs.Points.{bounds, point_at}
+use Rattle.crash_engine.specs.Points.{AreTooLong, bounds, point_at, sizes_at}
 
 -- one point more
 pub more_points : (q : ProcessId) (old new all : List Point) (sizes : List ℕ)
@@ -35,3 +40,22 @@ pub one_part_more : {X Y : Type 0} (f : X → List Y) (xs : List X) (i : ℕ) (x
 one_part_more f xs i x old new part within is before pushed made =
     pushed ∙ ap (λ p. old ++ p) made ∙ ap (λ o. o ++ f x) before ∙ flat_map_more f [] (take i xs) x
     ∙ ap (λ y. flat_map f (take i xs ++ y ∷ [])) is ∙ ap (flat_map f) (sym (take_more xs i x within))
+
+-- the records of the process at a place take too many bytes
+pub too_long : (w : WorldState) (i : ℕ) (e : TreeEntry) (entries : List TreeEntry) (sizes : List ℕ)
+    (why : Failure) → entries ≡ w.tree → i < length entries → e ≡ get_or entries i e → sizes ≡ sizes_at w e.id
+    → (why ≡ Memory) ⊎ ((why ≡ Exhausted) × (2 ^ 64 ≤ sum sizes))
+    → (why ≡ Memory) ⊎ ((why ≡ Exhausted) × AreTooLong w)
+too_long w i e entries sizes why all within is of_sizes (inl memory) = inl memory
+too_long w i e entries sizes why all within is of_sizes (inr h) = inr (
+  h.0,
+  record {
+    entry = e;
+    listed = (
+      i,
+      subst (λ (es : List TreeEntry). i < length es) all within,
+      sym (is ∙ ap (λ (es : List TreeEntry). get_or es i e) all),
+    );
+    long = subst (λ ns. 2 ^ 64 ≤ sum ns) of_sizes h.1;
+  },
+)

@@ -49,7 +49,7 @@ comes_behind tree events crash p start run is opens come of_crash =
 pub stopped_early : (tree : List TreeEntry) (known : Known) (events : List Event) (p : Option Point)
     (crash : List Event) (start : WorldState) (run : Run) (refused : ℕ × StepError)
     → IsTree tree → IsOpened start tree → HasCome start (events ++ crash) run → crash ≡ crash_of p
-    → run.refusal ≡ Some refused → Tries tree known events p (found.Refused refused.0 refused.1)
+    → run.refusal ≡ Some refused → Tries tree known events p (found.Refused (refused.0 + 1) refused.1)
 stopped_early tree known events p crash start run refused is opens come of_crash some =
     Early (record {
       refused = refused;

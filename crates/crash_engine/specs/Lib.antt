@@ -2,4 +2,5 @@ pub mod Audits
 pub mod Points
 pub mod Trials
 pub mod Crashes
+pub mod Failures
 pub mod Texts

@@ -1,9 +1,10 @@
 -- Where crashes are tried.
-use Rattle.std.specs.Prelude.{ℕ, ◌+◌, Option, None, Some, List, [], ◌∷◌, map}
+use Rattle.std.specs.Prelude.{ℕ, ◌+◌, ◌≤◌, ◌^◌, Option, None, Some, List, [], ◌∷◌, map, sum, Contains}
 use Rattle.std.specs.List.{flat_map}
 use Rattle.tree_model.specs.declared.names.ProcessId.{ProcessId}
 use Rattle.tree_model.specs.declared.events.Event.{Event}
 use Rattle.tree_model.specs.declared.events.Event.TheVariants.{Restart, Settle}
+use Rattle.tree_model.specs.declared.trees.TreeEntry.{TreeEntry}
 use Rattle.rec_log.specs.Sights.{record_size}
 use Rattle.core_law.specs.worlds.Worlds.{WorldState}
 use Rattle.tree_world.specs.Unforced.{unforced_by}
@@ -26,6 +27,12 @@ points_at q sizes = map (point_at q) (bounds 0 sizes)
 -- how many bytes each unforced record of a process takes
 abbrev pub sizes_at : WorldState → ProcessId → List ℕ
 sizes_at w q = map record_size (unforced_by (w.node_at q))
+
+-- the unforced records of a process of the tree take 2^64 bytes or more
+pub record AreTooLong (w : WorldState) : Type 0 where
+  pub entry : TreeEntry
+  pub listed : Contains w.tree entry
+  pub long : 2 ^ 64 ≤ sum (sizes_at w entry.id)
 
 -- the points of a tree as it stands, process by process in the order of the tree
 unfoldable pub points_in : WorldState → List Point

@@ -60,7 +60,7 @@ left_text l = cases_text (codes " in-doubt") l.in_doubt.items ++ cases_text (cod
 -- what a crash ends with
 unfoldable pub found_text : Found → List ℕ
 found_text (Ended l) = left_text l
-found_text (Refused made e) = codes " refused" ++ number_word (made + 1) ++ number_word (step_error_number e)
+found_text (Refused event e) = codes " refused" ++ number_word event ++ number_word (step_error_number e)
 
 -- the crash: behind so many events this process restarts, and keeps so many bytes
 unfoldable pub point_text : ℕ → Point → List ℕ

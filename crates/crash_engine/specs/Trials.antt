@@ -1,5 +1,5 @@
 -- Crashes, tried.
-use Rattle.std.specs.Prelude.{◌≡◌, ◌<◌, ℕ, zero, suc, Option, Some, None, List, [], ◌∷◌, ◌++◌, length, take}
+use Rattle.std.specs.Prelude.{◌≡◌, ◌+◌, ◌<◌, ℕ, zero, suc, Option, Some, None, List, [], ◌∷◌, ◌++◌, length, take}
 use Rattle.tree_model.specs.declared.names.Case.{Case}
 use Rattle.tree_model.specs.declared.events.Event.{Event}
 use Rattle.tree_model.specs.declared.events.Event.TheVariants.{Settle}
@@ -48,10 +48,11 @@ abbrev pub Leaves : Known → Report → Found → Type 0
 Leaves known r (found.Ended l) = known_by l ≡ left_beyond known r.lines.items
 Leaves known r _ = ⊥
 
--- what a run ends with: what an audit of its logs leaves beyond what is known, or where an event was refused that
+-- what a run ends with: what an audit of its logs leaves beyond what is known, or where an event was refused that, by
+-- the event's number from 1
 abbrev pub EndsWith : Known → WorldState → Refusal → Found → Type 0
 EndsWith known w None f = (r : Report) × Audits w r × Leaves known r f
-EndsWith known w (Some refused) f = f ≡ found.Refused refused.0 refused.1
+EndsWith known w (Some refused) f = f ≡ found.Refused (refused.0 + 1) refused.1
 
 -- one of these events is refused
 abbrev pub IsRefused : List TreeEntry → List Event → ℕ × StepError → Type 0
@@ -61,7 +62,7 @@ IsRefused tree events refused = (end : WorldState) × Plays tree events (Some re
 pub record StopsEarly (tree : List TreeEntry) (events : List Event) (p : Option Point) (f : Found) : Type 0 where
   pub refused : ℕ × StepError
   pub stops : IsRefused tree (events ++ crash_of p) refused
-  pub is : f ≡ found.Refused refused.0 refused.1
+  pub is : f ≡ found.Refused (refused.0 + 1) refused.1
 
 -- these events, a crash behind them or none, the questions for all cases that an audit then shows in doubt, and all
 -- that comes of them

@@ -1,10 +1,13 @@
 //! The engine of `rstar crash`.
 
-ghost use Rattle.std.specs.Prelude.{◌≡◌, ℕ, List, IfErr, IfOk};
+ghost use Rattle.std.specs.Prelude.{◌≡◌, ◌⊎◌, ℕ, List, IfErr, IfOk};
 ghost use Rattle.std.specs.Io.KnownBytes.{Appends, Keeps};
 ghost use Rattle.tree_model.specs.Trees.{IsTree};
 ghost use Rattle.report_io.specs.Streams.{IsInput, IsOfRun, WritesFront};
+ghost use Rattle.tree_engine.specs.Failures.{IsStop};
+ghost use Rattle.tree_engine.specs.Trees.{IsNumbered};
 ghost use Rattle.crash_engine.specs.Trials.{GoesOver, known_by};
+ghost use Rattle.crash_engine.specs.Failures.{CannotGoOver, CannotReport};
 ghost use Rattle.crash_engine.specs.Crashes.{IsCrashReport};
 ghost use Rattle.crash_engine.specs.Texts.{ending_by};
 ghost use Rattle.crash_engine.specs.declared.ending.Ending.{Ending as AnyEnding};
@@ -45,7 +48,8 @@ fn show<P: Write>(
     Ok(())
 }
 
-/// Tries each crash behind each event of a script, up to the first that is refused.
+/// Tries each crash behind each event of a script, up to the first that is refused. The errors are those of
+/// `show` and `try_event`.
 fn try_events<P: Write>(
     alloc: Global,
     tree: &Tree,
@@ -55,6 +59,8 @@ fn try_events<P: Write>(
 ) -> Result<(Vec<Trial>, Refusal), Failure>
     requires { IsTree tree.now }
     ensures goes { IfOk result (λ r. GoesOver tree.now (known_by known.now) events.now r.1 r.0.items) }
+    ensures numbered { IfOk result (λ r. IsNumbered r.1) }
+    ensures err { IfErr result (λ why. (why ≡ Failure.Memory) ⊎ CannotGoOver tree.now events.now why) }
     ensures why { IfErr result IsOfRun }
 {
     let mut trials = Vec::new(alloc);
@@ -86,6 +92,7 @@ fn answer<P: Write>(
     progress: &mut P,
 ) -> Result<(Vec<u8>, Ending), Failure>
     ensures report { IfOk result (λ r. IsCrashReport r.1 input.now r.0.items) }
+    ensures err { IfErr result (λ why. (why ≡ Failure.Memory) ⊎ CannotReport input.now why) }
     ensures why { IfErr result IsOfRun }
 {
     match read(alloc, input) {
@@ -110,10 +117,12 @@ fn answer<P: Write>(
 /// the script was.
 ///
 /// Each of these runs is one of the model: the headline holds of it, and mismatches are reported in it. The
-/// time goes with the square of the number of events. `progress` gets a line for each percent of them; a failed
-/// write there is no failure of the run.
-/// After a failed read, or where memory is refused, a device fails or numbers are used up, nothing was written;
-/// after a failed write, a beginning of the text.
+/// time goes with the square of the number of events. `progress` gets a line for each percent of them; a
+/// failed write there is no failure of the run.
+/// After a failed read, or where memory is refused, a device fails or numbers are used up, nothing was
+/// written; after a failed write, a beginning of the text. Device and Exhausted come only of a script, one of
+/// whose runs cannot go on for that; Exhausted also where a process's records that a crash may take come to
+/// 2^64 bytes or more.
 pub fn run_crash<R: Read, W: Write, P: Write>(
     alloc: Global,
     reader: &mut R,
@@ -131,6 +140,8 @@ pub fn run_crash<R: Read, W: Write, P: Write>(
         → Keeps (W.contents writer.old) (W.contents writer.new)) }
     ensures unmade { IfErr result (λ e. IsOfRun e
         → Keeps (W.contents writer.old) (W.contents writer.new)) }
+    ensures stopped { IfErr result (λ e. IsStop e → (input : List ℕ)
+        × IsInput (R.remaining reader.old) input × CannotReport input e) }
 {
     let input = read_all(alloc, reader)?;
     let (text, ending) = answer(alloc, &input, progress)?;

@@ -1,7 +1,7 @@
 //! The lines of crashes.
 
-ghost use Rattle.std.specs.Prelude.{◌≡◌, ◌+◌, ◌++◌, IfErr, IfOk, OnOk};
-ghost use Rattle.report_io.specs.Streams.{IsUsedUp};
+ghost use Rattle.std.specs.Prelude.{◌≡◌, ◌++◌, IfOk, OnOk};
+ghost use Rattle.tree_engine.specs.Trees.{IsNumbered};
 ghost use Rattle.crash_engine.specs.Texts.{
   alone_text,
   are_clean as all_clean,
@@ -25,7 +25,6 @@ ghost use Rattle.trace_lines.specs.Trace.{case_word, number_word};
 use crate::auditing::Left;
 use crate::points::Point;
 use crate::trial::{Found, Trial};
-use report_io::Failure;
 use std::alloc::{AllocError, Global};
 use trace_lines::{push, push_case_word, push_number_word};
 use tree_engine::{Refusal, push_refused};
@@ -63,36 +62,24 @@ fn push_left(out: &mut Vec<u8>, left: &Left) -> Result<(), AllocError>
 
 /// A word and two numbers.
 fn push_two(out: &mut Vec<u8>, word: &str, one: u64, other: u64) -> Result<(), AllocError>
-    ensures { OnOk result (out.new.items ≡ out.old.items ++ (word.now ++ number_word one ++ number_word other)) }
+    ensures { OnOk result (out.new.items
+        ≡ out.old.items ++ (word.now ++ number_word one ++ number_word other)) }
 {
     push(out, word)?;
     push_number_word(out, one)?;
     push_number_word(out, other)
 }
 
-/// What a crash ends with. Exhausted: the refused event is the 2^64th.
+/// What a crash ends with.
 #[tactic(auto, unfolding(crate::specs::Texts::found_text))]
-fn push_found(out: &mut Vec<u8>, found: &Found) -> Result<(), Failure>
-    ensures ok { OnOk result (out.new.items ≡ out.old.items ++ found_text found.now) }
-    ensures why { IfErr result IsUsedUp }
+fn push_found(out: &mut Vec<u8>, found: &Found) -> Result<(), AllocError>
+    ensures { OnOk result (out.new.items ≡ out.old.items ++ found_text found.now) }
 {
     match found {
-        Found::Ended(left) => Ok(push_left(out, left)?),
-        Found::Refused(made, refusal) => {
-            let event = event_behind(*made)?;
-            Ok(push_two(out, " refused", event, u64::from(refusal.number()))?)
+        Found::Ended(left) => push_left(out, left),
+        Found::Refused(event, refusal) => {
+            push_two(out, " refused", *event, u64::from(refusal.number()))
         }
-    }
-}
-
-/// The number of the event behind so many. Exhausted: it is 2^64.
-fn event_behind(made: usize) -> Result<u64, Failure>
-    ensures ok { IfOk result (λ event. event ≡ made + 1) }
-    ensures err { IfErr result (λ e. e ≡ Failure.Exhausted) }
-{
-    match (made as u64).checked_add(1) {
-        None => Err(Failure::Exhausted),
-        Some(event) => Ok(event),
     }
 }
 
@@ -139,16 +126,15 @@ fn push_point(out: &mut Vec<u8>, events: usize, point: Point) -> Result<(), Allo
 
 /// The line of a crash, where something is left.
 #[tactic(auto, unfolding(crate::specs::Texts::trial_text))]
-fn push_trial(out: &mut Vec<u8>, trial: &Trial) -> Result<(), Failure>
-    ensures ok { OnOk result (out.new.items ≡ out.old.items ++ trial_text trial.now) }
-    ensures why { IfErr result IsUsedUp }
+fn push_trial(out: &mut Vec<u8>, trial: &Trial) -> Result<(), AllocError>
+    ensures { OnOk result (out.new.items ≡ out.old.items ++ trial_text trial.now) }
 {
     if is_clean(&trial.found) {
         return Ok(());
     }
     push_point(out, trial.events, trial.point)?;
     push_found(out, &trial.found)?;
-    Ok(push(out, "\n")?)
+    push(out, "\n")
 }
 
 /// How many of these leave a case in doubt.
@@ -199,9 +185,8 @@ pub fn are_clean(trials: &[Trial]) -> bool
     trials.iter().all(|trial| is_clean(&trial.found))
 }
 
-fn push_trials(out: &mut Vec<u8>, trials: &[Trial]) -> Result<(), Failure>
-    ensures ok { OnOk result (out.new.items ≡ out.old.items ++ flat_map trial_text trials.now) }
-    ensures why { IfErr result IsUsedUp }
+fn push_trials(out: &mut Vec<u8>, trials: &[Trial]) -> Result<(), AllocError>
+    ensures { OnOk result (out.new.items ≡ out.old.items ++ flat_map trial_text trials.now) }
 {
     for trial in trials {
         push_trial(out, trial)?;
@@ -210,43 +195,39 @@ fn push_trials(out: &mut Vec<u8>, trials: &[Trial]) -> Result<(), Failure>
 }
 
 /// The line of the refused event, if one was refused.
-fn push_refusal(alloc: Global, out: &mut Vec<u8>, refusal: Refusal) -> Result<(), Failure>
-    ensures ok { OnOk result (out.new.items ≡ out.old.items ++ refusal_text refusal) }
-    ensures why { IfErr result IsUsedUp }
+fn push_refusal(alloc: Global, out: &mut Vec<u8>, refusal: Refusal) -> Result<(), AllocError>
+    requires { IsNumbered refusal }
+    ensures { OnOk result (out.new.items ≡ out.old.items ++ refusal_text refusal) }
 {
     match refusal {
         None => Ok(()),
-        Some((made, refusal)) => {
-            let event = event_behind(made)?;
-            Ok(push_refused(alloc, out, event, refusal.number())?)
-        }
+        Some((made, refusal)) => push_refused(alloc, out, made as u64 + 1, refusal.number()),
     }
 }
 
 /// The line of what is left without any crash, where something is.
 #[tactic(auto, unfolding(crate::specs::Texts::alone_text))]
-fn push_alone(out: &mut Vec<u8>, alone: &Found) -> Result<(), Failure>
-    ensures ok { OnOk result (out.new.items ≡ out.old.items ++ alone_text alone.now) }
-    ensures why { IfErr result IsUsedUp }
+fn push_alone(out: &mut Vec<u8>, alone: &Found) -> Result<(), AllocError>
+    ensures { OnOk result (out.new.items ≡ out.old.items ++ alone_text alone.now) }
 {
     if is_clean(alone) {
         return Ok(());
     }
     push(out, "no crash:")?;
     push_found(out, alone)?;
-    Ok(push(out, "\n")?)
+    push(out, "\n")
 }
 
 /// What is left without any crash, a line for each crash that leaves more, the numbers, and which event was
-/// refused, if one was. Exhausted: a refused event is the 2^64th.
+/// refused, if one was.
 pub fn text_of(
     alloc: Global,
     alone: &Found,
     trials: &[Trial],
     refusal: Refusal,
-) -> Result<Vec<u8>, Failure>
-    ensures ok { IfOk result (λ text. text.items ≡ crashes_text alone.now trials.now refusal) }
-    ensures why { IfErr result IsUsedUp }
+) -> Result<Vec<u8>, AllocError>
+    requires { IsNumbered refusal }
+    ensures { IfOk result (λ text. text.items ≡ crashes_text alone.now trials.now refusal) }
 {
     let mut out = Vec::new(alloc);
     push_alone(&mut out, alone)?;

@@ -1,9 +1,8 @@
 //! Where crashes are tried.
 
-ghost use Rattle.std.specs.Prelude.{◌≡◌, ◌++◌, IfErr, IfOk, OnOk};
-ghost use Rattle.report_io.specs.Streams.{IsUsedUp};
+ghost use Rattle.std.specs.Prelude.{◌≡◌, ◌⊎◌, ◌≤◌, ◌^◌, ◌++◌, IfErr, IfOk, OnOk, sum};
 ghost use Rattle.tree_world.specs.Worlds.{state};
-ghost use Rattle.crash_engine.specs.Points.{crash_of, points_at, points_in};
+ghost use Rattle.crash_engine.specs.Points.{AreTooLong, crash_of, points_at, points_in};
 
 use log_store::MemoryStore;
 use report_io::Failure;
@@ -22,7 +21,8 @@ pub struct Point {
 /// and so on to all. Exhausted: they take 2^64 bytes or more.
 fn push_points(points: &mut Vec<Point>, process: ProcessId, sizes: &[u64]) -> Result<(), Failure>
     ensures ok { OnOk result (points.new.items ≡ points.old.items ++ points_at process sizes.now) }
-    ensures why { IfErr result IsUsedUp }
+    ensures err { IfErr result (λ why. (why ≡ Failure.Memory)
+        ⊎ ((why ≡ Failure.Exhausted) × (2 ^ 64 ≤ sum sizes.now))) }
 {
     let mut keep: u64 = 0;
     for size in sizes {
@@ -41,7 +41,8 @@ fn push_points(points: &mut Vec<Point>, process: ProcessId, sizes: &[u64]) -> Re
 #[tactic(auto, unfolding(crate::specs::Points::points_in))]
 pub fn points_of(alloc: Global, world: &World<MemoryStore>) -> Result<Vec<Point>, Failure>
     ensures ok { IfOk result (λ points. points.items ≡ points_in (state world.now)) }
-    ensures why { IfErr result IsUsedUp }
+    ensures err { IfErr result (λ why. (why ≡ Failure.Memory)
+        ⊎ ((why ≡ Failure.Exhausted) × AreTooLong (state world.now))) }
 {
     let mut points = Vec::new(alloc);
     for entry in world.tree().entries() {

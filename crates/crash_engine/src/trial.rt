@@ -1,15 +1,22 @@
 //! A crash, tried.
 
-ghost use Rattle.std.specs.Prelude.{◌≡◌, ◌++◌, ◌∷◌, [], IfErr, IfOk, List, OnOk, take};
+ghost use Rattle.std.specs.Prelude.{◌≡◌, ◌⊎◌, ◌++◌, ◌∷◌, [], IfErr, IfOk, List, OnOk, take};
 ghost use Rattle.tree_model.specs.declared.events.Event.{Event as AnyEvent};
 ghost use Rattle.core_law.specs.worlds.Refusals.{Refusal as AnyRefusal};
 ghost use Rattle.core_law.specs.worlds.Worlds.{WorldState};
-ghost use Rattle.tree_engine.specs.Trees.{Plays};
+ghost use Rattle.tree_engine.specs.Trees.{IsNumbered, Plays};
 ghost use Rattle.tree_model.specs.declared.trees.TreeEntry.{TreeEntry};
 ghost use Rattle.tree_model.specs.Trees.{IsTree};
 ghost use Rattle.tree_world.specs.Worlds.{state};
 ghost use Rattle.tree_engine.specs.Runs.{Begins};
 ghost use Rattle.report_io.specs.Streams.{IsOfRun};
+ghost use Rattle.crash_engine.specs.Failures.{
+  CannotEndAlone,
+  CannotTryAll,
+  PointBreaksOff,
+  RunBreaksOff,
+  TrialBreaksOff,
+};
 ghost use Rattle.crash_engine.specs.Trials.{Adds, AddsTrials, EndsAlone, EndsWith, Leaves, Tries, known_by, known_of, left_beyond, made_by, nothing_known, trial_of};
 
 use crate::auditing::{Left, asks_of, audit_of, cases_beyond, doubts_of, mismatches_of};
@@ -26,8 +33,8 @@ use tree_world::copied_tree;
 pub enum Found {
     /// The run went to its end, and leaves these.
     Ended(Left),
-    /// Behind so many events of its run the next was refused.
-    Refused(usize, StepError),
+    /// The event with this number, from 1, of its run was refused.
+    Refused(u64, StepError),
 }
 
 /// A crash behind so many events of a script, and what it ends with.
@@ -71,11 +78,13 @@ fn found_of(alloc: Global, known: &Left, run: &Run) -> Result<Found, Failure>
     requires is_tree { IsTree (state run.now.world).tree }
     requires plays { (tree : List TreeEntry) × (events : List AnyEvent)
         × Plays tree events run.now.refusal (state run.now.world) }
-    ensures ends { IfOk result (λ found. EndsWith (known_by known.now) (state run.now.world) run.now.refusal found) }
+    requires numbered { IsNumbered run.now.refusal }
+    ensures ends { IfOk result (λ found. EndsWith (known_by known.now) (state run.now.world)
+        run.now.refusal found) }
     ensures memory { IfErr result (λ e. e ≡ Failure.Memory) }
 {
     match run.refusal() {
-        Some((made, refusal)) => Ok(Found::Refused(made, refusal)),
+        Some((made, refusal)) => Ok(Found::Refused(made as u64 + 1, refusal)),
         None => {
             let report = audit_of(alloc, run.world())?;
             Ok(found_by(alloc, known, &report)?)
@@ -83,9 +92,10 @@ fn found_of(alloc: Global, known: &Left, run: &Run) -> Result<Found, Failure>
     }
 }
 
-/// Runs these events and the crash behind them, if there is one, in a tree that has just opened, settles, asks
-/// for every case that is in doubt by the logs, settles again, and audits the logs. Where one of these events or
-/// of the crash is refused, that is all.
+/// Runs these events and the crash behind them, if there is one, in a tree that has just opened, settles,
+/// asks for every case that is in doubt by the logs, settles again, and audits the logs. Where one of these
+/// events or of the crash is refused, that is all. Memory; Device, Exhausted: one of these events cannot be
+/// made for that.
 fn crash(
     alloc: Global,
     known: &Left,
@@ -96,12 +106,14 @@ fn crash(
     requires { (tree : List TreeEntry) × Begins tree run.old }
     ensures tries { IfOk result (λ found. (tree : List TreeEntry) → Begins tree run.old
         → Tries tree (known_by known.now) events.now point found) }
+    ensures err { IfErr result (λ why. (why ≡ Failure.Memory) ⊎ ((tree : List TreeEntry)
+        → Begins tree run.old → TrialBreaksOff tree events.now point why)) }
     ensures why { IfErr result IsOfRun }
 {
     run.make_all(alloc, events)?;
     run.make_all(alloc, &crash_events(alloc, point)?)?;
     if let Some((made, refusal)) = run.refusal() {
-        return Ok(Found::Refused(made, refusal));
+        return Ok(Found::Refused(made as u64 + 1, refusal));
     }
     let report = audit_of(alloc, run.world())?;
     run.make_all(alloc, &asks_of(alloc, &report)?)?;
@@ -110,6 +122,7 @@ fn crash(
 }
 
 /// Tries this crash behind these events, or none, in a run of its own: what it leaves beyond what is known.
+/// Memory; Device, Exhausted: one of the run's events cannot be made for that.
 pub fn try_point(
     alloc: Global,
     tree: &Tree,
@@ -119,6 +132,8 @@ pub fn try_point(
 ) -> Result<Found, Failure>
     requires { IsTree tree.now }
     ensures tries { IfOk result (λ found. Tries tree.now (known_by known.now) events.now point found) }
+    ensures err { IfErr result (λ why. (why ≡ Failure.Memory)
+        ⊎ TrialBreaksOff tree.now events.now point why) }
     ensures why { IfErr result IsOfRun }
 {
     let mut run = opened(alloc, tree)?;
@@ -144,7 +159,7 @@ fn push_trial(
     Ok(())
 }
 
-/// Tries a crash at each of these points behind these events.
+/// Tries a crash at each of these points behind these events. The errors are those of the trial of one.
 fn try_points(
     alloc: Global,
     tree: &Tree,
@@ -156,6 +171,8 @@ fn try_points(
     requires { IsTree tree.now }
     ensures tried { OnOk result (AddsTrials tree.now (known_by known.now) events.now points.now
         trials.old.items trials.new.items) }
+    ensures err { IfErr result (λ why. (why ≡ Failure.Memory)
+        ⊎ PointBreaksOff tree.now events.now points.now why) }
     ensures why { IfErr result IsOfRun }
 {
     for point in points {
@@ -165,7 +182,8 @@ fn try_points(
     Ok(())
 }
 
-/// Runs these events in a tree that has just opened, and tries each crash behind them.
+/// Runs these events in a tree that has just opened, and tries each crash behind them. The errors are those
+/// of `try_event`.
 fn try_behind(
     alloc: Global,
     tree: &Tree,
@@ -177,6 +195,8 @@ fn try_behind(
     requires { Begins tree.now run.old }
     ensures adds { IfOk result (λ refusal. Adds tree.now (known_by known.now) events.now refusal
         trials.old.items trials.new.items) }
+    ensures numbered { IfOk result IsNumbered }
+    ensures err { IfErr result (λ why. (why ≡ Failure.Memory) ⊎ CannotTryAll tree.now events.now why) }
     ensures why { IfErr result IsOfRun }
 {
     run.make_all(alloc, events)?;
@@ -189,7 +209,9 @@ fn try_behind(
     Ok(None)
 }
 
-/// Tries each crash behind these events; or tells which of them is refused, and tries none.
+/// Tries each crash behind these events; or tells which of them is refused, and tries none. Memory; Device,
+/// Exhausted: the run of the events breaks off for that, or that of a crash behind them, or the records of a
+/// process that a crash may take come to 2^64 bytes or more.
 pub fn try_event(
     alloc: Global,
     tree: &Tree,
@@ -200,6 +222,8 @@ pub fn try_event(
     requires { IsTree tree.now }
     ensures adds { IfOk result (λ refusal. Adds tree.now (known_by known.now) events.now refusal
         trials.old.items trials.new.items) }
+    ensures numbered { IfOk result IsNumbered }
+    ensures err { IfErr result (λ why. (why ≡ Failure.Memory) ⊎ CannotTryAll tree.now events.now why) }
     ensures why { IfErr result IsOfRun }
 {
     let mut run = opened(alloc, tree)?;
@@ -208,11 +232,13 @@ pub fn try_event(
     refusal
 }
 
-/// How many of these events a run of them makes: all, or those before the first that is refused.
+/// How many of these events a run of them makes: all, or those before the first that is refused. Memory;
+/// Device, Exhausted: it breaks off for that.
 fn made_of(alloc: Global, tree: &Tree, events: &[Event]) -> Result<usize, Failure>
     requires { IsTree tree.now }
     ensures made { IfOk result (λ made. (refusal : AnyRefusal) × (end : WorldState)
         × Plays tree.now events.now refusal end × (made ≡ made_by events.now refusal)) }
+    ensures err { IfErr result (λ why. (why ≡ Failure.Memory) ⊎ RunBreaksOff tree.now events.now why) }
     ensures why { IfErr result IsOfRun }
 {
     let mut run = opened(alloc, tree)?;
@@ -226,11 +252,12 @@ fn made_of(alloc: Global, tree: &Tree, events: &[Event]) -> Result<usize, Failur
     })
 }
 
-/// What the events of a script leave without any crash: those that a run of them makes, up to the first that is
-/// refused.
+/// What the events of a script leave without any crash: those that a run of them makes, up to the first that
+/// is refused. Memory; Device, Exhausted: the run of the events breaks off for that, or the trial of none.
 pub fn try_alone(alloc: Global, tree: &Tree, events: &[Event]) -> Result<Found, Failure>
     requires { IsTree tree.now }
     ensures ends { IfOk result (λ found. EndsAlone tree.now events.now found) }
+    ensures err { IfErr result (λ why. (why ≡ Failure.Memory) ⊎ CannotEndAlone tree.now events.now why) }
     ensures why { IfErr result IsOfRun }
 {
     let made = made_of(alloc, tree, events)?;

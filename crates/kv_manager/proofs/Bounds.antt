@@ -1,11 +1,10 @@
 -- Of what may follow one another at most 1,024 branches are open or heuristic, and each wrote what a branch can.
-use Rattle.std.proofs.Common.{◌≡◌, ◌≤◌, ◌<◌, ◌+◌, ℕ, Bool, true, false, not, ◌&&◌, ◌||◌, cond, suc, List, [], ◌∷◌, Option, Some, None, map, refl, sym, ap, subst, ◌∙◌, is_some, nat_lt, length, arith, inl, inr}
+use Rattle.std.proofs.Common.{◌≡◌, ◌≤◌, ◌<◌, ℕ, Bool, true, false, not, ◌||◌, cond, suc, List, [], ◌∷◌, Option, Some, None, map, refl, sym, ap, subst, ◌∙◌, is_some, nat_lt, length, arith, inl, inr}
 use Rattle.std.proofs.lemmas.Bool.Decides.{nat_tests}
 use Rattle.std.specs.List.{AllByRecursion, IsDistinct, list_any}
 use Rattle.std.specs.Map.{keys_of, lookup, remove_entry}
 use Rattle.indexmap.specs.IndexMap.{insert_entry}
 use Rattle.xa_xid.specs.declared.xid.Xid.{Xid}
-use Rattle.xa_codes.specs.declared.code.Code.{Code}
 use Rattle.xa_codes.specs.declared.code.Code.TheVariants as code
 use Rattle.xa_assoc.specs.Restored.{has_twice, restore_refusal}
 use Rattle.tree_model.specs.declared.names.Kind.TheVariants.{Manager}
@@ -17,10 +16,9 @@ use Rattle.tree_model.specs.declared.records.Record.TheVariants.{Prepared}
 use Rattle.tree_model.specs.declared.records.Write.{Write}
 use Rattle.tree_model.specs.LogNames.{name_xid}
 use Rattle.log_rules.specs.declared.order.seen.Promise.{Promise}
-use Rattle.log_rules.specs.order.Orders.{SeenLog, after, found, keys_once, left_by, nothing_seen, opens, promised, promised_by, same}
+use Rattle.log_rules.specs.order.Orders.{SeenLog, after, left_by, nothing_seen, opens, promised_by, same}
 use Rattle.log_rules.specs.sound.Sound.{IsSound, IsSoundEntry, IsSoundWrite, AreSoundWrites}
-use Rattle.kv_store.specs.writes.Writes.{AreWrites}
-use Rattle.kv_core.specs.Replays.{AreMalformed, BreaksLimits, seen_of}
+use Rattle.kv_core.specs.Replays.{AreMalformed, seen_of}
 use Rattle.kv_core.proofs.Lawful.{lawful_of}
 use Rattle.kv_core.proofs.Lookups.{Live, apart_turns}
 use Rattle.kv_manager.specs.Restarts.{AreTooMany, NotRebuilt}

@@ -1,15 +1,13 @@
 -- What a key store writes of a branch may follow what its records have said.
-use Rattle.std.proofs.Common.{◌≡◌, ◌≤◌, ◌<◌, ℕ, Bool, true, false, not, ◌&&◌, ◌||◌, cond, List, [], ◌∷◌, ◌++◌, Option, Some, None, refl, sym, ap, subst, ◌∙◌, is_some, nat_lt, length, arith}
+use Rattle.std.proofs.Common.{◌≡◌, ◌≤◌, ℕ, Bool, true, false, not, ◌&&◌, ◌||◌, cond, List, [], ◌∷◌, Option, Some, None, refl, sym, ap, ◌∙◌, is_some, nat_lt, length, arith}
 use Rattle.std.specs.Prelude.{unwrap_or}
 use Rattle.std.proofs.lemmas.Bool.Decides.{nat_tests}
 use Rattle.std.specs.List.{IsDistinct}
 use Rattle.std.specs.Map.{keys_of, lookup}
 use Rattle.xa_tables.specs.declared.states.BranchState.{BranchState}
-use Rattle.xa_tables.specs.declared.states.BranchState.TheVariants.{S0, S1, S2, S3, S4, S5}
+use Rattle.xa_tables.specs.declared.states.BranchState.TheVariants.{S0, S2, S3, S5}
 use Rattle.xa_xid.specs.declared.xid.Xid.{Xid}
 use Rattle.xa_assoc.specs.Restored.{state_left}
-use Rattle.tree_model.specs.declared.records.LogRecord.{LogRecord}
-use Rattle.tree_model.specs.declared.records.Write.{Write}
 use Rattle.tree_model.specs.Records.{is_opened}
 use Rattle.log_text.specs.Parts.{name_in}
 use Rattle.log_rules.specs.declared.order.seen.Mark.{Mark}
@@ -30,7 +28,7 @@ use Rattle.kv_manager.specs.Sights.{doubt_of}
 use Rattle.kv_manager.proofs.Marks.{state_by}
 use Rattle.kv_manager.proofs.Turns.{IsUntold}
 use Rattle.kv_manager.proofs.Told.{is_told, told_mark}
-use Rattle.kv_manager.proofs.Free.{IsOf, fewer, free_where, open_key}
+use Rattle.kv_manager.proofs.Free.{fewer, free_where, open_key}
 use Rattle.kv_manager.proofs.From.{comes_from}
 
 -- what was seen stands with a store: each branch is open that is prepared, with what it wrote, and heuristic that

@@ -1,7 +1,6 @@
 -- A branch at work names no key that another promised, and there is room for its promise.
-use Rattle.std.proofs.Common.{◌≡◌, ◌≤◌, ◌<◌, ◌+◌, ℕ, Bool, true, false, not, ◌&&◌, ◌||◌, cond, suc, List, [], ◌∷◌, Option, Some, None, map, refl, sym, ap, subst, ◌∙◌, is_some, nat_lt, length, arith}
+use Rattle.std.proofs.Common.{◌≡◌, ◌<◌, ℕ, Bool, true, false, not, ◌&&◌, ◌||◌, cond, List, [], ◌∷◌, Option, Some, None, map, refl, sym, ap, ◌∙◌, is_some, length, arith}
 use Rattle.std.specs.Prelude.{IsSome}
-use Rattle.std.proofs.lemmas.Bool.Decides.{nat_tests}
 use Rattle.std.proofs.lemmas.Map.Steps.{length-le_from_keys}
 use Rattle.std.proofs.lemmas.Map.Entries.{length-keys_of}
 use Rattle.std.specs.List.{AllByRecursion, IsDistinct, list_any}
@@ -10,7 +9,7 @@ use Rattle.xa_xid.specs.declared.xid.Xid.{Xid}
 use Rattle.tree_model.specs.declared.records.Write.{Write}
 use Rattle.tree_model.specs.Records.{same_bytes}
 use Rattle.log_rules.specs.declared.order.seen.Promise.{Promise}
-use Rattle.log_rules.specs.order.Orders.{SeenLog, found, holds, is_open, key_open, keys_free, names_key, opens, promised, promised_by, promises, same}
+use Rattle.log_rules.specs.order.Orders.{holds, is_open, key_open, keys_free, names_key, opens, promised_by, same}
 use Rattle.kv_store.proofs.Order.{same_itself as key_itself}
 use Rattle.kv_core.proofs.Lookups.{Live, same_is, same_itself, same_laws, true_is_false}
 

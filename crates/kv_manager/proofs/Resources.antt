@@ -53,10 +53,10 @@ use Rattle.kv_turns.specs.Turns.{entry_of, tell_turn, turn_of}
 use Rattle.kv_core.specs.Stores.{KeySight, MovesTables, SameStore, has_numbers, state_of}
 use Rattle.kv_core.specs.Ends.{IsListed, LetsGo, Refused as OffRefused, Unlisted as OffUnlisted, known_behind, known_of, turn_for, wrote_some}
 use Rattle.kv_core.specs.Works as core
-use Rattle.kv_core.specs.Works.{IsRefused, Reads, Writes, at_work, branch_refusal, is_too_long, limit_refusal, refusal_by, unless_locked, worker_of, working}
+use Rattle.kv_core.specs.Works.{IsRefused, Reads, Writes, at_work, is_too_long, limit_refusal, refusal_by, unless_locked, worker_of, working}
 use Rattle.kv_manager.specs.Sights.{KvSight, SameManager as SameKv}
 use Rattle.kv_manager.specs.Turns as kv
-use Rattle.kv_manager.specs.Turns.{Calls as KvCalls, Finishes as KvFinishes, Makes as KvMakes, Fails as KvFails, Takes as KvTakes, Logs, Refuses, with_record}
+use Rattle.kv_manager.specs.Turns.{Calls as KvCalls, Finishes as KvFinishes, Makes as KvMakes, Fails as KvFails, Takes as KvTakes, Logs, Refuses}
 use Rattle.kv_manager.specs.Resources.{sight_of}
 
 -- Nothing changes.

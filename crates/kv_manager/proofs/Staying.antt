@@ -1,5 +1,5 @@
 -- A call that is no finishing one leaves in doubt what was, and no other.
-use Rattle.std.proofs.Common.{◌≡◌, ◌≤◌, ◌<◌, ℕ, Bool, true, false, List, Some, Result, Ok, Err, refl, ap, sym, ◌∙◌, arith}
+use Rattle.std.proofs.Common.{◌≡◌, ℕ, Bool, true, false, List, Some, Result, Ok, Err, refl, ap, sym, ◌∙◌, arith}
 use Rattle.std.specs.Prelude.{Contains, MatchResult}
 use Rattle.xa_codes.specs.declared.code.Code.{Code}
 use Rattle.xa_tables.specs.Calls.{legal}

@@ -1,11 +1,10 @@
 -- A branch that an operator decided and that was told, by what was seen, was told by its records.
-use Rattle.std.proofs.Common.{◌≡◌, ◌+◌, ℕ, Bool, true, false, not, ◌&&◌, ◌||◌, cond, fold, List, [], ◌∷◌, Option, Some, None, map, refl, sym, ap, subst, ◌∙◌, is_some, nat_lt, length}
+use Rattle.std.proofs.Common.{◌≡◌, Bool, true, false, not, ◌&&◌, cond, fold, List, [], ◌∷◌, Option, Some, None, map, refl, sym, ap, subst, ◌∙◌, is_some, nat_lt, length}
 use Rattle.std.specs.List.{IsDistinct}
 use Rattle.std.specs.Map.{keys_of, lookup}
 use Rattle.xa_xid.specs.declared.xid.Xid.{Xid}
 use Rattle.xa_heur.specs.declared.decision.Decision.{Decision}
 use Rattle.xa_heur.specs.Decisions.{decided_as, decision_after, decision_of, decided_in}
-use Rattle.tree_model.specs.declared.names.Outcome.{Outcome}
 use Rattle.tree_model.specs.declared.names.Outcome.TheVariants as outcome
 use Rattle.tree_model.specs.declared.names.ProcessId.{ProcessId}
 use Rattle.tree_model.specs.declared.records.Branch.TheVariants.{Case as CaseBranch, Foreign}
@@ -21,7 +20,7 @@ use Rattle.log_rules.specs.declared.order.seen.Promise.{Promise}
 use Rattle.log_rules.specs.order.Orders.{SeenLog, after, boot_rises, followed, found, is_heuristic, is_open, is_untold, is_within, keys_free, keys_once, nothing_seen, promises, rises, same, with_promise, without_promise}
 use Rattle.kv_core.specs.Replays.{seen_after, seen_of}
 use Rattle.kv_core.proofs.Lawful.{IsLawful, lawful_after, lawful_of, never_seen}
-use Rattle.kv_core.proofs.Lookups.{found_out, found_put, same_laws, true_is_false}
+use Rattle.kv_core.proofs.Lookups.{found_out, found_put, same_laws}
 use Rattle.kv_manager.proofs.Marks.{branch_same}
 use Rattle.kv_manager.proofs.Steps.{followed_by, refused, some_is, taken}
 

@@ -5,12 +5,12 @@ use Rattle.tree_model.specs.declared.events.Event.{Event}
 use Rattle.script_words.specs.Lines.{is_skipped}
 use Rattle.link_script.specs.Script.{with_front, line_then, events_at}
 
-at_line : (read : List ℕ → Option Event) (n : ℕ) (l : List ℕ) (ls : List (List ℕ)) → is_skipped l ≡ false
+pub at_line : (read : List ℕ → Option Event) (n : ℕ) (l : List ℕ) (ls : List (List ℕ)) → is_skipped l ≡ false
     → events_at read n (l ∷ ls) ≡ line_then n (read l) (events_at read (n + 1) ls)
 unfolding events_at
 at_line read n l ls e = rw e refl
 
-at_skipped : (read : List ℕ → Option Event) (n : ℕ) (l : List ℕ) (ls : List (List ℕ)) → is_skipped l ≡ true
+pub at_skipped : (read : List ℕ → Option Event) (n : ℕ) (l : List ℕ) (ls : List (List ℕ)) → is_skipped l ≡ true
     → events_at read n (l ∷ ls) ≡ events_at read (n + 1) ls
 unfolding events_at
 at_skipped read n l ls e = rw e refl

@@ -8,3 +8,4 @@ pub mod NameLaws
 pub mod LineLaws
 pub mod Faults
 pub mod Reading
+pub mod Fronts

@@ -1,14 +1,12 @@
 -- How far the lines of a script are read.
-use Rattle.std.proofs.Common.{◌≡◌, ◌∙◌, ap, sym, subst, refl, ℕ, ◌+◌, ◌<◌, ◌≤◌, true, false, List, [], ◌∷◌, ◌++◌, drop, length, get_or, Option, None, Some, Result, Ok, Err, arith}
+use Rattle.std.proofs.Common.{◌≡◌, ◌∙◌, ap, sym, subst, refl, ℕ, ◌+◌, ◌<◌, ◌≤◌, List, [], ◌∷◌, ◌++◌, drop, length, get_or, Option, None, Some, Result, Ok, Err, arith}
 use Rattle.std.specs.Prelude.{slice_get}
 use Rattle.std.proofs.lemmas.List.{get_or_default}
 use Rattle.std.proofs.lemmas.Option.{slice_get_read}
 use Rattle.tree_model.specs.declared.events.Event.{Event}
-use Rattle.tree_model.specs.declared.names.ProcessId.{ProcessId}
 use Rattle.tree_model.specs.declared.trees.TreeEntry.{TreeEntry}
 use Rattle.link_script.specs.declared.script.ScriptError.{ScriptError}
 use Rattle.link_script.specs.declared.script.ScriptError.TheVariants.{Memory, Fault}
-use Rattle.link_script.specs.declared.script.ScriptFault.{ScriptFault}
 use Rattle.link_script.specs.declared.script.ScriptFault.TheVariants.{Utf8, TreeText, Tree, TooLong, Line}
 use Rattle.link_script.specs.Events.{event_at}
 use Rattle.link_script.specs.Inputs.{Asks, IsLineError, IsOpenScript, IsScript, LinesState, asked_by}
@@ -24,7 +22,7 @@ line_at : (ls : List (List ℕ)) (i : ℕ) → i < length ls → slice_get ls i 
 line_at ls i within =
     slice_get_read ls (length ls) i (get_or ls i []) refl within (get_or_default ls i [] (get_or ls i []) within)
 
-asked_here : (s : LinesState) (i : ℕ) (r : Result (Option Event) ScriptError) → i < length s.lines
+pub asked_here : (s : LinesState) (i : ℕ) (r : Result (Option Event) ScriptError) → i < length s.lines
     → Asks s.root (s.before + i + 1) (slice_get s.lines i) r
     → Asks s.root (s.before + i + 1) (Some (get_or s.lines i [])) r
 asked_here s i r within asks = rw (← line_at s.lines i within) asks

@@ -1,5 +1,5 @@
 -- Which bytes are a script, and what is wrong with others.
-use Rattle.std.specs.Prelude.{◌≡◌, ℕ, ◌+◌, ◌<◌, ◌≤◌, false, true, List, length, Option, None, Some, Result, Ok, Err}
+use Rattle.std.specs.Prelude.{◌≡◌, ℕ, ◌+◌, ◌<◌, ◌≤◌, false, true, List, length, take, Option, None, Some, Result, Ok, Err}
 use Rattle.std.specs.Str.{IsUtf8}
 use Rattle.std.specs.Str.Lines.{lines_of_parts}
 use Rattle.tree_model.specs.declared.names.ProcessId.{ProcessId}
@@ -49,6 +49,10 @@ pub record LinesState : Type 0 where
 -- what they ask for
 abbrev pub asked_by : LinesState → Result (List Event) ℕ
 asked_by s = events_at (event_at s.root) (s.before + 1) s.lines
+
+-- so many of them, the first ones, ask for these events
+abbrev pub AsksFirst : LinesState → ℕ → List Event → Type 0
+AsksFirst s count events = asked_by (record s { lines = take count s.lines }) ≡ Ok events
 
 -- what was read of the line with this number, if there is one
 abbrev pub Asks : ProcessId → ℕ → Option (List ℕ) → Result (Option Event) ScriptError → Type 0

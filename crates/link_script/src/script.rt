@@ -1,7 +1,8 @@
 //! A whole script.
 
 ghost use Rattle.std.specs.Prelude.{◌≡◌, ◌≢◌, ℕ, IfOk, IfErr};
-ghost use Rattle.link_script.specs.Inputs.{script_fault_number, IsOpenScript, IsScript, IsScriptError};
+ghost use Rattle.tree_model.specs.Trees.{root_of};
+ghost use Rattle.link_script.specs.Inputs.{script_fault_number, IsFront, IsOpenScript, IsScript, IsScriptError};
 
 use crate::front::read_front;
 use crate::lines::Lines;
@@ -85,6 +86,8 @@ impl<T: Drop> From<AllocFailed<T>> for ScriptError {
 /// TreeText, Tree and TooLong.
 pub fn open<'a>(alloc: Global, bytes: &'a [u8]) -> Result<(Tree, Lines<'a>), ScriptError>
     ensures ok { IfOk result (λ (tree, lines). IsOpenScript bytes.now tree lines) }
+    ensures front { IfOk result (λ (tree, lines). IsFront bytes.now tree lines.before lines.lines
+        × (lines.root ≡ root_of tree)) }
     ensures err { IfErr result (λ error. IsScriptError bytes.now error) }
     ensures no_line { IfErr result (λ error. (n : ℕ) → error ≢ ScriptError.Fault (ScriptFault.Line n)) }
 {

@@ -14,7 +14,6 @@ use Rattle.xa_xid.specs.declared.xid.Xid.{Xid}
 use Rattle.xa_branch.specs.Names.{same}
 use Rattle.xa_assoc.specs.Answers.{Same, Takes, state_at}
 use Rattle.xa_assoc.specs.Ready.{leaves, ready}
-use Rattle.tree_model.specs.declared.names.Kind.TheVariants.{Manager}
 use Rattle.xa_heur.specs.declared.decision.Decision.{Decision}
 use Rattle.xa_heur.specs.Decisions.{heur_code, told_behind}
 use Rattle.tree_model.specs.declared.names.Outcome.{Outcome}

@@ -1,13 +1,14 @@
 -- What comes of a line.
 use Rattle.std.proofs.Common.{◌≡◌, ◌∙◌, ℕ, Bool, true, false, Result, Ok, Err, List, inl, refl, ap, sym, subst}
-use Rattle.std.specs.Prelude.{IfOk, OnErr, OnOk}
+use Rattle.std.specs.Prelude.{IfErr, IfOk, OnErr, OnOk}
+use Rattle.std.specs.Result.{IsErrAnd}
 use Rattle.std.specs.Str.{IsUtf8}
 use Rattle.tree_model.specs.declared.names.ProcessId.{ProcessId}
 use Rattle.tree_model.specs.declared.events.Input.{Input}
 use Rattle.tree_model.specs.declared.events.Input.TheVariants.{Act as ActInput, Message as MessageInput}
 use Rattle.tree_model.specs.declared.events.Reaction.{Reaction}
 use Rattle.tree_model.specs.declared.events.StepError.{StepError}
-use Rattle.tree_model.specs.declared.events.StepError.TheVariants.{Memory, NoSuch}
+use Rattle.tree_model.specs.declared.events.StepError.TheVariants.{Memory, Device, NoSuch}
 use Rattle.tree_model.specs.Errors.{step_error_number}
 use Rattle.tree_model.specs.Names.{same_process}
 use Rattle.tree_model.specs.Plays.{process_of_act}
@@ -21,7 +22,9 @@ use Rattle.tree_node.proofs.Same.{rests, same_core}
 use Rattle.node_lines.specs.declared.asked.Asked.{Asked}
 use Rattle.node_lines.specs.declared.asked.Asked.TheVariants as asked
 use Rattle.node_lines.specs.Asked.{asked_at}
-use Rattle.node_engine.specs.Answers.{Answers, AnswersFor, AnswersInput, AnswersLine, AnswersTrim, IsRefusal, NodeState, Shows, Takes, TakesFor, TakesIf, TakesInput, TakesLine, TakesTrim}
+use Rattle.node_engine.specs.declared.failure.NodeFailure.{NodeFailure}
+use Rattle.node_engine.specs.declared.failure.NodeFailure.TheVariants as failure
+use Rattle.node_engine.specs.Answers.{Answers, AnswersFor, AnswersInput, AnswersLine, AnswersTrim, IsRefusal, IsUnrefused, IsUnshown, NodeState, Shows, Takes, TakesFor, TakesIf, TakesInput, TakesLine, TakesTrim}
 use Rattle.node_answers.specs.Texts.{refused_text}
 
 -- the same node, whose process keeps this
@@ -45,17 +48,6 @@ module _ {A E : Type 0} (items : A → List ℕ) (old : NodeState) (core : CoreS
   }
   shown_ok reaction new (Err e) handles h = tt
 
-  pub shown_err : (reaction : Reaction) (new : NodeState) (r : Result A E)
-      → HandlesInput old.core core old.holdings d input reaction
-      → OnErr r (new ≡ moved old core d) → OnErr r (TakesInput old new input)
-  shown_err reaction new (Ok text) handles h = tt
-  shown_err reaction new (Err e) handles h = record {
-    seat = record { root = ap (λ (n : NodeState). n.root) h; me = ap (λ (n : NodeState). n.me) h };
-    end = Ok reaction;
-    took = subst (λ (n : NodeState). HandlesInput old.core n.core old.holdings n.holdings input reaction)
-        (sym h) handles;
-  }
-
   pub refused_ok : (e : StepError) (r : Result A E)
       → NotHandled old.core core old.holdings d input e
       → IfOk r (λ text. items text ≡ refused_text (step_error_number e)) → OnOk r (IsRefusal e)
@@ -68,12 +60,26 @@ module _ {A E : Type 0} (items : A → List ℕ) (old : NodeState) (core : CoreS
   }
   refused_ok e (Err f) refuses told refusal = tt
 
-  pub refused_err : (e : StepError) (r : Result A E)
-      → NotHandled old.core core old.holdings d input e
-      → OnErr r (TakesInput old (moved old core d) input)
-  refused_err e (Ok text) refuses = tt
-  refused_err e (Err f) refuses =
-      record { seat = record { root = refl; me = refl }; end = Err e; took = refuses }
+module _ {A : Type 0} (old : NodeState) (core : CoreState) (d : ManagerData) (input : Input) where
+  pub shown_err : (reaction : Reaction) (new : NodeState) (r : Result A NodeFailure)
+      → HandlesInput old.core core old.holdings d input reaction
+      → OnErr r (new ≡ moved old core d) → IfErr r (IsUnshown old.sent reaction)
+      → IfErr r (TakesInput old new input)
+  shown_err reaction new (Ok text) handles h why = tt
+  shown_err reaction new (Err e) handles h why = record {
+    seat = record { root = ap (λ (n : NodeState). n.root) h; me = ap (λ (n : NodeState). n.me) h };
+    end = Ok reaction;
+    took = subst (λ (n : NodeState). HandlesInput old.core n.core old.holdings n.holdings input reaction)
+        (sym h) handles;
+    untold = why;
+  }
+
+  pub refused_err : (e : StepError) (r : Result A NodeFailure)
+      → NotHandled old.core core old.holdings d input e → IfErr r (IsUnrefused e)
+      → IfErr r (TakesInput old (moved old core d) input)
+  refused_err e (Ok text) refuses why = tt
+  refused_err e (Err f) refuses why =
+      record { seat = record { root = refl; me = refl }; end = Err e; took = refuses; untold = why }
 
 -- Trims.
 
@@ -90,11 +96,12 @@ module _ {A E : Type 0} (items : A → List ℕ) (old : NodeState) (core : CoreS
   }
   trim_refused_ok e (Err f) refuses told refusal = tt
 
-  pub trim_refused_err : (e : StepError) (r : Result A E) → NoTrim old.core core old.holdings d e
-      → OnErr r (TakesTrim old (moved old core d))
-  trim_refused_err e (Ok text) refuses = tt
-  trim_refused_err e (Err f) refuses =
-      record { seat = record { root = refl; me = refl }; end = Err e; took = refuses }
+module _ {A : Type 0} (old : NodeState) (core : CoreState) (d : ManagerData) where
+  pub trim_refused_err : (e : StepError) (r : Result A NodeFailure) → NoTrim old.core core old.holdings d e
+      → IfErr r (IsUnrefused e) → IfErr r (TakesTrim old (moved old core d))
+  trim_refused_err e (Ok text) refuses why = tt
+  trim_refused_err e (Err f) refuses why =
+      record { seat = record { root = refl; me = refl }; end = Err e; took = refuses; untold = why }
 
 -- Whose they are.
 
@@ -109,49 +116,58 @@ module _ {A E : Type 0} (items : A → List ℕ) (p : ProcessId) (old new : Node
       → IfOk r (λ text. AnswersFor p old new input (items text))
   mine_ok r is h = rw is h
 
-  pub mine_err : (r : Result A E) → same_process p old.me ≡ true → OnErr r (TakesInput old new input)
-      → OnErr r (TakesFor p old new input)
-  mine_err r is h = rw is h
-
   pub others_ok : (r : Result A E) → same_process p old.me ≡ false → new ≡ old
       → IfOk r (λ text. items text ≡ refused_text (step_error_number NoSuch))
       → IfOk r (λ text. AnswersFor p old new input (items text))
   others_ok (Ok text) is same told = rw is (same, told)
   others_ok (Err e) is same told = tt
 
-  pub others_err : (r : Result A E) → same_process p old.me ≡ false → new ≡ old
-      → OnErr r (TakesFor p old new input)
-  others_err (Ok text) is same = tt
-  others_err (Err e) is same = rw is same
+module _ {A : Type 0} (p : ProcessId) (old new : NodeState) (input : Input) where
+  pub mine_err : (r : Result A NodeFailure) → same_process p old.me ≡ true
+      → IfErr r (TakesInput old new input) → IfErr r (TakesFor p old new input)
+  mine_err (Ok text) is h = tt
+  mine_err (Err e) is h = rw is h
 
--- Nothing is made where memory is refused before.
+  pub others_err : (r : Result A NodeFailure) → same_process p old.me ≡ false → new ≡ old
+      → IfErr r (IsUnrefused NoSuch) → IfErr r (TakesFor p old new input)
+  others_err (Ok text) is same why = tt
+  others_err (Err failure.Memory) is same why = rw is (same, refl)
+  others_err (Err failure.Read) is same why = absurd why
+  others_err (Err failure.Write) is same why = absurd why
+  others_err (Err failure.Device) is same why = absurd (let clash : NoSuch ≡ Device = why in cc)
+  others_err (Err failure.Exhausted) is same why = absurd why
 
-if_nothing : (b : Bool) (s : NodeState) (i : Input) → TakesIf b s s i
+-- Lines.
+
+-- a failure that is passed on
+pub passed_on : {A E : Type 0} (r : Result A E) (e : E) (P : E → Type 0) → IsErrAnd r (λ x. x ≡ e) → P e
+    → IfErr r P
+passed_on (Ok a) e P is h = tt
+passed_on (Err x) e P is h = subst P (sym is) h
+
+-- nothing is made where memory is refused before
+if_nothing : (b : Bool) (s : NodeState) (i : Input) → TakesIf b s s i failure.Memory
 if_nothing true s i = record {
   seat = record { root = refl; me = refl };
   end = Err Memory;
   took = record { answer = no_answer; not_made = same_core s.core; keeps = λ e. rests s.holdings };
+  untold = λ e. absurd (cc);
 }
-if_nothing false s i = refl
+if_nothing false s i = (refl, refl)
 
-pub takes_nothing : (a : Asked) (s : NodeState) → Takes a s s
-takes_nothing asked.Nothing s = refl
+pub takes_nothing : (a : Asked) (s : NodeState) → Takes a s s failure.Memory
+takes_nothing asked.Nothing s = (refl, refl)
 takes_nothing (asked.Act a) s = if_nothing (same_process (process_of_act s.root a) s.me) s (ActInput a)
 takes_nothing (asked.Message n e) s = if_nothing (same_process e.to s.me) s (MessageInput n e.message)
 takes_nothing asked.Trim s = record {
   seat = record { root = refl; me = refl };
   end = Err Memory;
   took = (same_core s.core, rests s.holdings);
+  untold = λ e. absurd (cc);
 }
-takes_nothing asked.Doubt s = refl
-takes_nothing (asked.Outcome x) s = refl
-takes_nothing asked.Unknown s = refl
-
--- Lines.
-
-pub on_err : {A E : Type 0} (P : Type 0) (r : Result A E) → P → OnErr r P
-on_err P (Ok a) h = tt
-on_err P (Err e) h = h
+takes_nothing asked.Doubt s = (refl, refl)
+takes_nothing (asked.Outcome x) s = (refl, refl)
+takes_nothing asked.Unknown s = (refl, refl)
 
 module _ {A E : Type 0} (items : A → List ℕ) (line : List ℕ) (a : Asked) (old new : NodeState)
     (r : Result A E) (text : IsUtf8 line) (is : a ≡ asked_at old.root line) where
@@ -163,9 +179,8 @@ module _ {A E : Type 0} (items : A → List ℕ) (line : List ℕ) (a : Asked) (
       by_result (Ok t) g = record { asked = a; asks = inl (text, is); answers = g }
       by_result (Err e) g = tt
 
-  pub line_taken : OnErr r (Takes a old new) → OnErr r (TakesLine line old new)
-  line_taken h = by_result r h
-    where
-      by_result : (q : Result A E) → OnErr q (Takes a old new) → OnErr q (TakesLine line old new)
-      by_result (Ok t) g = tt
-      by_result (Err e) g = record { asked = a; asks = inl (text, is); takes = g }
+module _ {A : Type 0} (line : List ℕ) (a : Asked) (old new : NodeState) (text : IsUtf8 line)
+    (is : a ≡ asked_at old.root line) where
+  pub line_taken : (r : Result A NodeFailure) → IfErr r (Takes a old new) → IfErr r (TakesLine line old new)
+  line_taken (Ok t) h = tt
+  line_taken (Err e) h = record { asked = a; asks = inl (text, is); takes = h }

@@ -1,13 +1,24 @@
 -- What a node has answered, line by line.
-use Rattle.std.proofs.Common.{◌≡◌, ◌∙◌, ℕ, Some, None, List, [], ◌∷◌, ◌++◌, Result, Ok, Err, refl, sym, ap, subst, append_assoc}
-use Rattle.std.specs.Prelude.{OnOk}
+use Rattle.std.proofs.Common.{◌≡◌, ◌∙◌, ℕ, Bool, true, false, Some, None, List, [], ◌∷◌, ◌++◌, Result, Ok, Err, refl, sym, ap, subst, append_assoc}
+use Rattle.std.specs.Prelude.{⊤, IfErr, OnOk}
+use Rattle.std.specs.Result.{IsErrAnd}
 use Rattle.std.specs.List.{AllByRecursion, flat_map}
 use Rattle.std.specs.Io.KnownBytes.{Appends, Consumes, IsAtEnd}
 use Rattle.std.proofs.lemmas.List.{append-nil}
 use Rattle.std.proofs.lemmas.Grind.{flat_map-append}
+use Rattle.tree_model.specs.declared.events.Input.{Input}
+use Rattle.tree_model.specs.declared.events.Input.TheVariants.{Act as ActInput, Message as MessageInput}
 use Rattle.tree_model.specs.declared.events.Reaction.{Reaction}
-use Rattle.node_engine.specs.Answers.{AnswersLine, NodeState, Shows}
-use Rattle.node_engine.specs.Runs.{IsPiece, Known, ReadsAll, Served, Serves, Stand, line_of}
+use Rattle.tree_model.specs.declared.events.StepError.{StepError}
+use Rattle.tree_model.specs.Names.{same_process}
+use Rattle.tree_model.specs.Plays.{process_of_act}
+use Rattle.node_lines.specs.declared.asked.Asked.{Asked}
+use Rattle.node_lines.specs.declared.asked.Asked.TheVariants as asked
+use Rattle.node_engine.specs.declared.failure.NodeFailure.{NodeFailure}
+use Rattle.node_engine.specs.declared.failure.NodeFailure.TheVariants.{Read, Memory, Write, Device, Exhausted}
+use Rattle.node_engine.specs.Answers.{AnswersLine, IsUnrefused, IsUnshown, NodeState, Shows, Takes, TakesIf, TakesLine, Untold, UntoldTrim}
+use Rattle.node_engine.specs.Runs.{IsPiece, Known, ReadsAll, Served, Serves, Stand, Stops, Unanswered, line_of}
+use Rattle.node_engine.proofs.Answering.{passed_on}
 
 consumes_on : (a b c : Known) (xs ys : List ℕ) → Consumes a b xs → Consumes b c ys → Consumes a c (xs ++ ys)
 consumes_on None b c xs ys h k = tt
@@ -124,3 +135,82 @@ served_first start now opening text shows left written = record {
 pub on_ok : {A E : Type 0} (P Q : Type 0) (r : Result A E) → (P → Q) → OnOk r P → OnOk r Q
 on_ok P Q (Ok a) f h = f h
 on_ok P Q (Err e) f h = tt
+
+-- Lines that are not answered.
+
+-- a failure of the process's own
+abbrev IsOwn : NodeFailure → Type 0
+IsOwn Memory = ⊤
+IsOwn Device = ⊤
+IsOwn Exhausted = ⊤
+IsOwn _ = ⊥
+
+unrefused_own : (e : StepError) (why : NodeFailure) → IsUnrefused e why → IsOwn why
+unrefused_own e Memory h = tt
+unrefused_own e Device h = tt
+unrefused_own e Exhausted h = tt
+unrefused_own e Read h = absurd h
+unrefused_own e Write h = absurd h
+
+unshown_own : (sent : ℕ) (reaction : Reaction) (why : NodeFailure) → IsUnshown sent reaction why → IsOwn why
+unshown_own sent reaction Memory h = tt
+unshown_own sent reaction Device h = tt
+unshown_own sent reaction Exhausted h = tt
+unshown_own sent reaction Read h = absurd h
+unshown_own sent reaction Write h = absurd h
+
+memory_own : (why : NodeFailure) → why ≡ Memory → IsOwn why
+memory_own why is = subst IsOwn (sym is) tt
+
+untold_own : (sent : ℕ) (end : Result Reaction StepError) (why : NodeFailure) → Untold sent end why
+    → IsOwn why
+untold_own sent (Ok reaction) why h = unshown_own sent reaction why h
+untold_own sent (Err e) why h = unrefused_own e why h
+
+trim_own : (end : Result ℕ StepError) (why : NodeFailure) → UntoldTrim end why → IsOwn why
+trim_own (Ok remain) why h = memory_own why h
+trim_own (Err e) why h = unrefused_own e why h
+
+input_own : (mine : Bool) (old new : NodeState) (input : Input) (why : NodeFailure)
+    → TakesIf mine old new input why → IsOwn why
+input_own true old new input why h = untold_own old.sent h.end why h.untold
+input_own false old new input why h = memory_own why h.1
+
+taken_own : (a : Asked) (old new : NodeState) (why : NodeFailure) → Takes a old new why → IsOwn why
+taken_own asked.Nothing old new why h = memory_own why h.1
+taken_own (asked.Act a) old new why h =
+    input_own (same_process (process_of_act old.root a) old.me) old new (ActInput a) why h
+taken_own (asked.Message n e) old new why h =
+    input_own (same_process e.to old.me) old new (MessageInput n e.message) why h
+taken_own asked.Trim old new why h = trim_own h.end why h.untold
+taken_own asked.Doubt old new why h = memory_own why h.1
+taken_own (asked.Outcome x) old new why h = memory_own why h.1
+taken_own asked.Unknown old new why h = memory_own why h.1
+
+stops_own : (start : Stand) (opening : Reaction) (now : Stand) (why : NodeFailure) → IsOwn why
+    → Unanswered start opening now why → Stops start opening now why
+stops_own start opening now Memory own h = h
+stops_own start opening now Device own h = h
+stops_own start opening now Exhausted own h = h
+stops_own start opening now Read own h = absurd own
+stops_own start opening now Write own h = absurd own
+
+-- a node ends under a line that it took and did not answer
+pub unanswered : {A : Type 0} (r : Result A NodeFailure) (why : NodeFailure) (before now : Stand)
+    (piece : List ℕ) → IsErrAnd r (λ e. e ≡ why) → IsPiece piece → Consumes before.left now.left piece
+    → TakesLine (line_of piece) before.state now.state why → now.held ≡ before.held
+    → IfErr r (λ e. (start : Stand) (opening : Reaction) → Served start opening before
+    → Stops start opening now e)
+unanswered r why before now piece failed line took takes held =
+    passed_on r why (λ e. (start : Stand) (opening : Reaction) → Served start opening before
+    → Stops start opening now e) failed
+    (λ start opening served.
+    stops_own start opening now why (taken_own takes.asked before.state now.state why takes.takes) (record {
+      before = before;
+      served = served;
+      piece = piece;
+      line = line;
+      took = took;
+      takes = takes;
+      held = held;
+    }))

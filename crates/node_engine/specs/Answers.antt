@@ -1,5 +1,5 @@
 -- What a node makes of a line, and what it answers.
-use Rattle.std.specs.Prelude.{◌≡◌, ◌+◌, ◌⊎◌, ⊤, ℕ, Bool, true, false, Result, Ok, Err, List, [], ◌++◌, length}
+use Rattle.std.specs.Prelude.{◌≡◌, ◌≢◌, ◌≤◌, ◌+◌, ◌^◌, ◌⊎◌, ⊤, ℕ, Bool, true, false, Result, Ok, Err, List, [], ◌++◌, length}
 use Rattle.std.specs.Str.{IsUtf8}
 use Rattle.tree_model.specs.declared.names.ProcessId.{ProcessId}
 use Rattle.tree_model.specs.declared.events.Input.{Input}
@@ -77,16 +77,17 @@ IsRefusal Memory = ⊥
 IsRefusal Device = ⊥
 IsRefusal e = ⊤
 
--- a failure of the process's own, behind which a line is not answered
-abbrev pub IsUnanswered : NodeFailure → Type 0
-IsUnanswered failure.Memory = ⊤
-IsUnanswered failure.Device = ⊤
-IsUnanswered failure.Exhausted = ⊤
-IsUnanswered _ = ⊥
+-- why a refusal is not told: the device failed under what was refused, or else memory was refused
+abbrev pub IsUnrefused : StepError → NodeFailure → Type 0
+IsUnrefused e failure.Memory = e ≢ Device
+IsUnrefused e failure.Device = e ≡ Device
+IsUnrefused e _ = ⊥
 
--- a failure behind which the lines of a reaction are not shown: memory was refused, or numbers are used up
-abbrev pub IsUnshown : NodeFailure → Type 0
-IsUnshown e = (e ≡ failure.Memory) ⊎ (e ≡ failure.Exhausted)
+-- why the lines of a reaction are not shown: memory was refused, or with its messages 2^64 or more were sent
+abbrev pub IsUnshown : ℕ → Reaction → NodeFailure → Type 0
+IsUnshown sent r failure.Memory = ⊤
+IsUnshown sent r failure.Exhausted = 2 ^ 64 ≤ sent + length r.messages
+IsUnshown sent r _ = ⊥
 
 -- Inputs.
 
@@ -102,11 +103,17 @@ ToldOf old new text (Ok reaction) =
 ToldOf old new text (Err e) =
     (text ≡ refused_text (step_error_number e)) × (new.sent ≡ old.sent) × IsRefusal e
 
+-- why what became of an input is not told, behind so many messages that were sent
+abbrev pub Untold : ℕ → Result Reaction StepError → NodeFailure → Type 0
+Untold sent (Ok reaction) why = IsUnshown sent reaction why
+Untold sent (Err e) why = IsUnrefused e why
+
 -- an input was handled or refused, and that is not told
-pub record TakesInput (old new : NodeState) (input : Input) : Type 0 where
+pub record TakesInput (old new : NodeState) (input : Input) (why : NodeFailure) : Type 0 where
   pub seat : SameSeat old new
   pub end : Result Reaction StepError
   pub took : Took old new input end
+  pub untold : Untold old.sent end why
 
 -- an input was handled or refused, and that is told
 pub record AnswersInput (old new : NodeState) (input : Input) (text : List ℕ) : Type 0 where
@@ -124,13 +131,18 @@ AnswersIf false old new input text = Tells old new text (refused_text (step_erro
 abbrev pub AnswersFor : ProcessId → NodeState → NodeState → Input → List ℕ → Type 0
 AnswersFor p old new input text = AnswersIf (same_process p old.me) old new input text
 
--- the same, where it is not told
-abbrev pub TakesIf : Bool → NodeState → NodeState → Input → Type 0
-TakesIf true old new input = TakesInput old new input
-TakesIf false old new input = new ≡ old
+-- nothing is otherwise, and nothing is told, as memory was refused
+abbrev pub TellsNothing : NodeState → NodeState → NodeFailure → Type 0
+TellsNothing old new why = (new ≡ old) × (why ≡ failure.Memory)
 
-abbrev pub TakesFor : ProcessId → NodeState → NodeState → Input → Type 0
-TakesFor p old new input = TakesIf (same_process p old.me) old new input
+-- an input of this process, or of another, where that is not told
+abbrev pub TakesIf : Bool → NodeState → NodeState → Input → NodeFailure → Type 0
+TakesIf true old new input why = TakesInput old new input why
+TakesIf false old new input why = TellsNothing old new why
+
+-- an input that is for this process p or is not, where that is not told
+abbrev pub TakesFor : ProcessId → NodeState → NodeState → Input → NodeFailure → Type 0
+TakesFor p old new input why = TakesIf (same_process p old.me) old new input why
 
 -- Trims.
 
@@ -144,11 +156,17 @@ abbrev pub ToldOfTrim : NodeState → List ℕ → Result ℕ StepError → Type
 ToldOfTrim old text (Ok remain) = text ≡ trimmed_text old.me.0 remain
 ToldOfTrim old text (Err e) = (text ≡ refused_text (step_error_number e)) × IsRefusal e
 
+-- why what became of a trim is not told
+abbrev pub UntoldTrim : Result ℕ StepError → NodeFailure → Type 0
+UntoldTrim (Ok remain) why = why ≡ failure.Memory
+UntoldTrim (Err e) why = IsUnrefused e why
+
 -- the log was trimmed or not, and that is not told
-pub record TakesTrim (old new : NodeState) : Type 0 where
+pub record TakesTrim (old new : NodeState) (why : NodeFailure) : Type 0 where
   pub seat : SameSeat old new
   pub end : Result ℕ StepError
   pub took : Trimmed old new end
+  pub untold : UntoldTrim end why
 
 -- the log was trimmed or not, and that is told
 pub record AnswersTrim (old new : NodeState) (text : List ℕ) : Type 0 where
@@ -174,12 +192,12 @@ Answers asked.Doubt old new text = Tells old new text (doubts_text (doubts_in (r
 Answers (asked.Outcome x) old new text = Tells old new text (news_text x (news_in (records_at old) x) ++ ok_text)
 Answers asked.Unknown old new text = Tells old new text error_text
 
--- what was asked is made or not, and not answered
-abbrev pub Takes : Asked → NodeState → NodeState → Type 0
-Takes (asked.Act a) old new = TakesFor (process_of_act old.root a) old new (ActInput a)
-Takes (asked.Message n e) old new = TakesFor e.to old new (MessageInput n e.message)
-Takes asked.Trim old new = TakesTrim old new
-Takes _ old new = new ≡ old
+-- what was asked is made or not, and for this reason not answered
+abbrev pub Takes : Asked → NodeState → NodeState → NodeFailure → Type 0
+Takes (asked.Act a) old new why = TakesFor (process_of_act old.root a) old new (ActInput a) why
+Takes (asked.Message n e) old new why = TakesFor e.to old new (MessageInput n e.message) why
+Takes asked.Trim old new why = TakesTrim old new why
+Takes _ old new why = TellsNothing old new why
 
 -- what a line asks; one that is no text asks nothing that a node knows
 abbrev pub Asks : ProcessId → List ℕ → Asked → Type 0
@@ -191,8 +209,8 @@ pub record AnswersLine (line : List ℕ) (old new : NodeState) (text : List ℕ)
   pub asks : Asks old.root line asked
   pub answers : Answers asked old new text
 
--- a line is made or not, and not answered
-pub record TakesLine (line : List ℕ) (old new : NodeState) : Type 0 where
+-- a line is made or not, and for this reason not answered
+pub record TakesLine (line : List ℕ) (old new : NodeState) (why : NodeFailure) : Type 0 where
   pub asked : Asked
   pub asks : Asks old.root line asked
-  pub takes : Takes asked old new
+  pub takes : Takes asked old new why

@@ -1,5 +1,5 @@
 -- What a node writes of its input.
-use Rattle.std.specs.Prelude.{◌≡◌, ◌-◌, ◌⊎◌, ℕ, if◌then◌else◌, IfSome, Option, Some, List, [], ◌∷◌, ◌++◌, length, take}
+use Rattle.std.specs.Prelude.{◌≡◌, ◌≤◌, ◌+◌, ◌-◌, ◌^◌, ◌⊎◌, ℕ, if◌then◌else◌, IfSome, Option, Some, List, [], ◌∷◌, ◌++◌, length, take}
 use Rattle.std.specs.List.{AllByRecursion, flat_map}
 use Rattle.std.specs.Io.{StopsAt}
 use Rattle.std.specs.Io.BufRead.{strip_last, ends_with_byte}
@@ -55,14 +55,14 @@ pub record Served (start : Stand) (opening : Reaction) (now : Stand) : Type 0 wh
   pub took : Consumes start.left now.left (flat_map (λ piece. piece) pieces)
   pub written : Appends start.held now.held (first ++ rest)
 
--- the next line was made or not, and not answered
-pub record Unanswered (start : Stand) (opening : Reaction) (now : Stand) : Type 0 where
+-- the next line was made or not, and for this reason not answered
+pub record Unanswered (start : Stand) (opening : Reaction) (now : Stand) (why : NodeFailure) : Type 0 where
   pub before : Stand
   pub served : Served start opening before
   pub piece : List ℕ
   pub line : IsPiece piece
   pub took : Consumes before.left now.left piece
-  pub takes : TakesLine (line_of piece) before.state now.state
+  pub takes : TakesLine (line_of piece) before.state now.state why
   pub held : now.held ≡ before.held
 
 -- of the answer to the next line a front was written
@@ -86,9 +86,9 @@ pub record Unread (start : Stand) (opening : Reaction) (now : Stand) : Type 0 wh
 -- how a node stands that ended before its input did, behind its opening
 abbrev pub Stops : Stand → Reaction → Stand → NodeFailure → Type 0
 Stops start opening now Read = Unread start opening now
-Stops start opening now Memory = Unanswered start opening now
-Stops start opening now Device = Unanswered start opening now
-Stops start opening now Exhausted = Unanswered start opening now
+Stops start opening now Memory = Unanswered start opening now Memory
+Stops start opening now Device = Unanswered start opening now Device
+Stops start opening now Exhausted = Unanswered start opening now Exhausted
 Stops start opening now Write = Partly start opening now
 
 -- of what it did as it opened a front was written
@@ -107,7 +107,8 @@ abbrev pub StopsOpening : Stand → Reaction → Stand → NodeFailure → Type 
 StopsOpening start opening now Read = ⊥
 StopsOpening start opening now Memory = ShowsNothing start now
 StopsOpening start opening now Device = ⊥
-StopsOpening start opening now Exhausted = ShowsNothing start now
+StopsOpening start opening now Exhausted =
+    ShowsNothing start now × (2 ^ 64 ≤ start.state.sent + length opening.messages)
 StopsOpening start opening now Write = ShowsFront start opening now
 
 -- how a node stands that ended before its input did

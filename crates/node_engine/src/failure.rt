@@ -6,7 +6,7 @@ use thiserror::Error;
 /// Why a node ended before its input did.
 #[derive(Clone, Copy, Debug, PartialEq, Eq, Error)]
 pub enum NodeFailure {
-    /// A read failed. Each line before was answered.
+    /// A read failed, or would have been the 2^64th. Each line before was answered.
     #[error("reading failed")]
     Read,
     /// Memory was refused under a line, which was made or not, and was not answered.
@@ -18,7 +18,8 @@ pub enum NodeFailure {
     /// The device failed under a line, which was made or not, and was not answered.
     #[error("the device failed")]
     Device,
-    /// The messages since the opening count 2^64 or more, with those of a line that was made and was not answered.
+    /// The messages since the opening count 2^64 or more, with those of a line that was made and was not
+    /// answered.
     #[error("numbers are used up")]
     Exhausted,
 }

@@ -13,7 +13,7 @@ ghost use Rattle.node_engine.specs.Answers.{
   AnswersLine,
   AnswersTrim,
   IsRefusal,
-  IsUnanswered,
+  IsUnrefused,
   IsUnshown,
   Shows,
   Takes,
@@ -73,7 +73,7 @@ fn process_of(root: ProcessId, act: &Act) -> ProcessId
 fn refusal(alloc: Global, error: StepError) -> Result<Vec<u8>, NodeFailure>
     ensures text { IfOk result (λ text. text.items ≡ text_of_refusal (step_error_number error)) }
     ensures refusal { OnOk result (IsRefusal error) }
-    ensures why { IfErr result IsUnanswered }
+    ensures err { IfErr result (IsUnrefused error) }
 {
     match error {
         StepError::Memory => Err(NodeFailure::Memory),
@@ -108,7 +108,7 @@ impl<L: LogStore> Serving<L> {
     pub fn show(&mut self, reaction: &Reaction) -> Result<Vec<u8>, NodeFailure>
         ensures ok { IfOk result (λ text. Shows (state_of self.old) (state_of self.new) reaction.now text.items) }
         ensures err { OnErr result (state_of self.new ≡ state_of self.old) }
-        ensures why { IfErr result IsUnshown }
+        ensures why { IfErr result (IsUnshown self.old.sent reaction.now) }
     {
         let count = reaction.messages.as_slice().len() as u64;
         let Some(sent) = self.sent.checked_add(count) else {
@@ -123,8 +123,8 @@ impl<L: LogStore> Serving<L> {
     fn make(&mut self, input: InputRef<'_>) -> Result<Vec<u8>, NodeFailure>
         ensures ok { IfOk result (λ text.
             AnswersInput (state_of self.old) (state_of self.new) (input_of input.entry) text.items) }
-        ensures err { OnErr result (TakesInput (state_of self.old) (state_of self.new) (input_of input.entry)) }
-        ensures why { IfErr result IsUnanswered }
+        ensures err { IfErr result (TakesInput (state_of self.old) (state_of self.new)
+            (input_of input.entry)) }
     {
         match self.node.handle(input) {
             Ok(reaction) => self.show(&reaction),
@@ -145,9 +145,8 @@ impl<L: LogStore> Serving<L> {
         ensures ok { IfOk result (λ text.
             AnswersFor (process_of_act self.old.root act.now) (state_of self.old) (state_of self.new)
             (ActInput act.now) text.items) }
-        ensures err { OnErr result (TakesFor (process_of_act self.old.root act.now)
+        ensures err { IfErr result (TakesFor (process_of_act self.old.root act.now)
             (state_of self.old) (state_of self.new) (ActInput act.now)) }
-        ensures why { IfErr result IsUnanswered }
     {
         if self.is(process_of(self.root, act)) {
             self.make(InputRef::Act(act))
@@ -160,9 +159,8 @@ impl<L: LogStore> Serving<L> {
     fn hear(&mut self, number: u64, envelope: &Envelope) -> Result<Vec<u8>, NodeFailure>
         ensures ok { IfOk result (λ text. AnswersFor envelope.now.to (state_of self.old) (state_of self.new)
             (MessageInput number envelope.now.message) text.items) }
-        ensures err { OnErr result (TakesFor envelope.now.to (state_of self.old) (state_of self.new)
+        ensures err { IfErr result (TakesFor envelope.now.to (state_of self.old) (state_of self.new)
             (MessageInput number envelope.now.message)) }
-        ensures why { IfErr result IsUnanswered }
     {
         if self.is(envelope.to) {
             self.make(InputRef::Message(number, &envelope.message))
@@ -175,8 +173,7 @@ impl<L: LogStore> Serving<L> {
     #[tactic(auto, using(crate::proofs::Answering::trim_refused_ok, crate::proofs::Answering::trim_refused_err))]
     fn trim(&mut self) -> Result<Vec<u8>, NodeFailure>
         ensures ok { IfOk result (λ text. AnswersTrim (state_of self.old) (state_of self.new) text.items) }
-        ensures err { OnErr result (TakesTrim (state_of self.old) (state_of self.new)) }
-        ensures why { IfErr result IsUnanswered }
+        ensures err { IfErr result (TakesTrim (state_of self.old) (state_of self.new)) }
     {
         match self.node.trim_sound() {
             Ok(remain) => Ok(trimmed_text(self.alloc, self.me, remain)?),
@@ -188,7 +185,7 @@ impl<L: LogStore> Serving<L> {
     fn doubt(&self) -> Result<Vec<u8>, NodeFailure>
         ensures ok { IfOk result (λ text. text.items
             ≡ doubts_text (doubts_in (records_at (state_of self.now))) ++ ok_text) }
-        ensures why { IfErr result IsUnanswered }
+        ensures err { IfErr result (λ e. e ≡ NodeFailure.Memory) }
     {
         let records = self.node.records()?;
         let cases = doubts_of(self.alloc, &records)?;
@@ -199,7 +196,7 @@ impl<L: LogStore> Serving<L> {
     fn tell(&self, txn: &Txn) -> Result<Vec<u8>, NodeFailure>
         ensures ok { IfOk result (λ text. text.items
             ≡ news_text txn.now (news_in (records_at (state_of self.now)) txn.now) ++ ok_text) }
-        ensures why { IfErr result IsUnanswered }
+        ensures err { IfErr result (λ e. e ≡ NodeFailure.Memory) }
     {
         let records = self.node.records()?;
         let news = news_of(&records, txn);
@@ -210,8 +207,7 @@ impl<L: LogStore> Serving<L> {
     fn answer_asked(&mut self, asked: &Asked) -> Result<Vec<u8>, NodeFailure>
         ensures ok { IfOk result (λ text.
             Answers asked.now (state_of self.old) (state_of self.new) text.items) }
-        ensures err { OnErr result (Takes asked.now (state_of self.old) (state_of self.new)) }
-        ensures why { IfErr result IsUnanswered }
+        ensures err { IfErr result (Takes asked.now (state_of self.old) (state_of self.new)) }
     {
         match asked {
             Asked::Nothing => Ok(Vec::new(self.alloc)),
@@ -228,8 +224,7 @@ impl<L: LogStore> Serving<L> {
     fn answer_text(&mut self, line: &str) -> Result<Vec<u8>, NodeFailure>
         ensures ok { IfOk result (λ text.
             AnswersLine line.now (state_of self.old) (state_of self.new) text.items) }
-        ensures err { OnErr result (TakesLine line.now (state_of self.old) (state_of self.new)) }
-        ensures why { IfErr result IsUnanswered }
+        ensures err { IfErr result (TakesLine line.now (state_of self.old) (state_of self.new)) }
     {
         let asked = asked_of(self.alloc, self.root, line)?;
         self.answer_asked(&asked)
@@ -239,8 +234,7 @@ impl<L: LogStore> Serving<L> {
     pub fn answer(&mut self, line: &[u8]) -> Result<Vec<u8>, NodeFailure>
         ensures ok { IfOk result (λ text.
             AnswersLine line.now (state_of self.old) (state_of self.new) text.items) }
-        ensures err { OnErr result (TakesLine line.now (state_of self.old) (state_of self.new)) }
-        ensures why { IfErr result IsUnanswered }
+        ensures err { IfErr result (TakesLine line.now (state_of self.old) (state_of self.new)) }
     {
         match str::from_utf8(line) {
             Ok(line) => self.answer_text(line),

@@ -20,6 +20,7 @@ use Rattle.tree_node.specs.Restarts.{NoTrim}
 use Rattle.tree_node.proofs.Same.{rests, same_core}
 use Rattle.node_lines.specs.declared.asked.Asked.{Asked}
 use Rattle.node_lines.specs.declared.asked.Asked.TheVariants as asked
+use Rattle.node_engine.specs.declared.failure.NodeFailure.{NodeFailure}
 use Rattle.node_engine.specs.Answers.{Answers, AnswersIf, NodeState, Takes, TakesIf, Took, Trimmed}
 use Rattle.node_lives.specs.Lives.{LifeStep}
 use Rattle.node_lives.specs.Lives as lives
@@ -165,11 +166,10 @@ module _ (s t : WorldState) (old new : NodeState) (was : Sits s old) (same : new
   answered_input true i text sent h enters = took i (sent refl) h.end h.took enters
   answered_input false i text sent h enters = still enters h.0
 
-  taken_input : (mine : Bool) (i : Input) → (mine ≡ true → InputStands s.net old.me i)
-      → (h : TakesIf mine old new i)
-      → EntersTake s t old new mine i h → LifeStep s t
-  taken_input true i sent h enters = took i (sent refl) h.end h.took enters
-  taken_input false i sent h enters = still enters h
+  taken_input : (mine : Bool) (i : Input) (why : NodeFailure) → (mine ≡ true → InputStands s.net old.me i)
+      → (h : TakesIf mine old new i why) → EntersTake s t old new mine i why h → LifeStep s t
+  taken_input true i why sent h enters = took i (sent refl) h.end h.took enters
+  taken_input false i why sent h enters = still enters h.0
 
   -- a message for this node stands in the net
   stands_there : (n : ℕ) (e : Envelope) → WasSent s.net (asked.Message n e) → same_process e.to old.me ≡ true
@@ -192,20 +192,22 @@ module _ (s t : WorldState) (old new : NodeState) (was : Sits s old) (same : new
   answered_so (asked.Outcome x) text h sent enters = still enters h.0
   answered_so asked.Unknown text h sent enters = still enters h.0
 
-  taken_so : (a : Asked) (h : Takes a old new) → WasSent s.net a → EntersTaken s t old new a h → LifeStep s t
-  taken_so asked.Nothing h sent enters = still enters h
-  taken_so (asked.Act a) h sent enters =
-      taken_input (same_process (process_of_act old.root a) old.me) (ActInput a) (λ mine. tt) h enters
-  taken_so (asked.Message n e) h sent enters =
-      taken_input (same_process e.to old.me) (MessageInput n e.message) (stands_there n e sent) h enters
-  taken_so asked.Trim h sent enters = trimmed h.end h.took enters
-  taken_so asked.Doubt h sent enters = still enters h
-  taken_so (asked.Outcome x) h sent enters = still enters h
-  taken_so asked.Unknown h sent enters = still enters h
+  taken_so : (a : Asked) (why : NodeFailure) (h : Takes a old new why) → WasSent s.net a
+      → EntersTaken s t old new a why h → LifeStep s t
+  taken_so asked.Nothing why h sent enters = still enters h.0
+  taken_so (asked.Act a) why h sent enters =
+      taken_input (same_process (process_of_act old.root a) old.me) (ActInput a) why (λ mine. tt) h enters
+  taken_so (asked.Message n e) why h sent enters =
+      taken_input (same_process e.to old.me) (MessageInput n e.message) why (stands_there n e sent) h enters
+  taken_so asked.Trim why h sent enters = trimmed h.end h.took enters
+  taken_so asked.Doubt why h sent enters = still enters h.0
+  taken_so (asked.Outcome x) why h sent enters = still enters h.0
+  taken_so asked.Unknown why h sent enters = still enters h.0
 
 pub answered : (s t : WorldState) → Answered s t → LifeStep s t
 answered s t h = answered_so s t h.old h.new h.was h.same h.is h.alone h.answers.asked h.text h.answers.answers
     h.sent h.entered
 
 pub unanswered : (s t : WorldState) → Unanswered s t → LifeStep s t
-unanswered s t h = taken_so s t h.old h.new h.was h.same h.is h.alone h.takes.asked h.takes.takes h.sent h.entered
+unanswered s t h = taken_so s t h.old h.new h.was h.same h.is h.alone h.takes.asked h.why h.takes.takes
+    h.sent h.entered

@@ -27,6 +27,7 @@ use Rattle.log_text.specs.declared.form.LogForm.{LogForm}
 use Rattle.tree_node.specs.Reopenings.{ReopensAs, form_by}
 use Rattle.node_lines.specs.declared.asked.Asked.{Asked}
 use Rattle.node_lines.specs.declared.asked.Asked.TheVariants as asked
+use Rattle.node_engine.specs.declared.failure.NodeFailure.{NodeFailure}
 use Rattle.node_engine.specs.Answers.{Answers, AnswersIf, AnswersLine, NodeState, Takes, TakesIf, TakesLine}
 use Rattle.node_lives.specs.Lives.{counted_at}
 
@@ -88,20 +89,22 @@ module _ (s t : WorldState) (old new : NodeState) where
   EntersAnswered asked.Unknown text h = Silent s t
 
   -- of an input that was made or not, and is not answered
-  abbrev pub EntersTake : (mine : Bool) (input : Input) → TakesIf mine old new input → Type 0
-  EntersTake true input h = EntersEnd s t old.me (Handles input) h.end
-  EntersTake false input h = Silent s t
+  abbrev pub EntersTake : (mine : Bool) (input : Input) (why : NodeFailure) → TakesIf mine old new input why
+      → Type 0
+  EntersTake true input why h = EntersEnd s t old.me (Handles input) h.end
+  EntersTake false input why h = Silent s t
 
   -- of what was asked, and is not answered
-  abbrev pub EntersTaken : (a : Asked) → Takes a old new → Type 0
-  EntersTaken asked.Nothing h = Silent s t
-  EntersTaken (asked.Act a) h =
-      EntersTake (same_process (process_of_act old.root a) old.me) (ActInput a) h
-  EntersTaken (asked.Message n e) h = EntersTake (same_process e.to old.me) (MessageInput n e.message) h
-  EntersTaken asked.Trim h = EntersTrim s t old.me h.end
-  EntersTaken asked.Doubt h = Silent s t
-  EntersTaken (asked.Outcome x) h = Silent s t
-  EntersTaken asked.Unknown h = Silent s t
+  abbrev pub EntersTaken : (a : Asked) (why : NodeFailure) → Takes a old new why → Type 0
+  EntersTaken asked.Nothing why h = Silent s t
+  EntersTaken (asked.Act a) why h =
+      EntersTake (same_process (process_of_act old.root a) old.me) (ActInput a) why h
+  EntersTaken (asked.Message n e) why h =
+      EntersTake (same_process e.to old.me) (MessageInput n e.message) why h
+  EntersTaken asked.Trim why h = EntersTrim s t old.me h.end
+  EntersTaken asked.Doubt why h = Silent s t
+  EntersTaken (asked.Outcome x) why h = Silent s t
+  EntersTaken asked.Unknown why h = Silent s t
 
 -- A node answered a line, as `run_node` says: what it answers is what it did, and what it sent stands in it.
 pub record Answered (s t : WorldState) : Type 0 where
@@ -126,9 +129,10 @@ pub record Unanswered (s t : WorldState) : Type 0 where
   pub is : Sits t new
   pub alone : MovesAlone s t old.me
   pub line : List ℕ
-  pub takes : TakesLine line old new
+  pub why : NodeFailure
+  pub takes : TakesLine line old new why
   pub sent : WasSent s.net takes.asked
-  pub entered : EntersTaken s t old new takes.asked takes.takes
+  pub entered : EntersTaken s t old new takes.asked why takes.takes
 
 -- Starts.
 

@@ -1,2 +1,3 @@
 pub mod Rising
 pub mod Whole
+pub mod Long

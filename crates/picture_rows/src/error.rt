@@ -7,7 +7,7 @@ use std::alloc::{AllocError, AllocFailed};
 pub enum PictureError {
     /// A growth was refused.
     Memory,
-    /// There are 2^32 rows or processes, or 2^64 messages.
+    /// There are 2^32 rows or processes.
     TooLong,
 }
 

@@ -3,7 +3,6 @@
 ghost use Rattle.std.specs.Prelude.{◌≡◌, ◌+◌, ◌++◌, IfOk, OnOk, length};
 ghost use Rattle.picture_rows.specs.Whole.{heard_in, sent_in};
 
-use crate::error::PictureError;
 use std::alloc::{AllocError, Global};
 use tree_model::{Entry, Envelope, Happening, Input};
 
@@ -36,19 +35,15 @@ fn hear(fates: &mut [Fate], number: u64, step: usize) {
 }
 
 /// So many messages are sent by a step.
-fn send(fates: &mut Vec<Fate>, step: usize, count: usize) -> Result<(), PictureError>
+fn send(fates: &mut Vec<Fate>, step: usize, count: usize) -> Result<(), AllocError>
     ensures { OnOk result (length fates.new.items ≡ length fates.old.items + count) }
 {
-    let Some(len) = fates.len().checked_add(count) else {
-        return Err(PictureError::TooLong);
-    };
-    fates.resize(
-        len,
-        Fate {
+    for _ in 0..count {
+        fates.push(Fate {
             sent: step,
             heard: None,
-        },
-    )?;
+        })?;
+    }
     Ok(())
 }
 
@@ -63,7 +58,7 @@ fn hear_step(fates: &mut Vec<Fate>, step: usize, entry: &Entry)
 
 /// What becomes of the messages of a run, in the order of their numbers, from 1.
 #[tactic(auto, unfolding(crate::specs::Whole::sent_in))]
-pub fn fates_of(alloc: Global, entries: &[Entry]) -> Result<Vec<Fate>, PictureError>
+pub fn fates_of(alloc: Global, entries: &[Entry]) -> Result<Vec<Fate>, AllocError>
     ensures { IfOk result (λ fates. length fates.items ≡ length (sent_in entries.now)) }
 {
     let mut fates = Vec::new(alloc);

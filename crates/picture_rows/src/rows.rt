@@ -1,7 +1,8 @@
 //! The rows of a run's steps.
 
-ghost use Rattle.std.specs.Prelude.{◌≡◌, ◌+◌, ◌<◌, ◌≤◌, IfOk, OnOk};
+ghost use Rattle.std.specs.Prelude.{◌≡◌, ◌+◌, ◌^◌, ◌<◌, ◌≤◌, IfErr, IfOk, OnOk, length};
 ghost use Rattle.picture_rows.specs.Rising.{HasRows, IsNext, RiseTo};
+ghost use Rattle.picture_rows.specs.Long.{most_rows, rows_with};
 
 use crate::error::PictureError;
 use crate::fates::Fate;
@@ -56,10 +57,11 @@ struct Count {
 }
 
 impl Count {
-    /// So many rows more.
+    /// So many rows more. TooLong: there are 2^32 rows.
     fn take(&mut self, rows: u32) -> Result<u32, PictureError>
         ensures row { OnOk result (self.new.row ≡ self.old.row + rows) }
         ensures answer { IfOk result (λ row. row ≡ self.new.row) }
+        ensures err { IfErr result (λ e. e ≡ PictureError.TooLong → 2 ^ 32 ≤ self.old.row + rows) }
     {
         let Some(row) = self.row.checked_add(rows) else {
             return Err(PictureError::TooLong);
@@ -68,10 +70,13 @@ impl Count {
         Ok(row)
     }
 
-    /// The first row of what comes next: behind a ruler, where the last one is far.
+    /// The first row of what comes next: behind a ruler, where the last one is far. TooLong: there are 2^32
+    /// rows.
     fn begin(&mut self) -> Result<u32, PictureError>
         ensures later { OnOk result (self.old.row ≤ self.new.row) }
+        ensures few { OnOk result (self.new.row ≤ self.old.row + 1) }
         ensures answer { IfOk result (λ row. row ≡ self.new.row) }
+        ensures err { IfErr result (λ e. e ≡ PictureError.TooLong → 2 ^ 32 ≤ self.old.row + 1) }
     {
         if self.row.saturating_sub(self.ruler) > LONG {
             self.rulers.push(self.row)?;
@@ -91,7 +96,9 @@ pub(crate) fn has_stub(fate: &Fate) -> bool {
 }
 
 /// How many of the messages behind so many, of a step, get a stub.
-fn count_stubs(fates: &[Fate], sent: usize, messages: usize) -> usize {
+fn count_stubs(fates: &[Fate], sent: usize, messages: usize) -> usize
+    ensures { result ≤ messages }
+{
     let end = sent.saturating_add(messages).min(fates.len());
     let begin = sent.min(end);
     fates[begin..end]
@@ -100,9 +107,12 @@ fn count_stubs(fates: &[Fate], sent: usize, messages: usize) -> usize {
         .count()
 }
 
-/// How many rows a step has for its cause, its records and its word to the application.
+/// How many rows a step has for its cause, its records and its word to the application. TooLong: it has 2^32
+/// rows.
 fn height_of(entry: &Entry, mixed: bool) -> Result<u32, PictureError>
-    ensures { IfOk result (λ height. 0 < height) }
+    ensures some { IfOk result (λ height. 0 < height) }
+    ensures few { IfOk result (λ height. height ≤ length entry.now.reaction.written + 3) }
+    ensures err { IfErr result (λ e. 2 ^ 32 ≤ length entry.now.reaction.written + 3) }
 {
     let Ok(records) = u32::try_from(entry.reaction.written.len()) else {
         return Err(PictureError::TooLong);
@@ -119,11 +129,13 @@ fn height_of(entry: &Entry, mixed: bool) -> Result<u32, PictureError>
     }
 }
 
-/// The rows of a step.
+/// The rows of a step. TooLong: there are 2^32 rows.
 fn step_rows(count: &mut Count, height: u32, stubs: usize) -> Result<StepRows, PictureError>
     requires { 0 < height }
     ensures rows { IfOk result (λ rows. HasRows count.old.row rows) }
     ensures next { IfOk result (λ rows. count.new.row ≡ rows.next) }
+    ensures few { OnOk result (count.new.row ≤ count.old.row + 1 + height + stubs) }
+    ensures err { IfErr result (λ e. e ≡ PictureError.TooLong → 2 ^ 32 ≤ count.old.row + 1 + height + stubs) }
 {
     let first = count.begin()?;
     let last = count.take(height)? - 1;
@@ -146,9 +158,11 @@ struct Steps<'a> {
 }
 
 impl Steps<'_> {
-    /// The rows of the next step, if there is one.
+    /// The rows of the next step, if there is one. TooLong: there are 2^32 rows.
     fn next(&mut self, count: &mut Count) -> Result<Option<StepRows>, PictureError>
         ensures rows { IfOk result (λ found. IsNext count.old.row count.new.row found) }
+        ensures few { OnOk result (rows_with count.new self.new ≤ rows_with count.old self.old) }
+        ensures err { IfErr result (λ e. e ≡ PictureError.TooLong → 2 ^ 32 ≤ rows_with count.old self.old) }
     {
         let Some(entry) = self.entries.get(self.made) else {
             return Ok(None);
@@ -160,7 +174,7 @@ impl Steps<'_> {
         let messages = entry.reaction.messages.len();
         let stubs = count_stubs(self.fates, self.sent, messages);
         let rows = step_rows(count, height_of(entry, mixed)?, stubs)?;
-        self.made = self.made.saturating_add(1);
+        self.made += 1;
         self.sent = self.sent.saturating_add(messages);
         if mixed {
             self.mixed = self.mixed.saturating_add(1);
@@ -169,7 +183,8 @@ impl Steps<'_> {
     }
 }
 
-/// Adds the rows of the next step of an event, if there is one: whether the event has its rule.
+/// Adds the rows of the next step of an event, if there is one: whether the event has its rule. TooLong:
+/// there are 2^32 rows.
 #[tactic(auto, using(crate::proofs::Rises::step_on))]
 fn add_step(
     event: usize,
@@ -178,8 +193,10 @@ fn add_step(
     count: &mut Count,
     rows: &mut Rows,
 ) -> Result<bool, PictureError>
-    ensures { OnOk result (RiseTo 1 rows.old.steps.items count.old.row
+    ensures rise { OnOk result (RiseTo 1 rows.old.steps.items count.old.row
         → RiseTo 1 rows.new.steps.items count.new.row) }
+    ensures few { OnOk result (rows_with count.new steps.new ≤ rows_with count.old steps.old) }
+    ensures err { IfErr result (λ e. e ≡ PictureError.TooLong → 2 ^ 32 ≤ rows_with count.old steps.old) }
 {
     let Some(one) = steps.next(count)? else {
         return Ok(is_ruled);
@@ -195,6 +212,7 @@ fn add_step(
 }
 
 /// Adds a row in which no step begins: that of a settle with nothing to deliver, or of a refused event.
+/// TooLong: there are 2^32 rows.
 fn add_idle(
     event: usize,
     is_ruled: bool,
@@ -204,6 +222,8 @@ fn add_idle(
 ) -> Result<(), PictureError>
     ensures steps { rows.new.steps.items ≡ rows.old.steps.items }
     ensures later { OnOk result (count.old.row ≤ count.new.row) }
+    ensures few { OnOk result (count.new.row ≤ count.old.row + 2) }
+    ensures err { IfErr result (λ e. e ≡ PictureError.TooLong → 2 ^ 32 ≤ count.old.row + 2) }
 {
     let row = count.begin()?;
     if !is_ruled {
@@ -216,7 +236,7 @@ fn add_idle(
     Ok(())
 }
 
-/// The rows of an event.
+/// The rows of an event. TooLong: there are 2^32 rows.
 #[tactic(auto, using(crate::proofs::Rises::rise_on))]
 fn event_rows(
     event: usize,
@@ -225,8 +245,10 @@ fn event_rows(
     count: &mut Count,
     rows: &mut Rows,
 ) -> Result<(), PictureError>
-    ensures { OnOk result (RiseTo 1 rows.old.steps.items count.old.row
+    ensures rise { OnOk result (RiseTo 1 rows.old.steps.items count.old.row
         → RiseTo 1 rows.new.steps.items count.new.row) }
+    ensures few { OnOk result (rows_with count.new steps.new ≤ rows_with count.old steps.old + 2) }
+    ensures err { IfErr result (λ e. e ≡ PictureError.TooLong → 2 ^ 32 ≤ rows_with count.old steps.old + 2) }
 {
     let mut is_ruled = false;
     for _ in steps.made..turn.steps {
@@ -238,7 +260,8 @@ fn event_rows(
     add_idle(event, is_ruled, turn.refused, count, rows)
 }
 
-/// The rows of a run of these events and steps.
+/// The rows of a run of these events and steps. TooLong: there are 2^32 rows; at most two are drawn for each
+/// event, one for each record and each message, and four more for each step.
 pub fn rows_of(
     alloc: Global,
     turns: &[Turn],
@@ -246,7 +269,9 @@ pub fn rows_of(
     fates: &[Fate],
     mismatches: &[Mismatch],
 ) -> Result<Rows, PictureError>
-    ensures { IfOk result (λ rows. RiseTo 1 rows.steps.items rows.end) }
+    ensures rise { IfOk result (λ rows. RiseTo 1 rows.steps.items rows.end) }
+    ensures err { IfErr result (λ e. e ≡ PictureError.TooLong
+        → 2 ^ 32 ≤ most_rows (length turns.now) entries.now) }
 {
     let mut count = Count {
         row: 1,

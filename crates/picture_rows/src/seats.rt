@@ -1,5 +1,7 @@
 //! The places of the processes, side by side.
 
+ghost use Rattle.std.specs.Prelude.{◌≡◌, ◌^◌, ◌≤◌, IfErr, IfOk, OnOk, length};
+
 use crate::error::PictureError;
 use std::alloc::Global;
 use tree_model::{Kind, ProcessId, TreeEntry};
@@ -20,19 +22,24 @@ pub struct Seat {
     pub parent: Option<u32>,
 }
 
-/// Seats the children of a process, each with those below it behind it, where so many levels are left.
+/// Seats the children of a process, each with those below it behind it, where so many levels are left, but no
+/// more processes than the tree lists. TooLong: it lists 2^32 processes.
 fn sit_below(
     tree: &[TreeEntry],
     parent: Option<ProcessId>,
     above: Option<u32>,
     levels: u32,
     seats: &mut Vec<Seat>,
-) -> Result<(), PictureError> {
+) -> Result<(), PictureError>
+    requires { length seats.old.items ≤ length tree.now }
+    ensures few { OnOk result (length seats.new.items ≤ length tree.now) }
+    ensures err { IfErr result (λ e. e ≡ PictureError.TooLong → 2 ^ 32 ≤ length tree.now) }
+{
     if levels == 0 {
         return Ok(());
     }
     for entry in tree {
-        if entry.parent == parent {
+        if entry.parent == parent && seats.len() < tree.len() {
             let Ok(place) = u32::try_from(seats.len()) else {
                 return Err(PictureError::TooLong);
             };
@@ -49,8 +56,12 @@ fn sit_below(
     Ok(())
 }
 
-/// The processes of a tree, depth first, the children of each in the order of the tree.
-pub fn seats_of(alloc: Global, tree: &[TreeEntry]) -> Result<Vec<Seat>, PictureError> {
+/// The processes of a tree that lists each once, depth first, the children of each in the order of the tree.
+/// TooLong: it lists 2^32 processes.
+pub fn seats_of(alloc: Global, tree: &[TreeEntry]) -> Result<Vec<Seat>, PictureError>
+    ensures few { IfOk result (λ seats. length seats.items ≤ length tree.now) }
+    ensures err { IfErr result (λ e. e ≡ PictureError.TooLong → 2 ^ 32 ≤ length tree.now) }
+{
     let mut seats = Vec::new(alloc);
     sit_below(tree, None, None, LEVELS, &mut seats)?;
     Ok(seats)

@@ -1,7 +1,7 @@
 //! The stretches of rows in which cases of a process are in doubt, or decided by an operator.
 
-use crate::error::PictureError;
 use crate::rows::StepRows;
+use crate::seats::Seat;
 use std::alloc::{AllocError, Global};
 
 /// What the cases of a stretch are.
@@ -102,20 +102,20 @@ impl Bands {
     }
 }
 
-/// The stretches of so many processes, in the order in which they end, up to the row behind all others.
+/// The stretches of these processes, in the order in which they end, up to the row behind all others.
 pub fn stretches_of(
     alloc: Global,
-    places: usize,
+    seats: &[Seat],
     changes: &[Change],
     rows: &[StepRows],
     end: u32,
-) -> Result<Vec<Stretch>, PictureError> {
+) -> Result<Vec<Stretch>, AllocError> {
     let mut bands = Bands {
         doubts: Vec::new(alloc),
         operators: Vec::new(alloc),
         closed: Vec::new(alloc),
     };
-    for _ in 0..places {
+    for _ in seats {
         bands.doubts.push(NONE_OPEN)?;
         bands.operators.push(NONE_OPEN)?;
     }
@@ -126,12 +126,9 @@ pub fn stretches_of(
         };
         bands.change(change, first.saturating_add(change.offset))?;
     }
-    let Ok(places) = u32::try_from(places) else {
-        return Err(PictureError::TooLong);
-    };
-    for place in 0..places {
-        bands.close(place, Band::Doubt, end, true)?;
-        bands.close(place, Band::Operator, end, true)?;
+    for seat in seats {
+        bands.close(seat.place, Band::Doubt, end, true)?;
+        bands.close(seat.place, Band::Operator, end, true)?;
     }
     Ok(bands.closed)
 }

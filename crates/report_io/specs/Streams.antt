@@ -1,5 +1,5 @@
 -- What is read of an input and written of a text, and how a run ends.
-use Rattle.std.specs.Prelude.{◌≡◌, ◌≢◌, ◌⊎◌, ℕ, List, take, Option, IfSome}
+use Rattle.std.specs.Prelude.{◌≡◌, ◌≢◌, ℕ, List, take, Option, IfSome}
 use Rattle.std.specs.Io.KnownBytes.{Appends}
 use Rattle.report_io.specs.declared.status.Status.{Status}
 use Rattle.report_io.specs.declared.status.Status.TheVariants.{Ended, Refused, Stopped}
@@ -24,7 +24,3 @@ status_number Stopped = 2
 -- failed, or numbers are used up
 abbrev pub IsOfRun : Failure → Type 0
 IsOfRun e = (e ≢ failure.Read) × (e ≢ failure.Write)
-
--- memory was refused, or numbers are used up
-abbrev pub IsUsedUp : Failure → Type 0
-IsUsedUp e = (e ≡ failure.Memory) ⊎ (e ≡ failure.Exhausted)

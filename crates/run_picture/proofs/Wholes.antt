@@ -1,5 +1,5 @@
 -- A picture of its arrows and its marks.
-use Rattle.std.proofs.Common.{◌≡◌, ◌∙◌, ap, ℕ, Result, Ok, Err, IfOk, List, [], ◌∷◌, ◌++◌, length, map, refl}
+use Rattle.std.proofs.Common.{◌≡◌, ◌∙◌, ap, ℕ, List, [], ◌∷◌, ◌++◌, length, map, refl}
 use Rattle.tree_model.specs.declared.messages.Envelope.{Envelope}
 use Rattle.tree_model.specs.declared.events.Entry.{Entry}
 use Rattle.picture_rows.specs.declared.drawn.Arrow.{Arrow}
@@ -39,23 +39,21 @@ is_picture entries messages arrows marks strokes squares front middle rest text 
       layers = is;
     }
 
--- the same of what was made of slices of these, where there was memory for it
-pub pictured : {A E : Type 0} (text_in : A → List ℕ) (entries : List Entry) (messages ms : List Envelope)
-    (arrows bs : List Arrow) (marks ks : List Mark) (strokes ss : List Stroke) (squares qs : List Square)
-    (front middle rest : List ℕ) (made : Result A E)
+-- the same of slices of these
+pub pictured : (entries : List Entry) (messages ms : List Envelope) (arrows bs : List Arrow)
+    (marks ks : List Mark) (strokes ss : List Stroke) (squares qs : List Square)
+    (front middle rest text : List ℕ)
     → map (λ (a : Arrow). a.number) arrows ≡ deliveries (length (sent_in entries)) entries
     → map (λ (m : Mark). m.logged) marks ≡ records_in entries
     → messages ≡ sent_in entries
     → ms ≡ messages → bs ≡ arrows → ks ≡ marks → ss ≡ strokes → qs ≡ squares
     → map (λ (s : Stroke). s.title.items) strokes ≡ map (λ (a : Arrow). title_in ms a.number) bs
     → map square_key squares ≡ map (λ (m : Mark). record_key m.logged) ks
-    → IfOk made (λ r. text_in r ≡ front ++ strokes_text ss ++ middle ++ squares_text qs ++ rest)
-    → IfOk made (λ r. IsPicture entries (text_in r))
-pictured text_in entries messages ms arrows bs marks ks strokes ss squares qs front middle rest (Err e) numbers
-    logged sent m_is a_is k_is s_is q_is titles keys is = is
-pictured text_in entries messages ms arrows bs marks ks strokes ss squares qs front middle rest (Ok r) numbers
-    logged sent m_is a_is k_is s_is q_is titles keys is =
-    is_picture entries ms bs ks ss qs front middle rest (text_in r)
+    → text ≡ front ++ strokes_text ss ++ middle ++ squares_text qs ++ rest
+    → IsPicture entries text
+pictured entries messages ms arrows bs marks ks strokes ss squares qs front middle rest text numbers logged
+    sent m_is a_is k_is s_is q_is titles keys is =
+    is_picture entries ms bs ks ss qs front middle rest text
     (ap (λ xs. map (λ (a : Arrow). a.number) xs) a_is ∙ numbers)
     (ap (λ xs. map (λ (m : Mark). m.logged) xs) k_is ∙ logged)
     (m_is ∙ sent)

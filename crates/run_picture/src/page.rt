@@ -1,6 +1,7 @@
 //! A whole picture.
 
-ghost use Rattle.std.specs.Prelude.{◌≡◌, ◌++◌, IfOk, OnOk, codes};
+ghost use Rattle.std.specs.Prelude.{◌≡◌, ◌++◌, ◌^◌, ◌≤◌, IfErr, IfOk, OnOk, codes, length};
+ghost use Rattle.picture_rows.specs.Long.{IsLong};
 ghost use Rattle.picture_shapes.specs.Svg.{shapes_text, squares_text, strokes_text};
 ghost use Rattle.run_picture.specs.Layers.{below_text, between_text};
 ghost use Rattle.run_picture.specs.Pictures.{IsPicture};
@@ -99,7 +100,7 @@ fn text_of(
     sheet: &Sheet,
     strokes: &[Stroke],
     squares: &[Square],
-) -> Result<Vec<u8>, PictureError>
+) -> Result<Vec<u8>, AllocError>
     ensures { IfOk result (λ text. text.items ≡ (head.items ++ below_text sheet.now)
         ++ strokes_text strokes.now ++ between_text sheet.now ++ squares_text squares.now
         ++ (shapes_text sheet.now.words.items ++ codes "</svg>\n")) }
@@ -122,8 +123,10 @@ fn push_end(out: &mut Vec<u8>, sheet: &Sheet) -> Result<(), AllocError>
     push(out, "</svg>\n")
 }
 
-/// A sheet for a plan.
-fn drawing_of(alloc: Global, plan: &Plan) -> Result<Drawing, PictureError> {
+/// A sheet for a plan. TooLong: it has 2^32 processes.
+fn drawing_of(alloc: Global, plan: &Plan) -> Result<Drawing, PictureError>
+    ensures err { IfErr result (λ _. 2 ^ 32 ≤ length plan.now.seats.items) }
+{
     let Ok(processes) = u32::try_from(plan.seats.len()) else {
         return Err(PictureError::TooLong);
     };
@@ -137,10 +140,12 @@ fn drawing_of(alloc: Global, plan: &Plan) -> Result<Drawing, PictureError> {
     })
 }
 
-/// The picture of a run, as one SVG file: time goes downward; each process is a line, each delivery an arrow and
-/// each record a mark. TooLong: it has 2^32 rows or more.
+/// The picture of a run, as one SVG file: time goes downward; each process is a line, each delivery an arrow
+/// and each record a mark. TooLong: it has 2^32 rows or more, or its tree 2^32 processes.
 pub fn picture(alloc: Global, scene: &Scene) -> Result<Vec<u8>, PictureError>
-    ensures { IfOk result (λ text. IsPicture scene.now.entries.now text.items) }
+    ensures text { IfOk result (λ text. IsPicture scene.now.entries.now text.items) }
+    ensures err { IfErr result (λ e. e ≡ PictureError.TooLong
+        → IsLong scene.now.tree.now (length scene.now.turns.now) scene.now.entries.now) }
 {
     let plan = plan_of(alloc, scene)?;
     let mut drawing = drawing_of(alloc, &plan)?;
@@ -150,5 +155,6 @@ pub fn picture(alloc: Global, scene: &Scene) -> Result<Vec<u8>, PictureError>
     draw_run(&mut drawing, scene, &plan)?;
     draw_lines(&mut drawing, scene, &plan)?;
     let head = head_of(alloc, drawing.frame, scene, &plan)?;
-    text_of(head, &drawing.sheet, &strokes, &squares)
+    let text = text_of(head, &drawing.sheet, &strokes, &squares)?;
+    Ok(text)
 }

@@ -1,9 +1,10 @@
 //! What is drawn of a run, by rows and places.
 
-ghost use Rattle.std.specs.Prelude.{◌≡◌, IfOk, length, map};
+ghost use Rattle.std.specs.Prelude.{◌≡◌, ◌≤◌, IfErr, IfOk, length, map};
 ghost use Rattle.picture_rows.specs.declared.drawn.Arrow.{Arrow as AnyArrow};
 ghost use Rattle.picture_rows.specs.declared.drawn.Mark.{Mark as AnyMark};
 ghost use Rattle.picture_rows.specs.Whole.{deliveries, records_in, sent_in};
+ghost use Rattle.picture_rows.specs.Long.{IsLong};
 
 use picture_rows::{
     Arrow, History, Mark, PictureError, Rows, Seat, Stretch, Stub, Turn, arrows, fates_of,
@@ -37,12 +38,16 @@ pub(crate) struct Plan {
     pub(crate) messages: Vec<Envelope>,
 }
 
+/// What is drawn of a run, by rows and places. TooLong: it has 2^32 rows, or its tree 2^32 processes.
 pub(crate) fn plan_of(alloc: Global, scene: &Scene) -> Result<Plan, PictureError>
     ensures arrows { IfOk result (λ plan. map (λ (a : AnyArrow). a.number) plan.arrows.items
         ≡ deliveries (length (sent_in scene.now.entries.now)) scene.now.entries.now) }
     ensures marks { IfOk result (λ plan. map (λ (m : AnyMark). m.logged) plan.marks.items
         ≡ records_in scene.now.entries.now) }
     ensures messages { IfOk result (λ plan. plan.messages.items ≡ sent_in scene.now.entries.now) }
+    ensures seats { IfOk result (λ plan. length plan.seats.items ≤ length scene.now.tree.now) }
+    ensures err { IfErr result (λ e. e ≡ PictureError.TooLong
+        → IsLong scene.now.tree.now (length scene.now.turns.now) scene.now.entries.now) }
 {
     let entries = scene.entries;
     let seats = seats_of(alloc, scene.tree)?;
@@ -55,7 +60,7 @@ pub(crate) fn plan_of(alloc: Global, scene: &Scene) -> Result<Plan, PictureError
         stubs: stubs(alloc, &seats, entries, &fates, steps)?,
         marks: marks(alloc, &seats, entries, &fates, steps)?,
         messages: messages_of(alloc, entries)?,
-        stretches: stretches_of(alloc, seats.len(), &history.changes, steps, rows.end)?,
+        stretches: stretches_of(alloc, &seats, &history.changes, steps, rows.end)?,
         seats,
         rows,
         history,

@@ -1,7 +1,8 @@
 -- Events behind events.
-use Rattle.std.proofs.Common.{◌≡◌, ◌≢◌, ◌∙◌, ap, sym, subst, ℕ, zero, suc, ◌+◌, ◌<◌, ◌^◌, true, false, is_some, Some, None, List, [], ◌∷◌, ◌++◌, length, take, refl, arith, length-append}
+use Rattle.std.proofs.Common.{◌≡◌, ◌≢◌, ◌∙◌, ap, sym, subst, ℕ, zero, suc, ◌+◌, ◌<◌, ◌^◌, true, false, is_some, Some, None, List, [], ◌∷◌, ◌++◌, length, take, drop, inl, inr, ◌≤◌, refl, arith, length-append, append_assoc}
 use Rattle.std.specs.Prelude.{slice_get}
 use Rattle.std.proofs.Math.Seq.{take-append-add}
+use Rattle.std.proofs.lemmas.List.{take-append-drop}
 use Rattle.tree_model.specs.declared.events.Event.{Event}
 use Rattle.tree_model.specs.declared.events.StepError.{StepError}
 use Rattle.tree_model.specs.declared.events.StepError.TheVariants.{Memory, Device, Exhausted}
@@ -11,7 +12,10 @@ use Rattle.core_law.specs.worlds.Refusals.{Refusal}
 use Rattle.core_law.specs.worlds.Runs.{IsOpened, Leads, LeadsUntil}
 use Rattle.core_law.specs.worlds.Worlds.{Applies, Stops, WorldState}
 use Rattle.core_law.proofs.worlds.Whole.{run_of}
-use Rattle.tree_engine.specs.Runs.{ComesTo}
+use Rattle.report_io.specs.declared.streams.Failure.{Failure}
+use Rattle.report_io.specs.declared.streams.Failure.TheVariants as failure
+use Rattle.tree_engine.specs.Failures.{BreaksOff, CannotMake}
+use Rattle.tree_engine.specs.Runs.{ComesTo, IsFailure}
 use Rattle.tree_engine.specs.Trees.{Plays}
 
 leads_on : (s m e : WorldState) (xs ys : List Event) → Leads s xs m → Leads m ys e → Leads s (xs ++ ys) e
@@ -112,6 +116,60 @@ one_refused s now new given events None n k m e is h until sum few memory device
   itself = (memory, device, numbers);
   numbered = few;
 }
+
+-- one could not be made
+pub one_fails : (s now new : WorldState) (given : List Event) (refusal : Refusal) (n : ℕ) (event : Event)
+    (e : StepError) (why : Failure) → is_some refusal ≡ false → ComesTo s given refusal n now
+    → Stops now event e new → IsFailure e why → CannotMake s (given ++ event ∷ []) why
+one_fails s now new given (Some r) n event e why is h stops fails = absurd (cc)
+one_fails s now new given None n event e why is h stops fails = inl (record {
+  made = length given + 0;
+  refusal = e;
+  end = new;
+  until = until_on s now new given (event ∷ []) 0 e h.leads (one_stopped now new event e stops);
+  fails = fails;
+})
+
+-- one has no number
+pub one_unnumbered : (s now : WorldState) (given : List Event) (refusal : Refusal) (n : ℕ) (event : Event)
+    → is_some refusal ≡ false → ComesTo s given refusal n now → 2 ^ 64 ≤ n + 1
+    → CannotMake s (given ++ event ∷ []) failure.Exhausted
+one_unnumbered s now given (Some r) n event is h past = absurd (cc)
+one_unnumbered s now given None n event is h past =
+    let same = h.number refl in
+    let size : length (given ++ event ∷ []) ≡ length given + 1 = length-append given (event ∷ []) in
+    inr (refl, omega (arith, same, size, past))
+
+-- what cannot be made cannot be made with events behind it
+pub cannot_longer : (s : WorldState) (xs ys : List Event) (why : Failure) → CannotMake s xs why
+    → CannotMake s (xs ++ ys) why
+cannot_longer s xs ys why (inl h) = inl (record {
+  made = h.made;
+  refusal = h.refusal;
+  end = h.end;
+  until = until_stays s h.end xs ys h.made h.refusal h.until;
+  fails = h.fails;
+})
+cannot_longer s xs ys why (inr h) =
+    let size = length-append xs ys in
+    inr (h.0, let past = h.1 in omega (arith, size, past))
+
+-- the next of these cannot be made
+pub cannot_all : (s : WorldState) (given events : List Event) (k : ℕ) (event : Event) (rest : List Event)
+    (why : Failure) → drop k events ≡ event ∷ rest
+    → CannotMake s ((given ++ take k events) ++ event ∷ []) why → CannotMake s (given ++ events) why
+cannot_all s given events k event rest why next h =
+    subst (λ (xs : List Event). CannotMake s xs why)
+    (append_assoc (given ++ take k events) (event ∷ []) rest ∙ append_assoc given (take k events) (event ∷ rest)
+    ∙ ap (λ (xs : List Event). given ++ (take k events ++ xs)) (sym next)
+    ∙ ap (λ (xs : List Event). given ++ xs) (take-append-drop k events))
+    (cannot_longer s ((given ++ take k events) ++ event ∷ []) rest why h)
+
+-- fewer than 2^64 events cannot be made only where one is not
+pub breaks_off : (s : WorldState) (events : List Event) (why : Failure) → length events < 2 ^ 64
+    → CannotMake s events why → BreaksOff s events why
+breaks_off s events why few (inl h) = h
+breaks_off s events why few (inr h) = let past = h.1 in absurd (omega (arith, few, past))
 
 -- what a run comes to is a run of the model
 pub ran : (tree : List TreeEntry) (s now : WorldState) (given : List Event)

@@ -1,5 +1,8 @@
 pub mod Sums
 pub mod Traces
+pub mod Errors
+pub mod Fits
+pub mod Sending
 pub mod Going
 pub mod TreeReports
 pub mod OneScript

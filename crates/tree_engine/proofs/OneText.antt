@@ -1,10 +1,10 @@
 -- One input, one text.
-use Rattle.std.proofs.Common.{◌≡◌, ◌∙◌, ℕ, List, ◌++◌, Option, Some, None, refl, sym, ap, subst}
+use Rattle.std.proofs.Common.{◌≡◌, ◌∙◌, ℕ, List, ◌++◌, refl, sym, ap, subst}
 use Rattle.tree_model.specs.declared.events.Entry.{Entry}
 use Rattle.tree_model.specs.declared.events.Event.{Event}
 use Rattle.tree_model.specs.declared.trees.TreeEntry.{TreeEntry}
 use Rattle.trace_lines.specs.Trace.{entries_text}
-use Rattle.core_law.specs.worlds.Refusals.{IsForItself, LeadsTo, Refusal}
+use Rattle.core_law.specs.worlds.Refusals.{LeadsTo, Refusal}
 use Rattle.core_law.specs.worlds.Runs.{IsOpened}
 use Rattle.core_law.specs.worlds.Worlds.{WorldState}
 use Rattle.core_law.proofs.worlds.OneText.{one_text}
@@ -13,8 +13,7 @@ use Rattle.report_io.specs.declared.status.Status.TheVariants.{Ended, Refused, S
 use Rattle.tree_engine.specs.declared.tree.Output.{Output}
 use Rattle.tree_engine.specs.declared.tree.Output.TheVariants.{Counts, Logs, Picture, Trace}
 use Rattle.tree_engine.specs.OneText.{IsTrace, InputsHaveOneText}
-use Rattle.tree_engine.specs.Trees.{IsTreeReport, RefusesScript, RunsOver, RunsScript, Tells, counts_text, ending, fault_text, last_line, opened_text, trace_of}
-use Rattle.link_script.specs.declared.script.ScriptFault.{ScriptFault}
+use Rattle.tree_engine.specs.Trees.{RefusesScript, RunsScript, Tells, counts_text, ending, fault_text, last_line, opened_text, trace_of}
 use Rattle.tree_engine.proofs.OneScript.{no_fault, one_fault, one_script}
 use Rattle.tree_engine.proofs.TreeReports.{script_tree}
 

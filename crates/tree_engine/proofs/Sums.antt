@@ -34,7 +34,7 @@ sent_of_both ms ns =
     let inquire = of_kind kind.Inquire ms ns in
     cc
 
-counts_of_both : (ws vs : List Logged) (ms ns : List Envelope)
+pub counts_of_both : (ws vs : List Logged) (ms ns : List Envelope)
     → counts_of (ws ++ vs) (ms ++ ns) ≡ together (counts_of ws ms) (counts_of vs ns)
 counts_of_both ws vs ms ns =
     let records = length-append ws vs in

@@ -1,6 +1,6 @@
 -- What the processes of a run have written and sent, counted.
-use Rattle.std.specs.Prelude.{ℕ, ◌+◌, Bool, if◌then◌else◌, List, [], length, map, count_by}
-use Rattle.std.specs.List.{flat_map, fold}
+use Rattle.std.specs.Prelude.{ℕ, ◌+◌, ◌<◌, ◌^◌, Bool, if◌then◌else◌, List, [], length, map, count_by}
+use Rattle.std.specs.List.{AllByRecursion, flat_map, fold}
 use Rattle.tree_model.specs.declared.names.ProcessId.{ProcessId}
 use Rattle.tree_model.specs.declared.messages.Envelope.{Envelope}
 use Rattle.tree_model.specs.declared.messages.Message.{Message}
@@ -124,3 +124,30 @@ row_behind e row =
           (counts_of e.reaction.written e.reaction.messages);
     }
     else row
+
+-- What can be counted.
+
+-- messages of each kind are fewer than 2^64
+pub record FitSent (s : Sent) : Type 0 where
+  pub join : s.join < 2 ^ 64
+  pub joined : s.joined < 2 ^ 64
+  pub work : s.work < 2 ^ 64
+  pub prepare : s.prepare < 2 ^ 64
+  pub yes : s.yes < 2 ^ 64
+  pub no : s.no < 2 ^ 64
+  pub read : s.read < 2 ^ 64
+  pub commit : s.commit < 2 ^ 64
+  pub abort : s.abort < 2 ^ 64
+  pub ack : s.ack < 2 ^ 64
+  pub inquire : s.inquire < 2 ^ 64
+
+-- records and messages are fewer than 2^64
+pub record Fit (c : Counts) : Type 0 where
+  pub records : c.records < 2 ^ 64
+  pub forced : c.forced < 2 ^ 64
+  pub messages : c.messages < 2 ^ 64
+  pub sent : FitSent c.sent
+
+-- those of each of these processes are
+abbrev pub AllFit : List ProcessCounts → Type 0
+AllFit rows = AllByRecursion (λ r. Fit r.counts) rows

@@ -3,4 +3,5 @@ pub mod Texts
 pub mod Logs
 pub mod Trees
 pub mod Runs
+pub mod Failures
 pub mod OneText

@@ -1,9 +1,9 @@
 //! What the processes of a run have written and sent, counted.
 
-ghost use Rattle.std.specs.Prelude.{◌≡◌, ◌++◌, IfErr, IfOk};
-ghost use Rattle.report_io.specs.Streams.{IsUsedUp};
+ghost use Rattle.std.specs.Prelude.{◌≡◌, ◌⊎◌, ◌≤◌, ◌^◌, ◌++◌, IfErr, IfOk};
 ghost use Rattle.tree_engine.specs.Counts.{rows_of};
 ghost use Rattle.tree_world.specs.Worlds.{state};
+ghost use Rattle.tree_engine.specs.Failures.{IsUncounted, message_count};
 ghost use Rattle.tree_engine.specs.Trees.{IsNumbered, counts_text, ending, last_line, trace_of};
 
 use crate::rows::RunCounts;
@@ -21,8 +21,10 @@ fn discard(_entry: Entry) {}
 
 /// The counts of all steps that were made, each of which is made anew once. Exhausted: a sum is 2^64 or more.
 fn counted(alloc: Global, world: &World<MemoryStore>) -> Result<RunCounts, Failure>
-    ensures counts { IfOk result (λ counts. counts ≡ rows_of (state world.now).tree (state world.now).entries) }
-    ensures why { IfErr result IsUsedUp }
+    ensures counts { IfOk result (λ counts. counts
+        ≡ rows_of (state world.now).tree (state world.now).entries) }
+    ensures err { IfErr result (λ why. (why ≡ Failure.Memory)
+        ⊎ ((why ≡ Failure.Exhausted) × IsUncounted (state world.now))) }
 {
     let mut counts = RunCounts::new(alloc, world.tree().entries())?;
     for place in 0..world.made() {
@@ -47,7 +49,8 @@ pub(crate) fn counted_trace(
     ensures text { IfOk result (λ r. r.0.items ≡ (trace_of (state world.now) ++ last_line refusal)
         ++ counts_text (state world.now)) }
     ensures status { IfOk result (λ r. r.1 ≡ ending refusal) }
-    ensures why { IfErr result IsUsedUp }
+    ensures err { IfErr result (λ why. (why ≡ Failure.Memory) ⊎ ((why ≡ Failure.Exhausted)
+        × ((2 ^ 64 ≤ message_count (state world.now).entries) ⊎ IsUncounted (state world.now)))) }
 {
     let (mut text, status) = trace_text(alloc, world, refusal)?;
     let counts = counted(alloc, world)?;

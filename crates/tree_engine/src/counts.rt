@@ -1,7 +1,7 @@
 //! Counts of records and messages, and their sums.
 
-ghost use Rattle.std.specs.Prelude.{◌≡◌, [], IfSome};
-ghost use Rattle.tree_engine.specs.Counts.{count_forced, counts_of, sent_of, sent_together, together};
+ghost use Rattle.std.specs.Prelude.{◌≡◌, [], IfNone, IfSome};
+ghost use Rattle.tree_engine.specs.Counts.{Fit, FitSent, count_forced, counts_of, sent_of, sent_together, together};
 
 use crate::kinds::MessageKind;
 use tree_model::{Envelope, Logged, Reaction};
@@ -44,7 +44,8 @@ impl Sent {
 
     /// Both together. None, where a sum is 2^64 or more.
     pub fn plus(self, more: Sent) -> Option<Sent>
-        ensures { IfSome result (λ sum. sum ≡ sent_together self more) }
+        ensures sum { IfSome result (λ sum. sum ≡ sent_together self more) }
+        ensures none { IfNone result (FitSent (sent_together self more) → ⊥) }
     {
         Some(Sent {
             join: self.join.checked_add(more.join)?,
@@ -121,7 +122,8 @@ impl Counts {
 
     /// Both together. None, where a sum is 2^64 or more.
     pub fn plus(self, more: Counts) -> Option<Counts>
-        ensures { IfSome result (λ sum. sum ≡ together self more) }
+        ensures sum { IfSome result (λ sum. sum ≡ together self more) }
+        ensures none { IfNone result (Fit (together self more) → ⊥) }
     {
         Some(Counts {
             records: self.records.checked_add(more.records)?,

@@ -1,12 +1,16 @@
 //! The picture of a run.
 
-ghost use Rattle.std.specs.Prelude.{◌≡◌, ◌++◌, IfErr, IfOk, List, OnOk};
+ghost use Rattle.std.specs.Prelude.{◌≡◌, ◌⊎◌, ◌≤◌, ◌++◌, IfErr, IfOk, List, OnOk, length};
 ghost use Rattle.tree_model.specs.declared.events.Event.{Event as AnyEvent};
 ghost use Rattle.tree_model.specs.Trees.{IsTree};
-ghost use Rattle.report_io.specs.Streams.{IsOfRun, IsUsedUp};
+ghost use Rattle.report_io.specs.Streams.{IsOfRun};
+ghost use Rattle.picture_rows.specs.Long.{IsLong};
+ghost use Rattle.core_law.specs.worlds.Runs.{IsOpened};
 ghost use Rattle.core_law.specs.worlds.Worlds.{WorldState};
 ghost use Rattle.run_picture.specs.Pictures.{IsPicture};
 ghost use Rattle.tree_world.specs.Worlds.{state};
+ghost use Rattle.tree_engine.specs.declared.tree.Output.TheVariants as output;
+ghost use Rattle.tree_engine.specs.Failures.{BreaksOff, CannotMake, CannotTell};
 ghost use Rattle.tree_engine.specs.Runs.{Draws, HasCome};
 ghost use Rattle.tree_engine.specs.Trees.{ending};
 
@@ -39,6 +43,9 @@ fn entries_of(alloc: Global, world: &World<MemoryStore>) -> Result<Vec<Entry>, A
 fn make_turns(alloc: Global, run: &mut Run, events: &[Event]) -> Result<Vec<Turn>, Failure>
     ensures goes_on { OnOk result ((start : WorldState) (given : List AnyEvent)
         → HasCome start given run.old → HasCome start (given ++ events.now) run.new) }
+    ensures few { IfOk result (λ turns. length turns.items ≤ length events.now) }
+    ensures err { IfErr result (λ why. (why ≡ Failure.Memory) ⊎ ((start : WorldState) (given : List AnyEvent)
+        → HasCome start given run.old → CannotMake start (given ++ events.now) why)) }
     ensures why { IfErr result IsOfRun }
 {
     let mut turns = Vec::new(alloc);
@@ -73,7 +80,7 @@ fn cause_of(refusal: Refusal) -> Option<StepError> {
     }
 }
 
-/// The picture of a run of these events. Exhausted: it has 2^32 rows or more.
+/// The picture of a run of these events. Exhausted: it would have 2^32 rows or more.
 fn drawn(
     alloc: Global,
     world: &World<MemoryStore>,
@@ -82,7 +89,8 @@ fn drawn(
     turns: &[Turn],
 ) -> Result<Vec<u8>, Failure>
     ensures text { IfOk result (λ text. IsPicture (state world.now).entries text.items) }
-    ensures why { IfErr result IsUsedUp }
+    ensures err { IfErr result (λ why. (why ≡ Failure.Memory) ⊎ ((why ≡ Failure.Exhausted)
+        × IsLong (state world.now).tree (length turns.now) (state world.now).entries)) }
 {
     let entries = entries_of(alloc, world)?;
     let scene = Scene {
@@ -108,7 +116,8 @@ fn drawn_run(
 ) -> Result<(Vec<u8>, Status), Failure>
     ensures text { IfOk result (λ r. IsPicture (state run.now.world).entries r.0.items) }
     ensures status { IfOk result (λ r. r.1 ≡ ending run.now.refusal) }
-    ensures why { IfErr result IsUsedUp }
+    ensures err { IfErr result (λ why. (why ≡ Failure.Memory) ⊎ ((why ≡ Failure.Exhausted)
+        × IsLong (state run.now.world).tree (length turns.now) (state run.now.world).entries)) }
 {
     let text = drawn(alloc, &run.world, run.refusal, events, turns)?;
     Ok((text, status_of(run.refusal)))
@@ -122,6 +131,9 @@ pub(crate) fn draw_run(
 ) -> Result<(Vec<u8>, Status), Failure>
     requires { IsTree tree }
     ensures draws { IfOk result (λ r. Draws tree events.now r.1 r.0.items) }
+    ensures err { IfErr result (λ why. (why ≡ Failure.Memory)
+        ⊎ ((start : WorldState) × IsOpened start tree × BreaksOff start events.now why)
+        ⊎ ((why ≡ Failure.Exhausted) × CannotTell output.Picture tree events.now)) }
     ensures why { IfErr result IsOfRun }
 {
     let mut run = Run::open(alloc, tree)?;

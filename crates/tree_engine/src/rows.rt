@@ -4,7 +4,7 @@ ghost use Rattle.std.specs.Prelude.{◌≡◌, ◌++◌, ◌∷◌, [], IfErr, I
 ghost use Rattle.tree_model.specs.declared.events.Entry.{Entry as AnyEntry};
 ghost use Rattle.tree_model.specs.declared.trees.TreeEntry.{TreeEntry as AnyTreeEntry};
 ghost use Rattle.tree_model.specs.Names.{same_process};
-ghost use Rattle.tree_engine.specs.Counts.{row_behind, rows_of, total_of};
+ghost use Rattle.tree_engine.specs.Counts.{AllFit, Fit, row_behind, rows_of, total_of};
 
 use crate::counts::Counts;
 use report_io::Failure;
@@ -31,7 +31,8 @@ impl ProcessCounts {
     /// The same behind a step more. Exhausted: a sum is 2^64 or more.
     fn behind(self, entry: &Entry) -> Result<ProcessCounts, Failure>
         ensures ok { IfOk result (λ row. row ≡ row_behind entry.now self) }
-        ensures err { IfErr result (λ e. e ≡ Failure.Exhausted) }
+        ensures err { IfErr result (λ e. (e ≡ Failure.Exhausted)
+            × (Fit (row_behind entry.now self).counts → ⊥)) }
     {
         if !is_at(entry, self.process) {
             return Ok(self);
@@ -64,7 +65,8 @@ impl Model for RunCounts {
 /// The rows behind a step more. Exhausted: a sum is 2^64 or more.
 fn add_entry(rows: &mut [ProcessCounts], entry: &Entry) -> Result<(), Failure>
     ensures ok { OnOk result (rows.new ≡ map (row_behind entry.now) rows.old) }
-    ensures err { IfErr result (λ e. e ≡ Failure.Exhausted) }
+    ensures err { IfErr result (λ e. (e ≡ Failure.Exhausted)
+        × (AllFit (map (row_behind entry.now) rows.old) → ⊥)) }
 {
     for row in rows.iter_mut() {
         *row = row.behind(entry)?;
@@ -88,11 +90,14 @@ impl RunCounts {
         Ok(RunCounts { rows })
     }
 
-    /// Counts a step more of the run. Exhausted: a sum is 2^64 or more, and it counts nothing that can be told.
+    /// Counts a step more of the run. Exhausted: a sum is 2^64 or more, and it counts nothing that can be
+    /// told.
     pub fn add(&mut self, entry: &Entry) -> Result<(), Failure>
         ensures ok { OnOk result ((tree : List AnyTreeEntry) (entries : List AnyEntry)
             → self.old ≡ rows_of tree entries → self.new ≡ rows_of tree (entries ++ entry.now ∷ [])) }
-        ensures err { IfErr result (λ e. e ≡ Failure.Exhausted) }
+        ensures err { IfErr result (λ e. (e ≡ Failure.Exhausted)
+            × ((tree : List AnyTreeEntry) (entries : List AnyEntry) → self.old ≡ rows_of tree entries
+            → AllFit (rows_of tree (entries ++ entry.now ∷ [])) → ⊥)) }
     {
         add_entry(self.rows.as_mut_slice(), entry)
     }
@@ -101,7 +106,7 @@ impl RunCounts {
     #[tactic(auto, unfolding(crate::specs::Counts::total_of))]
     pub fn total(&self) -> Result<Counts, Failure>
         ensures ok { IfOk result (λ total. total ≡ total_of self.now) }
-        ensures err { IfErr result (λ e. e ≡ Failure.Exhausted) }
+        ensures err { IfErr result (λ e. (e ≡ Failure.Exhausted) × (Fit (total_of self.now) → ⊥)) }
     {
         let mut total = Counts::none();
         for row in self.rows() {

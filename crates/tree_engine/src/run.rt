@@ -1,10 +1,11 @@
 //! A run that goes on until an event is refused.
 
-ghost use Rattle.std.specs.Prelude.{◌≡◌, ◌+◌, ◌++◌, ◌∷◌, [], IfErr, IfOk, List, OnOk};
+ghost use Rattle.std.specs.Prelude.{◌≡◌, ◌⊎◌, ◌+◌, ◌++◌, ◌∷◌, [], IfErr, IfOk, List, OnOk};
 ghost use Rattle.report_io.specs.Streams.{IsOfRun};
 ghost use Rattle.tree_model.specs.declared.events.Event.{Event as AnyEvent};
 ghost use Rattle.tree_model.specs.Trees.{IsTree};
 ghost use Rattle.core_law.specs.worlds.Worlds.{WorldState};
+ghost use Rattle.tree_engine.specs.Failures.{CannotMake};
 ghost use Rattle.tree_engine.specs.Runs.{Begins, HasCome, IsFailure, IsOwn};
 
 use log_store::MemoryStore;
@@ -80,11 +81,13 @@ impl Run {
         self.refusal
     }
 
-    /// Makes this event behind those that it was given. Exhausted: it wants numbers that are used up, or it is
-    /// the 2^64th. Device comes of no store in memory.
+    /// Makes this event behind those that it was given, unless one of them was refused. Memory, Device,
+    /// Exhausted: the tree stops at it for that, or it is the 2^64th.
     pub fn make(&mut self, event: Event) -> Result<(), Failure>
         ensures goes_on { OnOk result ((start : WorldState) (given : List AnyEvent)
             → HasCome start given self.old → HasCome start (given ++ event ∷ []) self.new) }
+        ensures err { IfErr result (λ why. (start : WorldState) (given : List AnyEvent)
+            → HasCome start given self.old → CannotMake start (given ++ event ∷ []) why) }
         ensures why { IfErr result IsOfRun }
     {
         if self.refusal.is_some() {
@@ -105,10 +108,13 @@ impl Run {
         }
     }
 
-    /// Makes these events, one after another.
+    /// Makes these events, one after another. The errors are those of `make` at one of them, and Memory.
     pub fn make_all(&mut self, alloc: Global, events: &[Event]) -> Result<(), Failure>
         ensures goes_on { OnOk result ((start : WorldState) (given : List AnyEvent)
             → HasCome start given self.old → HasCome start (given ++ events.now) self.new) }
+        ensures err { IfErr result (λ why. (why ≡ Failure.Memory)
+            ⊎ ((start : WorldState) (given : List AnyEvent)
+            → HasCome start given self.old → CannotMake start (given ++ events.now) why)) }
         ensures why { IfErr result IsOfRun }
     {
         for event in events {

@@ -1,9 +1,8 @@
 //! The lines of counts.
 
-ghost use Rattle.std.specs.Prelude.{◌≡◌, ◌++◌, IfErr, OnOk};
-ghost use Rattle.report_io.specs.Streams.{IsUsedUp};
+ghost use Rattle.std.specs.Prelude.{◌≡◌, ◌⊎◌, ◌++◌, IfErr, OnOk};
 ghost use Rattle.tree_engine.specs.Texts.{count_text, kind_text, outcomes_text, row_text, rows_text, sent_text, tasks_text, total_text, totals_text, votes_text};
-ghost use Rattle.tree_engine.specs.Counts.{total_of};
+ghost use Rattle.tree_engine.specs.Counts.{Fit, total_of};
 
 use crate::counts::{Counts, Sent};
 use crate::rows::{ProcessCounts, RunCounts};
@@ -98,13 +97,14 @@ fn push_total(out: &mut Vec<u8>, total: &Counts) -> Result<(), AllocError>
     push(out, "\n")
 }
 
-/// Adds a line for each process, how many records it wrote, how many of them forced, and how many messages it
-/// sent, in all and of each kind that it sent, and a line of the sums. Exhausted: a sum is 2^64 or more. Behind
-/// an error a beginning of the lines may stand.
+/// Adds a line for each process, how many records it wrote, how many of them forced, and how many messages
+/// it sent, in all and of each kind that it sent, and a line of the sums. Exhausted: a sum is 2^64 or more.
+/// Behind an error a beginning of the lines may stand.
 pub fn push_counts(out: &mut Vec<u8>, counts: &RunCounts) -> Result<(), Failure>
     ensures ok { OnOk result (out.new.items ≡ out.old.items
         ++ (rows_text counts.now ++ total_text (total_of counts.now))) }
-    ensures why { IfErr result IsUsedUp }
+    ensures err { IfErr result (λ e. (e ≡ Failure.Memory)
+        ⊎ ((e ≡ Failure.Exhausted) × (Fit (total_of counts.now) → ⊥))) }
 {
     let total = counts.total()?;
     push_rows(out, counts)?;

@@ -1,10 +1,10 @@
 //! The trace of a run.
 
-ghost use Rattle.std.specs.Prelude.{◌≡◌, ◌+◌, ◌++◌, IfErr, IfOk, OnOk, length, slice_get, string_bytes};
-ghost use Rattle.report_io.specs.Streams.{IsUsedUp};
+ghost use Rattle.std.specs.Prelude.{◌≡◌, ◌⊎◌, ◌+◌, ◌≤◌, ◌^◌, ◌++◌, IfErr, IfOk, OnOk, length, slice_get, string_bytes};
 ghost use Rattle.trace_lines.specs.Trace.{entries_text};
 ghost use Rattle.short_steps.specs.Shown.{shown_part};
 ghost use Rattle.tree_world.specs.Worlds.{state};
+ghost use Rattle.tree_engine.specs.Failures.{PassesLast, message_count};
 ghost use Rattle.tree_engine.specs.Trees.{AddsStep, IsNumbered, ending, last_line, opened_text, opening_text, part_text, refused_text, trace_of};
 
 use crate::run::Refusal;
@@ -16,7 +16,7 @@ use tree_model::TreeEntry;
 use tree_world::World;
 use world_journal::Shown;
 
-/// The trace of what the tree has come to, and how its run ended. Exhausted: 2^64 messages were sent.
+/// The trace of what the tree has come to, and how its run ended. Exhausted: 2^64 messages or more were sent.
 pub fn trace_text(
     alloc: Global,
     world: &World<MemoryStore>,
@@ -25,7 +25,8 @@ pub fn trace_text(
     requires { IsNumbered refusal }
     ensures text { IfOk result (λ r. r.0.items ≡ trace_of (state world.now) ++ last_line refusal) }
     ensures status { IfOk result (λ r. r.1 ≡ ending refusal) }
-    ensures why { IfErr result IsUsedUp }
+    ensures err { IfErr result (λ why. (why ≡ Failure.Memory)
+        ⊎ ((why ≡ Failure.Exhausted) × (2 ^ 64 ≤ message_count (state world.now).entries))) }
 {
     let mut out = Vec::new(alloc);
     push_opened(alloc, &mut out, world.tree().entries())?;
@@ -85,7 +86,8 @@ fn opening_line(alloc: Global, process: u64) -> Result<String, AllocError>
 fn push_step(out: &mut Vec<u8>, sent: u64, step: &Shown) -> Result<u64, Failure>
     ensures sent { IfOk result (λ next. next ≡ sent + length step.now.messages.now) }
     ensures text { OnOk result (out.new.items ≡ out.old.items ++ part_text sent (shown_part step.now)) }
-    ensures why { IfErr result IsUsedUp }
+    ensures err { IfErr result (λ why. (why ≡ Failure.Memory)
+        ⊎ ((why ≡ Failure.Exhausted) × (2 ^ 64 ≤ sent + length step.now.messages.now))) }
 {
     let Some(next) = sent.checked_add(step.messages.len() as u64) else {
         return Err(Failure::Exhausted);
@@ -108,7 +110,8 @@ fn push_place(
 ) -> Result<Option<u64>, Failure>
     ensures text { IfOk result (AddsStep (slice_get (state world.now).entries place)
         out.old.items out.new.items sent) }
-    ensures why { IfErr result IsUsedUp }
+    ensures err { IfErr result (λ why. (why ≡ Failure.Memory)
+        ⊎ ((why ≡ Failure.Exhausted) × PassesLast sent (slice_get (state world.now).entries place))) }
 {
     match world.shown(place) {
         None => Ok(None),
@@ -119,7 +122,8 @@ fn push_place(
 /// The lines of a run's steps.
 fn push_entries(out: &mut Vec<u8>, world: &World<MemoryStore>) -> Result<(), Failure>
     ensures text { OnOk result (out.new.items ≡ out.old.items ++ entries_text 0 (state world.now).entries) }
-    ensures why { IfErr result IsUsedUp }
+    ensures err { IfErr result (λ why. (why ≡ Failure.Memory)
+        ⊎ ((why ≡ Failure.Exhausted) × (2 ^ 64 ≤ message_count (state world.now).entries))) }
 {
     let mut sent: u64 = 0;
     for place in 0..world.made() {

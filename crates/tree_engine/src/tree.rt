@@ -1,12 +1,14 @@
 //! The engine of tree scripts.
 
-ghost use Rattle.std.specs.Prelude.{◌≡◌, ℕ, [], List, IfErr, IfOk, Ok, OnOk, string_bytes};
+ghost use Rattle.std.specs.Prelude.{◌≡◌, ◌⊎◌, ℕ, [], List, IfErr, IfOk, Ok, OnOk, string_bytes};
 ghost use Rattle.std.specs.Io.KnownBytes.{Appends, Keeps};
 ghost use Rattle.tree_model.specs.declared.events.Event.{Event as AnyEvent};
-ghost use Rattle.link_script.specs.Inputs.{IsLineError, IsScriptFault, asked_by};
+ghost use Rattle.link_script.specs.Inputs.{AsksFirst, IsLineError, IsScriptFault, asked_by};
 ghost use Rattle.report_io.specs.declared.status.Status.{Status as AnyStatus};
-ghost use Rattle.report_io.specs.Streams.{IsInput, IsOfRun, IsUsedUp, WritesFront};
+ghost use Rattle.report_io.specs.Streams.{IsInput, IsOfRun, WritesFront};
 ghost use Rattle.tree_world.specs.Worlds.{state};
+ghost use Rattle.tree_engine.specs.declared.tree.Output.TheVariants as output;
+ghost use Rattle.tree_engine.specs.Failures.{BreaksOff, CannotReport, IsBeyond, IsStop, ScriptBreaksOff};
 ghost use Rattle.tree_engine.specs.Runs.{HasCome, PlaysScript};
 ghost use Rattle.tree_engine.specs.Trees.{IsNumbered, IsTreeReport, Tells, ending, fault_text, output_of};
 
@@ -45,16 +47,18 @@ enum LineOutput {
 }
 
 /// Reads a tree script, makes its events, and writes the trace, with the counts behind it where they are
-/// asked for, or the logs, or a picture; or one line that says why the script is refused. A refused event ends
-/// the trace by its number and why it was refused.
+/// asked for, or the logs, or a picture; or one line that says why the script is refused. A refused event
+/// ends the trace by its number and why it was refused.
 ///
 /// What is written is that of the run of just the script's events in the model; a refused event is one that
 /// the model refuses by that number. In this run no two processes end one transaction differently except by
 /// an operator's decision; commit is decided only where every participant voted yes or read-only; every
 /// answer that finds its asker in doubt tells the root's outcome; a mismatch stands until it is forgotten;
 /// an operator's record comes from an operator alone; and each End of the root reports mismatches truly (R*).
-/// After a failed read, or where memory is refused, a device fails or numbers are used up, nothing was written;
-/// after a failed write, a beginning of the text.
+/// After a failed read, or where memory is refused, a device fails or numbers are used up, nothing was
+/// written; after a failed write, a beginning of the text. Device and Exhausted come only where an event that
+/// the script asks for stops the tree for that reason, or where the messages come to 2^64 or more, a sum of
+/// the counts does, or the picture may have 2^32 rows.
 pub fn run_tree<R: Read, W: Write>(
     alloc: Global,
     output: Output,
@@ -72,6 +76,8 @@ pub fn run_tree<R: Read, W: Write>(
         → Keeps (W.contents writer.old) (W.contents writer.new)) }
     ensures unmade { IfErr result (λ e. IsOfRun e
         → Keeps (W.contents writer.old) (W.contents writer.new)) }
+    ensures stopped { IfErr result (λ e. IsStop e → (input : List ℕ)
+        × IsInput (R.remaining reader.old) input × CannotReport output input e) }
 {
     let input = read_all(alloc, reader)?;
     let (text, status) = report(alloc, output, &input)?;
@@ -84,6 +90,7 @@ pub fn run_tree<R: Read, W: Write>(
 /// The answer to an input.
 fn report(alloc: Global, output: Output, input: &[u8]) -> Result<(Vec<u8>, Status), Failure>
     ensures report { IfOk result (λ r. IsTreeReport output r.1 input.now r.0.items) }
+    ensures err { IfErr result (λ why. (why ≡ Failure.Memory) ⊎ CannotReport output input.now why) }
     ensures why { IfErr result IsOfRun }
 {
     match output {
@@ -97,6 +104,7 @@ fn report(alloc: Global, output: Output, input: &[u8]) -> Result<(Vec<u8>, Statu
 /// The picture of the run of a script, or what is wrong with it.
 fn picture_report(alloc: Global, input: &[u8]) -> Result<(Vec<u8>, Status), Failure>
     ensures report { IfOk result (λ r. IsTreeReport Output.Picture r.1 input.now r.0.items) }
+    ensures err { IfErr result (λ why. (why ≡ Failure.Memory) ⊎ CannotReport Output.Picture input.now why) }
     ensures why { IfErr result IsOfRun }
 {
     match read(alloc, input) {
@@ -113,6 +121,8 @@ fn line_report(
     input: &[u8],
 ) -> Result<(Vec<u8>, Status), Failure>
     ensures report { IfOk result (λ r. IsTreeReport (output_of output) r.1 input.now r.0.items) }
+    ensures err { IfErr result (λ why. (why ≡ Failure.Memory)
+        ⊎ CannotReport (output_of output) input.now why) }
     ensures why { IfErr result IsOfRun }
 {
     match play(alloc, input)? {
@@ -170,6 +180,7 @@ fn fault_of(error: ScriptError) -> Result<ScriptFault, Failure>
 fn play(alloc: Global, input: &[u8]) -> Result<Result<Run, ScriptFault>, Failure>
     ensures run { IfOk result (λ played. IfOk played (PlaysScript input.now)) }
     ensures fault { IfOk result (λ played. IfErr played (IsScriptFault input.now)) }
+    ensures err { IfErr result (λ why. (why ≡ Failure.Memory) ⊎ ScriptBreaksOff input.now why) }
     ensures why { IfErr result IsOfRun }
 {
     let (tree, lines) = match open(alloc, input) {
@@ -190,7 +201,8 @@ fn play(alloc: Global, input: &[u8]) -> Result<Result<Run, ScriptFault>, Failure
     }
 }
 
-/// Makes the event of each of these lines in a tree that has just opened; or tells the first line of no event.
+/// Makes the event of each of these lines in a tree that has just opened; or tells the first line of no
+/// event.
 fn make_lines(
     alloc: Global,
     run: &mut Run,
@@ -201,6 +213,8 @@ fn make_lines(
         × (asked_by lines.now ≡ Ok events) × HasCome (state run.old.world) events run.new)) }
     ensures fault { IfOk result (λ made. IfErr made
         (λ fault. IsLineError (ScriptError.Fault fault) (asked_by lines.now))) }
+    ensures err { IfErr result (λ why. (why ≡ Failure.Memory) ⊎ ((count : ℕ) × (events : List AnyEvent)
+        × AsksFirst lines.now count events × BreaksOff (state run.old.world) events why)) }
     ensures why { IfErr result IsOfRun }
 {
     for place in 0..lines.len() {
@@ -223,7 +237,8 @@ fn told(
     requires { IsNumbered refusal }
     ensures text { IfOk result (λ r. Tells (output_of output) (state world.now) refusal r.0.items) }
     ensures status { IfOk result (λ r. r.1 ≡ ending refusal) }
-    ensures why { IfErr result IsUsedUp }
+    ensures err { IfErr result (λ why. (why ≡ Failure.Memory) ⊎ ((why ≡ Failure.Exhausted)
+        × ((events : List AnyEvent) → IsBeyond (output_of output) events (state world.now)))) }
 {
     match output {
         LineOutput::Trace => trace_text(alloc, world, refusal),

@@ -9,8 +9,9 @@ ghost use Rattle.xa_engine.specs.Runs.{IsFresh, IsReport, Reports, Runs, Steps, 
 use crate::answer::push_answer;
 use crate::calls::{Manager, make};
 use crate::script::{Request, ScriptError, requests_of};
-use kv_manager::KvManager;
+use kv_manager::{KvManager, RecordsError, RestoreError};
 use log_store::MemoryStore;
+use rec_log::OpenError;
 use report_io::{Failure, Status, read_all, write_all};
 use std::alloc::{AllocError, Global};
 use std::io::{Read, Write};
@@ -75,13 +76,22 @@ fn refusal(alloc: Global, error: ScriptError) -> Result<Vec<u8>, AllocError>
 /// The process whose manager answers.
 const PROCESS: ProcessId = ProcessId(1);
 
-/// A manager over a store in memory whose log begins with it. An error says that memory was refused.
+/// A manager over a store in memory whose log begins with it. An error says that memory was refused: nothing
+/// that stands in an empty store is refused, and the device of one in memory does not fail.
+#[tactic(auto, using(tree_node::proofs::Refusals::manager_refused))]
 pub fn first_manager(alloc: Global) -> Result<Manager, AllocError>
     ensures { IfOk result (λ manager. IsFresh manager) }
 {
     match KvManager::restore(MemoryStore::new(alloc), PROCESS, alloc) {
         Ok(manager) => Ok(manager),
-        Err(_) => Err(AllocError),
+        Err((RestoreError::Log(OpenError::Memory), _store)) => Err(AllocError),
+        Err((RestoreError::Log(OpenError::Device), _store)) => unreachable!(),
+        Err((RestoreError::Log(OpenError::Damaged(_)), _store)) => unreachable!(),
+        Err((RestoreError::Log(OpenError::OldFormat), _store)) => unreachable!(),
+        Err((RestoreError::Records(RecordsError::Memory), _store)) => Err(AllocError),
+        Err((RestoreError::Records(RecordsError::Device), _store)) => unreachable!(),
+        Err((RestoreError::Records(RecordsError::Unfit), _store)) => unreachable!(),
+        Err((RestoreError::Records(RecordsError::Exhausted), _store)) => unreachable!(),
     }
 }
 

@@ -1,7 +1,8 @@
 use Rattle.std.proofs.Common.{subst, sym}
 use Rattle.link_script.specs.Inputs.{IsScript}
 use Rattle.tree_engine.proofs.TreeReports.{script_tree}
-use Rattle.cluster_engine.proofs.Reporting.{reported}
+use Rattle.tree_engine.proofs.Errors.{err_on}
+use Rattle.cluster_engine.proofs.Reporting.{not_reported, reported}
 use Rattle.cluster_engine.proofs.engine.report.Goals as goal
 
 pub run_script-requires-clause-tree : goal.run_script-requires-clause-tree
@@ -13,3 +14,10 @@ returns-in-Ok-clause-report g c =
     reported (λ r. r.0.items) c.args.output c.args.input.now c.in-Ok.tree c.deref.result.now c.run_script.result
     (subst (λ es. IsScript c.args.input.now c.in-Ok.tree es) (sym c.deref.ensures.value) c.in-Ok.ensures.ok)
     c.run_script.ensures.text
+
+pub returns-in-Ok-clause-err : goal.returns-in-Ok-clause-err
+returns-in-Ok-clause-err g c =
+    err_on _ _ c.run_script.result
+    (λ why. not_reported c.args.input.now c.in-Ok.tree c.deref.result.now why
+    (subst (λ es. IsScript c.args.input.now c.in-Ok.tree es) (sym c.deref.ensures.value) c.in-Ok.ensures.ok))
+    c.run_script.ensures.err

@@ -1,13 +1,17 @@
-use Rattle.cluster_engine.proofs.Tracing.{all_added, entry_added}
+use Rattle.cluster_engine.proofs.Tracing.{all_added, entry_added, sent_more}
 use Rattle.cluster_engine.proofs.trace.push_entries.Goals as goal
 
 pub loop-place-preserved : goal.loop-place-preserved
 loop-place-preserved c =
-    entry_added c.args.journal.now c.loop-place.place c.index-journal-place.result c.loop-place.sent _
-    c.loop-place.out.items c.push_entry.new.out.items _ c.loop-place-test.true c.in_ok-sent.ensures.sent
-    c.in_ok-sent.ensures.text c.loop-place.invariant
+    let h = c.loop-place.invariant in (
+      entry_added c.args.journal.now c.loop-place.place c.index-journal-place.result c.loop-place.sent _
+          c.loop-place.out.items c.push_entry.new.out.items _ c.loop-place-test.true c.in_ok-sent.ensures.sent
+          c.in_ok-sent.ensures.text h.0,
+      sent_more c.args.journal.now c.loop-place.place c.index-journal-place.result c.loop-place.sent _
+          c.loop-place-test.true c.in_ok-sent.ensures.sent h.1,
+    )
 
 pub returns-clause-text : goal.returns-clause-text
 returns-clause-text c =
     all_added c.args.journal.now c.loop-place.place c.loop-place.sent c.loop-place.out.items _
-    c.loop-place-test.false c.loop-place.invariant
+    c.loop-place-test.false c.loop-place.invariant.0

@@ -1,7 +1,8 @@
-use Rattle.std.proofs.Common.{◌∙◌, ap, subst}
+use Rattle.std.proofs.Common.{◌∙◌, ap, subst, inl, inr}
 use Rattle.crash_engine.specs.Trials.{EndsAlone, GoesOver, known_by}
 use Rattle.crash_engine.specs.Texts.{crashes_text, ending_by}
 use Rattle.crash_engine.proofs.Reports.{reported}
+use Rattle.crash_engine.proofs.Failing.{handed_on, script_breaks}
 use Rattle.crash_engine.proofs.engine.answer.Goals as goal
 
 pub returns-in_ok-text-in-Ok-clause-report : goal.returns-in_ok-text-in-Ok-clause-report
@@ -19,4 +20,19 @@ returns-in_ok-text-in-Ok-clause-report g c =
     (subst (λ es. GoesOver tree known es refusal trials) c.deref-in-Ok.ensures.value
     c.in_ok-trials-in-Ok.ensures.goes)
     (c.ending_of.ensures ∙ ap (λ ts. ending_by alone ts refusal) c.deref-in-Ok-3.ensures.value)
-    (c.in_ok-text-in-Ok.ensures.ok ∙ ap (λ ts. crashes_text alone ts refusal) c.deref-in-Ok-2.ensures.value)
+    (c.in_ok-text-in-Ok.ensures ∙ ap (λ ts. crashes_text alone ts refusal) c.deref-in-Ok-2.ensures.value)
+
+pub returns-in_err-alone-in-Ok-clause-err : goal.returns-in_err-alone-in-Ok-clause-err
+returns-in_err-alone-in-Ok-clause-err g c =
+    let why = c.in_err-alone-in-Ok.field-0.0 in
+    handed_on _ c.from_residual.result why c.from_residual.ensures.1 c.in_err-alone-in-Ok.ensures.err
+    (λ cannot. script_breaks c.args.input.now c.in-Ok.tree c.in-Ok.events.items c.deref.result.now why
+    c.in-Ok.ensures.ok c.deref.ensures.value (inl cannot))
+
+pub returns-in_err-trials-in-Ok-clause-err : goal.returns-in_err-trials-in-Ok-clause-err
+returns-in_err-trials-in-Ok-clause-err g c =
+    let why = c.in_err-trials-in-Ok.field-0.0 in
+    handed_on _ c.from_residual-in_err-trials-in-Ok.result why
+    c.from_residual-in_err-trials-in-Ok.ensures.1 c.in_err-trials-in-Ok.ensures.err
+    (λ cannot. script_breaks c.args.input.now c.in-Ok.tree c.in-Ok.events.items c.deref-in-Ok.result.now why
+    c.in-Ok.ensures.ok c.deref-in-Ok.ensures.value (inr cannot))

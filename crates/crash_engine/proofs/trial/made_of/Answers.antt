@@ -2,6 +2,7 @@ use Rattle.std.proofs.Common.{◌∙◌, [], None, Some, refl, subst, sym}
 use Rattle.tree_world.specs.Worlds.{state}
 use Rattle.tree_engine.specs.Trees.{Plays}
 use Rattle.crash_engine.proofs.Trying.{comes_to}
+use Rattle.crash_engine.proofs.Failing.{handed_on, run_breaks}
 use Rattle.crash_engine.proofs.trial.made_of.Goals as goal
 
 pub returns-in-None-clause-made : goal.returns-in-None-clause-made
@@ -31,3 +32,13 @@ returns-in-Some-clause-made c =
           (sym c.refusal-refusal.ensures ∙ c.in-Some.is) plays,
       refl,
     )
+
+pub returns-in_err-made-clause-err : goal.returns-in_err-made-clause-err
+returns-in_err-made-clause-err c =
+    let start = state c.in_ok-run.run'.world in
+    let begins = c.in_ok-run.ensures.begins in
+    let why = c.in_err-made.field-0.0 in
+    handed_on _ c.from_residual-in_err-made.result why c.from_residual-in_err-made.ensures.1
+    c.in_err-made.ensures.err
+    (λ cannot. run_breaks c.args.tree.now c.args.events.now start why begins.opened
+    (cannot start [] begins.begins))

@@ -1,7 +1,8 @@
-use Rattle.std.proofs.Common.{◌<◌, length, refl, arith}
+use Rattle.std.proofs.Common.{◌<◌, length, refl, arith, sym}
 use Rattle.std.proofs.lemmas.List.{get_or_default}
 use Rattle.crash_engine.specs.Trials.{known_by, trial_of}
 use Rattle.crash_engine.proofs.Trying.{all_points, none_tried, tried_more}
+use Rattle.crash_engine.proofs.Failing.{handed_on, point_breaks}
 use Rattle.crash_engine.proofs.trial.try_points.Goals as goal
 
 pub loop-point-init : goal.loop-point-init
@@ -23,3 +24,12 @@ returns-clause-tried c =
     all_points c.args.tree.now (known_by c.args.known.now) c.args.events.now c.args.points.now
     c.loop-point.point-index c.args.trials.now.items
     c.loop-point.trials.items (omega arith) c.loop-point.invariant
+
+pub returns-in_err-found-clause-err : goal.returns-in_err-found-clause-err
+returns-in_err-found-clause-err c =
+    let i = c.loop-point.point-index in
+    let why = c.in_err-found.field-0.0 in
+    let within : i < length c.args.points.now = omega arith in
+    handed_on _ c.from_residual.result why c.from_residual.ensures.1 c.in_err-found.ensures.err
+    (λ breaks. point_breaks c.args.tree.now c.args.events.now c.args.points.now _ why
+    (i, within, sym (get_or_default c.args.points.now i _ _ within)) breaks)

@@ -1,5 +1,4 @@
 use Rattle.std.proofs.Common.{refl, subst}
-use Rattle.rec_log.specs.Sights.{records_of}
 use Rattle.kv_manager.specs.declared.restart.RecordsError.TheVariants.{Memory}
 use Rattle.kv_manager.specs.Restarts.{LeavesNone, LeavesStore, NotRebuilt}
 use Rattle.kv_manager.proofs.Keeping.{made_error}

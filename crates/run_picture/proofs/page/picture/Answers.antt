@@ -1,10 +1,10 @@
 use Rattle.run_picture.proofs.Wholes.{pictured}
 use Rattle.run_picture.proofs.page.picture.Goals as goal
 
-pub returns : goal.returns
-returns c =
-    pictured (λ r. r.items) _ _ _ _ _ _ _ _ _ _ _ _ _ _ c.text_of.result c.in_ok-plan.ensures.arrows
+pub returns-clause-text : goal.returns-clause-text
+returns-clause-text c =
+    pictured _ _ _ _ _ _ _ _ _ _ _ _ _ _ _ c.in_ok-plan.ensures.arrows
     c.in_ok-plan.ensures.marks c.in_ok-plan.ensures.messages
     c.deref-2.ensures.value c.deref-3.ensures.value c.deref-4.ensures.value
     c.deref-6.ensures.value c.deref-7.ensures.value
-    c.in_ok-strokes.ensures c.in_ok-squares.ensures c.text_of.ensures
+    c.in_ok-strokes.ensures c.in_ok-squares.ensures c.in_ok-text.ensures

@@ -1,4 +1,4 @@
-use Rattle.std.proofs.Common.{List, ◌++◌, take}
+use Rattle.std.proofs.Common.{◌≤◌, List, ◌++◌, length, take}
 use Rattle.tree_model.specs.declared.events.Event.{Event}
 use Rattle.core_law.specs.worlds.Worlds.{WorldState}
 use Rattle.tree_engine.specs.Runs.{HasCome}
@@ -6,5 +6,6 @@ use Rattle.tree_engine.proofs.drawn.make_turns.Given as goal
 
 abbrev pub invariant-loop-event : goal.invariant-loop-event
 invariant-loop-event l =
-    (start : WorldState) (given : List Event) → HasCome start given l.initial.run
-    → HasCome start (given ++ take l.event-index l.events) l.run
+    ((start : WorldState) (given : List Event) → HasCome start given l.initial.run
+    → HasCome start (given ++ take l.event-index l.events) l.run)
+    × (length l.turns.items ≤ l.event-index)

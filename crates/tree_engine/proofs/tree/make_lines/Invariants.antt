@@ -1,5 +1,6 @@
-use Rattle.std.proofs.Common.{List}
+use Rattle.std.proofs.Common.{◌≤◌, List, length}
 use Rattle.tree_model.specs.declared.events.Event.{Event}
+use Rattle.link_script.specs.Inputs.{AsksFirst}
 use Rattle.link_script.proofs.Reading.{HasRead}
 use Rattle.tree_world.specs.Worlds.{state}
 use Rattle.tree_engine.specs.Runs.{HasCome}
@@ -8,3 +9,4 @@ use Rattle.tree_engine.proofs.tree.make_lines.Given as goal
 abbrev pub invariant-loop-place : goal.invariant-loop-place
 invariant-loop-place l =
     (events : List Event) × HasRead l.lines l.place events × HasCome (state l.initial.run.world) events l.run
+    × AsksFirst l.lines l.place events × (length events ≤ l.place)

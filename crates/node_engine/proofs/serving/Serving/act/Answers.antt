@@ -14,7 +14,7 @@ returns-then-is-clause-ok g c =
 
 pub returns-then-is-clause-err : goal.returns-then-is-clause-err
 returns-then-is-clause-err g c =
-    mine_err (λ text. text.items) (process_of_act c.args.self.now.root c.args.act.now) (state_of c.args.self.now)
+    mine_err (process_of_act c.args.self.now.root c.args.act.now) (state_of c.args.self.now)
     (state_of c.make.new.self) (ActInput c.args.act.now) c.make.result
     (process_tested c.process_of.result (process_of_act c.args.self.now.root c.args.act.now) c.args.self.now.me
     c.is.result true c.process_of.ensures c.is.ensures c.if-is.true) c.make.ensures.err
@@ -28,7 +28,7 @@ returns-else-is-clause-ok g c =
 
 pub returns-else-is-clause-err : goal.returns-else-is-clause-err
 returns-else-is-clause-err g c =
-    others_err (λ text. text.items) (process_of_act c.args.self.now.root c.args.act.now) (state_of c.args.self.now)
+    others_err (process_of_act c.args.self.now.root c.args.act.now) (state_of c.args.self.now)
     (state_of c.args.self.now) (ActInput c.args.act.now) c.refusal.result
     (process_tested c.process_of.result (process_of_act c.args.self.now.root c.args.act.now) c.args.self.now.me
-    c.is.result false c.process_of.ensures c.is.ensures c.if-is.false) refl
+    c.is.result false c.process_of.ensures c.is.ensures c.if-is.false) refl c.refusal.ensures.err

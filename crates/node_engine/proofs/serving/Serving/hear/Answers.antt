@@ -12,7 +12,7 @@ returns-then-is-clause-ok g c =
 
 pub returns-then-is-clause-err : goal.returns-then-is-clause-err
 returns-then-is-clause-err g c =
-    mine_err (λ text. text.items) c.args.envelope.now.to (state_of c.args.self.now) (state_of c.make.new.self)
+    mine_err c.args.envelope.now.to (state_of c.args.self.now) (state_of c.make.new.self)
     (MessageInput c.args.number c.args.envelope.now.message) c.make.result
     (sym c.is.ensures ∙ c.if-is.true) c.make.ensures.err
 
@@ -24,6 +24,6 @@ returns-else-is-clause-ok g c =
 
 pub returns-else-is-clause-err : goal.returns-else-is-clause-err
 returns-else-is-clause-err g c =
-    others_err (λ text. text.items) c.args.envelope.now.to (state_of c.args.self.now) (state_of c.args.self.now)
+    others_err c.args.envelope.now.to (state_of c.args.self.now) (state_of c.args.self.now)
     (MessageInput c.args.number c.args.envelope.now.message) c.refusal.result
-    (sym c.is.ensures ∙ c.if-is.false) refl
+    (sym c.is.ensures ∙ c.if-is.false) refl c.refusal.ensures.err

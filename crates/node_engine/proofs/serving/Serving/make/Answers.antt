@@ -12,9 +12,9 @@ returns-in-Ok-clause-ok g c =
 
 pub returns-in-Ok-clause-err : goal.returns-in-Ok-clause-err
 returns-in-Ok-clause-err g c =
-    shown_err (λ text. text.items) (state_of c.args.self.now) (core_of c.handle.new.self) (data_of c.handle.new.self)
+    shown_err (state_of c.args.self.now) (core_of c.handle.new.self) (data_of c.handle.new.self)
     (input_of c.args.input) c.in-Ok.reaction (state_of c.show.new.self) c.show.result
-    c.in-Ok.ensures.ok c.show.ensures.err
+    c.in-Ok.ensures.ok c.show.ensures.err c.show.ensures.why
 
 pub returns-in-Err-clause-ok : goal.returns-in-Err-clause-ok
 returns-in-Err-clause-ok g c =
@@ -24,6 +24,6 @@ returns-in-Err-clause-ok g c =
 
 pub returns-in-Err-clause-err : goal.returns-in-Err-clause-err
 returns-in-Err-clause-err g c =
-    refused_err (λ text. text.items) (state_of c.args.self.now) (core_of c.handle.new.self)
+    refused_err (state_of c.args.self.now) (core_of c.handle.new.self)
     (data_of c.handle.new.self) (input_of c.args.input) c.in-Err.error c.refusal.result
-    c.in-Err.ensures.err
+    c.in-Err.ensures.err c.refusal.ensures.err

@@ -1,7 +1,11 @@
-use Rattle.std.proofs.Common.{◌≡◌, [], ◌∷◌, is_some, true, false, arith, rules, subst, sym}
-use Rattle.core_law.specs.worlds.Worlds.{Stops}
+use Rattle.std.proofs.Common.{◌≡◌, List, [], ◌∷◌, ◌++◌, is_some, true, false, arith, rules, subst, sym}
+use Rattle.tree_model.specs.declared.events.Event.{Event}
+use Rattle.core_law.specs.worlds.Worlds.{Stops, WorldState}
 use Rattle.tree_world.specs.Worlds.{state}
-use Rattle.tree_engine.proofs.Going.{all_more, none_more, one_led, one_refused, one_stopped}
+use Rattle.tree_engine.specs.Failures.{CannotMake}
+use Rattle.tree_engine.specs.Runs.{HasCome}
+use Rattle.tree_engine.proofs.Errors.{made_error}
+use Rattle.tree_engine.proofs.Going.{all_more, none_more, one_fails, one_led, one_refused, one_stopped}
 use Rattle.tree_engine.proofs.run.Run.make.Goals as goal
 
 pub returns-then-is_some-clause-goes_on : goal.returns-then-is_some-clause-goes_on
@@ -30,3 +34,13 @@ returns-in_ok-own_refusal-in-Err-clause-goes_on c =
     old.refusal old.made 0 old.made c.in_ok-own_refusal-in-Err.field-0 is h
     (one_stopped (state old.world) new c.args.event c.in_ok-own_refusal-in-Err.field-0 stops)
     (omega arith) (search rules) own.0 own.1 own.2
+
+pub returns-in_err-own_refusal-in-Err-clause-err : goal.returns-in_err-own_refusal-in-Err-clause-err
+returns-in_err-own_refusal-in-Err-clause-err c =
+    let old = c.args.self.now in
+    let is : is_some old.refusal ≡ false = search rules in
+    let why = c.in_err-own_refusal-in-Err.field-0.0 in
+    made_error (λ why. (start : WorldState) (given : List Event) → HasCome start given old
+    → CannotMake start (given ++ c.args.event ∷ []) why) why c.from_residual.result c.from_residual.ensures.1
+    (λ start given h. one_fails start (state old.world) (state c.apply.new.self) given old.refusal old.made
+    c.args.event c.in-Err.refusal why is h c.in-Err.ensures.err c.in_err-own_refusal-in-Err.ensures.err)

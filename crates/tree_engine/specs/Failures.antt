@@ -1,0 +1,95 @@
+-- Why a run ends without a text, where memory was not refused and neither reading nor writing failed.
+use Rattle.std.specs.Prelude.{◌≡◌, ◌⊎◌, ◌+◌, ◌≤◌, ◌^◌, ℕ, Option, Some, None, List, length}
+use Rattle.std.specs.List.{flat_map}
+use Rattle.tree_model.specs.declared.events.Entry.{Entry}
+use Rattle.tree_model.specs.declared.events.Event.{Event}
+use Rattle.tree_model.specs.declared.events.StepError.{StepError}
+use Rattle.tree_model.specs.declared.trees.TreeEntry.{TreeEntry}
+use Rattle.tree_model.specs.Trees.{root_of}
+use Rattle.link_script.specs.Inputs.{AsksFirst, IsFront, IsScript, LinesState}
+use Rattle.core_law.specs.worlds.Refusals.{Refusal}
+use Rattle.core_law.specs.worlds.Runs.{IsOpened, LeadsUntil}
+use Rattle.core_law.specs.worlds.Worlds.{WorldState}
+use Rattle.picture_rows.specs.Long.{IsLong}
+use Rattle.report_io.specs.declared.streams.Failure.{Failure}
+use Rattle.report_io.specs.declared.streams.Failure.TheVariants.{Device, Exhausted}
+use Rattle.tree_engine.specs.declared.tree.Output.{Output}
+use Rattle.tree_engine.specs.declared.tree.Output.TheVariants.{Counts, Logs, Picture, Trace}
+use Rattle.tree_engine.specs.Counts.{Fit, rows_of, total_of}
+use Rattle.tree_engine.specs.Runs.{IsFailure}
+use Rattle.tree_engine.specs.Trees.{Plays}
+
+-- Events.
+
+-- one of these events, made one after another from this state on, is not made for this reason
+pub record BreaksOff (start : WorldState) (events : List Event) (why : Failure) : Type 0 where
+  pub made : ℕ
+  pub refusal : StepError
+  pub end : WorldState
+  pub until : LeadsUntil start events made refusal end
+  pub fails : IsFailure refusal why
+
+-- these events cannot all be made for this reason: one of them is not, or they are 2^64 or more
+abbrev pub CannotMake : WorldState → List Event → Failure → Type 0
+CannotMake start events why =
+    BreaksOff start events why ⊎ ((why ≡ Exhausted) × (2 ^ 64 ≤ length events))
+
+-- The input is a script as far as its lines. The first of them ask for events of which one, in a tree that has opened,
+-- is not made for this reason.
+pub record ScriptBreaksOff (input : List ℕ) (why : Failure) : Type 0 where
+  pub tree : List TreeEntry
+  pub lines : LinesState
+  pub front : IsFront input tree lines.before lines.lines
+  pub root : lines.root ≡ root_of tree
+  pub count : ℕ
+  pub events : List Event
+  pub asks : AsksFirst lines count events
+  pub start : WorldState
+  pub opens : IsOpened start tree
+  pub breaks : BreaksOff start events why
+
+-- What is written.
+
+-- how many messages were sent in these steps
+abbrev pub message_count : List Entry → ℕ
+message_count es = length (flat_map (λ e. e.reaction.messages) es)
+
+-- behind so many messages those of this step, if there is one, come to 2^64 or more
+abbrev pub PassesLast : ℕ → Option Entry → Type 0
+PassesLast sent None = ⊥
+PassesLast sent (Some e) = 2 ^ 64 ≤ sent + length e.reaction.messages
+
+-- a sum of what the processes wrote and sent is 2^64 or more
+abbrev pub IsUncounted : WorldState → Type 0
+IsUncounted w = Fit (total_of (rows_of w.tree w.entries)) → ⊥
+
+-- numbers are used up for what is written of a state, to which these events led: its messages come to 2^64 or more,
+-- or a sum of its counts does, or its picture would be too long
+abbrev pub IsBeyond : Output → List Event → WorldState → Type 0
+IsBeyond Trace events w = 2 ^ 64 ≤ message_count w.entries
+IsBeyond Logs events w = 2 ^ 64 ≤ message_count w.entries
+IsBeyond Counts events w = (2 ^ 64 ≤ message_count w.entries) ⊎ IsUncounted w
+IsBeyond Picture events w = IsLong w.tree (length events) w.entries
+
+-- these events led the tree, opened, to a state of which nothing is written, for numbers are used up
+pub record CannotTell (output : Output) (tree : List TreeEntry) (events : List Event) : Type 0 where
+  pub refusal : Refusal
+  pub end : WorldState
+  pub plays : Plays tree events refusal end
+  pub beyond : IsBeyond output events end
+
+-- the input is a script of such a tree and such events
+pub record ScriptIsBeyond (output : Output) (input : List ℕ) : Type 0 where
+  pub tree : List TreeEntry
+  pub events : List Event
+  pub script : IsScript input tree events
+  pub beyond : CannotTell output tree events
+
+-- why nothing is written of an input
+abbrev pub CannotReport : Output → List ℕ → Failure → Type 0
+CannotReport output input why =
+    ScriptBreaksOff input why ⊎ ((why ≡ Exhausted) × ScriptIsBeyond output input)
+
+-- a device failed, or numbers are used up
+abbrev pub IsStop : Failure → Type 0
+IsStop e = (e ≡ Device) ⊎ (e ≡ Exhausted)
