@@ -1,6 +1,5 @@
 pub mod Sums
 pub mod Traces
-pub mod Errors
 pub mod Fits
 pub mod Sending
 pub mod Going

@@ -1,7 +1,7 @@
 use Rattle.std.proofs.Common.{subst, sym}
 use Rattle.link_script.specs.Inputs.{IsScript}
 use Rattle.tree_engine.proofs.TreeReports.{script_tree}
-use Rattle.tree_engine.proofs.Errors.{err_on}
+use Rattle.std.proofs.lemmas.Result.{IfErr-weaker}
 use Rattle.cluster_engine.proofs.Reporting.{not_reported, reported}
 use Rattle.cluster_engine.proofs.engine.report.Goals as goal
 
@@ -17,7 +17,7 @@ returns-in-Ok-clause-report g c =
 
 pub returns-in-Ok-clause-err : goal.returns-in-Ok-clause-err
 returns-in-Ok-clause-err g c =
-    err_on _ _ c.run_script.result
+    IfErr-weaker c.run_script.result _ _
     (λ why. not_reported c.args.input.now c.in-Ok.tree c.deref.result.now why
     (subst (λ es. IsScript c.args.input.now c.in-Ok.tree es) (sym c.deref.ensures.value) c.in-Ok.ensures.ok))
     c.run_script.ensures.err

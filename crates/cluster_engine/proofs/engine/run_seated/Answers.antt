@@ -2,7 +2,7 @@ use Rattle.std.proofs.Common.{◌∙◌, refl, subst, sym}
 use Rattle.tree_model.specs.Trees.{root_of}
 use Rattle.tree_cluster.specs.Opening.{SeatsTree}
 use Rattle.cluster_engine.specs.Made.{FirstMade}
-use Rattle.tree_engine.proofs.Errors.{err_on}
+use Rattle.std.proofs.lemmas.Result.{IfErr-weaker}
 use Rattle.cluster_engine.proofs.Reporting.{closed_written, not_closed, not_posted}
 use Rattle.cluster_engine.proofs.engine.run_seated.Goals as goal
 
@@ -26,9 +26,9 @@ returns-in-None-clause-text g c =
 
 pub returns-in-None-clause-err : goal.returns-in-None-clause-err
 returns-in-None-clause-err g c =
-    err_on _ _ c.closed_text.result (not_closed c.args.tree c.args.events.now) c.closed_text.ensures.err
+    IfErr-weaker c.closed_text.result _ _ (not_closed c.args.tree c.args.events.now) c.closed_text.ensures.err
 
 pub returns-in-Some-clause-err : goal.returns-in-Some-clause-err
 returns-in-Some-clause-err g c =
-    err_on _ _ c.refused_line.result (λ why. not_posted c.args.tree c.args.events.now c.in-Some.made c.in-Some.why why
+    IfErr-weaker c.refused_line.result _ _ (λ why. not_posted c.args.tree c.args.events.now c.in-Some.made c.in-Some.why why
     c.in-Some.ensures.within) c.refused_line.ensures.err

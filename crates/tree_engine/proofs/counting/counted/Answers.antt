@@ -3,7 +3,7 @@ use Rattle.tree_engine.specs.Counts.{rows_of}
 use Rattle.tree_world.specs.Worlds.{state}
 use Rattle.report_io.specs.declared.streams.Failure.TheVariants.{Exhausted, Memory}
 use Rattle.tree_engine.specs.Failures.{IsUncounted}
-use Rattle.tree_engine.proofs.Errors.{made_error}
+use Rattle.tree_world.proofs.Handling.{passed_on}
 use Rattle.tree_engine.proofs.Fits.{not_all_counted}
 use Rattle.tree_engine.proofs.Traces.{taken_at}
 use Rattle.tree_engine.proofs.counting.counted.Goals as goal
@@ -20,8 +20,9 @@ returns-in_err-added-clause-err c =
     let w = state c.args.world.now in
     let k = c.loop-place.place in
     let said = c.in_err-added.ensures.err in
-    made_error (λ why. (why ≡ Memory) ⊎ ((why ≡ Exhausted) × IsUncounted w)) c.in_err-added.field-0.0
-    c.from_residual-in_err-added.result c.from_residual-in_err-added.ensures.1
+    passed_on c.from_residual-in_err-added.result c.in_err-added.field-0.0
+    (λ why. (why ≡ Memory) ⊎ ((why ≡ Exhausted) × IsUncounted w))
+    c.from_residual-in_err-added.ensures.1
     (inr (
       said.0,
       not_all_counted w.tree w.entries k c.in-Some.entry (sym c.in_ok-entry.ensures ∙ c.in-Some.is)

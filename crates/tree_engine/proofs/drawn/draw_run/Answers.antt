@@ -1,6 +1,6 @@
 use Rattle.std.proofs.Common.{◌≤◌, List, length, subst, sym}
 use Rattle.picture_rows.specs.declared.rows.Turn.{Turn}
-use Rattle.tree_engine.proofs.Errors.{err_on}
+use Rattle.std.proofs.lemmas.Result.{IfErr-weaker}
 use Rattle.tree_engine.proofs.TreeReports.{draws_run, run_not_drawn}
 use Rattle.tree_engine.proofs.drawn.draw_run.Goals as goal
 
@@ -14,7 +14,7 @@ returns-in-Ok-clause-err c =
     let turns = length c.deref.result.now in
     let few : turns ≤ length c.args.events.now =
     subst (λ (xs : List Turn). length xs ≤ length c.args.events.now) (sym c.deref.ensures.value) c.in-Ok.ensures.few in
-    err_on _ _ c.drawn_run-drawn.result
+    IfErr-weaker c.drawn_run-drawn.result _ _
     (λ why. run_not_drawn c.args.tree c.args.events.now c.in_ok-run.run' c.make_turns.new.run turns why
     c.in_ok-run.ensures.begins c.in-Ok.ensures.goes_on few)
     c.drawn_run-drawn.ensures.err

@@ -3,7 +3,7 @@ use Rattle.std.proofs.lemmas.List.{get_or_default}
 use Rattle.std.proofs.lemmas.List.Edits.{map_over_more}
 use Rattle.report_io.specs.declared.streams.Failure.TheVariants.{Exhausted}
 use Rattle.tree_engine.specs.Counts.{AllFit, row_behind}
-use Rattle.tree_engine.proofs.Errors.{made_error}
+use Rattle.tree_world.proofs.Handling.{passed_on}
 use Rattle.tree_engine.proofs.Fits.{row_fits}
 use Rattle.tree_engine.proofs.rows.add_entry.Goals as goal
 
@@ -21,8 +21,9 @@ returns-in_err-row-clause-err c =
     let i = c.loop-row.row-index in
     let within : i < length c.args.rows.now = omega arith in
     let said = c.in_err-row.ensures.err in
-    made_error (λ why. (why ≡ Exhausted) × (AllFit (map (row_behind c.args.entry.now) c.args.rows.now) → ⊥))
-    c.in_err-row.field-0.0 c.from_residual.result c.from_residual.ensures.1 (
+    passed_on c.from_residual.result c.in_err-row.field-0.0
+    (λ why. (why ≡ Exhausted) × (AllFit (map (row_behind c.args.entry.now) c.args.rows.now) → ⊥))
+    c.from_residual.ensures.1 (
       said.0,
       λ fit. said.1 (row_fits (row_behind c.args.entry.now) c.args.rows.now
           c.loop-row.rows i _ within c.loop-row.invariant fit),

@@ -4,7 +4,7 @@ use Rattle.tree_world.specs.Worlds.{state}
 use Rattle.report_io.specs.declared.streams.Failure.TheVariants.{Exhausted, Memory}
 use Rattle.tree_engine.specs.Failures.{message_count}
 use Rattle.tree_engine.specs.Trees.{AddsStep}
-use Rattle.tree_engine.proofs.Errors.{made_error}
+use Rattle.tree_world.proofs.Handling.{passed_on}
 use Rattle.tree_engine.proofs.Sending.{entries_past, sent_behind}
 use Rattle.tree_engine.proofs.Traces.{none_added, step_added}
 use Rattle.tree_engine.proofs.trace.push_entries.Goals as goal
@@ -32,7 +32,8 @@ returns-in_default-clause-text c =
 pub returns-in_err-next-clause-err : goal.returns-in_err-next-clause-err
 returns-in_err-next-clause-err c =
     let es = (state c.args.world.now).entries in
-    made_error (λ why. (why ≡ Memory) ⊎ ((why ≡ Exhausted) × (2 ^ 64 ≤ message_count es)))
-    c.in_err-next.field-0.0 c.from_residual.result c.from_residual.ensures.1
+    passed_on c.from_residual.result c.in_err-next.field-0.0
+    (λ why. (why ≡ Memory) ⊎ ((why ≡ Exhausted) × (2 ^ 64 ≤ message_count es)))
+    c.from_residual.ensures.1
     (entries_past es c.loop-place.place c.loop-place.sent c.in_err-next.field-0.0 c.in_err-next.ensures.err
     c.loop-place.invariant.1)

@@ -6,7 +6,7 @@ use Rattle.tree_world.specs.Worlds.{state}
 use Rattle.link_script.proofs.Fronts.{asks_no_more, asks_none, asks_one_more}
 use Rattle.link_script.proofs.Reading.{reads_all, reads_event, reads_fault, reads_nothing}
 use Rattle.tree_engine.specs.Failures.{BreaksOff}
-use Rattle.tree_engine.proofs.Errors.{made_error}
+use Rattle.tree_world.proofs.Handling.{passed_on}
 use Rattle.tree_engine.proofs.Going.{breaks_off}
 use Rattle.tree_engine.proofs.TreeReports.{reads_start}
 use Rattle.tree_engine.proofs.tree.make_lines.Goals as goal
@@ -54,9 +54,10 @@ returns-in_err-make-in-Ok-Some-clause-err c =
     let size = length-append h.0 (c.in-Ok-Some.event ∷ []) in
     let short : length all < 2 ^ 64 = omega (arith, few, size) in
     let why = c.in_err-make-in-Ok-Some.field-0.0 in
-    made_error (λ why. (why ≡ Memory) ⊎ ((count : ℕ) × (events : List Event)
-    × AsksFirst c.args.lines.now count events × BreaksOff start events why)) why
-    c.from_residual-in_err-make-in-Ok-Some.result c.from_residual-in_err-make-in-Ok-Some.ensures.1
+    passed_on c.from_residual-in_err-make-in-Ok-Some.result why
+    (λ why. (why ≡ Memory) ⊎ ((count : ℕ) × (events : List Event)
+    × AsksFirst c.args.lines.now count events × BreaksOff start events why))
+    c.from_residual-in_err-make-in-Ok-Some.ensures.1
     (inr (
       c.loop-place.place + 1,
       all,

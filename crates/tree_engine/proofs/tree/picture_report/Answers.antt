@@ -2,7 +2,7 @@ use Rattle.std.proofs.Common.{subst, sym}
 use Rattle.std.specs.Prelude.{IfOk}
 use Rattle.tree_engine.specs.Runs.{Draws}
 use Rattle.link_script.specs.Inputs.{IsScript}
-use Rattle.tree_engine.proofs.Errors.{err_on}
+use Rattle.std.proofs.lemmas.Result.{IfErr-weaker}
 use Rattle.tree_engine.proofs.TreeReports.{drawn_reported, not_drawn, script_tree}
 use Rattle.tree_engine.proofs.tree.picture_report.Goals as goal
 
@@ -17,7 +17,7 @@ returns-in-Ok-clause-report c =
 
 pub returns-in-Ok-clause-err : goal.returns-in-Ok-clause-err
 returns-in-Ok-clause-err c =
-    err_on _ _ c.draw_run.result
+    IfErr-weaker c.draw_run.result _ _
     (λ why. not_drawn c.args.input.now c.in-Ok.tree c.deref.result.now why
     (subst (IsScript c.args.input.now c.in-Ok.tree) (sym c.deref.ensures.value) c.in-Ok.ensures.ok))
     c.draw_run.ensures.err

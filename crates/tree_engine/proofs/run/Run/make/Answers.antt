@@ -4,7 +4,7 @@ use Rattle.core_law.specs.worlds.Worlds.{Stops, WorldState}
 use Rattle.tree_world.specs.Worlds.{state}
 use Rattle.tree_engine.specs.Failures.{CannotMake}
 use Rattle.tree_engine.specs.Runs.{HasCome}
-use Rattle.tree_engine.proofs.Errors.{made_error}
+use Rattle.tree_world.proofs.Handling.{passed_on}
 use Rattle.tree_engine.proofs.Going.{all_more, none_more, one_fails, one_led, one_refused, one_stopped}
 use Rattle.tree_engine.proofs.run.Run.make.Goals as goal
 
@@ -40,7 +40,9 @@ returns-in_err-own_refusal-in-Err-clause-err c =
     let old = c.args.self.now in
     let is : is_some old.refusal ≡ false = search rules in
     let why = c.in_err-own_refusal-in-Err.field-0.0 in
-    made_error (λ why. (start : WorldState) (given : List Event) → HasCome start given old
-    → CannotMake start (given ++ c.args.event ∷ []) why) why c.from_residual.result c.from_residual.ensures.1
+    passed_on c.from_residual.result why
+    (λ why. (start : WorldState) (given : List Event) → HasCome start given old
+    → CannotMake start (given ++ c.args.event ∷ []) why)
+    c.from_residual.ensures.1
     (λ start given h. one_fails start (state old.world) (state c.apply.new.self) given old.refusal old.made
     c.args.event c.in-Err.refusal why is h c.in-Err.ensures.err c.in_err-own_refusal-in-Err.ensures.err)

@@ -5,7 +5,7 @@ use Rattle.core_law.specs.worlds.Worlds.{WorldState}
 use Rattle.report_io.specs.declared.streams.Failure.TheVariants.{Memory}
 use Rattle.tree_engine.specs.Failures.{CannotMake}
 use Rattle.tree_engine.specs.Runs.{HasCome}
-use Rattle.tree_engine.proofs.Errors.{made_error}
+use Rattle.tree_world.proofs.Handling.{passed_on}
 use Rattle.tree_engine.proofs.Going.{cannot_all}
 use Rattle.tree_engine.proofs.run.Run.make_all.Goals as goal
 
@@ -18,9 +18,10 @@ returns-in_err-make-clause-err c =
     at_drop_more (λ es. es) events k c.event-item.result c.loop-event-test.true
     ∙ ap (λ e. e ∷ rest) (sym c.event-item.is) in
     let why = c.in_err-make.field-0.0 in
-    made_error (λ why. (why ≡ Memory) ⊎ ((start : WorldState) (given : List Event)
-    → HasCome start given c.args.self.now → CannotMake start (given ++ events) why)) why
-    c.from_residual-in_err-make.result c.from_residual-in_err-make.ensures.1
+    passed_on c.from_residual-in_err-make.result why
+    (λ why. (why ≡ Memory) ⊎ ((start : WorldState) (given : List Event)
+    → HasCome start given c.args.self.now → CannotMake start (given ++ events) why))
+    c.from_residual-in_err-make.ensures.1
     (inr (λ start given h. cannot_all start given events k c.event-item.result rest why next
     (subst (λ e. CannotMake start ((given ++ take k events) ++ e ∷ []) why) c.in_ok-copied.ensures
     (c.in_err-make.ensures.err start (given ++ take k events) (c.loop-event.invariant start given h)))))
