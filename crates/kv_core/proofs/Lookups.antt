@@ -18,8 +18,20 @@ same_itself a = search rules
 pub true_is_false : {A : Type 0} → true ≡ false → A
 true_is_false q = absurd (cc)
 
+same_turns : (a b : Xid) → same a b ≡ same b a
+same_turns a b = by_test (same a b) (same b a) refl refl
+  where
+    by_test : (s t : Bool) → same a b ≡ s → same b a ≡ t → same a b ≡ same b a
+    by_test true t e f = ap (λ u. same u b) (same_is a b e) ∙ ap (same b) (sym (same_is a b e))
+    by_test false true e f = ap (same a) (same_is b a f) ∙ ap (λ u. same u a) (sym (same_is b a f))
+    by_test false false e f = e ∙ sym f
+
 pub same_laws : IsEquivalence same
-same_laws = search rules
+same_laws = record {
+  refl = same_itself;
+  symm = same_turns;
+  congr = λ x y z h. ap (λ u. same u z) (same_is x y h);
+}
 
 pub apart_turns : (a b : Xid) → same a b ≡ false → same b a ≡ false
 apart_turns a b h = by_test (same b a) refl

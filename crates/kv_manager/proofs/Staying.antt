@@ -15,7 +15,7 @@ use Rattle.xa_tables.specs.declared.states.BranchState.TheVariants.{S0, S1, S2, 
 use Rattle.xa_xid.specs.declared.xid.Xid.{Xid}
 use Rattle.xa_xid.specs.Xids.{null_xid}
 use Rattle.xa_assoc.specs.Associations.{Row}
-use Rattle.xa_branch.proofs.Names.{same_is}
+use Rattle.xa_branch.proofs.Names.{same_is, same_refl}
 use Rattle.xa_branch.specs.Branches.{Moves as BranchMoves, Scans, scan_refusal, state_in}
 use Rattle.xa_branch.specs.Names.{same}
 use Rattle.xa_assoc.specs.declared.states.States.{States}
@@ -128,7 +128,7 @@ checked_doubts wanted old new c t x answer w checked = by_init old.init refl
     by_name false e opened =
         does_doubts wanted old new c t x answer w
         (checked.does opened (λ is. let never : false ≡ true = sym e
-        ∙ ap (λ z. same z null_xid) is ∙ refl in absurd (cc)))
+        ∙ ap (λ z. same z null_xid) is ∙ same_refl null_xid in absurd (cc)))
 
     by_init : (i : InitState) → old.init ≡ i → SameDoubts old new
     by_init R0 e = same_doubts old new (checked.closed e).1

@@ -14,7 +14,7 @@ use Rattle.xa_tables.specs.declared.states.InitState.TheVariants.{R0, R1}
 use Rattle.xa_tables.specs.declared.states.BranchState.{BranchState}
 use Rattle.xa_xid.specs.declared.xid.Xid.{Xid}
 use Rattle.xa_xid.specs.Xids.{null_xid}
-use Rattle.xa_branch.proofs.Names.{same_is}
+use Rattle.xa_branch.proofs.Names.{same_is, same_refl}
 use Rattle.xa_branch.specs.Branches.{is_known, off_row}
 use Rattle.xa_branch.specs.Names.{same}
 use Rattle.xa_assoc.specs.declared.states.States.{States}
@@ -191,10 +191,14 @@ named_by x false e h = refl
 
 other_name : (x : Xid) → same x null_xid ≡ false → x ≡ null_xid → ⊥
 other_name x h e =
-    absurd (let f : same null_xid null_xid ≡ false = subst (λ z. same z null_xid ≡ false) e h in cc)
+    let f : same null_xid null_xid ≡ false = subst (λ z. same z null_xid ≡ false) e h in
+    absurd (true_is_not_false (sym (same_refl null_xid) ∙ f))
+  where
+    true_is_not_false : true ≡ false → ⊥
+    true_is_not_false h = cc
 
 null_name : (x : Xid) → x ≡ null_xid → same x null_xid ≡ true
-null_name x e = subst (λ z. same z null_xid ≡ true) (sym e) refl
+null_name x e = subst (λ z. same z null_xid ≡ true) (sym e) (same_refl null_xid)
 
 contains_has : (rows : List (Code × BranchState)) (row : Code × BranchState) → Contains rows row
     → has_rows rows ≡ true

@@ -16,7 +16,7 @@ use Rattle.xa_xid.specs.declared.xid.Xid.{Xid}
 use Rattle.xa_xid.specs.Xids.{null_xid}
 use Rattle.xa_assoc.specs.Names.{same, same_seat}
 use Rattle.xa_assoc.specs.Associations.{AssocList, moved_of, own_state}
-use Rattle.xa_branch.proofs.Names.{same_is}
+use Rattle.xa_branch.proofs.Names.{same_is, same_refl}
 use Rattle.xa_assoc.specs.declared.states.States.{States}
 use Rattle.xa_assoc.specs.Answers.{Checked, Same, Wanted, state_at}
 use Rattle.xa_law.specs.Moves.{FitsRows, Branch}
@@ -179,7 +179,7 @@ named_step wanted old new v t x flags c answer true ok opened named is fits h =
     ∙ ap (λ b. checks_at old c t x R1 b) named) refl refused.1)
 named_step wanted old new v t x flags c answer false ok opened named is fits h =
     let other : (x ≡ null_xid → ⊥) = λ e. absurd
-    (let f : same null_xid null_xid ≡ false = subst (λ z. same z null_xid ≡ false) e named in cc) in
+    (let f : true ≡ false = sym (same_refl null_xid) ∙ subst (λ z. same z null_xid ≡ false) e named in cc) in
     outcome_step old new v t x flags c answer ok opened is
     (at_branch old v t x flags c answer is ∙ ap (λ i. checks_at old c t x i (same x null_xid)) opened
     ∙ ap (λ b. checks_at old c t x R1 b) named)

@@ -19,21 +19,39 @@ use std::marker::Model;
 /// C193 asks 1 to 64 bytes of both names; a branch's name of 0 bytes is a widening of this profile.
 #[derive(Clone, Copy, Debug, PartialEq, Eq)]
 pub struct Xid {
+    /// The digest of the parts, which each look-up asks for.
+    digest: u64,
     format: i32,
     gtrid: Part,
     bqual: Part,
 }
 
+/// A number made of all parts.
+#[tactic(auto, unfolding(crate::specs::Digests::xid_digest))]
+fn digest_of(format: i32, gtrid: &Part, bqual: &Part) -> u64
+    ensures { result ≡ xid_digest (record { format = format; gtrid = gtrid.now; bqual = bqual.now }) }
+{
+    bqual.digest(gtrid.digest(format.cast_unsigned() as u64))
+}
+
 impl Model for Xid {
+    ghost use Rattle.std.specs.Prelude.{◌≡◌};
+    ghost use Rattle.xa_xid.specs.Digests.{xid_digest};
     ghost use Rattle.xa_xid.specs.Xids.{XidParts, IsXid};
 
     ghost Value = { XidParts };
 
     ghost view = { λ x. record { format = x.format; gtrid = x.gtrid; bqual = x.bqual } };
 
-    ghost invariant = { λ x. IsXid (record { format = x.format; gtrid = x.gtrid; bqual = x.bqual }) };
+    ghost invariant = { λ x. IsXid (record { format = x.format; gtrid = x.gtrid; bqual = x.bqual })
+        × (x.digest ≡ xid_digest (record { format = x.format; gtrid = x.gtrid; bqual = x.bqual })) };
 
-    ghost inverse = { λ x. record { format = x.format; gtrid = x.gtrid; bqual = x.bqual } };
+    ghost inverse = { λ x. record {
+      digest = xid_digest x;
+      format = x.format;
+      gtrid = x.gtrid;
+      bqual = x.bqual;
+    } };
 }
 
 impl Xid {
@@ -43,11 +61,7 @@ impl Xid {
     pub fn null() -> Self
         ensures { result ≡ null_xid }
     {
-        Xid {
-            format: -1,
-            gtrid: Part::new(&[]),
-            bqual: Part::new(&[]),
-        }
+        Xid::of_parts(-1, &[], &[])
     }
 
     /// The name of a branch, of these parts.
@@ -73,10 +87,13 @@ impl Xid {
         ensures value { result ≡ record { format = format; gtrid = gtrid.now; bqual = bqual.now } }
         ensures sound { IsXid result }
     {
+        let gtrid = Part::new(gtrid);
+        let bqual = Part::new(bqual);
         Xid {
+            digest: digest_of(format, &gtrid, &bqual),
             format,
-            gtrid: Part::new(gtrid),
-            bqual: Part::new(bqual),
+            gtrid,
+            bqual,
         }
     }
 
@@ -98,12 +115,10 @@ impl Xid {
     }
 
     /// A number made of all that the XID has, to be hashed.
-    #[tactic(auto, unfolding(crate::specs::Digests::xid_digest))]
     pub fn digest(&self) -> u64
         ensures { result ≡ xid_digest self.now }
     {
-        let format = self.format.cast_unsigned() as u64;
-        self.bqual.digest(self.gtrid.digest(format))
+        self.digest
     }
 }
 
