@@ -73,7 +73,7 @@ impl<'a> Model for Lines<'a> {
 
 impl<'a> Lines<'a> {
     /// These lines, behind so many of a script over a tree with this root.
-    pub(crate) fn new(root: ProcessId, before: u64, lines: Vec<&'a str>) -> Lines<'a>
+    pub fn new(root: ProcessId, before: u64, lines: Vec<&'a str>) -> Lines<'a>
         requires { before + length lines.items < 2 ^ 64 }
         ensures root { result.root ≡ root }
         ensures before { result.before ≡ before }

@@ -12,6 +12,6 @@ pub mod spelling;
 mod writing;
 
 pub use faults::{damaged, refusal};
-pub use line::{ProcessLog, ProcessLogs};
-pub use reading::{bytes_of, read_logs};
+pub use line::{ProcessLog, ProcessLogs, log_of};
+pub use reading::{bytes_of, each_has_log, read_logs};
 pub use writing::logs_text;

@@ -42,7 +42,7 @@ fn may_follow(tree: &Tree, logs: &[ProcessLog], log: &ProcessLog) -> bool
 
 /// Whether each process has a log among these.
 #[tactic(auto, unfolding(crate::specs::Logs::each_has_log))]
-fn each_has_log(entries: &[TreeEntry], logs: &[ProcessLog]) -> bool
+pub fn each_has_log(entries: &[TreeEntry], logs: &[ProcessLog]) -> bool
     ensures { result ≡ each_has_log entries.now logs.now }
 {
     entries.iter().all(|entry| has_log(logs, entry.id))

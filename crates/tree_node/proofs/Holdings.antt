@@ -11,7 +11,7 @@ use Rattle.tree_model.specs.Nodes.{DataAnswer}
 use Rattle.core_model.specs.States.{CoreState}
 use Rattle.core_model.specs.Turns.{no_answer}
 use Rattle.core_model.specs.Makes.{Makes, NotMade}
-use Rattle.core_law.specs.worlds.Worlds.{HandlesData, HandlesInput, HoldsPromises, KeepsBytes, RestartsData, TrimsData}
+use Rattle.core_law.specs.worlds.Worlds.{AnswersData, HandlesData, HandlesInput, HoldsPromises, KeepsBytes, RestartsData, TrimsData}
 use Rattle.core_law.specs.Steps.{IsSoundLog}
 use Rattle.core_model.specs.Restarting.{NotRestarted, NotTrimmed}
 use Rattle.rec_log.specs.Sights.{left_by}
@@ -24,10 +24,15 @@ use Rattle.sub_deeds.specs.Deeds.{KeepsManager}
 use Rattle.sub_deeds.proofs.Known.{kept_known}
 use Rattle.sub_core.specs.Subordinates.{SubState, core_of}
 use Rattle.sub_core.specs.Steps.{Leaves, LeavesPromises, data_answer}
-use Rattle.tree_node.specs.Nodes.{KeepsData, NotHandled}
+use Rattle.tree_node.specs.Nodes.{HasAnswer, KeepsData, NotHandled}
 use Rattle.tree_node.proofs.Same.{rests}
 
 -- A coordinator has no data.
+
+none_answer : (parent : Option ProcessId) (d : ManagerData) (s : CoreState) (i : Input)
+    → AnswersData (role_below parent) d s no_answer i
+none_answer None d s i = refl
+none_answer (Some p) d s i = refl
 
 none_handle : (parent : Option ProcessId) (d e : ManagerData) (s : CoreState) (i : Input)
     → HandlesData (role_below parent) d e s no_answer i
@@ -57,7 +62,20 @@ pub coordinator_stops : (v w : CoordinatorValue) (i : Input) (r : Result Reactio
     → IfErr r (NotMade (state v) (state w) no_answer i)
     → IfErr r (NotHandled (state v) (state w) no_data no_data i)
 coordinator_stops v w i (Ok r) h = tt
-coordinator_stops v w i (Err e) h = record { answer = no_answer; not_made = h; keeps = λ _. rests no_data }
+coordinator_stops v w i (Err e) h = record {
+  answer = no_answer;
+  answers = none_answer v.parent no_data (state v) i;
+  not_made = h;
+  keeps = λ _. rests no_data;
+}
+
+pub coordinator_answers : (v : CoordinatorValue) (i : Input) → HasAnswer (state v) no_data i
+coordinator_answers v i = (no_answer, none_answer v.parent no_data (state v) i)
+
+pub manager_answers : (s : SubState) (i : Input)
+    → AnswersInput (core_of s) (manager_data s.manager) (case_xid s.parent) i (data_answer s i)
+    → HasAnswer (core_of s) (manager_data s.manager) i
+manager_answers s i answers = (data_answer s i, answers)
 
 -- A manager's data answer, and are left so.
 
@@ -90,12 +108,14 @@ pub kept_by : (s t : SubState) (e : StepError) → (e ≢ Device → KeepsManage
 kept_by s t e keeps = λ other. kept_data s t (keeps other)
 
 pub manager_stops : (s t : SubState) (i : Input) (r : Result Reaction StepError)
+    → AnswersInput (core_of s) (manager_data s.manager) (case_xid s.parent) i (data_answer s i)
     → IfErr r (NotMade (core_of s) (core_of t) (data_answer s i) i)
     → IfErr r (λ e. e ≢ Device → KeepsManager s.manager t.manager)
     → IfErr r (NotHandled (core_of s) (core_of t) (manager_data s.manager) (manager_data t.manager) i)
-manager_stops s t i (Ok r) not_made keeps = tt
-manager_stops s t i (Err e) not_made keeps = record {
+manager_stops s t i (Ok r) answers not_made keeps = tt
+manager_stops s t i (Err e) answers not_made keeps = record {
   answer = data_answer s i;
+  answers = answers;
   not_made = not_made;
   keeps = kept_by s t e keeps;
 }

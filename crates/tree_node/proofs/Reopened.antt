@@ -8,13 +8,13 @@ use Rattle.tree_model.specs.declared.events.Reaction.{Reaction}
 use Rattle.tree_model.specs.declared.names.Kind.TheVariants.{Coordinator, Manager}
 use Rattle.tree_model.specs.declared.records.LogRecord.{LogRecord}
 use Rattle.tree_model.specs.Nodes.{AtLeaf, Place, Role, role_by}
-use Rattle.log_store.specs.Stores.{MoreFailures}
+use Rattle.log_store.specs.Stores.{MoreFailures, SameStore}
 use Rattle.rec_log.specs.declared.opening.OpenError.{OpenError as LogError}
 use Rattle.rec_log.specs.declared.opening.OpenError.TheVariants as logs
 use Rattle.log_text.specs.declared.form.LogForm.{LogForm}
 use Rattle.log_text.specs.Forms.{log_form}
 use Rattle.rec_log.specs.Openings.{NotOpened as LogNotOpened, Opens}
-use Rattle.rec_log.specs.Sights.{LogSight, LogState, left_by, records_of, whole_within}
+use Rattle.rec_log.specs.Sights.{Kept, LogSight, LogState, kept_of, left_by, records_of, whole_within}
 use Rattle.core_model.specs.States.{CoreState, forced_sight}
 use Rattle.core_model.specs.Restarting.{LeftSo, Restarts}
 use Rattle.core_law.specs.worlds.Worlds.{RestartsData}
@@ -32,12 +32,13 @@ use Rattle.coord_core.specs.declared.restarting.ReopenError.{ReopenError as Coor
 use Rattle.coord_core.specs.declared.restarting.ReopenError.TheVariants as coordinators
 use Rattle.kv_manager.specs.declared.manager.RestoreError.{RestoreError}
 use Rattle.kv_manager.specs.declared.manager.RestoreError.TheVariants as restores
+use Rattle.kv_manager.specs.declared.restart.RecordsError.{RecordsError}
 use Rattle.kv_manager.specs.declared.restart.RecordsError.TheVariants as restarts
 use Rattle.kv_manager.specs.Resources.{sight_of}
-use Rattle.kv_manager.specs.Restarts.{LeavesStore, NotRestored, Restarted, RestoredFrom, StartsOver, opened}
+use Rattle.kv_manager.specs.Restarts.{HandsBack as RecordsHandBack, LeavesStore, NotRestored, Restarted, RestoredFrom, StartsOver, opened}
 use Rattle.kv_manager.specs.Sights.{KvSight}
 use Rattle.kv_manager.proofs.Restarted.{restarted}
-use Rattle.tree_node.specs.Reopenings.{HoldsNoRestart, NotLeft, NotReopened, Reopens, error_of_coordinator, error_of_log, error_of_manager, error_of_subordinate}
+use Rattle.tree_node.specs.Reopenings.{HandsLogBack, HoldsNoRestart, HoldsOn, NotLeft, NotReopened, Reopens, error_of_coordinator, error_of_log, error_of_manager, error_of_subordinate}
 
 -- Managers.
 
@@ -215,3 +216,115 @@ subordinate_fails bytes forced failures place store s r rebuilds.Unfit h = inr (
   },
 )
 subordinate_fails bytes forced failures place store s r rebuilds.Exhausted h = absurd h
+
+-- The store that is handed back.
+
+same_store : {S : Type 0} (bytes : S → List ℕ) (forced failures : S → ℕ) (old new : S) → new ≡ old
+    → SameStore bytes forced failures old new
+same_store bytes forced failures old new e =
+    record { bytes_stay = ap bytes e; forced_stays = ap forced e; failures_stay = ap failures e }
+
+pub log_handed_back : {S : Type 0} (bytes : S → List ℕ) (forced failures : S → ℕ) (k : LogForm) (old new : S)
+    (e : LogError) → LogNotOpened bytes forced failures k old new e
+    → HandsLogBack bytes forced failures k old new (error_of_log e)
+log_handed_back bytes forced failures k old new logs.Memory h = inl h
+log_handed_back bytes forced failures k old new logs.Device h = h.breaks.cause
+log_handed_back bytes forced failures k old new (logs.Damaged place) h =
+    inl (same_store bytes forced failures old new h.0)
+log_handed_back bytes forced failures k old new logs.OldFormat h = inl (same_store bytes forced failures old new h.0)
+
+-- a log that opened stands in the store, with these records behind its own
+holds_on : {S : Type 0} (bytes : S → List ℕ) (forced failures : S → ℕ) (k : LogForm) (old new : S) (opened : LogState)
+    (kept : Kept) (more : List LogRecord) → Opens k (bytes old) (forced old) (failures old) opened
+    → kept_of k (bytes new) (forced new) ≡ kept → records_of kept ≡ records_of opened.sight.kept ++ more
+    → HoldsOn bytes forced failures k old new
+holds_on bytes forced failures k old new opened kept more opens is has =
+    record { log = opened; opens = opens; appended = more; records = ap records_of is ∙ has }
+
+-- a log that opened stands there as it was
+holds_same : {S : Type 0} (bytes : S → List ℕ) (forced failures : S → ℕ) (k : LogForm) (old new : S)
+    (opened left : LogState) → Opens k (bytes old) (forced old) (failures old) opened
+    → kept_of k (bytes new) (forced new) ≡ left.sight.kept → left.sight ≡ opened.sight
+    → HoldsOn bytes forced failures k old new
+holds_same bytes forced failures k old new opened left opens is same =
+    holds_on bytes forced failures k old new opened opened.sight.kept [] opens
+    (is ∙ ap (λ (l : LogSight). l.kept) same) (sym (append-nil (records_of opened.sight.kept)))
+
+-- the same by the form of the log that was left
+holds_left : {S : Type 0} (bytes : S → List ℕ) (forced failures : S → ℕ) (k : LogForm) (old new : S)
+    (opened left : LogState) → Opens k (bytes old) (forced old) (failures old) opened
+    → kept_of left.sight.form (bytes new) (forced new) ≡ left.sight.kept → left.sight ≡ opened.sight
+    → HoldsOn bytes forced failures k old new
+holds_left bytes forced failures k old new opened left opens is same =
+    holds_same bytes forced failures k old new opened left opens
+    (ap (λ f. kept_of f (bytes new) (forced new)) (sym (ap (λ (l : LogSight). l.form) same ∙ opens.form)) ∙ is) same
+
+pub coordinator_handed_back : {S : Type 0} (bytes : S → List ℕ) (forced failures : S → ℕ) (place : Place) (old new : S)
+    (opened left : LogState) (e : CoordinatorError)
+    → Opens (log_form place.me Coordinator) (bytes old) (forced old) (failures old) opened
+    → left.sight.failures ≡ failures new
+    → kept_of left.sight.form (bytes new) (forced new) ≡ left.sight.kept
+    → CoordinatorNotReopened place opened.sight left.sight e
+    → HandsLogBack bytes forced failures (log_form place.me Coordinator) old new (error_of_coordinator e)
+coordinator_handed_back bytes forced failures place old new opened left coordinators.Memory opens to is h =
+    inr (holds_left bytes forced failures (log_form place.me Coordinator) old new opened left opens is h)
+coordinator_handed_back bytes forced failures place old new opened left coordinators.Device opens to is h =
+    let from : h.before.log.failures ≡ failures old =
+    ap (λ (l : LogSight). l.failures) h.log_is ∙ opens.failures_stay in
+    let until : h.behind.log.failures ≡ failures new = ap (λ (l : LogSight). l.failures) h.log_left ∙ to in
+    omega (arith, from, until, h.broke.0.cause)
+coordinator_handed_back bytes forced failures place old new opened left coordinators.Unfit opens to is h =
+    inr (holds_left bytes forced failures (log_form place.me Coordinator) old new opened left opens is h.0)
+coordinator_handed_back bytes forced failures place old new opened left coordinators.Exhausted opens to is h =
+    inr (holds_left bytes forced failures (log_form place.me Coordinator) old new opened left opens is h.0)
+
+records_handed_back : {S : Type 0} (bytes : S → List ℕ) (forced failures : S → ℕ) (p : ProcessId) (old new : S)
+    (e : RecordsError) → RecordsHandBack bytes forced failures p old new e
+    → HandsLogBack bytes forced failures (log_form p Manager) old new (error_of_manager (restores.Records e))
+records_handed_back bytes forced failures p old new restarts.Memory h =
+    inr (holds_same bytes forced failures (log_form p Manager) old new h.opened_as h.left_as h.opens
+    (ap (λ (l : LogSight). l.kept) (sym h.holds)) h.why.1)
+records_handed_back bytes forced failures p old new restarts.Device h =
+    let to : h.left_as.sight.failures ≡ failures new = ap (λ (s : LogSight). s.failures) h.holds in
+    omega (arith, h.opens.failures_stay, to, h.why.2.cause)
+records_handed_back bytes forced failures p old new restarts.Unfit h =
+    inr (holds_same bytes forced failures (log_form p Manager) old new h.opened_as h.left_as h.opens
+    (ap (λ (l : LogSight). l.kept) (sym h.holds)) h.why.1)
+records_handed_back bytes forced failures p old new restarts.Exhausted h =
+    inr (holds_same bytes forced failures (log_form p Manager) old new h.opened_as h.left_as h.opens
+    (ap (λ (l : LogSight). l.kept) (sym h.holds)) h.why.1)
+
+pub manager_handed_back : {S : Type 0} (bytes : S → List ℕ) (forced failures : S → ℕ) (p : ProcessId) (old new : S)
+    (e : RestoreError) → NotRestored bytes forced failures p old new e
+    → HandsLogBack bytes forced failures (log_form p Manager) old new (error_of_manager e)
+manager_handed_back bytes forced failures p old new (restores.Log e) h =
+    log_handed_back bytes forced failures (log_form p Manager) old new e h
+manager_handed_back bytes forced failures p old new (restores.Records e) h =
+    records_handed_back bytes forced failures p old new e h
+
+-- the store of a manager that restarted holds its boot, too
+pub subordinate_handed_back : {S : Type 0} (bytes : S → List ℕ) (forced failures : S → ℕ) (me : ProcessId) (old new : S)
+    (s : KvSight) → RestoredFrom me (bytes old) (forced old) (failures old) s
+    → kept_of s.log.sight.form (bytes new) (forced new) ≡ s.log.sight.kept → (e : RebuildError)
+    → HandsLogBack bytes forced failures (log_form me Manager) old new (error_of_subordinate e)
+subordinate_handed_back bytes forced failures me old new s r is e = by_error e
+  where
+    ls : List LogRecord
+    ls = records_of r.log.sight.kept
+
+    form : s.log.sight.form ≡ log_form me Manager
+    form = r.starts.form ∙ r.opens.form
+
+    all : records_of s.log.sight.kept ≡ ls ++ opened s.boot ∷ []
+    all = ap (λ us. s.log.sight.kept.forced ++ us) r.starts.unforced ∙ append-nil s.log.sight.kept.forced
+        ∙ r.starts.forced
+
+    holds : HoldsOn bytes forced failures (log_form me Manager) old new
+    holds = holds_on bytes forced failures (log_form me Manager) old new r.log s.log.sight.kept (opened s.boot ∷ []) r.opens
+        (ap (λ f. kept_of f (bytes new) (forced new)) (sym form) ∙ is) all
+
+    by_error : (e : RebuildError)
+        → HandsLogBack bytes forced failures (log_form me Manager) old new (error_of_subordinate e)
+    by_error rebuilds.Memory = inr holds
+    by_error rebuilds.Unfit = inr holds
+    by_error rebuilds.Exhausted = inr holds

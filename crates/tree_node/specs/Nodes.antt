@@ -10,6 +10,7 @@ use Rattle.rec_log.specs.Sights.{ReadsAs, log_state, records_of}
 use Rattle.core_model.specs.States.{CoreState, form_of}
 use Rattle.core_model.specs.Makes.{NotMade}
 use Rattle.core_law.specs.Steps.{IsSoundLog}
+use Rattle.core_law.specs.worlds.Worlds.{AnswersData}
 use Rattle.coord_core.specs.States as coordinators
 use Rattle.kv_manager.specs.Resources.{sight_of}
 use Rattle.kv_manager.specs.Sights.{are_ordered}
@@ -57,9 +58,14 @@ pub record LogStands (s : CoreState) : Type 0 where
 abbrev pub KeepsData : ManagerData → ManagerData → StepError → Type 0
 KeepsData old new e = e ≢ Device → Rests old new
 
--- why a process did not handle an input, and what that leaves
+-- the data of a process answer this input in some way
+abbrev pub HasAnswer : CoreState → ManagerData → Input → Type 0
+HasAnswer s d i = (a : DataAnswer) × AnswersData s.place.role d s a i
+
+-- why a process did not handle an input, as its data answer that, and what it leaves
 pub record NotHandled (old new : CoreState) (before behind : ManagerData) (i : Input)
     (e : StepError) : Type 0 where
   pub answer : DataAnswer
+  pub answers : AnswersData old.place.role before old answer i
   pub not_made : NotMade old new answer i e
   pub keeps : KeepsData before behind e

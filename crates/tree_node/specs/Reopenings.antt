@@ -1,19 +1,20 @@
 -- A process that goes on over the log that an earlier one left, and why none did.
-use Rattle.std.specs.Prelude.{◌≡◌, ⊤, ◌⊎◌, ℕ, true, false, Option, Some, List, map}
+use Rattle.std.specs.Prelude.{◌≡◌, ⊤, ◌⊎◌, ℕ, true, false, Option, Some, List, ◌++◌, map}
 use Rattle.tree_model.specs.declared.names.Kind.{Kind}
 use Rattle.tree_model.specs.declared.names.Kind.TheVariants.{Coordinator, Manager}
 use Rattle.tree_model.specs.declared.names.ProcessId.{ProcessId}
 use Rattle.tree_model.specs.declared.events.Reaction.{Reaction}
+use Rattle.tree_model.specs.declared.records.LogRecord.{LogRecord}
 use Rattle.tree_model.specs.declared.trees.TreeEntry.{TreeEntry}
 use Rattle.tree_model.specs.Nodes.{Place, role_by}
-use Rattle.log_store.specs.Stores.{MoreFailures}
+use Rattle.log_store.specs.Stores.{MoreFailures, SameStore}
 use Rattle.log_rules.specs.order.Logs.{Damaged as DamagedLog, read_log}
 use Rattle.rec_log.specs.declared.opening.OpenError.{OpenError}
 use Rattle.rec_log.specs.declared.opening.OpenError.TheVariants as logs
 use Rattle.log_text.specs.declared.form.LogForm.{LogForm}
 use Rattle.log_text.specs.Forms.{log_form}
 use Rattle.rec_log.specs.Openings.{Opens, is_old}
-use Rattle.rec_log.specs.Sights.{LogSight, LogState, left_by, records_of}
+use Rattle.rec_log.specs.Sights.{LogSight, LogState, kept_of, left_by, records_of}
 use Rattle.core_model.specs.States.{CoreState}
 use Rattle.core_model.specs.Restarting.{CannotReopen, LeftSo, Restarts}
 use Rattle.core_law.specs.worlds.Worlds.{RestartsData}
@@ -122,6 +123,21 @@ abbrev pub NotReopened : {L : Type 0} → (L → List ℕ) → (L → ℕ) → (
 NotReopened bytes forced failures p place store e =
     NotLeft bytes forced failures p store e
     ⊎ ((p.kind ≡ Manager) × NotWritten bytes forced failures p place store e)
+
+-- The store that is handed back with a refusal.
+
+-- its log opened, and these records stand in it: those that were read, and perhaps that of a boot after them
+pub record HoldsOn {L : Type 0} (bytes : L → List ℕ) (forced failures : L → ℕ) (p : LogForm) (old new : L) : Type 0 where
+  pub log : LogState
+  pub opens : Opens p (bytes old) (forced old) (failures old) log
+  pub appended : List LogRecord
+  pub records : records_of (kept_of p (bytes new) (forced new)) ≡ records_of log.sight.kept ++ appended
+
+-- it is as it was, or its records stand in it; or its device failed
+abbrev pub HandsLogBack : {L : Type 0} → (L → List ℕ) → (L → ℕ) → (L → ℕ) → LogForm → L → L → ReopenError → Type 0
+HandsLogBack bytes forced failures p old new Device = MoreFailures (failures old) (failures new)
+HandsLogBack bytes forced failures p old new e =
+    SameStore bytes forced failures old new ⊎ HoldsOn bytes forced failures p old new
 
 -- the number of an error
 abbrev pub reopen_error_number : ReopenError → ℕ

@@ -11,4 +11,4 @@ mod unforced;
 
 pub use node::Node;
 pub use opening::{OpenError, copied_tree, open_node};
-pub use reopening::{ReopenError, reopen_node};
+pub use reopening::{ReopenError, reopen_node, reopen_over};

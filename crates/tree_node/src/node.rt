@@ -10,7 +10,7 @@ ghost use Rattle.sub_core.specs.Steps.{state as manager_state};
 ghost use Rattle.core_law.specs.worlds.Worlds.{HandlesInput};
 ghost use Rattle.manager_model.specs.Data.{no_data};
 ghost use Rattle.manager_model.specs.Sights.{manager_data};
-ghost use Rattle.tree_node.specs.Nodes.{NotHandled, HoldsLog, SpellsLog, core_of, data_of, live_at};
+ghost use Rattle.tree_node.specs.Nodes.{HasAnswer, NotHandled, HoldsLog, SpellsLog, core_of, data_of, live_at};
 
 use coord_core::Coordinator;
 use core_model::InputRef;
@@ -97,6 +97,17 @@ impl<L: LogStore> Node<L> {
         }
     }
 
+    /// For the proof: the data of a manager have an answer to an input; a coordinator has none, and answers
+    /// nothing.
+    fn data_answers(&self, input: InputRef<'_>)
+        ensures { HasAnswer (core_of self.now) (data_of self.now) (input_of input.entry) }
+    {
+        match self {
+            Node::Coordinator(coordinator) => answer_nothing(coordinator, input),
+            Node::Manager(manager) => answer_by_data(manager, input),
+        }
+    }
+
     /// The same, and Exhausted where no numbers are left, by which nothing changed.
     pub fn handle(&mut self, input: InputRef<'_>) -> Result<Reaction, StepError>
         ensures ok { IfOk result (HandlesInput (core_of self.old) (core_of self.new)
@@ -104,6 +115,7 @@ impl<L: LogStore> Node<L> {
         ensures err { IfErr result (NotHandled (core_of self.old) (core_of self.new)
             (data_of self.old) (data_of self.new) (input_of input.entry)) }
     {
+        self.data_answers(input);
         if !self.has_numbers() {
             return Err(StepError::Exhausted);
         }
@@ -154,6 +166,23 @@ fn coordinator_text<L: LogStore>(coordinator: &Coordinator<L>) -> Result<Vec<u8>
     ensures { IfOk result (λ text. SpellsLog (coordinator_state coordinator.now) text.items) }
 {
     coordinator.log_text()
+}
+
+/// For the proof: a coordinator has no data that answer.
+fn answer_nothing<L: LogStore>(coordinator: &Coordinator<L>, input: InputRef<'_>)
+    ensures { HasAnswer (coordinator_state coordinator.now) no_data (input_of input.entry) }
+{
+    let _coordinator = coordinator;
+    let _input = input;
+}
+
+/// For the proof: a manager's data answer each input.
+fn answer_by_data<L: LogStore>(manager: &Subordinate<KvManager<L>>, input: InputRef<'_>)
+    ensures { HasAnswer (manager_state sight_of manager.now) (manager_data (sight_of manager.now.manager))
+        (input_of input.entry) }
+{
+    let _input = input;
+    manager.data_answers();
 }
 
 /// A coordinator handles an input; it has no data that answer.

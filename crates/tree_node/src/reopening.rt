@@ -9,6 +9,7 @@ ghost use Rattle.rec_log.specs.Openings.{Opens};
 ghost use Rattle.kv_manager.specs.Restarts.{RestoredFrom};
 ghost use Rattle.tree_node.specs.Nodes.{core_of, data_of};
 ghost use Rattle.tree_node.specs.Reopenings.{
+  HandsLogBack,
   NotLeft,
   NotReopened,
   Reopens,
@@ -69,13 +70,6 @@ impl ReopenError {
     }
 }
 
-/// Lets go of what a refusal handed back, and tells why.
-fn refused<T: Drop>(_left: T, why: ReopenError) -> ReopenError
-    ensures { result ≡ why }
-{
-    why
-}
-
 fn of_log(error: OpenError) -> ReopenError
     ensures { result ≡ error_of_log error }
 {
@@ -122,14 +116,15 @@ fn left_log<L: LogStore + Drop>(
     alloc: Global,
     me: ProcessId,
     store: L,
-) -> Result<RecLog<L>, ReopenError>
+) -> Result<RecLog<L>, (ReopenError, L)>
     ensures ok { IfOk result (Opens (log_form me kind.Coordinator) (L.bytes store) (L.forced store)
         (L.failures store)) }
-    ensures err { IfErr result (NotLeft L.bytes L.forced L.failures (log_form me kind.Coordinator) store) }
+    ensures err { IfErr result (λ e. NotLeft L.bytes L.forced L.failures (log_form me kind.Coordinator) store e.0) }
+    ensures handed_back { IfErr result (λ e. HandsLogBack L.bytes L.forced L.failures (log_form me kind.Coordinator) store e.1 e.0) }
 {
     match RecLog::open(store, me, Kind::Coordinator, alloc) {
         Ok(log) => Ok(log),
-        Err((error, store)) => Err(refused(store, of_log(error))),
+        Err((error, store)) => Err((of_log(error), store)),
     }
 }
 
@@ -138,13 +133,14 @@ fn left_manager<L: LogStore + Drop>(
     alloc: Global,
     me: ProcessId,
     store: L,
-) -> Result<KvManager<L>, ReopenError>
+) -> Result<KvManager<L>, (ReopenError, L)>
     ensures ok { IfOk result (RestoredFrom me (L.bytes store) (L.forced store) (L.failures store)) }
-    ensures err { IfErr result (NotLeft L.bytes L.forced L.failures (log_form me kind.Manager) store) }
+    ensures err { IfErr result (λ e. NotLeft L.bytes L.forced L.failures (log_form me kind.Manager) store e.0) }
+    ensures handed_back { IfErr result (λ e. HandsLogBack L.bytes L.forced L.failures (log_form me kind.Manager) store e.1 e.0) }
 {
     match KvManager::restore(store, me, alloc) {
         Ok(manager) => Ok(manager),
-        Err((error, store)) => Err(refused(store, of_manager(error))),
+        Err((error, store)) => Err((of_manager(error), store)),
     }
 }
 
@@ -155,16 +151,17 @@ fn reopen_coordinator<L: LogStore + Drop>(
     parent: Option<ProcessId>,
     tree: Tree,
     store: L,
-) -> Result<(Node<L>, Reaction), ReopenError>
+) -> Result<(Node<L>, Reaction), (ReopenError, L)>
     ensures ok { IfOk result (λ made. Reopens (log_form me kind.Coordinator)
         (record { me = me; role = role_by kind.Coordinator parent; tree = tree })
         (L.bytes store) (L.forced store) (L.failures store) (core_of made.0) (data_of made.0) made.1) }
-    ensures err { IfErr result (NotLeft L.bytes L.forced L.failures (log_form me kind.Coordinator) store) }
+    ensures err { IfErr result (λ e. NotLeft L.bytes L.forced L.failures (log_form me kind.Coordinator) store e.0) }
+    ensures handed_back { IfErr result (λ e. HandsLogBack L.bytes L.forced L.failures (log_form me kind.Coordinator) store e.1 e.0) }
 {
     let log = left_log(alloc, me, store)?;
     match Coordinator::reopen(alloc, me, parent, tree, log) {
         Ok((coordinator, reaction)) => Ok((Node::Coordinator(coordinator), reaction)),
-        Err((error, log)) => Err(refused(log.into_store(), of_coordinator(error))),
+        Err((error, log)) => Err((of_coordinator(error), log.into_store())),
     }
 }
 
@@ -175,20 +172,21 @@ fn reopen_manager<L: LogStore + Drop>(
     parent: ProcessId,
     tree: Tree,
     store: L,
-) -> Result<(Node<L>, Reaction), ReopenError>
+) -> Result<(Node<L>, Reaction), (ReopenError, L)>
     ensures ok { IfOk result (λ made. Reopens (log_form me kind.Manager)
         (record { me = me; role = Role.AtLeaf parent; tree = tree })
         (L.bytes store) (L.forced store) (L.failures store) (core_of made.0) (data_of made.0) made.1) }
-    ensures err { IfErr result (NotReopened L.bytes L.forced L.failures (log_form me kind.Manager)
-        (leaf_place me parent tree) store) }
+    ensures err { IfErr result (λ e. NotReopened L.bytes L.forced L.failures (log_form me kind.Manager)
+        (leaf_place me parent tree) store e.0) }
+    ensures handed_back { IfErr result (λ e. HandsLogBack L.bytes L.forced L.failures (log_form me kind.Manager) store e.1 e.0) }
 {
     let manager = match left_manager(alloc, me, store) {
         Ok(manager) => manager,
-        Err(error) => return Err(error),
+        Err(refused) => return Err(refused),
     };
     match Subordinate::reopen(alloc, me, parent, tree, manager) {
         Ok((subordinate, reaction)) => Ok((Node::Manager(subordinate), reaction)),
-        Err((error, manager)) => Err(refused(manager, of_subordinate(error))),
+        Err((error, manager)) => Err((of_subordinate(error), manager.into_store())),
     }
 }
 
@@ -198,8 +196,27 @@ fn reopen_manager<L: LogStore + Drop>(
 ///
 /// Memory: a growth was refused. Device: the device of the store failed. Damaged: the bytes are no log of such a
 /// process. OldFormat: they are a log of the first format. Unfit: the records leave no manager, or one of them is of
-/// a case of a boot that the log had not reached; or numbers are used up behind them. Behind a refusal the store is
-/// let go.
+/// a case of a boot that the log had not reached; or numbers are used up behind them. With a refusal the store is
+/// handed back.
+pub fn reopen_over<L: LogStore + Drop>(
+    alloc: Global,
+    entry: &TreeEntry,
+    tree: Tree,
+    store: L,
+) -> Result<(Node<L>, Reaction), (ReopenError, L)>
+    ensures ok { IfOk result (λ made. ReopensAs tree entry.now
+        (L.bytes store) (L.forced store) (L.failures store) (core_of made.0) (data_of made.0) made.1) }
+    ensures err { IfErr result (λ e. NotReopened L.bytes L.forced L.failures
+        (form_by entry.now) (place_by tree entry.now) store e.0) }
+    ensures handed_back { IfErr result (λ e. HandsLogBack L.bytes L.forced L.failures (form_by entry.now) store e.1 e.0) }
+{
+    match (entry.kind, entry.parent) {
+        (Kind::Manager, Some(parent)) => reopen_manager(alloc, entry.id, parent, tree, store),
+        (_, parent) => reopen_coordinator(alloc, entry.id, parent, tree, store),
+    }
+}
+
+/// The same, where the store is let go with a refusal.
 pub fn reopen_node<L: LogStore + Drop>(
     alloc: Global,
     entry: &TreeEntry,
@@ -211,8 +228,8 @@ pub fn reopen_node<L: LogStore + Drop>(
     ensures err { IfErr result (NotReopened L.bytes L.forced L.failures
         (form_by entry.now) (place_by tree entry.now) store) }
 {
-    match (entry.kind, entry.parent) {
-        (Kind::Manager, Some(parent)) => reopen_manager(alloc, entry.id, parent, tree, store),
-        (_, parent) => reopen_coordinator(alloc, entry.id, parent, tree, store),
+    match reopen_over(alloc, entry, tree, store) {
+        Ok(made) => Ok(made),
+        Err((error, _store)) => Err(error),
     }
 }

@@ -67,6 +67,7 @@ breaks tree nodes after j k q i keeps stops = record {
     others_data = stops.moves.others_data;
   };
   answer = stops.answer;
+  answers = stops.answers;
   broken = stops.broken;
   net = keeps.net;
   delivered = keeps.delivered;

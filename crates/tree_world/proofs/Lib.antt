@@ -13,3 +13,5 @@ pub mod Running
 pub mod Settling
 pub mod Steps
 pub mod StorePlaces
+pub mod Strangers
+pub mod Reopenings

@@ -110,6 +110,7 @@ stopped_by old new q i Device s t moves h = record {
   behind = t;
   moves = moves;
   answer = h.answer;
+  answers = h.answers;
   broken = h.not_made;
 }
 stopped_by old new q i UnknownTxn s t moves h =
@@ -128,7 +129,7 @@ stopped_by old new q i NoSuch s t moves h =
     refused_at old new q i NoSuch s t h.answer moves (h.keeps (λ is. absurd cc)) h.not_made
 stopped_by old new q i Exhausted s t moves h = (
   same_nodes old new q s t moves h.not_made.same (h.keeps (λ is. absurd cc)),
-  subst (λ o. WantsNumbersAt o i) (sym moves.stood) (h.answer, h.not_made.why),
+  subst (λ o. WantsNumbersAt o (old.data_at q) i) (sym moves.stood) (h.answer, h.answers, h.not_made.why),
 )
 
 pub stopped : {L A : Type 0} (es fs : List (ProcessId × Node L)) (q : ProcessId) (i : Input)

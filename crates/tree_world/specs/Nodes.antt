@@ -14,7 +14,7 @@ use Rattle.rec_log.specs.Sights.{records_of}
 use Rattle.core_model.specs.States.{CoreState}
 use Rattle.core_model.specs.Makes.{IsBroken}
 use Rattle.manager_model.specs.Data.{ManagerData, Rests, no_data}
-use Rattle.core_law.specs.worlds.Worlds.{HandlesInput, RefusesAt, SameNode, WantsNumbersAt}
+use Rattle.core_law.specs.worlds.Worlds.{AnswersData, HandlesInput, RefusesAt, SameNode, WantsNumbersAt}
 use Rattle.tree_node.specs.declared.node.Node.{Node}
 use Rattle.tree_node.specs.Nodes.{SpellsLog, core_of, data_of}
 
@@ -71,6 +71,7 @@ pub record BreaksAt (old new : NodesSight) (q : ProcessId) (input : Input) : Typ
   pub behind : CoreState
   pub moves : MovesAt old new q before behind
   pub answer : DataAnswer
+  pub answers : AnswersData before.place.role (old.data_at q) before answer input
   pub broken : IsBroken before behind answer input
 
 -- nothing is otherwise at any process
@@ -82,5 +83,5 @@ pub record SameNodes (old new : NodesSight) : Type 0 where
 abbrev pub NoStepAt : NodesSight → NodesSight → ProcessId → Input → StepError → Type 0
 NoStepAt old new q i Memory = SameNodes old new
 NoStepAt old new q i Device = BreaksAt old new q i
-NoStepAt old new q i Exhausted = SameNodes old new × WantsNumbersAt (old.node_at q) i
+NoStepAt old new q i Exhausted = SameNodes old new × WantsNumbersAt (old.node_at q) (old.data_at q) i
 NoStepAt old new q i e = SameNodes old new × RefusesAt (old.node_at q) i e

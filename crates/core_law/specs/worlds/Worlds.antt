@@ -44,8 +44,12 @@ pub record WorldState : Type 0 where
 
 -- One step.
 
--- a manager's data answer so to an input, and behind it they are what it makes of them; a coordinator has none, and
--- nothing is answered
+-- a manager's data answer so to an input; a coordinator has none, and nothing is answered
+abbrev pub AnswersData : Role → ManagerData → CoreState → DataAnswer → Input → Type 0
+AnswersData (AtLeaf p) before s a input = AnswersInput s before (case_xid p) input a
+AnswersData _ before s a input = a ≡ no_answer
+
+-- the data answer so, and after the input they are what it makes of them
 abbrev pub HandlesData : Role → ManagerData → ManagerData → CoreState → DataAnswer → Input → Type 0
 HandlesData (AtLeaf p) before behind s a input =
     AnswersInput s before (case_xid p) input a × MovesData before behind (case_xid p) (data_turn s a input)
@@ -196,7 +200,8 @@ pub record Same (old new : WorldState) : Type 0 where
   pub delivered : new.delivered ≡ old.delivered
   pub entries : new.entries ≡ old.entries
 
--- why a process refuses an input: there is no such process, or the input meets this refusal
+-- Why a process refuses an input: there is no such process, or the input meets this refusal. Whatever the data
+-- answer, it is the same.
 abbrev pub RefusesAt : Option CoreState → Input → StepError → Type 0
 RefusesAt None i e = e ≡ NoSuch
 RefusesAt (Some s) i e = (a : DataAnswer) × (found : Option Case) × Finds s (asked_by i) found
@@ -213,6 +218,7 @@ pub record DeviceFails (old new : WorldState) (q : ProcessId) (input : Input) : 
   pub behind : CoreState
   pub moves : MovesNode old new q before behind
   pub answer : DataAnswer
+  pub answers : AnswersData before.place.role (old.data_at q) before answer input
   pub broken : IsBroken before behind answer input
   pub net : new.net ≡ old.net
   pub delivered : new.delivered ≡ old.delivered
@@ -223,15 +229,15 @@ abbrev pub DeviceFailsUnder : WorldState → WorldState → ℕ → Option Envel
 DeviceFailsUnder old new k None = ⊥
 DeviceFailsUnder old new k (Some l) = DeviceFails old new l.to (MessageInput k l.message)
 
--- there is a process, at which the input wants numbers that are used up
-abbrev pub WantsNumbersAt : Option CoreState → Input → Type 0
-WantsNumbersAt None i = ⊥
-WantsNumbersAt (Some s) i = (a : DataAnswer) × WantsNumbers s a i
+-- there is a process with these data, at which the input, as they answer it, wants numbers that are used up
+abbrev pub WantsNumbersAt : Option CoreState → ManagerData → Input → Type 0
+WantsNumbersAt None d i = ⊥
+WantsNumbersAt (Some s) d i = (a : DataAnswer) × AnswersData s.place.role d s a i × WantsNumbers s a i
 
 -- the receiver of the message has none left for it
 abbrev pub WantsNumbersFor : WorldState → ℕ → Option Envelope → Type 0
 WantsNumbersFor w k None = ⊥
-WantsNumbersFor w k (Some l) = WantsNumbersAt (w.node_at l.to) (MessageInput k l.message)
+WantsNumbersFor w k (Some l) = WantsNumbersAt (w.node_at l.to) (w.data_at l.to) (MessageInput k l.message)
 
 -- why one message was not delivered, and what that leaves: Memory, numbers that are used up and a refusal change
 -- nothing
@@ -245,7 +251,7 @@ NotDelivered old new k e = Same old new × RefusesMessage old k (sent_as old.net
 abbrev pub NotActed : WorldState → WorldState → ProcessId → Act → StepError → Type 0
 NotActed old new q a Memory = Same old new
 NotActed old new q a Device = DeviceFails old new q (ActInput a)
-NotActed old new q a Exhausted = Same old new × WantsNumbersAt (old.node_at q) (ActInput a)
+NotActed old new q a Exhausted = Same old new × WantsNumbersAt (old.node_at q) (old.data_at q) (ActInput a)
 NotActed old new q a e = Same old new × RefusesAt (old.node_at q) (ActInput a) e
 
 -- a settle went no further: for memory, also as it looked for the next message, or as that one was not

@@ -11,4 +11,5 @@ returns-clause-ok g c = manager_handles (seen sight_of c.args.manager.now) (seen
 
 pub returns-clause-err : goal.returns-clause-err
 returns-clause-err g c = manager_stops (seen sight_of c.args.manager.now) (seen sight_of c.step.new.self)
-    (input_of c.args.input) c.step.result c.step.ensures.err c.step.ensures.kept
+    (input_of c.args.input) c.step.result (c.data_answers.ensures (input_of c.args.input)) c.step.ensures.err
+    c.step.ensures.kept

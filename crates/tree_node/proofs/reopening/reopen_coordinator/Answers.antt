@@ -1,7 +1,7 @@
 use Rattle.std.proofs.Common.{ap, sym}
 use Rattle.rec_log.specs.Sights.{LogState}
 use Rattle.coord_core.specs.States.{role_below, state}
-use Rattle.tree_node.proofs.Reopened.{coordinator_fails, coordinator_left}
+use Rattle.tree_node.proofs.Reopened.{coordinator_fails, coordinator_handed_back, coordinator_left}
 use Rattle.tree_node.proofs.reopening.reopen_coordinator.Goals as goal
 
 pub returns-in-Ok-clause-ok : goal.returns-in-Ok-clause-ok
@@ -11,9 +11,18 @@ returns-in-Ok-clause-ok g c =
     (state c.in-Ok.coordinator) c.in-Ok.reaction c.in_ok-log.ensures.ok c.in-Ok.ensures.ok
 
 pub returns-in-Err-clause-err : goal.returns-in-Err-clause-err
-returns-in-Err-clause-err g c = rw (c.refused.ensures, c.of_coordinator.ensures)
+returns-in-Err-clause-err g c = rw c.of_coordinator.ensures
     (coordinator_fails g.L.LogStore.bytes g.L.LogStore.forced g.L.LogStore.failures
     (record { me = c.args.me; role = role_below c.args.parent; tree = c.args.tree }) c.args.store
     c.into_store.result c.in_ok-log.log c.in-Err.log c.in-Err.error
     c.in_ok-log.ensures.ok
     (ap (λ (s : LogState). s.sight.failures) (sym c.into_store.ensures)) c.in-Err.ensures.err)
+
+pub returns-in-Err-clause-handed_back : goal.returns-in-Err-clause-handed_back
+returns-in-Err-clause-handed_back g c = rw c.of_coordinator.ensures
+    (coordinator_handed_back g.L.LogStore.bytes g.L.LogStore.forced g.L.LogStore.failures
+    (record { me = c.args.me; role = role_below c.args.parent; tree = c.args.tree }) c.args.store
+    c.into_store.result c.in_ok-log.log c.in-Err.log c.in-Err.error
+    c.in_ok-log.ensures.ok
+    (ap (λ (s : LogState). s.sight.failures) (sym c.into_store.ensures))
+    (ap (λ (s : LogState). s.sight.kept) c.into_store.ensures) c.in-Err.ensures.err)

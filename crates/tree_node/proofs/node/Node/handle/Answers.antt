@@ -1,13 +1,14 @@
 use Rattle.std.proofs.Common.{false, rules}
-use Rattle.tree_model.specs.Nodes.{ReadsOnly}
 use Rattle.core_model.specs.Makes.{NoneLeft}
 use Rattle.tree_node.proofs.Same.{rests, same_core}
 use Rattle.tree_node.proofs.node.Node.handle.Goals as goal
 
 pub returns-then-not-has_numbers-clause-err : goal.returns-then-not-has_numbers-clause-err
 returns-then-not-has_numbers-clause-err g c =
+    let answered = c.data_answers.ensures in
     record {
-      answer = record { starts = false; does = false; holding = ReadsOnly };
+      answer = answered.0;
+      answers = answered.1;
       not_made = record { same = same_core _; why = NoneLeft (λ has. search rules) };
       keeps = λ _. rests _;
     }

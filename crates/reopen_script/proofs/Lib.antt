@@ -1,0 +1,5 @@
+pub mod LogLines
+pub mod Skipped
+pub mod Words
+pub mod Alike
+pub mod Reading

@@ -1,0 +1,11 @@
+pub mod Whole
+pub mod Moves
+pub mod Faults
+pub mod Steps
+pub mod Events
+pub mod Lives
+pub mod Reports
+pub mod Crashes
+pub mod Openings
+pub mod TreeStays
+pub mod OwnLogs

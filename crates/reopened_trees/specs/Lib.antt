@@ -1,0 +1,4 @@
+pub mod Earlier
+pub mod Since
+pub mod Reopened
+pub mod Laws
