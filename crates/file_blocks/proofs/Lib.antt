@@ -3,3 +3,5 @@ pub mod OneWay
 pub mod Tails
 pub mod Heads
 pub mod Begun
+pub mod Told
+pub mod Kept

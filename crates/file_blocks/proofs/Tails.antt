@@ -36,7 +36,7 @@ few_no_damage number place bytes h =
 
 -- A sound head, and fewer bytes behind it than it tells.
 
-head_stands : (number place : ℕ) (p rest : List ℕ) → is_head number place (head_text number place p ++ rest) ≡ true
+pub head_stands : (number place : ℕ) (p rest : List ℕ) → is_head number place (head_text number place p ++ rest) ≡ true
 head_stands number place p rest =
     let bytes = head_text number place p ++ rest in
     let parts : bytes ≡ label p ++ (seal number place (label p) ++ rest) =

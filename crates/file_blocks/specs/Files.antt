@@ -1,5 +1,5 @@
 -- A log's file.
-use Rattle.std.specs.Prelude.{◌≡◌, ◌+◌, ℕ, true, false, nat_lt, if◌then◌else◌, List, [], ◌∷◌, ◌++◌, length, take, drop, Option, Some, None}
+use Rattle.std.specs.Prelude.{◌≡◌, ◌+◌, ◌⊎◌, ℕ, true, false, nat_lt, if◌then◌else◌, List, [], ◌∷◌, ◌++◌, length, take, drop, Option, Some, None}
 use Rattle.std.specs.List.{concat}
 use Rattle.std.specs.Str.{bytes_eq}
 use Rattle.sha2.specs.Sha256.{sha256}
@@ -29,29 +29,33 @@ pub record IsFile (number : ℕ) (ps : List (List ℕ)) (tail : List ℕ) (bytes
   pub text : bytes ≡ file_head number ++ (blocks_text number 48 ps ++ tail)
   pub ends : first_block number (behind_all 48 ps) tail ≡ None
 
--- so far these blocks were read, which hold these bytes, and this is behind them
+-- so far the first block and these others were read, which hold these bytes, and this is after them
 pub record Begun (bytes : List ℕ) (number : ℕ) (rest held : List ℕ) : Type 0 where
-  pub blocks : List (List ℕ)
-  pub text : bytes ≡ file_head number ++ (blocks_text number 48 blocks ++ rest)
-  pub place : behind_all 48 blocks + length rest ≡ length bytes
-  pub held_are : held ≡ concat blocks
+  pub first : List ℕ
+  pub others : List (List ℕ)
+  pub text : bytes ≡ file_head number ++ (blocks_text number 48 (first ∷ others) ++ rest)
+  pub place : behind_all 48 (first ∷ others) + length rest ≡ length bytes
+  pub held_are : held ≡ concat (first ∷ others)
 
--- what stands in a file: the bytes of its blocks
+-- What stands in a file: the bytes of its blocks. It has a first one: that was on the disk before the file had its name.
 pub record Holds (bytes : List ℕ) (number : ℕ) (held : List ℕ) : Type 0 where
-  pub blocks : List (List ℕ)
+  pub first : List ℕ
+  pub others : List (List ℕ)
   pub tail : List ℕ
-  pub is : IsFile number blocks tail bytes
-  pub torn : is_damaged number (behind_all 48 blocks) tail ≡ false
-  pub held_are : held ≡ concat blocks
+  pub is : IsFile number (first ∷ others) tail bytes
+  pub torn : is_damaged number (behind_all 48 (first ∷ others)) tail ≡ false
+  pub held_are : held ≡ concat (first ∷ others)
 
--- a file has another block begun behind one that is broken
+-- a file has another block begun after one that is broken
 pub record IsBroken (bytes : List ℕ) (number : ℕ) : Type 0 where
   pub blocks : List (List ℕ)
   pub tail : List ℕ
   pub is : IsFile number blocks tail bytes
   pub more : is_damaged number (behind_all 48 blocks) tail ≡ true
 
--- bytes that are no sound file: they begin with no head of a file, or the file is broken
+-- Bytes that are no sound file: they begin with no head of a file, or with a head and no whole block, or the file is
+-- broken.
 abbrev pub IsDamaged : List ℕ → Option ℕ → Type 0
 IsDamaged bytes None = Unit {0}
-IsDamaged bytes (Some number) = IsBroken bytes number
+IsDamaged bytes (Some number) =
+    ((tail : List ℕ) × IsFile number [] tail bytes) ⊎ IsBroken bytes number

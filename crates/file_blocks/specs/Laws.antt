@@ -1,8 +1,8 @@
 -- What is written reads back, and what a cut of power leaves of the last block is a tail.
-use Rattle.std.specs.Prelude.{◌≡◌, ◌<◌, ◌^◌, ℕ, false, List, [], ◌∷◌, ◌++◌, length, take, Some, None}
-use Rattle.std.specs.List.{AllByRecursion}
-use Rattle.file_blocks.specs.Blocks.{behind_all, block_text, blocks_text, first_block, is_damaged}
-use Rattle.file_blocks.specs.Files.{IsFile}
+use Rattle.std.specs.Prelude.{◌≡◌, ◌≤◌, ◌<◌, ◌+◌, ◌^◌, ◌⊎◌, ℕ, true, false, List, [], ◌∷◌, ◌++◌, length, take, Some, None}
+use Rattle.std.specs.List.{AllByRecursion, concat}
+use Rattle.file_blocks.specs.Blocks.{behind, behind_all, block_text, blocks_text, first_block, head_text, is_damaged, is_head}
+use Rattle.file_blocks.specs.Files.{Holds, IsDamaged, IsFile, file_number, file_text}
 
 -- so many bytes can be told by a head
 abbrev pub AreTold : List (List ℕ) → Type 0
@@ -30,8 +30,32 @@ CutBlocksAreTails = (number place k : ℕ) (p : List ℕ) → length p < 2 ^ 64
     → (first_block number place (take k (block_text number place p)) ≡ None)
     × (is_damaged number place (take k (block_text number place p)) ≡ false)
 
+-- A block that is broken is damage where the head of another stands after it: its own head is as it was written, or is
+-- none any more. (A head that is another one and sound has the digest of another text.)
+abbrev pub BrokenBlocksAreTold : Type 0
+BrokenBlocksAreTold = (number place : ℕ) (p t q more : List ℕ) → length p < 2 ^ 64 → length t ≡ 72 + length p
+    → (take 72 t ≡ head_text number place p)
+    ⊎ (is_head number place (t ++ (head_text number (behind place p) q ++ more)) ≡ false)
+    → is_damaged number place (t ++ (head_text number (behind place p) q ++ more)) ≡ true
+
 -- A file with one block more is the file and that block behind it.
 abbrev pub BlocksGoBehind : Type 0
 BlocksGoBehind = (number place : ℕ) (ps : List (List ℕ)) (p : List ℕ)
     → blocks_text number place (ps ++ p ∷ [])
     ≡ blocks_text number place ps ++ block_text number (behind_all place ps) p
+
+-- What a crash leaves of a file to which a block was being written: what was on the disk, the file of the first blocks,
+-- and of that block any front, none and all of it included.
+pub record IsLeft (number : ℕ) (first : List ℕ) (others : List (List ℕ)) (p bytes : List ℕ) : Type 0 where
+  pub keep : ℕ
+  pub safe : length (file_text number (first ∷ others)) ≤ keep
+  pub is : bytes ≡ take keep (file_text number (first ∷ (others ++ p ∷ [])))
+
+-- Such a file is read as what was on the disk, or as that and the block, and as nothing else: it is never damaged.
+abbrev pub FilesKeepWhatWasForced : Type 0
+FilesKeepWhatWasForced = (number : ℕ) (first : List ℕ) (others : List (List ℕ)) (p bytes : List ℕ) → number < 2 ^ 64
+    → length (file_text number (first ∷ (others ++ p ∷ []))) < 2 ^ 64
+    → IsLeft number first others p bytes
+    → (IsDamaged bytes (file_number bytes) → ⊥)
+    × ((m : ℕ) (held : List ℕ) → m < 2 ^ 64 → Holds bytes m held
+    → (held ≡ concat (first ∷ others)) ⊎ (held ≡ concat (first ∷ others) ++ p))

@@ -27,7 +27,7 @@ pub struct FileText {
 pub enum ReadFault {
     /// There was no memory.
     Memory,
-    /// They are no file of a log, or a block that was safe is broken.
+    /// They are no file of a log, or a block that was safe is broken: the first one, or one before another.
     Damaged,
 }
 
@@ -83,7 +83,8 @@ pub fn file_number(bytes: &[u8]) -> Option<u64>
 }
 
 /// What stands in a file of these bytes: up to the first block that is not whole, which a cut of power may
-/// have left. Damaged: it is no file of a log, or another block was begun behind that one.
+/// have left. Damaged: it is no file of a log; or its first block is not whole, which was on the disk before the
+/// file had its name; or another block was begun after one that is not whole.
 pub fn read_file(alloc: Global, bytes: &[u8]) -> Result<FileText, ReadFault>
     ensures ok { IfOk result (λ found. Holds bytes.now found.number found.bytes.items) }
     ensures err { IfErr result (λ e. e ≡ ReadFault.Damaged → IsDamaged bytes.now (file_number bytes.now)) }
@@ -91,15 +92,19 @@ pub fn read_file(alloc: Global, bytes: &[u8]) -> Result<FileText, ReadFault>
     let Some(number) = file_number(bytes) else {
         return Err(ReadFault::Damaged);
     };
-    let (_, mut rest) = bytes.split_at(FILE_HEAD);
-    let mut held = Vec::with_capacity(alloc, rest.len())?;
-    while let Some((payload, behind)) = first_block(
+    let (_, blocks) = bytes.split_at(FILE_HEAD);
+    let Some((first, mut rest)) = first_block(number, FILE_HEAD as u64, blocks) else {
+        return Err(ReadFault::Damaged);
+    };
+    let mut held = Vec::with_capacity(alloc, blocks.len())?;
+    held.extend_from_slice(first)?;
+    while let Some((payload, after)) = first_block(
         number,
         (bytes.len() - rest.len()) as u64,
         rest,
     ) {
         held.extend_from_slice(payload)?;
-        rest = behind;
+        rest = after;
     }
     if is_damaged(number, (bytes.len() - rest.len()) as u64, rest) {
         return Err(ReadFault::Damaged);

@@ -3,7 +3,9 @@
 ghost use Rattle.file_blocks.specs.Laws.{
   BlocksGoBehind,
   BlocksReadBack,
+  BrokenBlocksAreTold,
   CutBlocksAreTails,
+  FilesKeepWhatWasForced,
   FilesReadOneWay,
   ReadBlocksAreWritten,
 };
@@ -25,7 +27,19 @@ pub fn cut_blocks_are_tails()
     ensures { CutBlocksAreTails }
 {}
 
+/// A block that is broken is damage where the head of another stands after it: so an empty block at the end tells
+/// of each block before it.
+pub fn broken_blocks_are_told()
+    ensures { BrokenBlocksAreTold }
+{}
+
 /// A file with one block more is that block behind it.
 pub fn blocks_go_behind()
     ensures { BlocksGoBehind }
+{}
+
+/// What a crash leaves of a file, while a block was being written to it, is read as what was on the disk, or as that
+/// and the block.
+pub fn files_keep_what_was_forced()
+    ensures { FilesKeepWhatWasForced }
 {}

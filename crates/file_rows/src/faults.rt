@@ -12,9 +12,10 @@ enum Call {
     Append(&'static [u8]),
     Force,
     Replace(&'static [u8]),
+    Close,
 }
 
-const CALLS: [Call; 9] = [
+const CALLS: [Call; 10] = [
     Call::Append(b"the first"),
     Call::Force,
     Call::Append(b"the second, "),
@@ -24,6 +25,7 @@ const CALLS: [Call; 9] = [
     Call::Append(b"the last"),
     Call::Force,
     Call::Force,
+    Call::Close,
 ];
 
 /// What a store held when it was last safe, and what it was to hold next.
@@ -49,6 +51,10 @@ fn make(
             Call::Replace(new) => {
                 safe.next = Vec::from_slice(alloc, new)?;
                 store.replace(new)
+            }
+            Call::Close => {
+                safe.next = Vec::from_slice(alloc, store.bytes())?;
+                store.close()
             }
         };
         if made.is_err() {
@@ -116,7 +122,7 @@ fn opened(alloc: Global, calls: u64, failing: u64, part: usize) -> Option<FileSt
         failing,
         part,
     };
-    FileStore::settle(file, 0, Vec::new(alloc))
+    FileStore::settle(file, 0, Vec::new(alloc)).ok()
 }
 
 /// A store over a file whose calls fail behind so many, and what is then left. None: it does not read so.
@@ -162,7 +168,7 @@ fn goes_on(alloc: Global, calls: u64, part: usize) -> Result<bool, AllocError> {
 /// How many ends of files read as they must; None, where one does not.
 pub fn run(alloc: Global) -> Option<u64> {
     let mut count = 0u64;
-    for calls in 0..9 {
+    for calls in 0..11 {
         for part in [0, 1, 71, 72, 73, 80] {
             match fault(alloc, calls, part) {
                 Ok(Some(found)) => count = count.saturating_add(found),

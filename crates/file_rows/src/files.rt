@@ -17,6 +17,12 @@ fn fill(rt: &HostRuntime) -> Result<bool, OpenError> {
     Ok(filled && busy)
 }
 
+/// Fills the log once more, and ends in order: an empty block stands after the others.
+fn fill_and_close(rt: &HostRuntime) -> Result<bool, OpenError> {
+    let mut store = open(rt, rt.alloc(), LOG)?;
+    Ok(store.append(b", three").is_ok() && store.close().is_ok())
+}
+
 /// Whether the log opens with these bytes.
 fn holds(rt: &HostRuntime, text: &[u8]) -> bool {
     match open(rt, rt.alloc(), LOG) {
@@ -36,6 +42,41 @@ fn damages(rt: &HostRuntime, place: usize) -> bool {
     text[place] ^= 1;
     fs::write(rt, LOG, text.as_slice()).is_ok()
         && matches!(open(rt, rt.alloc(), LOG), Err(OpenError::Damaged))
+}
+
+/// Whether the log, cut off after so many bytes, opens as damaged: its first block is not whole then.
+fn cut_damages(rt: &HostRuntime, size: usize) -> bool {
+    let Ok(mut text) = fs::read(rt, LOG) else {
+        return false;
+    };
+    if size >= text.len() {
+        return false;
+    }
+    text.truncate(size);
+    fs::write(rt, LOG, text.as_slice()).is_ok()
+        && matches!(open(rt, rt.alloc(), LOG), Err(OpenError::Damaged))
+}
+
+/// Whether a log of one block opens as damaged: with any part of that block turned, and cut off anywhere.
+fn first_blocks_are_told(rt: &HostRuntime) -> bool {
+    for place in [48, 60, 100, 120, 127] {
+        if !damages(rt, place) || !damages_no_more(rt, place) {
+            return false;
+        }
+    }
+    true
+}
+
+/// Turns the byte at this place back.
+fn damages_no_more(rt: &HostRuntime, place: usize) -> bool {
+    let Ok(mut text) = fs::read(rt, LOG) else {
+        return false;
+    };
+    if place >= text.len() {
+        return false;
+    }
+    text[place] ^= 1;
+    fs::write(rt, LOG, text.as_slice()).is_ok()
 }
 
 /// Whether the log with these bytes behind its blocks opens as before.
@@ -65,6 +106,21 @@ pub fn run(rt: &HostRuntime) -> &'static str {
     }
     if !passes_over(rt, &[0; 100], b"one, two") || !passes_over(rt, b"RSTARLOG", b"one, two") {
         return "a torn tail is not passed over";
+    }
+    if !matches!(fill_and_close(rt), Ok(true)) {
+        return "a log is not closed";
+    }
+    if !damages(rt, 48 + 72 + 8 + 72 + 1) || !damages_no_more(rt, 48 + 72 + 8 + 72 + 1) {
+        return "a last block that is broken is read, after an end in order";
+    }
+    if !holds(rt, b"one, two, three") {
+        return "a closed log is not read";
+    }
+    if !first_blocks_are_told(rt) {
+        return "a first block that is broken is read";
+    }
+    if !holds(rt, b"one, two, three") || !cut_damages(rt, 48) {
+        return "a file without its first block is read";
     }
     if !damages(rt, 0) {
         return "a head that is none is read";

@@ -1,1 +1,4 @@
 pub mod Stores
+pub mod Found
+pub mod Seen
+pub mod Disks

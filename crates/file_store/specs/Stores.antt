@@ -1,5 +1,5 @@
 -- A store over a file: what stands in it, and what its calls ask of the file.
-use Rattle.std.specs.Prelude.{◌≡◌, ◌+◌, ◌⊎◌, ℕ, List, [], ◌∷◌, ◌++◌, length, drop, false, true}
+use Rattle.std.specs.Prelude.{◌≡◌, ◌⊎◌, ℕ, List, [], ◌∷◌, length, drop, false, true}
 use Rattle.log_store.specs.Stores.{MoreFailures}
 use Rattle.file_blocks.specs.Blocks.{behind, block_text}
 use Rattle.file_blocks.specs.Files.{file_text}
@@ -47,6 +47,7 @@ module _ {F : Type 0} where
         ⊎ WritesBlock writes syncs old new new.end
     pub number : new.number ≡ old.number
     pub fresh : old.stale ≡ false
+    pub stays : new.stale ≡ false
 
   -- a file of these bytes alone, in one block, took the file's place
   pub record PutsFile (replaces : F → F → List ℕ → Type 0) (old : F) (new : FileStore F)
@@ -62,6 +63,15 @@ module _ {F : Type 0} where
   ForcesFile writes syncs replaces old new =
       AddsBlock writes syncs old new
       ⊎ ((old.stale ≡ true) × PutsFile replaces old.file new old.bytes.items)
+
+  -- what a close did: what was not forced was forced, and then one block more was written, an empty one
+  pub record ClosesFile (writes : F → F → ℕ → List ℕ → Type 0) (syncs : F → F → Type 0)
+      (replaces : F → F → List ℕ → Type 0) (old new : FileStore F) : Type 0 where
+    pub mid : FileStore F
+    pub forced : ForcesFile writes syncs replaces old mid
+    pub all : mid.forced ≡ length mid.bytes.items
+    pub empty : WritesBlock writes syncs mid new new.end
+    pub number : new.number ≡ mid.number
 
   -- a failure of the device was counted, and nothing else changed; the file may hold other bytes than the
   -- store

@@ -1,80 +1,39 @@
 //! A log file of the operating system. Each method makes the calls that it names, in that order, and answers
 //! what they answered.
 
-ghost use Rattle.std.specs.Prelude.{◌≡◌, IfOk, [], length};
-ghost use Rattle.file_store.specs.Stores.{file_bytes, file_failures, file_forced};
-
 use crate::log_file::LogFile;
-use crate::store::FileStore;
-use file_blocks::{ReadFault, read_file};
+use crate::trouble::Trouble;
 use std::alloc::{AllocError, Global};
 use std::fs::{File, OpenOptions, TryLockError};
-use std::io::{ErrorKind, Read, Write};
+use std::io::{ErrorKind, Seek, SeekFrom, Write};
 use std::os::fd::AsRawFd;
-use std::os::unix::fs::{FileExt, OpenOptionsExt};
-use std::path::Path;
+use std::os::unix::fs::{MetadataExt, OpenOptionsExt};
 use std::{fs, io};
-use thiserror::Error;
 
-/// Why a log file was not opened.
-#[derive(Clone, Copy, Debug, Error)]
-pub enum OpenError {
-    #[error("no memory")]
-    Memory,
-    /// Another process has it open.
-    #[error("the log is in use")]
-    Busy,
-    /// There is none, and none was to be made: a log that was lost must not be begun anew.
-    #[error("there is no log")]
-    Missing,
-    /// There is one, and a new one was to be made.
-    #[error("there is a log")]
-    Exists,
-    /// What stands there is no file of a log, or what was safe in it is broken.
-    #[error("the log is damaged")]
-    Damaged,
-    /// The system refused a call.
-    #[error("{0}")]
-    Io(io::Error),
-}
+/// How often a call that a signal interrupts is made again.
+const TRIES: u32 = 1_000;
 
-impl From<AllocError> for OpenError {
-    fn from(_error: AllocError) -> OpenError {
-        OpenError::Memory
-    }
-}
+/// At most so many bytes are put together, so that one call writes them.
+const TOGETHER: usize = 4_096;
 
-impl From<io::Error> for OpenError {
-    fn from(error: io::Error) -> OpenError {
-        OpenError::Io(error)
-    }
-}
-
-impl From<ReadFault> for OpenError {
-    fn from(fault: ReadFault) -> OpenError {
-        match fault {
-            ReadFault::Memory => OpenError::Memory,
-            ReadFault::Damaged => OpenError::Damaged,
-        }
-    }
-}
-
-/// An open log file: its name, its folder, the name under which a new one is written, and the lock that keeps
-/// other processes out for as long as it is open.
+/// An open log file: its name and its folder, the name under which a new one is written, and the file that has the
+/// name, which is locked for as long as it is open.
 #[derive(Drop)]
 pub struct HostFile {
     rt: HostRuntime,
     /// None, until a first file was written.
     file: Option<File>,
+    /// Where the file's position is, if that is known.
+    at: Option<u64>,
     folder: File,
     path: String,
     beside: String,
-    lock: File,
+    trouble: Trouble,
 }
 
 /// The file under a descriptor above the standard streams', so that what is meant for one that was closed
 /// does not land in the log.
-fn above_streams(file: File) -> io::Result<File> {
+pub(crate) fn above_streams(file: File) -> io::Result<File> {
     if file.as_raw_fd() <= 2 {
         file.try_clone()
     } else {
@@ -82,134 +41,192 @@ fn above_streams(file: File) -> io::Result<File> {
     }
 }
 
-/// The folder that has this name in it.
-fn folder_of(path: &str) -> &str {
-    match Path::new(path).parent() {
-        None => ".",
-        Some(folder) => {
-            let text = folder.as_str();
-            if text.is_empty() { "." } else { text }
+/// Locks a file for as long as it is open; false, if another process has it locked.
+pub(crate) fn is_locked(file: &File) -> io::Result<bool> {
+    match file.try_lock() {
+        Ok(()) => Ok(true),
+        Err(TryLockError::WouldBlock) => Ok(false),
+        Err(TryLockError::Error(error)) => Err(error),
+    }
+}
+
+/// Whether this name, which is no link, is the open file's.
+pub(crate) fn is_named(rt: &HostRuntime, file: &File, path: &str) -> io::Result<bool> {
+    let here = file.metadata()?;
+    match fs::symlink_metadata(rt, path) {
+        Ok(there) => Ok(there.ino() == here.ino() && there.dev() == here.dev()),
+        Err(error) if error.kind() == ErrorKind::NotFound => Ok(false),
+        Err(error) => Err(error),
+    }
+}
+
+/// Gives a file another name, in the place of what has it. A call that is interrupted is made again.
+fn rename(rt: &HostRuntime, from: &str, to: &str) -> io::Result<()> {
+    for _ in 0..TRIES {
+        match fs::rename(rt, from, to) {
+            Err(error) if error.kind() == ErrorKind::Interrupted => {}
+            answer => return answer,
         }
     }
+    Err(io::Error::from(ErrorKind::Interrupted))
 }
 
-/// The lock file, held. It stands beside the log, since the log's own file is taken the place of.
-fn held(rt: &HostRuntime, path: &str) -> Result<File, OpenError> {
-    let lock = above_streams(
-        OpenOptions::new()
-            .write(true)
-            .create(true)
-            .mode(0o600)
-            .open(rt, path)?,
-    )?;
-    match lock.try_lock() {
-        Ok(()) => Ok(lock),
-        Err(TryLockError::WouldBlock) => Err(OpenError::Busy),
-        Err(TryLockError::Error(error)) => Err(OpenError::Io(error)),
+/// Writes these bytes, one after the other, where the file's position is: by one call, if they are few.
+fn write_both(mut file: &File, head: &[u8], more: &[u8]) -> io::Result<()> {
+    if head.len() > TOGETHER || more.len() > TOGETHER - head.len() {
+        file.write_all(head)?;
+        return file.write_all(more);
+    }
+    let mut both = [0; TOGETHER];
+    let size = head.len() + more.len();
+    both[..head.len()].copy_from_slice(head);
+    both[head.len()..size].copy_from_slice(more);
+    file.write_all(&both[..size])
+}
+
+/// Removes the file that a process which ended left under the name of a new one. What is no file stays, and so does
+/// one that a process has locked.
+fn clear(rt: &HostRuntime, path: &str) -> io::Result<()> {
+    match fs::symlink_metadata(rt, path) {
+        Ok(found) if found.is_file() => {}
+        Ok(_) => return Err(io::Error::new(ErrorKind::AlreadyExists, "NAME.new is no file")),
+        Err(error) if error.kind() == ErrorKind::NotFound => return Ok(()),
+        Err(error) => return Err(error),
+    }
+    let file = above_streams(File::open(rt, path)?)?;
+    if is_locked(&file)? && is_named(rt, &file, path)? {
+        fs::remove_file(rt, path)
+    } else {
+        Err(io::Error::new(ErrorKind::ResourceBusy, "NAME.new is in use"))
     }
 }
 
-/// The name, locked, without a file yet.
-fn named(rt: &HostRuntime, alloc: Global, path: &str) -> Result<HostFile, OpenError> {
-    let lock = held(rt, format!(in alloc; "{path}.lock")?.as_str())?;
-    let folder = above_streams(File::open(rt, folder_of(path))?)?;
-    Ok(HostFile {
-        rt: *rt,
-        file: None,
-        folder,
-        path: String::from_str(alloc, path)?,
-        beside: format!(in alloc; "{path}.new")?,
-        lock,
-    })
+/// What a position is after so many bytes and so many more.
+fn after(place: u64, head: &[u8], more: &[u8]) -> Option<u64> {
+    place
+        .checked_add(head.len() as u64)?
+        .checked_add(more.len() as u64)
 }
 
-/// All that stands in the file with this name; None, where there is none.
-fn read(rt: &HostRuntime, alloc: Global, path: &str) -> Result<Option<Vec<u8>>, OpenError> {
-    let mut file = match File::open(rt, path) {
-        Ok(file) => file,
-        Err(error) if error.kind() == ErrorKind::NotFound => return Ok(None),
-        Err(error) => return Err(OpenError::Io(error)),
-    };
-    let size = usize::try_from(file.metadata()?.len()).unwrap_or(0);
-    let mut bytes = Vec::with_capacity(alloc, size.saturating_add(1))?;
-    file.read_to_end(&mut bytes)?;
-    Ok(Some(bytes))
-}
-
-/// A store over these bytes, which are written anew under the name.
-fn settled(file: HostFile, number: u64, bytes: Vec<u8>) -> Result<FileStore<HostFile>, OpenError>
-    ensures text { IfOk result (λ store. file_bytes store ≡ bytes.items) }
-    ensures forced { IfOk result (λ store. file_forced store ≡ length bytes.items) }
-    ensures works { IfOk result (λ store. file_failures store ≡ 0) }
-{
-    match FileStore::settle(file, number, bytes) {
-        Some(store) => Ok(store),
-        None => Err(OpenError::Io(io::Error::from(ErrorKind::Other))),
+impl HostFile {
+    /// The file with this name, which leads over no link, and which is locked, if it is there.
+    pub(crate) fn new(
+        rt: &HostRuntime,
+        alloc: Global,
+        file: Option<File>,
+        folder: File,
+        path: &str,
+    ) -> Result<HostFile, AllocError> {
+        Ok(HostFile {
+            rt: *rt,
+            file,
+            at: None,
+            folder,
+            path: String::from_str(alloc, path)?,
+            beside: format!(in alloc; "{path}.new")?,
+            trouble: Trouble::new(alloc)?,
+        })
     }
-}
 
-/// Opens the log with this name. What is read is written anew, under that name, before it counts as forced:
-/// what an earlier process could not sync reads as if it were there. Busy, Missing, Damaged, Io, Memory: the
-/// log is as it was.
-pub fn open(rt: &HostRuntime, alloc: Global, path: &str) -> Result<FileStore<HostFile>, OpenError>
-    ensures forced { IfOk result (λ store. file_forced store ≡ length (file_bytes store)) }
-    ensures works { IfOk result (λ store. file_failures store ≡ 0) }
-{
-    let file = named(rt, alloc, path)?;
-    let Some(bytes) = read(rt, alloc, path)? else {
-        return Err(OpenError::Missing);
-    };
-    let found = read_file(alloc, &bytes)?;
-    settled(file, found.number, found.bytes)
-}
-
-/// Makes a log without bytes under this name, and opens it. Busy, Exists, Io, Memory: what stands under the
-/// name is as it was.
-pub fn create(rt: &HostRuntime, alloc: Global, path: &str) -> Result<FileStore<HostFile>, OpenError>
-    ensures empty { IfOk result (λ store. file_bytes store ≡ []) }
-    ensures works { IfOk result (λ store. file_failures store ≡ 0) }
-{
-    let file = named(rt, alloc, path)?;
-    match File::open(rt, path) {
-        Ok(_) => return Err(OpenError::Exists),
-        Err(error) if error.kind() == ErrorKind::NotFound => {}
-        Err(error) => return Err(OpenError::Io(error)),
+    /// What the system said of the last call that failed.
+    pub fn trouble(&self) -> &Trouble {
+        &self.trouble
     }
-    settled(file, 0, Vec::new(alloc))
+
+    /// Ok: the name is still the file's; or, if no file was written yet, nobody's.
+    fn keeps_name(&self) -> io::Result<()> {
+        let path = self.path.as_str();
+        match &self.file {
+            Some(file) => {
+                if is_named(&self.rt, file, path)? {
+                    Ok(())
+                } else {
+                    Err(io::Error::new(ErrorKind::NotFound, "the file no longer has its name"))
+                }
+            }
+            None => match fs::symlink_metadata(&self.rt, path) {
+                Err(error) if error.kind() == ErrorKind::NotFound => Ok(()),
+                Err(error) => Err(error),
+                Ok(_) => Err(io::Error::new(ErrorKind::AlreadyExists, "there is a log")),
+            },
+        }
+    }
+
+    /// A new file under the name beside, locked.
+    fn fresh(&self) -> io::Result<File> {
+        clear(&self.rt, self.beside.as_str())?;
+        let file = above_streams(
+            OpenOptions::new()
+                .write(true)
+                .create_new(true)
+                .mode(0o600)
+                .open(&self.rt, self.beside.as_str())?,
+        )?;
+        if is_locked(&file)? {
+            Ok(file)
+        } else {
+            Err(io::Error::new(ErrorKind::ResourceBusy, "NAME.new is in use"))
+        }
+    }
+
+    /// Writes and syncs the new file, and gives it the name.
+    fn put(&self, file: &File, head: &[u8], more: &[u8]) -> io::Result<()> {
+        write_both(file, head, more)?;
+        file.sync_all()?;
+        self.keeps_name()?;
+        rename(&self.rt, self.beside.as_str(), self.path.as_str())
+    }
+
+    /// A new file of these bytes in the place of the old one. If it did not take that place it is removed.
+    fn put_anew(&mut self, head: &[u8], more: &[u8]) -> io::Result<()> {
+        let file = self.fresh()?;
+        if let Err(error) = self.put(&file, head, more) {
+            let _ = fs::remove_file(&self.rt, self.beside.as_str());
+            return Err(error);
+        }
+        self.file = Some(file);
+        self.at = after(0, head, more);
+        self.folder.sync_all()
+    }
+
+    /// Writes these bytes at this place of the file.
+    fn write_at(&mut self, place: u64, head: &[u8], more: &[u8]) -> io::Result<()> {
+        let Some(file) = &self.file else {
+            return Err(io::Error::from(ErrorKind::NotFound));
+        };
+        if self.at != Some(place) {
+            let mut file = file;
+            file.seek(SeekFrom::Start(place))?;
+        }
+        self.at = None;
+        write_both(file, head, more)?;
+        self.at = after(place, head, more);
+        Ok(())
+    }
+
+    /// Syncs the file. What is on the disk is no log, if the file has lost its name.
+    fn sync_named(&self) -> io::Result<()> {
+        match &self.file {
+            Some(file) => file.sync_data()?,
+            None => return Err(io::Error::from(ErrorKind::NotFound)),
+        }
+        self.keeps_name()
+    }
 }
 
 impl LogFile for HostFile {
     fn write(&mut self, place: u64, head: &[u8], more: &[u8]) -> io::Result<()> {
-        let Some(file) = &self.file else {
-            return Err(io::Error::from(ErrorKind::Other));
-        };
-        let behind = place.saturating_add(head.len() as u64);
-        file.write_all_at(head, place)?;
-        file.write_all_at(more, behind)
+        let written = self.write_at(place, head, more);
+        self.trouble.note(written)
     }
 
     fn sync(&mut self) -> io::Result<()> {
-        match &self.file {
-            Some(file) => file.sync_data(),
-            None => Err(io::Error::from(ErrorKind::Other)),
-        }
+        let synced = self.sync_named();
+        self.trouble.note(synced)
     }
 
     fn replace(&mut self, head: &[u8], more: &[u8]) -> io::Result<()> {
-        let mut file = above_streams(
-            OpenOptions::new()
-                .write(true)
-                .create(true)
-                .truncate(true)
-                .mode(0o600)
-                .open(&self.rt, self.beside.as_str())?,
-        )?;
-        file.write_all(head)?;
-        file.write_all(more)?;
-        file.sync_all()?;
-        fs::rename(&self.rt, self.beside.as_str(), self.path.as_str())?;
-        self.folder.sync_all()?;
-        self.file = Some(file);
-        Ok(())
+        let put = self.put_anew(head, more);
+        self.trouble.note(put)
     }
 }

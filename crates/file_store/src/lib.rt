@@ -7,10 +7,17 @@
 //! that `HostFile` makes the calls of the system that its methods name is for a reader to see (README.md).
 #![tactic(auto)]
 
+mod found;
 mod host;
+pub mod law;
 mod log_file;
+mod opening;
 mod store;
+mod trouble;
 
-pub use host::{HostFile, OpenError, create, open};
+pub use found::{OpenError, found_in};
+pub use host::HostFile;
 pub use log_file::LogFile;
+pub use opening::{SeenLog, create, look, look_new, open, read};
 pub use store::FileStore;
+pub use trouble::Trouble;

@@ -10,6 +10,7 @@ use crate::log_file::LogFile;
 use file_blocks::{FILE_HEAD, HEAD, file_start, head_of};
 use log_store::{LogStore, StoreError};
 use std::alloc::AllocError;
+use std::io;
 
 /// A store in a file. What one force covers is written as one block, then: until it is forced nothing of it
 /// is in the file. Behind a failure the file may hold other bytes than the store: the next force, or `replace`,
@@ -37,6 +38,13 @@ fn end_of(place: u64, size: usize) -> Option<u64>
     place.checked_add(HEAD as u64)?.checked_add(size as u64)
 }
 
+/// The number of the file after this one, and where its second block begins after a first one of so many bytes.
+fn placed(number: u64, size: usize) -> Option<(u64, u64)>
+    ensures { IfSome result (λ at. (at.0 ≡ number + 1) × (at.1 ≡ 48 + (72 + size))) }
+{
+    Some((number.checked_add(1)?, end_of(FILE_HEAD as u64, size)?))
+}
+
 impl<F: LogFile> FileStore<F> {
     ghost use Rattle.file_store.specs.Stores.{
       Fails,
@@ -48,19 +56,22 @@ impl<F: LogFile> FileStore<F> {
     };
 
     /// A store over a file which held these bytes under this number: they are written anew, since what was
-    /// read may not be on the disk. None: the device failed under it. It takes no memory.
-    pub fn settle(mut file: F, number: u64, bytes: Vec<u8>) -> Option<Self>
-        ensures text { IfSome result (λ s. file_bytes s ≡ bytes.items) }
-        ensures forced { IfSome result (λ s. file_forced s ≡ length bytes.items) }
-        ensures works { IfSome result (λ s. file_failures s ≡ 0) }
-        ensures put { IfSome result (λ s. PutsFile F.replaces file s bytes.items) }
+    /// read may not be on the disk. Err: the device failed under it, or the numbers of files are used up. It takes no
+    /// memory.
+    pub fn settle(mut file: F, number: u64, bytes: Vec<u8>) -> io::Result<Self>
+        ensures text { IfOk result (λ s. file_bytes s ≡ bytes.items) }
+        ensures forced { IfOk result (λ s. file_forced s ≡ length bytes.items) }
+        ensures works { IfOk result (λ s. file_failures s ≡ 0) }
+        ensures put { IfOk result (λ s. PutsFile F.replaces file s bytes.items) }
     {
-        let number = number.checked_add(1)?;
-        let end = end_of(FILE_HEAD as u64, bytes.len())?;
+        let (number, end) = match placed(number, bytes.len()) {
+            Some(at) => at,
+            None => return Err(io::Error::other("the numbers of files are used up")),
+        };
         let start = file_start(number, &bytes);
-        file.replace(&start, &bytes).ok()?;
+        file.replace(&start, &bytes)?;
         let forced = bytes.len();
-        Some(FileStore {
+        Ok(FileStore {
             file,
             number,
             end,
@@ -71,7 +82,14 @@ impl<F: LogFile> FileStore<F> {
         })
     }
 
-    /// The file, which the store lets go.
+    /// The file.
+    pub fn file(&self) -> &F
+        ensures { result.now ≡ file_of self.now }
+    {
+        &self.file
+    }
+
+    /// The file, which the store releases.
     pub fn into_file(self) -> F
         ensures { result ≡ file_of self }
     {
@@ -132,11 +150,33 @@ fn put<F: LogFile>(file: &mut F, number: u64, new: &[u8]) -> Option<(u64, u64)>
     ensures put { IfSome result (λ at. F.replaces file.old file.new (file_text at.0 (new.now ∷ []))) }
     ensures end { IfSome result (λ at. at.1 ≡ behind 48 new.now) }
 {
-    let number = number.checked_add(1)?;
-    let end = end_of(FILE_HEAD as u64, new.len())?;
+    let (number, end) = placed(number, new.len())?;
     let start = file_start(number, new);
     file.replace(&start, new).ok()?;
     Some((number, end))
+}
+
+impl<F: LogFile> FileStore<F> {
+    ghost use Rattle.file_store.specs.Stores.{ClosesFile, file_bytes, file_failures, file_forced};
+
+    /// Forces what stands, and then writes an empty block after the last one and syncs the file. So each block
+    /// before it is told, if it is broken later. It is for an end in order: the file opens as it would without.
+    /// Device: the device failed, and what stands is forced or not. It takes no memory.
+    pub fn close(&mut self) -> Result<(), StoreError>
+        ensures ok { OnOk result (Forces file_bytes file_forced file_failures self.old self.new) }
+        ensures err { IfErr result (λ e. (e ≡ StoreError.Device)
+            × ForceBreaks file_bytes file_forced file_failures self.old self.new) }
+        ensures file { OnOk result (ClosesFile F.writes F.syncs F.replaces self.old self.new) }
+    {
+        self.force()?;
+        match self.write_block() {
+            Some(end) => {
+                self.end = end;
+                Ok(())
+            }
+            None => Err(self.fail()),
+        }
+    }
 }
 
 impl<F: LogFile> LogStore for FileStore<F> {

@@ -1,11 +1,15 @@
--- The cases that are in doubt by the records of a log.
+-- The cases that are in doubt by the records of a log, and those that an operator decided and that wait to be told.
 use Rattle.std.specs.Prelude.{not, Some, None, List, [], ◌∷◌, ◌++◌, filter, fold}
 use Rattle.tree_model.specs.declared.names.Case.{Case}
+use Rattle.tree_model.specs.declared.names.Outcome.{Outcome}
 use Rattle.tree_model.specs.declared.records.LogRecord.{LogRecord}
 use Rattle.tree_model.specs.Names.{same_case}
+use Rattle.log_news.specs.declared.doubts.Decision.{Decision}
 use Rattle.log_news.specs.declared.saying.Stage.{Stage}
-use Rattle.log_news.specs.declared.saying.Stage.TheVariants.{Open, Doubt, Ended, Over}
+use Rattle.log_news.specs.declared.saying.Stage.TheVariants.{Open, Doubt, Decided, Ended, Over}
 use Rattle.log_news.specs.Sayings.{Saying, saying_of}
+
+-- Doubts.
 
 -- the others
 abbrev pub others_in : Case → List Case → List Case
@@ -15,10 +19,11 @@ others_in c cs = filter (λ d. not (same_case c d)) cs
 abbrev pub doubts_by : List Case → Case → Stage → List Case
 doubts_by cs c Open = cs
 doubts_by cs c Doubt = others_in c cs ++ c ∷ []
+doubts_by cs c (Decided o) = others_in c cs
 doubts_by cs c (Ended o) = others_in c cs
 doubts_by cs c Over = others_in c cs
 
--- the same behind what any record says
+-- the cases in doubt behind what any record says
 abbrev pub doubts_behind : List Case → Saying → List Case
 doubts_behind cs None = cs
 doubts_behind cs (Some s) = doubts_by cs s.0 s.1
@@ -27,6 +32,33 @@ doubts_behind cs (Some s) = doubts_by cs s.0 s.1
 abbrev pub doubts_after : List Case → LogRecord → List Case
 doubts_after cs l = doubts_behind cs (saying_of l.entry)
 
--- the cases that are in doubt by these records, in order of the last that says so
+-- the cases that are in doubt by these records, in order of their promises
 abbrev pub doubts_in : List LogRecord → List Case
 doubts_in ls = fold doubts_after [] ls
+
+-- Decisions.
+
+-- the decisions of the others
+abbrev pub other_decisions : Case → List Decision → List Decision
+other_decisions c ds = filter (λ d. not (same_case c d.case)) ds
+
+-- the decisions that wait behind a record of this case that says so
+abbrev pub decisions_by : List Decision → Case → Stage → List Decision
+decisions_by ds c Open = ds
+decisions_by ds c Doubt = other_decisions c ds
+decisions_by ds c (Decided o) = other_decisions c ds ++ record { case = c; outcome = o } ∷ []
+decisions_by ds c (Ended o) = other_decisions c ds
+decisions_by ds c Over = other_decisions c ds
+
+-- the decisions that wait behind what any record says
+abbrev pub decisions_behind : List Decision → Saying → List Decision
+decisions_behind ds None = ds
+decisions_behind ds (Some s) = decisions_by ds s.0 s.1
+
+-- the decisions that wait behind a record of the log
+abbrev pub decisions_after : List Decision → LogRecord → List Decision
+decisions_after ds l = decisions_behind ds (saying_of l.entry)
+
+-- what operators decided by these records of cases that were not told their outcome, in the order of the decisions
+abbrev pub decisions_in : List LogRecord → List Decision
+decisions_in ls = fold decisions_after [] ls

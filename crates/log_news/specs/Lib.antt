@@ -1,3 +1,4 @@
+pub mod Boots
 pub mod Sayings
 pub mod News
 pub mod Doubts

@@ -5,7 +5,7 @@ use Rattle.tree_model.specs.declared.names.Txn.{Txn}
 use Rattle.tree_model.specs.declared.records.LogRecord.{LogRecord}
 use Rattle.tree_model.specs.Names.{same_txn}
 use Rattle.log_news.specs.declared.saying.Stage.{Stage}
-use Rattle.log_news.specs.declared.saying.Stage.TheVariants.{Open, Doubt, Ended, Over}
+use Rattle.log_news.specs.declared.saying.Stage.TheVariants.{Open, Doubt, Decided, Ended, Over}
 use Rattle.log_news.specs.declared.news.News.{News}
 use Rattle.log_news.specs.declared.news.News.TheVariants as news
 use Rattle.log_news.specs.Sayings.{Saying, saying_of}
@@ -19,6 +19,7 @@ forgotten n = n
 abbrev pub news_behind : News → Stage → News
 news_behind n Open = news.Open
 news_behind n Doubt = news.Open
+news_behind n (Decided o) = news.Open
 news_behind n (Ended outcome.Committed) = news.Committed
 news_behind n (Ended outcome.Aborted) = news.Aborted
 news_behind n Over = forgotten n

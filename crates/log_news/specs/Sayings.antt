@@ -7,7 +7,7 @@ use Rattle.tree_model.specs.declared.records.Record.{Record}
 use Rattle.tree_model.specs.declared.records.Record.TheVariants as records
 use Rattle.tree_model.specs.Records.{branch_case}
 use Rattle.log_news.specs.declared.saying.Stage.{Stage}
-use Rattle.log_news.specs.declared.saying.Stage.TheVariants.{Open, Doubt, Ended, Over}
+use Rattle.log_news.specs.declared.saying.Stage.TheVariants.{Open, Doubt, Decided, Ended, Over}
 
 -- a case, and how far a record says that it has come
 abbrev pub Saying : Type 0
@@ -22,8 +22,8 @@ of_case (Some c) stage = Some (c, stage)
 abbrev pub saying_of_branch : Branch → Stage → Saying
 saying_of_branch b stage = of_case (branch_case b) stage
 
--- what a record says: a case collects votes; it is in doubt, having promised or been decided by an operator; it
--- ended by its own decision, or was told how; or it is forgotten
+-- what a record says: a case collects votes; it is in doubt, having promised; an operator decided it, and it
+-- waits to be told; it ended by its own decision, or was told how; or it is forgotten
 abbrev pub saying_of : Record → Saying
 saying_of (records.Opened n) = None
 saying_of (records.Collecting c ts) = Some (c, Open)
@@ -36,8 +36,8 @@ saying_of (records.Prepared b ws) = saying_of_branch b Doubt
 saying_of (records.Committed b) = saying_of_branch b (Ended outcome.Committed)
 saying_of (records.RolledBack b) = saying_of_branch b (Ended outcome.Aborted)
 saying_of (records.Direct b ws) = saying_of_branch b (Ended outcome.Committed)
-saying_of (records.HeurCommit b) = saying_of_branch b Doubt
-saying_of (records.HeurRollback b) = saying_of_branch b Doubt
+saying_of (records.HeurCommit b) = saying_of_branch b (Decided outcome.Committed)
+saying_of (records.HeurRollback b) = saying_of_branch b (Decided outcome.Aborted)
 saying_of (records.Told b o) = saying_of_branch b (Ended o)
 saying_of (records.Forgot b) = saying_of_branch b Over
 saying_of (records.Base n) = None

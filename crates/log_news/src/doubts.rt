@@ -1,12 +1,26 @@
-//! The cases in doubt by the records of a log.
+//! The cases in doubt by the records of a log, and those that an operator decided and that wait to be told.
 
 ghost use Rattle.std.specs.Prelude.{◌≡◌, IfOk, OnOk, not};
 ghost use Rattle.tree_model.specs.Names.{same_case};
-ghost use Rattle.log_news.specs.Doubts.{doubts_after, doubts_in, others_in};
+ghost use Rattle.log_news.specs.Doubts.{
+  decisions_after,
+  decisions_in,
+  doubts_after,
+  doubts_in,
+  other_decisions,
+  others_in,
+};
 
 use crate::saying::{Stage, saying};
 use std::alloc::{AllocError, Global};
-use tree_model::{Case, LogRecord};
+use tree_model::{Case, LogRecord, Outcome};
+
+/// A case that an operator decided and that was not told its outcome, and what the operator decided.
+#[derive(Clone, Copy, PartialEq, Eq)]
+pub struct Decision {
+    pub case: Case,
+    pub outcome: Outcome,
+}
 
 /// The case leaves the list.
 fn strike(cases: &mut Vec<Case>, case: Case)
@@ -31,15 +45,15 @@ fn note(cases: &mut Vec<Case>, kept: &LogRecord) -> Result<(), AllocError>
             cases.push(case)?;
             Ok(())
         }
-        Some((case, Stage::Ended(_) | Stage::Over)) => {
+        Some((case, Stage::Decided(_) | Stage::Ended(_) | Stage::Over)) => {
             strike(cases, case);
             Ok(())
         }
     }
 }
 
-/// The cases that are in doubt by these records: they promised, or an operator decided them, and they were not
-/// told their outcome. In order of the last record that says so.
+/// The cases that are in doubt by these records: they promised, no operator decided them, and they were not told
+/// their outcome. In the order of their promises.
 pub fn doubts_of(alloc: Global, records: &[LogRecord]) -> Result<Vec<Case>, AllocError>
     ensures { IfOk result (λ cases. cases.items ≡ doubts_in records.now) }
 {
@@ -48,4 +62,46 @@ pub fn doubts_of(alloc: Global, records: &[LogRecord]) -> Result<Vec<Case>, Allo
         note(&mut cases, kept)?;
     }
     Ok(cases)
+}
+
+/// The decision of the case leaves the list.
+fn forget(decisions: &mut Vec<Decision>, case: Case)
+    ensures { decisions.new.items ≡ other_decisions case decisions.old.items }
+{
+    decisions.retain(
+        |other: &Decision| -> bool
+            ensures { result ≡ not (same_case case other.now.case) }
+        { !case.is(&other.case) },
+    );
+}
+
+/// The decisions that wait behind a record of the log.
+fn note_decision(decisions: &mut Vec<Decision>, kept: &LogRecord) -> Result<(), AllocError>
+    ensures { OnOk result (decisions.new.items ≡ decisions_after decisions.old.items kept.now) }
+{
+    match saying(&kept.entry) {
+        None => Ok(()),
+        Some((_, Stage::Open)) => Ok(()),
+        Some((case, Stage::Decided(outcome))) => {
+            forget(decisions, case);
+            decisions.push(Decision { case, outcome })?;
+            Ok(())
+        }
+        Some((case, Stage::Doubt | Stage::Ended(_) | Stage::Over)) => {
+            forget(decisions, case);
+            Ok(())
+        }
+    }
+}
+
+/// What operators decided by these records of cases that were not told their outcome, in the order of the
+/// decisions.
+pub fn decisions_of(alloc: Global, records: &[LogRecord]) -> Result<Vec<Decision>, AllocError>
+    ensures { IfOk result (λ decisions. decisions.items ≡ decisions_in records.now) }
+{
+    let mut decisions = Vec::new(alloc);
+    for kept in records {
+        note_decision(&mut decisions, kept)?;
+    }
+    Ok(decisions)
 }

@@ -1,11 +1,14 @@
 //! Floor: the log.
 //!
-//! What the records of a log tell of how a transaction ended, and which cases are in doubt by them.
+//! What the records of a log tell of how a transaction ended, which cases are in doubt by them, and which an
+//! operator decided.
 #![tactic(auto)]
 
+mod boots;
 mod doubts;
 mod news;
 mod saying;
 
-pub use doubts::doubts_of;
+pub use boots::boot_of;
+pub use doubts::{Decision, decisions_of, doubts_of};
 pub use news::{News, news_of};

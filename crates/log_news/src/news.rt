@@ -22,7 +22,7 @@ fn behind(known: News, stage: Stage) -> News
     ensures { result ≡ news_behind known stage }
 {
     match stage {
-        Stage::Open | Stage::Doubt => News::Open,
+        Stage::Open | Stage::Doubt | Stage::Decided(_) => News::Open,
         Stage::Ended(Outcome::Committed) => News::Committed,
         Stage::Ended(Outcome::Aborted) => News::Aborted,
         Stage::Over => match known {

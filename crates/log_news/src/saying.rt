@@ -10,8 +10,10 @@ use tree_model::{Branch, Case, Outcome, Record};
 pub(crate) enum Stage {
     /// Its votes are collected.
     Open,
-    /// It promised, or an operator decided it.
+    /// It promised.
     Doubt,
+    /// An operator decided it so, and it was not told its outcome.
+    Decided(Outcome),
     /// It ended so.
     Ended(Outcome),
     /// It is forgotten.
@@ -36,9 +38,9 @@ pub(crate) fn saying(entry: &Record) -> Option<(Case, Stage)>
         Record::Commit(case, _) => Some((*case, Stage::Ended(Outcome::Committed))),
         Record::Abort(case, _) => Some((*case, Stage::Ended(Outcome::Aborted))),
         Record::End(case, _) | Record::Cleared(case) => Some((*case, Stage::Over)),
-        Record::Prepared(branch, _) | Record::HeurCommit(branch) | Record::HeurRollback(branch) => {
-            of_branch(branch, Stage::Doubt)
-        }
+        Record::Prepared(branch, _) => of_branch(branch, Stage::Doubt),
+        Record::HeurCommit(branch) => of_branch(branch, Stage::Decided(Outcome::Committed)),
+        Record::HeurRollback(branch) => of_branch(branch, Stage::Decided(Outcome::Aborted)),
         Record::Committed(branch) | Record::Direct(branch, _) => {
             of_branch(branch, Stage::Ended(Outcome::Committed))
         }

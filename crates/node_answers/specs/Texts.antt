@@ -6,14 +6,44 @@ use Rattle.tree_model.specs.declared.names.Case.{Case}
 use Rattle.tree_model.specs.declared.names.Txn.{Txn}
 use Rattle.tree_model.specs.declared.events.Reaction.{Reaction}
 use Rattle.tree_model.specs.Names.{root_case}
-use Rattle.tree_model.specs.Texts.{case_text, kept_lines, reaction_lines}
+use Rattle.tree_model.specs.Texts.{case_text, kept_lines, outcome_word, reaction_lines}
 use Rattle.trace_lines.specs.Trace.{lines_text}
+use Rattle.log_news.specs.declared.doubts.Decision.{Decision}
+use Rattle.node_answers.specs.declared.status.Status.{Status}
 use Rattle.log_news.specs.declared.news.News.{News}
 use Rattle.log_news.specs.declared.news.News.TheVariants as news
 
 -- the end of an answer to a line that was made
 abbrev pub ok_text : List ℕ
 ok_text = codes "ok\n"
+
+-- the lines that a node knows, and `ok`
+abbrev pub help_text : List ℕ
+help_text =
+    codes "begin pa|pc\n"
+    ++ codes "join CASE CHILD\n"
+    ++ codes "work CASE CHILD put KEY VALUE|get KEY|del KEY\n"
+    ++ codes "commit TXN\n"
+    ++ codes "abort TXN\n"
+    ++ codes "ask CASE\n"
+    ++ codes "heur CASE commit|rollback\n"
+    ++ codes "forget CASE\n"
+    ++ codes "N F->T MESSAGE\n"
+    ++ codes "trim\n"
+    ++ codes "doubt\n"
+    ++ codes "outcome TXN\n"
+    ++ codes "status\n"
+    ++ codes "help\n"
+    ++ codes "end\n"
+    ++ ok_text
+
+-- how a log stands: the boot; how many records it has, and how many of them are not forced; how many bytes; how many
+-- cases are in doubt by it, and how many an operator decided that wait to be told
+abbrev pub status_text : Status → List ℕ
+status_text s =
+    codes "status boot " ++ decimal s.boot ++ codes " records " ++ decimal s.records ++ codes " unforced "
+    ++ decimal s.unforced ++ codes " bytes " ++ decimal s.bytes ++ codes " in-doubt " ++ decimal s.doubts
+    ++ codes " decided " ++ decimal s.decided ++ codes "\n" ++ ok_text
 
 -- the answer to the line of nothing
 abbrev pub error_text : List ℕ
@@ -38,6 +68,14 @@ doubt_line c = codes "doubt " ++ case_text c ++ codes "\n"
 -- the lines of cases in doubt
 abbrev pub doubts_text : List Case → List ℕ
 doubts_text cs = flat_map doubt_line cs
+
+-- the line of a case that an operator decided and that waits to be told
+abbrev pub decision_line : Decision → List ℕ
+decision_line d = codes "decided " ++ case_text d.case ++ codes " " ++ outcome_word d.outcome ++ codes "\n"
+
+-- the lines of such cases
+abbrev pub decisions_text : List Decision → List ℕ
+decisions_text ds = flat_map decision_line ds
 
 -- how a transaction ended, as far as is known, and the end of the line
 abbrev pub news_word : News → List ℕ

@@ -3,6 +3,10 @@
 //! What a process of a tree answers to a line, where it runs as a program of its own, as text.
 #![tactic(auto)]
 
+mod status;
 mod text;
 
-pub use text::{doubt_text, error_text, outcome_text, refused_text, shown_text, trimmed_text};
+pub use status::{Status, help_text, status_text};
+pub use text::{
+    doubt_text, error_text, obeyed_text, outcome_text, refused_text, shown_text, trimmed_text,
+};

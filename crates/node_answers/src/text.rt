@@ -4,6 +4,8 @@ ghost use Rattle.std.specs.Prelude.{◌≡◌, ◌++◌, ◌<◌, ◌+◌, ◌^�
 ghost use Rattle.trace_lines.specs.Trace.{lines_text};
 ghost use Rattle.tree_model.specs.Texts.{reaction_lines};
 ghost use Rattle.node_answers.specs.Texts.{
+  decision_line,
+  decisions_text,
   doubt_line,
   doubts_text,
   error_text,
@@ -15,11 +17,11 @@ ghost use Rattle.node_answers.specs.Texts.{
   trimmed_text,
 };
 
-use log_news::News;
+use log_news::{Decision, News};
 use std::alloc::{AllocError, Global};
 use trace_lines::{
-    push, push_begun, push_case, push_conclusion, push_kept, push_messages, push_number,
-    push_written,
+    outcome_word, push, push_begun, push_case, push_conclusion, push_kept, push_messages,
+    push_number, push_written,
 };
 use tree_model::{Case, ProcessId, Reaction, Txn};
 
@@ -69,6 +71,15 @@ pub fn trimmed_text(alloc: Global, me: ProcessId, remain: u64) -> Result<Vec<u8>
     Ok(out)
 }
 
+/// The answer to a line that is obeyed, and of which there is nothing to tell.
+pub fn obeyed_text(alloc: Global) -> Result<Vec<u8>, AllocError>
+    ensures { IfOk result (λ text. text.items ≡ ok_text) }
+{
+    let mut out = Vec::new(alloc);
+    push(&mut out, "ok\n")?;
+    Ok(out)
+}
+
 /// The answer to the line of nothing.
 pub fn error_text(alloc: Global) -> Result<Vec<u8>, AllocError>
     ensures { IfOk result (λ text. text.items ≡ error_text) }
@@ -106,12 +117,37 @@ fn push_doubts(out: &mut Vec<u8>, cases: &[Case]) -> Result<(), AllocError>
     Ok(())
 }
 
-/// A line for each of these cases, and `ok`.
-pub fn doubt_text(alloc: Global, cases: &[Case]) -> Result<Vec<u8>, AllocError>
-    ensures { IfOk result (λ text. text.items ≡ doubts_text cases.now ++ ok_text) }
+fn push_decision(out: &mut Vec<u8>, decision: &Decision) -> Result<(), AllocError>
+    ensures { OnOk result (out.new.items ≡ out.old.items ++ decision_line decision.now) }
+{
+    push(out, "decided ")?;
+    push_case(out, &decision.case)?;
+    push(out, " ")?;
+    push(out, outcome_word(decision.outcome))?;
+    push(out, "\n")
+}
+
+fn push_decisions(out: &mut Vec<u8>, decisions: &[Decision]) -> Result<(), AllocError>
+    ensures { OnOk result (out.new.items ≡ out.old.items ++ decisions_text decisions.now) }
+{
+    for decision in decisions {
+        push_decision(out, decision)?;
+    }
+    Ok(())
+}
+
+/// A line for each of these cases in doubt, then one for each that an operator decided, and `ok`.
+pub fn doubt_text(
+    alloc: Global,
+    cases: &[Case],
+    decisions: &[Decision],
+) -> Result<Vec<u8>, AllocError>
+    ensures { IfOk result (λ text. text.items
+        ≡ doubts_text cases.now ++ decisions_text decisions.now ++ ok_text) }
 {
     let mut out = Vec::new(alloc);
     push_doubts(&mut out, cases)?;
+    push_decisions(&mut out, decisions)?;
     push(&mut out, "ok\n")?;
     Ok(out)
 }

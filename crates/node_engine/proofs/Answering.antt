@@ -1,5 +1,5 @@
 -- What comes of a line.
-use Rattle.std.proofs.Common.{◌≡◌, ◌∙◌, ℕ, Bool, true, false, Result, Ok, Err, List, inl, refl, ap, sym, subst}
+use Rattle.std.proofs.Common.{◌≡◌, ◌∙◌, ◌++◌, ℕ, Bool, true, false, length, Result, Ok, Err, List, inl, refl, ap, sym, subst}
 use Rattle.std.specs.Prelude.{IfErr, IfOk, OnErr, OnOk}
 use Rattle.std.specs.Result.{IsErrAnd}
 use Rattle.std.specs.Str.{IsUtf8}
@@ -12,11 +12,11 @@ use Rattle.tree_model.specs.declared.events.StepError.TheVariants.{Memory, Devic
 use Rattle.tree_model.specs.Errors.{step_error_number}
 use Rattle.tree_model.specs.Names.{same_process}
 use Rattle.tree_model.specs.Plays.{process_of_act}
+use Rattle.tree_model.specs.Trees.{root_of}
 use Rattle.core_model.specs.States.{CoreState}
-use Rattle.core_model.specs.Turns.{no_answer}
 use Rattle.core_law.specs.worlds.Worlds.{HandlesInput}
 use Rattle.manager_model.specs.Data.{ManagerData}
-use Rattle.tree_node.specs.Nodes.{NotHandled}
+use Rattle.tree_node.specs.Nodes.{NotHandled, SpellsLog}
 use Rattle.tree_node.specs.Restarts.{NoTrim}
 use Rattle.tree_node.proofs.Same.{rests, same_core}
 use Rattle.node_lines.specs.declared.asked.Asked.{Asked}
@@ -24,8 +24,11 @@ use Rattle.node_lines.specs.declared.asked.Asked.TheVariants as asked
 use Rattle.node_lines.specs.Asked.{asked_at}
 use Rattle.node_engine.specs.declared.failure.NodeFailure.{NodeFailure}
 use Rattle.node_engine.specs.declared.failure.NodeFailure.TheVariants as failure
-use Rattle.node_engine.specs.Answers.{Answers, AnswersFor, AnswersInput, AnswersLine, AnswersTrim, IsRefusal, IsUnrefused, IsUnshown, NodeState, Shows, Takes, TakesFor, TakesIf, TakesInput, TakesLine, TakesTrim}
-use Rattle.node_answers.specs.Texts.{refused_text}
+use Rattle.node_engine.specs.Answers.{Answers, AnswersIf, AnswersInput, AnswersLine, AnswersTrim, IsRefusal, IsUnrefused, IsUnshown, NodeState, Shows, Takes, TakesIf, TakesInput, TakesLine, TakesTrim, TellsOutcome, TellsStatus, hears, leaves_it, records_at, status_by, takes_it}
+use Rattle.node_answers.specs.declared.status.Status.{Status}
+use Rattle.node_answers.specs.Texts.{news_text, ok_text, refused_text, status_text}
+use Rattle.log_news.specs.News.{news_in}
+use Rattle.tree_model.specs.declared.names.Txn.{Txn}
 
 -- the same node, whose process keeps this
 abbrev pub moved : NodeState → CoreState → ManagerData → NodeState
@@ -40,7 +43,7 @@ module _ {A E : Type 0} (items : A → List ℕ) (old : NodeState) (core : CoreS
       → IfOk r (λ text. Shows (moved old core d) new reaction (items text))
       → IfOk r (λ text. AnswersInput old new input (items text))
   shown_ok reaction new (Ok text) handles h = record {
-    seat = record { root = ap (λ (n : NodeState). n.root) h.after; me = ap (λ (n : NodeState). n.me) h.after };
+    seat = record { tree = ap (λ (n : NodeState). n.tree) h.after; me = ap (λ (n : NodeState). n.me) h.after };
     end = Ok reaction;
     took = subst (λ (n : NodeState). HandlesInput old.core n.core old.holdings n.holdings input reaction)
         (sym h.after) handles;
@@ -53,7 +56,7 @@ module _ {A E : Type 0} (items : A → List ℕ) (old : NodeState) (core : CoreS
       → IfOk r (λ text. items text ≡ refused_text (step_error_number e)) → OnOk r (IsRefusal e)
       → IfOk r (λ text. AnswersInput old (moved old core d) input (items text))
   refused_ok e (Ok text) refuses told refusal = record {
-    seat = record { root = refl; me = refl };
+    seat = record { tree = refl; me = refl };
     end = Err e;
     took = refuses;
     told = (told, refl, refusal);
@@ -67,7 +70,7 @@ module _ {A : Type 0} (old : NodeState) (core : CoreState) (d : ManagerData) (in
       → IfErr r (TakesInput old new input)
   shown_err reaction new (Ok text) handles h why = tt
   shown_err reaction new (Err e) handles h why = record {
-    seat = record { root = ap (λ (n : NodeState). n.root) h; me = ap (λ (n : NodeState). n.me) h };
+    seat = record { tree = ap (λ (n : NodeState). n.tree) h; me = ap (λ (n : NodeState). n.me) h };
     end = Ok reaction;
     took = subst (λ (n : NodeState). HandlesInput old.core n.core old.holdings n.holdings input reaction)
         (sym h) handles;
@@ -79,7 +82,7 @@ module _ {A : Type 0} (old : NodeState) (core : CoreState) (d : ManagerData) (in
       → IfErr r (TakesInput old (moved old core d) input)
   refused_err e (Ok text) refuses why = tt
   refused_err e (Err f) refuses why =
-      record { seat = record { root = refl; me = refl }; end = Err e; took = refuses; untold = why }
+      record { seat = record { tree = refl; me = refl }; end = Err e; took = refuses; untold = why }
 
 -- Trims.
 
@@ -88,7 +91,7 @@ module _ {A E : Type 0} (items : A → List ℕ) (old : NodeState) (core : CoreS
       → IfOk r (λ text. items text ≡ refused_text (step_error_number e)) → OnOk r (IsRefusal e)
       → IfOk r (λ text. AnswersTrim old (moved old core d) (items text))
   trim_refused_ok e (Ok text) refuses told refusal = record {
-    seat = record { root = refl; me = refl };
+    seat = record { tree = refl; me = refl };
     sent = refl;
     end = Err e;
     took = refuses;
@@ -101,7 +104,7 @@ module _ {A : Type 0} (old : NodeState) (core : CoreState) (d : ManagerData) whe
       → IfErr r (IsUnrefused e) → IfErr r (TakesTrim old (moved old core d))
   trim_refused_err e (Ok text) refuses why = tt
   trim_refused_err e (Err f) refuses why =
-      record { seat = record { root = refl; me = refl }; end = Err e; took = refuses; untold = why }
+      record { seat = record { tree = refl; me = refl }; end = Err e; took = refuses; untold = why }
 
 -- Whose they are.
 
@@ -110,32 +113,55 @@ pub process_tested : (p q me : ProcessId) (b d : Bool) → p ≡ q → b ≡ sam
     → same_process q me ≡ d
 process_tested p q me b d is test so = ap (λ (x : ProcessId). same_process x me) (sym is) ∙ (sym test ∙ so)
 
-module _ {A E : Type 0} (items : A → List ℕ) (p : ProcessId) (old new : NodeState) (input : Input) where
-  pub mine_ok : (r : Result A E) → same_process p old.me ≡ true
+module _ {A E : Type 0} (items : A → List ℕ) (mine : Bool) (old new : NodeState) (input : Input) where
+  pub mine_ok : (r : Result A E) → mine ≡ true
       → IfOk r (λ text. AnswersInput old new input (items text))
-      → IfOk r (λ text. AnswersFor p old new input (items text))
+      → IfOk r (λ text. AnswersIf mine old new input (items text))
   mine_ok r is h = rw is h
 
-  pub others_ok : (r : Result A E) → same_process p old.me ≡ false → new ≡ old
+  pub others_ok : (r : Result A E) → mine ≡ false → new ≡ old
       → IfOk r (λ text. items text ≡ refused_text (step_error_number NoSuch))
-      → IfOk r (λ text. AnswersFor p old new input (items text))
+      → IfOk r (λ text. AnswersIf mine old new input (items text))
   others_ok (Ok text) is same told = rw is (same, told)
   others_ok (Err e) is same told = tt
 
-module _ {A : Type 0} (p : ProcessId) (old new : NodeState) (input : Input) where
-  pub mine_err : (r : Result A NodeFailure) → same_process p old.me ≡ true
-      → IfErr r (TakesInput old new input) → IfErr r (TakesFor p old new input)
+module _ {A : Type 0} (mine : Bool) (old new : NodeState) (input : Input) where
+  pub mine_err : (r : Result A NodeFailure) → mine ≡ true
+      → IfErr r (TakesInput old new input) → IfErr r (TakesIf mine old new input)
   mine_err (Ok text) is h = tt
-  mine_err (Err e) is h = rw is h
+  mine_err (Err e) is h = rw is (takes_it h)
 
-  pub others_err : (r : Result A NodeFailure) → same_process p old.me ≡ false → new ≡ old
-      → IfErr r (IsUnrefused NoSuch) → IfErr r (TakesFor p old new input)
+  pub others_err : (r : Result A NodeFailure) → mine ≡ false → new ≡ old
+      → IfErr r (IsUnrefused NoSuch) → IfErr r (TakesIf mine old new input)
   others_err (Ok text) is same why = tt
   others_err (Err failure.Memory) is same why = rw is (same, refl)
   others_err (Err failure.Read) is same why = absurd why
   others_err (Err failure.Write) is same why = absurd why
   others_err (Err failure.Device) is same why = absurd (let clash : NoSuch ≡ Device = why in cc)
   others_err (Err failure.Exhausted) is same why = absurd why
+
+-- Outcomes.
+
+module _ {A E : Type 0} (items : A → List ℕ) (x : Txn) (s : NodeState) where
+  pub outcome_told : (b : Bool) (r : Result A E) → b ≡ true
+      → IfOk r (λ text. items text ≡ news_text x (news_in (records_at s) x) ++ ok_text)
+      → IfOk r (λ text. TellsOutcome b x s s (items text))
+  outcome_told b (Ok text) is h = rw is (refl, h)
+  outcome_told b (Err e) is h = tt
+
+  pub outcome_refused : (b : Bool) (r : Result A E) → b ≡ false
+      → IfOk r (λ text. items text ≡ refused_text (step_error_number NoSuch))
+      → IfOk r (λ text. TellsOutcome b x s s (items text))
+  outcome_refused b (Ok text) is h = rw is (refl, h)
+  outcome_refused b (Err e) is h = tt
+
+-- How the log stands.
+
+module _ {A E : Type 0} (items : A → List ℕ) (s : NodeState) (log : List ℕ) (spells : SpellsLog s.core log) where
+  pub status_told : (t : Status) (r : Result A E) → t ≡ status_by s (length log)
+      → IfOk r (λ text. items text ≡ status_text t) → IfOk r (λ text. TellsStatus s (items text))
+  status_told t (Ok text) is h = record { log = log; spells = spells; told = h ∙ ap status_text is }
+  status_told t (Err e) is h = tt
 
 -- Lines.
 
@@ -147,30 +173,28 @@ passed_on (Err x) e P is h = subst P (sym is) h
 
 -- nothing is made where memory is refused before
 if_nothing : (b : Bool) (s : NodeState) (i : Input) → TakesIf b s s i failure.Memory
-if_nothing true s i = record {
-  seat = record { root = refl; me = refl };
-  end = Err Memory;
-  took = record { answer = no_answer; not_made = same_core s.core; keeps = λ e. rests s.holdings };
-  untold = λ e. absurd (cc);
-}
+if_nothing true s i = leaves_it (refl, refl)
 if_nothing false s i = (refl, refl)
 
 pub takes_nothing : (a : Asked) (s : NodeState) → Takes a s s failure.Memory
 takes_nothing asked.Nothing s = (refl, refl)
-takes_nothing (asked.Act a) s = if_nothing (same_process (process_of_act s.root a) s.me) s (ActInput a)
-takes_nothing (asked.Message n e) s = if_nothing (same_process e.to s.me) s (MessageInput n e.message)
+takes_nothing (asked.Act a) s = if_nothing (same_process (process_of_act (root_of s.tree) a) s.me) s (ActInput a)
+takes_nothing (asked.Message n e) s = if_nothing (hears s e) s (MessageInput n e.message)
 takes_nothing asked.Trim s = record {
-  seat = record { root = refl; me = refl };
+  seat = record { tree = refl; me = refl };
   end = Err Memory;
   took = (same_core s.core, rests s.holdings);
   untold = λ e. absurd (cc);
 }
 takes_nothing asked.Doubt s = (refl, refl)
 takes_nothing (asked.Outcome x) s = (refl, refl)
+takes_nothing asked.Status s = (refl, refl)
+takes_nothing asked.Help s = (refl, refl)
+takes_nothing asked.End s = (refl, refl)
 takes_nothing asked.Unknown s = (refl, refl)
 
 module _ {A E : Type 0} (items : A → List ℕ) (line : List ℕ) (a : Asked) (old new : NodeState)
-    (r : Result A E) (text : IsUtf8 line) (is : a ≡ asked_at old.root line) where
+    (r : Result A E) (text : IsUtf8 line) (is : a ≡ asked_at (root_of old.tree) line) where
   pub line_answered : IfOk r (λ t. Answers a old new (items t)) → IfOk r (λ t. AnswersLine line old new (items t))
   line_answered h = by_result r h
     where
@@ -180,7 +204,7 @@ module _ {A E : Type 0} (items : A → List ℕ) (line : List ℕ) (a : Asked) (
       by_result (Err e) g = tt
 
 module _ {A : Type 0} (line : List ℕ) (a : Asked) (old new : NodeState) (text : IsUtf8 line)
-    (is : a ≡ asked_at old.root line) where
+    (is : a ≡ asked_at (root_of old.tree) line) where
   pub line_taken : (r : Result A NodeFailure) → IfErr r (Takes a old new) → IfErr r (TakesLine line old new)
   line_taken (Ok t) h = tt
   line_taken (Err e) h = record { asked = a; asks = inl (text, is); takes = h }

@@ -1,23 +1,29 @@
 -- What a node has answered, line by line.
-use Rattle.std.proofs.Common.{◌≡◌, ◌∙◌, ℕ, Bool, true, false, Some, None, List, [], ◌∷◌, ◌++◌, Result, Ok, Err, refl, sym, ap, subst, append_assoc}
-use Rattle.std.specs.Prelude.{⊤, IfErr, OnOk}
+use Rattle.std.proofs.Common.{◌≡◌, ◌∙◌, inr, length, ℕ, Bool, true, false, Some, None, List, [], ◌∷◌, ◌++◌, Result, Ok, Err, refl, sym, ap, subst, append_assoc}
+use Rattle.std.specs.Prelude.{⊤, IfErr, IfOk, OnOk}
 use Rattle.std.specs.Result.{IsErrAnd}
 use Rattle.std.specs.List.{AllByRecursion, flat_map}
 use Rattle.std.specs.Io.KnownBytes.{Appends, Consumes, IsAtEnd}
 use Rattle.std.proofs.lemmas.List.{append-nil}
 use Rattle.std.proofs.lemmas.Grind.{flat_map-append}
-use Rattle.tree_model.specs.declared.events.Input.{Input}
+use Rattle.tree_model.specs.declared.events.Input.{Input as AnyInput}
 use Rattle.tree_model.specs.declared.events.Input.TheVariants.{Act as ActInput, Message as MessageInput}
 use Rattle.tree_model.specs.declared.events.Reaction.{Reaction}
 use Rattle.tree_model.specs.declared.events.StepError.{StepError}
 use Rattle.tree_model.specs.Names.{same_process}
 use Rattle.tree_model.specs.Plays.{process_of_act}
+use Rattle.tree_model.specs.Trees.{root_of}
 use Rattle.node_lines.specs.declared.asked.Asked.{Asked}
 use Rattle.node_lines.specs.declared.asked.Asked.TheVariants as asked
+use Rattle.core_model.specs.States.{CoreState}
+use Rattle.node_engine.specs.declared.run.Ended.{Ended}
+use Rattle.node_engine.specs.declared.run.Ended.TheVariants.{Input, Asked as EndAsked}
+use Rattle.node_lines.specs.Asked.{end_word}
+use Rattle.script_words.specs.Steps.{same}
 use Rattle.node_engine.specs.declared.failure.NodeFailure.{NodeFailure}
 use Rattle.node_engine.specs.declared.failure.NodeFailure.TheVariants.{Read, Memory, Write, Device, Exhausted}
-use Rattle.node_engine.specs.Answers.{AnswersLine, IsUnrefused, IsUnshown, NodeState, Shows, Takes, TakesIf, TakesLine, Untold, UntoldTrim}
-use Rattle.node_engine.specs.Runs.{IsPiece, Known, ReadsAll, Served, Serves, Stand, Stops, Unanswered, line_of}
+use Rattle.node_engine.specs.Answers.{AnswersLine, IsUnrefused, IsUnshown, NodeState, Shows, Takes, TakesIf, TakesLine, Untold, UntoldTrim, hears, leaves_it, takes_it}
+use Rattle.node_engine.specs.Runs.{ClosesLog, EndedEarly, EndsBy, EndsInOrder, FailsToEnd, GoesOn, IsPiece, Known, ReadsAll, Served, Serves, Stand, Stops, Unanswered, end_text, line_of, stand}
 use Rattle.node_engine.proofs.Answering.{passed_on}
 
 consumes_on : (a b c : Known) (xs ys : List ℕ) → Consumes a b xs → Consumes b c ys → Consumes a c (xs ++ ys)
@@ -55,10 +61,10 @@ serves_on old mid new (p ∷ pieces) text piece more (at, first, rest, answers, 
   ap (λ (t : List ℕ). t ++ more) is ∙ append_assoc first rest more,
 )
 
-all_on : (pieces : List (List ℕ)) (piece : List ℕ) → AllByRecursion IsPiece pieces → IsPiece piece
-    → AllByRecursion IsPiece (pieces ++ piece ∷ [])
-all_on [] piece h k = (k, tt)
-all_on (p ∷ pieces) piece h k = (h.0, all_on pieces piece h.1 k)
+all_on : (P : List ℕ → Type 0) (pieces : List (List ℕ)) (piece : List ℕ) → AllByRecursion P pieces → P piece
+    → AllByRecursion P (pieces ++ piece ∷ [])
+all_on P [] piece h k = (k, tt)
+all_on P (p ∷ pieces) piece h k = (h.0, all_on P pieces piece h.1 k)
 
 joined : (pieces : List (List ℕ)) (piece : List ℕ)
     → flat_map (λ p. p) pieces ++ piece ≡ flat_map (λ p. p) (pieces ++ piece ∷ [])
@@ -66,17 +72,18 @@ joined pieces piece = sym (flat_map-append (λ (p : List ℕ). p) pieces (piece 
     ∙ ap (λ (t : List ℕ). flat_map (λ p. p) pieces ++ t) (append-nil piece))
 
 pub served_more : (start : Stand) (opening : Reaction) (before now : Stand) (piece text : List ℕ)
-    → IsPiece piece → Consumes before.left now.left piece
+    → IsPiece piece → GoesOn piece → Consumes before.left now.left piece
     → AnswersLine (line_of piece) before.state now.state text → Appends before.held now.held text
     → Served start opening before → Served start opening now
-served_more start opening before now piece text line took answers written h = record {
+served_more start opening before now piece text line on took answers written h = record {
   opened = h.opened;
   first = h.first;
   shows = h.shows;
   pieces = h.pieces ++ piece ∷ [];
   rest = h.rest ++ text;
   serves = serves_on h.opened before.state now.state h.pieces h.rest piece text h.serves answers;
-  lines = all_on h.pieces piece h.lines line;
+  lines = all_on IsPiece h.pieces piece h.lines line;
+  go_on = all_on GoesOn h.pieces piece h.go_on on;
   took = subst (λ (t : List ℕ). Consumes start.left now.left t) (joined h.pieces piece)
       (consumes_on start.left before.left now.left (flat_map (λ p. p) h.pieces) piece h.took took);
   written = subst (λ (t : List ℕ). Appends start.held now.held t) (append_assoc h.first h.rest text)
@@ -95,6 +102,7 @@ served_still start opening before now state held took h = record {
   rest = h.rest;
   serves = subst (λ (s : NodeState). Serves h.opened h.pieces s h.rest) (sym state) h.serves;
   lines = h.lines;
+  go_on = h.go_on;
   took = subst (λ (t : List ℕ). Consumes start.left now.left t) (append-nil (flat_map (λ p. p) h.pieces))
       (consumes_on start.left before.left now.left (flat_map (λ p. p) h.pieces) [] h.took took);
   written = subst (λ (w : Known). Appends start.held w (h.first ++ h.rest)) (sym held) h.written;
@@ -110,6 +118,28 @@ pub served_all : (start : Stand) (opening : Reaction) (before now : Stand) → I
     → Consumes before.left now.left [] → Served start opening before → ReadsAll start.left now.left
 served_all start opening before now end took h =
     all_read start.left before.left now.left (flat_map (λ p. p) h.pieces) h.took end took
+
+-- a node whose input has no line any more
+pub input_ended : (start : Stand) (opening : Reaction) (before now : Stand) → IsAtEnd before.left
+    → now.state ≡ before.state → now.held ≡ before.held → Consumes before.left now.left []
+    → Served start opening before → EndsBy Input start opening now
+input_ended start opening before now end state held took h =
+    (served_still start opening before now state held took h, served_all start opening before now end took h)
+
+-- a node that a line asks to end
+pub asked_to_end : (start : Stand) (opening : Reaction) (before now : Stand) (piece : List ℕ) → IsPiece piece
+    → same (line_of piece) end_word ≡ true → Consumes before.left now.left piece → now.state ≡ before.state
+    → now.held ≡ before.held → Served start opening before → EndsBy EndAsked start opening now
+asked_to_end start opening before now piece line asks took state held h = record {
+  before = before;
+  served = h;
+  piece = piece;
+  line = line;
+  asks = asks;
+  took = took;
+  state = state;
+  held = held;
+}
 
 -- a process that has just told what it did
 nothing_taken : (a : Known) → Consumes a a []
@@ -127,6 +157,7 @@ served_first start now opening text shows left written = record {
   rest = [];
   serves = (refl, refl);
   lines = tt;
+  go_on = tt;
   took = subst (λ (l : Known). Consumes start.left l []) (sym left) (nothing_taken start.left);
   written = subst (λ (t : List ℕ). Appends start.held now.held t) (sym (append-nil text)) written;
 }
@@ -171,20 +202,24 @@ trim_own : (end : Result ℕ StepError) (why : NodeFailure) → UntoldTrim end w
 trim_own (Ok remain) why h = memory_own why h
 trim_own (Err e) why h = unrefused_own e why h
 
-input_own : (mine : Bool) (old new : NodeState) (input : Input) (why : NodeFailure)
+input_own : (mine : Bool) (old new : NodeState) (input : AnyInput) (why : NodeFailure)
     → TakesIf mine old new input why → IsOwn why
-input_own true old new input why h = untold_own old.sent h.end why h.untold
+input_own true old new input why (takes_it h) = untold_own old.sent h.end why h.untold
+input_own true old new input why (leaves_it h) = memory_own why h.1
 input_own false old new input why h = memory_own why h.1
 
 taken_own : (a : Asked) (old new : NodeState) (why : NodeFailure) → Takes a old new why → IsOwn why
 taken_own asked.Nothing old new why h = memory_own why h.1
 taken_own (asked.Act a) old new why h =
-    input_own (same_process (process_of_act old.root a) old.me) old new (ActInput a) why h
+    input_own (same_process (process_of_act (root_of old.tree) a) old.me) old new (ActInput a) why h
 taken_own (asked.Message n e) old new why h =
-    input_own (same_process e.to old.me) old new (MessageInput n e.message) why h
+    input_own (hears old e) old new (MessageInput n e.message) why h
 taken_own asked.Trim old new why h = trim_own h.end why h.untold
 taken_own asked.Doubt old new why h = memory_own why h.1
 taken_own (asked.Outcome x) old new why h = memory_own why h.1
+taken_own asked.Status old new why h = memory_own why h.1
+taken_own asked.Help old new why h = memory_own why h.1
+taken_own asked.End old new why h = memory_own why h.1
 taken_own asked.Unknown old new why h = memory_own why h.1
 
 stops_own : (start : Stand) (opening : Reaction) (now : Stand) (why : NodeFailure) → IsOwn why
@@ -214,3 +249,54 @@ unanswered r why before now piece failed line took takes held =
       takes = takes;
       held = held;
     }))
+
+-- Ends.
+
+pub appends_nothing : (a : Known) → Appends a a []
+appends_nothing None = tt
+appends_nothing (Some x) = sym (append-nil x)
+
+module _ {L : Type 0} (bytes : L → List ℕ) (forced failures : L → ℕ) (start : Stand) (opening : Reaction) (by : Ended)
+    (left held : Known) (s : NodeState) (ends : EndsBy by start opening (stand left held s)) (r : Result L NodeFailure)
+    (now : Known) where
+  -- a node whose input ended, whose log is forced, and which wrote what is written then
+  pub in_order : IfOk r (ClosesLog bytes forced failures s.core) → OnOk r (Appends held now (end_text by))
+      → IfOk r (EndsInOrder bytes forced failures start opening left now)
+  in_order closes writes = by_result r closes writes
+    where
+      by_result : (q : Result L NodeFailure) → IfOk q (ClosesLog bytes forced failures s.core)
+          → OnOk q (Appends held now (end_text by)) → IfOk q (EndsInOrder bytes forced failures start opening left now)
+      by_result (Err e) c w = tt
+      by_result (Ok store) c w =
+          record { by = by; last = stand left held s; ends = ends; reads = refl; closes = c; writes = w }
+
+  -- one that fails then
+  fails : (e : NodeFailure) → FailsToEnd by held now e → EndedEarly start opening left now e
+  fails Device h = (s, inr (by, subst (λ (k : Known). EndsBy by start opening (stand left k s)) (sym h) ends))
+  fails Write h = (
+    s,
+    inr (record {
+      before = stand left held s;
+      asks = subst (λ (b : Ended). EndsBy b start opening (stand left held s)) h.0 ends;
+      state = refl;
+      left = refl;
+      front = h.1;
+    }),
+  )
+  fails Read h = absurd h
+  fails Memory h = absurd h
+  fails Exhausted h = absurd h
+
+  pub not_in_order : IfErr r (FailsToEnd by held now) → IfErr r (EndedEarly start opening left now)
+  not_in_order h = by_result r h
+    where
+      by_result : (q : Result L NodeFailure) → IfErr q (FailsToEnd by held now)
+          → IfErr q (EndedEarly start opening left now)
+      by_result (Ok store) g = tt
+      by_result (Err e) g = fails e g
+
+-- what is closed is forced
+pub closes_all : {L : Type 0} (bytes : L → List ℕ) (forced failures : L → ℕ) (s : CoreState) (r : Result L NodeFailure)
+    → IfOk r (ClosesLog bytes forced failures s) → IfOk r (λ store. forced store ≡ length (bytes store))
+closes_all bytes forced failures s (Ok store) h = h.forces.all ∙ ap length (sym h.forces.text)
+closes_all bytes forced failures s (Err e) h = tt

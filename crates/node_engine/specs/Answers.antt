@@ -1,7 +1,10 @@
 -- What a node makes of a line, and what it answers.
-use Rattle.std.specs.Prelude.{◌≡◌, ◌≢◌, ◌≤◌, ◌+◌, ◌^◌, ◌⊎◌, ⊤, ℕ, Bool, true, false, Result, Ok, Err, List, [], ◌++◌, length}
+use Rattle.std.specs.Prelude.{◌≡◌, ◌≢◌, ◌≤◌, ◌+◌, ◌^◌, ◌⊎◌, ⊤, ℕ, Bool, true, false, ◌&&◌, is_none, Result, Ok, Err, List, [], ◌++◌, length}
 use Rattle.std.specs.Str.{IsUtf8}
+use Rattle.tree_model.specs.declared.messages.Envelope.{Envelope}
 use Rattle.tree_model.specs.declared.names.ProcessId.{ProcessId}
+use Rattle.tree_model.specs.declared.names.Txn.{Txn}
+use Rattle.tree_model.specs.declared.trees.TreeEntry.{TreeEntry}
 use Rattle.tree_model.specs.declared.events.Input.{Input}
 use Rattle.tree_model.specs.declared.events.Input.TheVariants.{Act as ActInput, Message as MessageInput}
 use Rattle.tree_model.specs.declared.events.Reaction.{Reaction}
@@ -11,27 +14,31 @@ use Rattle.tree_model.specs.declared.records.LogRecord.{LogRecord}
 use Rattle.tree_model.specs.Errors.{step_error_number}
 use Rattle.tree_model.specs.Names.{same_process}
 use Rattle.tree_model.specs.Plays.{process_of_act}
+use Rattle.tree_model.specs.Trees.{parent_of, root_of}
 use Rattle.rec_log.specs.Sights.{records_of}
 use Rattle.core_model.specs.States.{CoreState}
 use Rattle.core_law.specs.worlds.Worlds.{HandlesInput}
 use Rattle.manager_model.specs.Data.{ManagerData}
 use Rattle.tree_node.specs.declared.node.Node.{Node}
-use Rattle.tree_node.specs.Nodes.{NotHandled, core_of, data_of}
+use Rattle.tree_node.specs.Nodes.{NotHandled, SpellsLog, core_of, data_of}
 use Rattle.tree_node.specs.Restarts.{NoTrim, TrimsNode}
 use Rattle.node_lines.specs.declared.asked.Asked.{Asked}
 use Rattle.node_lines.specs.declared.asked.Asked.TheVariants as asked
 use Rattle.node_lines.specs.Asked.{asked_at}
+use Rattle.node_lines.specs.Speakers.{may_speak}
 use Rattle.node_engine.specs.declared.failure.NodeFailure.{NodeFailure}
 use Rattle.node_engine.specs.declared.failure.NodeFailure.TheVariants as failure
 use Rattle.node_engine.specs.declared.serving.Serving.{Serving}
-use Rattle.log_news.specs.Doubts.{doubts_in}
+use Rattle.log_news.specs.Boots.{boot_in}
+use Rattle.log_news.specs.Doubts.{decisions_in, doubts_in}
 use Rattle.log_news.specs.News.{news_in}
-use Rattle.node_answers.specs.Texts.{doubts_text, error_text, news_text, ok_text, refused_text, shown_text, trimmed_text}
+use Rattle.node_answers.specs.Texts.{decisions_text, doubts_text, error_text, help_text, news_text, ok_text, refused_text, shown_text, status_text, trimmed_text}
+use Rattle.node_answers.specs.declared.status.Status.{Status}
 
--- the root of the tree, and the process; what it keeps and, at a manager, its data; and how many messages it
--- sent since it opened
+-- the tree, and the process; what it keeps and, at a manager, its data; and how many messages it sent since it
+-- opened
 pub record NodeState : Type 0 where
-  pub root : ProcessId
+  pub tree : List TreeEntry
   pub me : ProcessId
   pub core : CoreState
   pub holdings : ManagerData
@@ -40,17 +47,17 @@ pub record NodeState : Type 0 where
 -- what a node is
 abbrev pub state_of : {L : Type 0} → Serving L → NodeState
 state_of s = record {
-  root = s.root;
+  tree = s.tree;
   me = s.me;
   core = core_of s.node;
   holdings = data_of s.node;
   sent = s.sent;
 }
 
--- the node of a process of a tree with this root, which has sent nothing yet
-abbrev pub opened : {L : Type 0} → ProcessId → ProcessId → Node L → NodeState
-opened root me node = record {
-  root = root;
+-- the node of a process of this tree, which has sent nothing yet
+abbrev pub opened : {L : Type 0} → List TreeEntry → ProcessId → Node L → NodeState
+opened tree me node = record {
+  tree = tree;
   me = me;
   core = core_of node;
   holdings = data_of node;
@@ -59,7 +66,7 @@ opened root me node = record {
 
 -- the same process, in the same tree
 pub record SameSeat (old new : NodeState) : Type 0 where
-  pub root : new.root ≡ old.root
+  pub tree : new.tree ≡ old.tree
   pub me : new.me ≡ old.me
 
 -- the lines of a reaction are told, and its messages are sent; nothing else is otherwise
@@ -131,13 +138,22 @@ AnswersIf false old new input text = Tells old new text (refused_text (step_erro
 abbrev pub AnswersFor : ProcessId → NodeState → NodeState → Input → List ℕ → Type 0
 AnswersFor p old new input text = AnswersIf (same_process p old.me) old new input text
 
+-- a message is for this process, and its sender may send it
+abbrev pub hears : NodeState → Envelope → Bool
+hears s e = same_process e.to s.me && may_speak s.tree e
+
 -- nothing is otherwise, and nothing is told, as memory was refused
 abbrev pub TellsNothing : NodeState → NodeState → NodeFailure → Type 0
 TellsNothing old new why = (new ≡ old) × (why ≡ failure.Memory)
 
+-- an input of this process was taken, and that is not told; or memory was refused before it was looked at
+pub data TakesMine (old new : NodeState) (input : Input) (why : NodeFailure) : Type 0 where
+  takes_it : TakesInput old new input why → TakesMine old new input why
+  leaves_it : TellsNothing old new why → TakesMine old new input why
+
 -- an input of this process, or of another, where that is not told
 abbrev pub TakesIf : Bool → NodeState → NodeState → Input → NodeFailure → Type 0
-TakesIf true old new input why = TakesInput old new input why
+TakesIf true old new input why = TakesMine old new input why
 TakesIf false old new input why = TellsNothing old new why
 
 -- an input that is for this process p or is not, where that is not told
@@ -182,20 +198,53 @@ pub record AnswersTrim (old new : NodeState) (text : List ℕ) : Type 0 where
 abbrev pub records_at : NodeState → List LogRecord
 records_at s = records_of s.core.log.kept
 
+-- the process has no parent: it is the root of each transaction
+abbrev pub is_root : NodeState → Bool
+is_root s = is_none (parent_of s.tree s.me)
+
+-- how a transaction ended, as far as its root's log tells; at another process that is refused
+abbrev pub TellsOutcome : Bool → Txn → NodeState → NodeState → List ℕ → Type 0
+TellsOutcome true x old new text = Tells old new text (news_text x (news_in (records_at old) x) ++ ok_text)
+TellsOutcome false x old new text = Tells old new text (refused_text (step_error_number NoSuch))
+
+-- the cases in doubt, and those that an operator decided and that wait to be told
+abbrev pub doubt_text : NodeState → List ℕ
+doubt_text s = doubts_text (doubts_in (records_at s)) ++ decisions_text (decisions_in (records_at s)) ++ ok_text
+
+-- how the log stands that has so many bytes
+abbrev pub status_by : NodeState → ℕ → Status
+status_by s bytes = record {
+  boot = boot_in (records_at s);
+  records = length (records_at s);
+  unforced = length s.core.log.kept.unforced;
+  bytes = bytes;
+  doubts = length (doubts_in (records_at s));
+  decided = length (decisions_in (records_at s));
+}
+
+-- this tells how the log of the process stands
+pub record TellsStatus (s : NodeState) (text : List ℕ) : Type 0 where
+  pub log : List ℕ
+  pub spells : SpellsLog s.core log
+  pub told : text ≡ status_text (status_by s (length log))
+
 -- what was asked is answered
 abbrev pub Answers : Asked → NodeState → NodeState → List ℕ → Type 0
 Answers asked.Nothing old new text = Tells old new text []
-Answers (asked.Act a) old new text = AnswersFor (process_of_act old.root a) old new (ActInput a) text
-Answers (asked.Message n e) old new text = AnswersFor e.to old new (MessageInput n e.message) text
+Answers (asked.Act a) old new text = AnswersFor (process_of_act (root_of old.tree) a) old new (ActInput a) text
+Answers (asked.Message n e) old new text = AnswersIf (hears old e) old new (MessageInput n e.message) text
 Answers asked.Trim old new text = AnswersTrim old new text
-Answers asked.Doubt old new text = Tells old new text (doubts_text (doubts_in (records_at old)) ++ ok_text)
-Answers (asked.Outcome x) old new text = Tells old new text (news_text x (news_in (records_at old) x) ++ ok_text)
+Answers asked.Doubt old new text = Tells old new text (doubt_text old)
+Answers (asked.Outcome x) old new text = TellsOutcome (is_root old) x old new text
+Answers asked.Status old new text = (new ≡ old) × TellsStatus old text
+Answers asked.Help old new text = Tells old new text help_text
+Answers asked.End old new text = Tells old new text ok_text
 Answers asked.Unknown old new text = Tells old new text error_text
 
 -- what was asked is made or not, and for this reason not answered
 abbrev pub Takes : Asked → NodeState → NodeState → NodeFailure → Type 0
-Takes (asked.Act a) old new why = TakesFor (process_of_act old.root a) old new (ActInput a) why
-Takes (asked.Message n e) old new why = TakesFor e.to old new (MessageInput n e.message) why
+Takes (asked.Act a) old new why = TakesFor (process_of_act (root_of old.tree) a) old new (ActInput a) why
+Takes (asked.Message n e) old new why = TakesIf (hears old e) old new (MessageInput n e.message) why
 Takes asked.Trim old new why = TakesTrim old new why
 Takes _ old new why = TellsNothing old new why
 
@@ -206,11 +255,11 @@ Asks root line a = (IsUtf8 line × (a ≡ asked_at root line)) ⊎ ((IsUtf8 line
 -- a line is answered
 pub record AnswersLine (line : List ℕ) (old new : NodeState) (text : List ℕ) : Type 0 where
   pub asked : Asked
-  pub asks : Asks old.root line asked
+  pub asks : Asks (root_of old.tree) line asked
   pub answers : Answers asked old new text
 
 -- a line is made or not, and for this reason not answered
 pub record TakesLine (line : List ℕ) (old new : NodeState) (why : NodeFailure) : Type 0 where
   pub asked : Asked
-  pub asks : Asks old.root line asked
+  pub asks : Asks (root_of old.tree) line asked
   pub takes : Takes asked old new why

@@ -1,14 +1,18 @@
 -- A node that starts over a log, and why none did.
-use Rattle.std.specs.Prelude.{◌≡◌, ℕ, Bool, true, false, Option, Some, None, List}
+use Rattle.std.specs.Prelude.{◌≡◌, ℕ, Bool, true, false, ◌&&◌, Option, Some, None, List}
 use Rattle.std.specs.List.{list_all}
 use Rattle.tree_model.specs.declared.names.Case.{Case}
 use Rattle.tree_model.specs.declared.names.ProcessId.{ProcessId}
 use Rattle.tree_model.specs.declared.events.Reaction.{Reaction}
+use Rattle.tree_model.specs.declared.names.Ticket.{Ticket}
 use Rattle.tree_model.specs.declared.records.LogRecord.{LogRecord}
+use Rattle.tree_model.specs.declared.records.Record.{Record}
+use Rattle.tree_model.specs.declared.records.Record.TheVariants.{Collecting, Prepare, Commit, Abort}
 use Rattle.tree_model.specs.declared.trees.TreeEntry.{TreeEntry}
 use Rattle.tree_model.specs.LogNames.{is_own}
+use Rattle.tree_model.specs.Nodes.{is_parent}
 use Rattle.tree_model.specs.Records.{record_case}
-use Rattle.tree_model.specs.Trees.{root_of}
+use Rattle.tree_model.specs.Trees.{parent_of}
 use Rattle.rec_log.specs.Openings.{Opens}
 use Rattle.rec_log.specs.Sights.{LogState, records_of}
 use Rattle.inquire_core.specs.Readings.{place_below}
@@ -24,11 +28,24 @@ abbrev pub owns : ProcessId → Option ProcessId → List TreeEntry → Option P
 owns me parent tree named None = true
 owns me parent tree named (Some c) = is_own (place_below me parent tree) named c
 
--- a record names no case, or one of the process's own
-abbrev pub is_own_record : ProcessId → Option ProcessId → List TreeEntry → LogRecord → Bool
-is_own_record me parent tree l = owns me parent tree l.parent (record_case l.entry)
+-- the ticket is of a child of the process
+abbrev pub is_of_child : List TreeEntry → ProcessId → Ticket → Bool
+is_of_child tree me t = is_parent me (parent_of tree t.child)
 
--- the bytes are a log with a record of a case that is not the process's own
+-- the tickets that a record names, whose votes or acknowledgements it waits for, are of children of the process
+abbrev pub names_children : List TreeEntry → ProcessId → Record → Bool
+names_children tree me (Collecting c ts) = list_all (is_of_child tree me) ts
+names_children tree me (Prepare c ts) = list_all (is_of_child tree me) ts
+names_children tree me (Commit c ts) = list_all (is_of_child tree me) ts
+names_children tree me (Abort c ts) = list_all (is_of_child tree me) ts
+names_children tree me _ = true
+
+-- a record names no case, or one of the process's own, and no ticket but of its children
+abbrev pub is_own_record : ProcessId → Option ProcessId → List TreeEntry → LogRecord → Bool
+is_own_record me parent tree l =
+    owns me parent tree l.parent (record_case l.entry) && names_children tree me l.entry
+
+-- the bytes are a log with a record of a case that is not the process's own, or with a ticket of no child of it
 pub record NamesOthers (tree : List TreeEntry) (e : TreeEntry) (bytes : List ℕ) : Type 0 where
   pub forced : ℕ
   pub failures : ℕ
@@ -40,7 +57,7 @@ pub record NamesOthers (tree : List TreeEntry) (e : TreeEntry) (bytes : List ℕ
 pub record IsStart {L : Type 0} (tree : List TreeEntry) (e : TreeEntry) (bytes : List ℕ) (forced failures : ℕ)
     (s : Serving L) (opening : Reaction) : Type 0 where
   pub reopens : ReopensAs tree e bytes forced failures (core_of s.node) (data_of s.node) opening
-  pub state : state_of s ≡ opened (root_of tree) e.id s.node
+  pub state : state_of s ≡ opened tree e.id s.node
 
 -- why no node was started
 abbrev pub NoStart : {L : Type 0} → (L → List ℕ) → (L → ℕ) → (L → ℕ) → List TreeEntry → TreeEntry → L

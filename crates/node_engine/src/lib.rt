@@ -10,7 +10,7 @@ mod starting;
 mod witness;
 
 pub use failure::NodeFailure;
-pub use run::run_node;
+pub use run::{Ended, run_node};
 pub use serving::Serving;
 pub use starting::{StartError, start};
 pub use witness::{Nobody, Witness};

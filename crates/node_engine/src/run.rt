@@ -1,20 +1,26 @@
 //! The engine of a node: it answers each line before it reads the next.
 
-ghost use Rattle.std.specs.Prelude.{◌≡◌, ℕ, [], false, IfErr, IfOk, OnOk};
+ghost use Rattle.std.specs.Prelude.{◌≡◌, ◌⊎◌, ℕ, [], length, IfErr, IfOk, OnOk};
 ghost use Rattle.std.specs.Io.KnownBytes.{Appends, Consumes, IsAtEnd};
 ghost use Rattle.report_io.specs.Streams.{WritesFront};
 ghost use Rattle.std.specs.Io.BufRead.{strip_last};
 ghost use Rattle.tree_model.specs.declared.events.Reaction.{Reaction as AnyReaction};
 ghost use Rattle.node_engine.specs.Answers.{state_of};
+ghost use Rattle.node_answers.specs.Texts.{ok_text};
 ghost use Rattle.node_engine.specs.Runs.{
-  EndsEarly,
+  ClosesLog,
+  EndedEarly,
+  EndsBy,
+  EndsInOrder,
+  FailsToEnd,
   IsPiece,
   Known,
-  ReadsAll,
+  LeadsTo,
   Served,
   Stand,
   Stops,
   StopsOpening,
+  end_text,
   line_of,
   stand,
 };
@@ -23,10 +29,20 @@ use crate::failure::NodeFailure;
 use crate::serving::Serving;
 use crate::witness::Witness;
 use log_store::LogStore;
+use node_lines::asks_end;
 use report_io::write_all;
 use std::alloc::Global;
 use std::io::{BufRead, Write};
 use tree_model::Reaction;
+
+/// How the input of a node ended.
+#[derive(Clone, Copy, Debug, PartialEq, Eq)]
+pub enum Ended {
+    /// It has no line any more.
+    Input,
+    /// A line asked the node to end.
+    Asked,
+}
 
 /// A line feed at the end is left out, and a carriage return before it.
 fn without_end(line: &[u8]) -> &[u8]
@@ -74,55 +90,55 @@ fn read_line<R: BufRead>(alloc: Global, reader: &mut R) -> Result<Vec<u8>, NodeF
     }
 }
 
-/// Reads a line and answers it; false, where there was none.
+/// Reads a line and answers it, but one that asks the node to end; says so where it does, or where there is none.
 fn serve_line<R: BufRead, W: Write, L: LogStore, N: Witness>(
     alloc: Global,
     serving: &mut Serving<L>,
     reader: &mut R,
     writer: &mut W,
     witness: &mut N,
-) -> Result<bool, NodeFailure>
-    ensures goes_on { OnOk result ((start : Stand) (opening : AnyReaction)
+) -> Result<Option<Ended>, NodeFailure>
+    ensures leads { IfOk result (λ ended. (start : Stand) (opening : AnyReaction)
         → Served start opening (stand (R.remaining reader.old) (W.contents writer.old) (state_of serving.old))
-        → Served start opening (stand (R.remaining reader.new) (W.contents writer.new) (state_of serving.new))) }
-    ensures end { IfOk result (λ more. more ≡ false → (start : Stand) (opening : AnyReaction)
-        → Served start opening (stand (R.remaining reader.old) (W.contents writer.old) (state_of serving.old))
-        → ReadsAll start.left (R.remaining reader.new)) }
+        → LeadsTo ended start opening
+        (stand (R.remaining reader.new) (W.contents writer.new) (state_of serving.new))) }
     ensures stops { IfErr result (λ e. (start : Stand) (opening : AnyReaction)
         → Served start opening (stand (R.remaining reader.old) (W.contents writer.old) (state_of serving.old))
         → Stops start opening (stand (R.remaining reader.new) (W.contents writer.new) (state_of serving.new)) e) }
 {
     let line = read_line(alloc, reader)?;
     if line.is_empty() {
-        return Ok(false);
+        return Ok(Some(Ended::Input));
     }
-    let text = serving.answer(without_end(&line))?;
+    let asked = without_end(&line);
+    if asks_end(asked) {
+        return Ok(Some(Ended::Asked));
+    }
+    let text = serving.answer(asked)?;
     write_answer(writer, &text)?;
-    witness.see(without_end(&line), &text);
-    Ok(true)
+    witness.see(asked, &text);
+    Ok(None)
 }
 
-/// Answers each line that is left.
+/// Answers each line that is left, up to one that asks the node to end.
 fn serve_lines<R: BufRead, W: Write, L: LogStore, N: Witness>(
     alloc: Global,
     serving: &mut Serving<L>,
     reader: &mut R,
     writer: &mut W,
     witness: &mut N,
-) -> Result<(), NodeFailure>
-    ensures goes_on { OnOk result ((start : Stand) (opening : AnyReaction)
+) -> Result<Ended, NodeFailure>
+    ensures ends { IfOk result (λ by. (start : Stand) (opening : AnyReaction)
         → Served start opening (stand (R.remaining reader.old) (W.contents writer.old) (state_of serving.old))
-        → Served start opening (stand (R.remaining reader.new) (W.contents writer.new) (state_of serving.new))) }
-    ensures end { OnOk result ((start : Stand) (opening : AnyReaction)
-        → Served start opening (stand (R.remaining reader.old) (W.contents writer.old) (state_of serving.old))
-        → ReadsAll start.left (R.remaining reader.new)) }
+        → EndsBy by start opening
+        (stand (R.remaining reader.new) (W.contents writer.new) (state_of serving.new))) }
     ensures stops { IfErr result (λ e. (start : Stand) (opening : AnyReaction)
         → Served start opening (stand (R.remaining reader.old) (W.contents writer.old) (state_of serving.old))
         → Stops start opening (stand (R.remaining reader.new) (W.contents writer.new) (state_of serving.new)) e) }
 {
     for _ in 0..u64::MAX {
-        if !serve_line(alloc, serving, reader, writer, witness)? {
-            return Ok(());
+        if let Some(ended) = serve_line(alloc, serving, reader, writer, witness)? {
+            return Ok(ended);
         }
     }
     Err(NodeFailure::Read)
@@ -145,28 +161,122 @@ fn show_opening<W: Write, L: LogStore>(
     write_answer(writer, &text)
 }
 
-/// Writes what a process did as it opened, and answers each line of the input: by the lines of a trace and
-/// `ok`, by `refused` and a number, or by `error` where it is the line of nothing. Each answer is written
-/// before the next line is read, and behind the records that it rests on, which are forced where the process
-/// forces them. Behind each answer the witness sees it with its line. Ok: the input is at its end.
-pub fn run_node<R: BufRead, W: Write, L: LogStore, N: Witness>(
+/// Writes what a process did as it opened, and answers each line of the input, up to one that asks it to end.
+fn serve<R: BufRead, W: Write, L: LogStore, N: Witness>(
     alloc: Global,
     serving: &mut Serving<L>,
     opening: &Reaction,
     reader: &mut R,
     writer: &mut W,
     witness: &mut N,
-) -> Result<(), NodeFailure>
-    ensures written { OnOk result (Served
+) -> Result<Ended, NodeFailure>
+    ensures ends { IfOk result (λ by. EndsBy by
         (stand (R.remaining reader.old) (W.contents writer.old) (state_of serving.old)) opening.now
         (stand (R.remaining reader.new) (W.contents writer.new) (state_of serving.new))) }
-    ensures end { OnOk result (ReadsAll (R.remaining reader.old) (R.remaining reader.new)) }
-    ensures cut { IfErr result (EndsEarly
-        (stand (R.remaining reader.old) (W.contents writer.old) (state_of serving.old)) opening.now
-        (stand (R.remaining reader.new) (W.contents writer.new) (state_of serving.new))) }
+    ensures cut { IfErr result (λ e.
+        StopsOpening (stand (R.remaining reader.old) (W.contents writer.old) (state_of serving.old)) opening.now
+        (stand (R.remaining reader.new) (W.contents writer.new) (state_of serving.new)) e
+        ⊎ Stops (stand (R.remaining reader.old) (W.contents writer.old) (state_of serving.old)) opening.now
+        (stand (R.remaining reader.new) (W.contents writer.new) (state_of serving.new)) e) }
 {
     match show_opening(serving, opening, writer) {
         Ok(()) => serve_lines(alloc, serving, reader, writer, witness),
         Err(failure) => Err(failure),
+    }
+}
+
+/// Lets a node go. One function does it: what letting go of one means is proved once, and not at each way out.
+fn let_go<L: LogStore + Drop>(_serving: Serving<L>) {}
+
+/// Lets a store go.
+fn let_store_go<L: LogStore + Drop>(_store: L) {}
+
+/// The store of a node, in which all that stands of its log is forced. Device: the device failed.
+fn closed<L: LogStore + Drop>(serving: Serving<L>) -> Result<L, NodeFailure>
+    ensures ok { IfOk result (ClosesLog L.bytes L.forced L.failures (state_of serving).core) }
+    ensures err { IfErr result (λ e. e ≡ NodeFailure.Device) }
+{
+    let mut store = serving.node.into_store();
+    match store.force() {
+        Ok(()) => Ok(store),
+        Err(_) => {
+            let_store_go(store);
+            Err(NodeFailure::Device)
+        }
+    }
+}
+
+/// Writes what is written as a node ends in order.
+fn write_end<W: Write, N: Witness>(
+    by: Ended,
+    writer: &mut W,
+    witness: &mut N,
+) -> Result<(), NodeFailure>
+    ensures ok { OnOk result (Appends (W.contents writer.old) (W.contents writer.new) (end_text by)) }
+    ensures err { IfErr result (λ e. (e ≡ NodeFailure.Write) × ((by ≡ Ended.Asked)
+        × WritesFront (W.contents writer.old) (W.contents writer.new) ok_text)) }
+{
+    match by {
+        Ended::Input => Ok(()),
+        Ended::Asked => {
+            write_answer(writer, "ok\n".as_bytes())?;
+            witness.see("end".as_bytes(), "ok\n".as_bytes());
+            Ok(())
+        }
+    }
+}
+
+/// A node whose input ended: all that stands in its log is forced, and behind that `ok` is written, where a line
+/// asked it to end.
+fn finish<W: Write, L: LogStore + Drop, N: Witness>(
+    serving: Serving<L>,
+    by: Ended,
+    writer: &mut W,
+    witness: &mut N,
+) -> Result<L, NodeFailure>
+    ensures closes { IfOk result (ClosesLog L.bytes L.forced L.failures (state_of serving).core) }
+    ensures writes { OnOk result (Appends (W.contents writer.old) (W.contents writer.new) (end_text by)) }
+    ensures err { IfErr result (FailsToEnd by (W.contents writer.old) (W.contents writer.new)) }
+{
+    match closed(serving) {
+        Err(failure) => Err(failure),
+        Ok(store) => match write_end(by, writer, witness) {
+            Ok(()) => Ok(store),
+            Err(failure) => {
+                let_store_go(store);
+                Err(failure)
+            }
+        },
+    }
+}
+
+/// Writes what a process did as it opened, and answers each line of the input: by the lines of a trace and
+/// `ok`, by `refused` and a number, or by `error` where it is the line of nothing. Each answer is written
+/// before the next line is read, and behind the records that it rests on, which are forced where the process
+/// forces them. Behind each answer the witness sees it with its line. At the end of the input, and at a line `end`,
+/// all that stands in the log is forced; `end` is answered then, and nothing is read behind it. Ok: so it ended,
+/// and this is its store.
+pub fn run_node<R: BufRead, W: Write, L: LogStore + Drop, N: Witness>(
+    alloc: Global,
+    mut serving: Serving<L>,
+    opening: &Reaction,
+    reader: &mut R,
+    writer: &mut W,
+    witness: &mut N,
+) -> Result<L, NodeFailure>
+    ensures written { IfOk result (EndsInOrder L.bytes L.forced L.failures
+        (stand (R.remaining reader.old) (W.contents writer.old) (state_of serving)) opening.now
+        (R.remaining reader.new) (W.contents writer.new)) }
+    ensures forced { IfOk result (λ store. L.forced store ≡ length (L.bytes store)) }
+    ensures cut { IfErr result (EndedEarly
+        (stand (R.remaining reader.old) (W.contents writer.old) (state_of serving)) opening.now
+        (R.remaining reader.new) (W.contents writer.new)) }
+{
+    match serve(alloc, &mut serving, opening, reader, writer, witness) {
+        Ok(by) => finish(serving, by, writer, witness),
+        Err(failure) => {
+            let_go(serving);
+            Err(failure)
+        }
     }
 }

@@ -1,14 +1,17 @@
 //! A node: what it makes of a line.
 
 ghost use Rattle.std.specs.Prelude.{◌≡◌, ◌++◌, IfErr, IfOk, OnErr, OnOk};
+ghost use Rattle.tree_model.specs.declared.events.StepError.TheVariants.{NoSuch};
 ghost use Rattle.tree_model.specs.Errors.{step_error_number};
 ghost use Rattle.tree_model.specs.Names.{same_process};
 ghost use Rattle.tree_model.specs.Plays.{process_of_act};
+ghost use Rattle.tree_model.specs.Trees.{root_of};
 ghost use Rattle.tree_node.specs.Nodes.{core_of, data_of};
 ghost use Rattle.core_model.specs.Inputs.{input_of};
 ghost use Rattle.node_engine.specs.Answers.{
   Answers,
   AnswersFor,
+  AnswersIf,
   AnswersInput,
   AnswersLine,
   AnswersTrim,
@@ -18,34 +21,42 @@ ghost use Rattle.node_engine.specs.Answers.{
   Shows,
   Takes,
   TakesFor,
+  TakesIf,
   TakesInput,
   TakesLine,
   TakesTrim,
+  TellsOutcome,
+  TellsStatus,
+  doubt_text as text_of_doubts,
+  hears as may_hear,
+  is_root as is_at_root,
   opened,
   records_at,
   state_of,
 };
 ghost use Rattle.tree_model.specs.declared.events.Input.TheVariants.{Act as ActInput, Message as MessageInput};
-ghost use Rattle.log_news.specs.Doubts.{doubts_in};
 ghost use Rattle.log_news.specs.News.{news_in};
-ghost use Rattle.node_answers.specs.Texts.{doubts_text, news_text, ok_text, refused_text as text_of_refusal};
+ghost use Rattle.node_answers.specs.Texts.{news_text, ok_text, refused_text as text_of_refusal};
 
 use crate::failure::NodeFailure;
 use core_model::InputRef;
-use log_news::{doubts_of, news_of};
+use log_news::{boot_of, decisions_of, doubts_of, news_of};
 use log_store::LogStore;
-use node_answers::{doubt_text, error_text, outcome_text, refused_text, shown_text, trimmed_text};
-use node_lines::{Asked, asked_of};
+use node_answers::{
+    Status, doubt_text, error_text, help_text, obeyed_text, outcome_text, refused_text, shown_text,
+    status_text, trimmed_text,
+};
+use node_lines::{Asked, asked_of, may_speak};
 use std::alloc::Global;
 use std::str;
-use tree_model::{Act, Envelope, ProcessId, Reaction, StepError, Txn};
+use tree_model::{Act, Envelope, ProcessId, Reaction, StepError, Tree, Txn};
 use tree_node::Node;
 
 /// A process of a tree that answers lines. Its messages are numbered from 1, from where it opened.
 #[derive(Drop)]
 pub struct Serving<L: LogStore> {
     pub(crate) alloc: Global,
-    pub(crate) root: ProcessId,
+    pub(crate) tree: Tree,
     pub(crate) me: ProcessId,
     pub(crate) node: Node<L>,
     pub(crate) sent: u64,
@@ -83,13 +94,13 @@ fn refusal(alloc: Global, error: StepError) -> Result<Vec<u8>, NodeFailure>
 }
 
 impl<L: LogStore> Serving<L> {
-    /// The process `me` of a tree with this root, which has sent nothing yet.
-    pub fn new(alloc: Global, root: ProcessId, me: ProcessId, node: Node<L>) -> Self
-        ensures { state_of result ≡ opened root me node }
+    /// The process `me` of this tree, which has sent nothing yet.
+    pub fn new(alloc: Global, tree: Tree, me: ProcessId, node: Node<L>) -> Self
+        ensures { state_of result ≡ opened tree me node }
     {
         Serving {
             alloc,
-            root,
+            tree,
             me,
             node,
             sent: 0,
@@ -143,26 +154,34 @@ impl<L: LogStore> Serving<L> {
     /// The answer to an act, which is refused where it is another process's.
     fn act(&mut self, act: &Act) -> Result<Vec<u8>, NodeFailure>
         ensures ok { IfOk result (λ text.
-            AnswersFor (process_of_act self.old.root act.now) (state_of self.old) (state_of self.new)
+            AnswersFor (process_of_act (root_of self.old.tree) act.now) (state_of self.old) (state_of self.new)
             (ActInput act.now) text.items) }
-        ensures err { IfErr result (TakesFor (process_of_act self.old.root act.now)
+        ensures err { IfErr result (TakesFor (process_of_act (root_of self.old.tree) act.now)
             (state_of self.old) (state_of self.new) (ActInput act.now)) }
     {
-        if self.is(process_of(self.root, act)) {
+        if self.is(process_of(self.tree.root(), act)) {
             self.make(InputRef::Act(act))
         } else {
             refusal(self.alloc, StepError::NoSuch)
         }
     }
 
-    /// The answer to a message with its number, which is refused where it is for another process.
-    fn hear(&mut self, number: u64, envelope: &Envelope) -> Result<Vec<u8>, NodeFailure>
-        ensures ok { IfOk result (λ text. AnswersFor envelope.now.to (state_of self.old) (state_of self.new)
-            (MessageInput number envelope.now.message) text.items) }
-        ensures err { IfErr result (TakesFor envelope.now.to (state_of self.old) (state_of self.new)
-            (MessageInput number envelope.now.message)) }
+    /// Whether a message is for this process, and from one that may send it.
+    fn hears(&self, envelope: &Envelope) -> bool
+        ensures { result ≡ may_hear (state_of self.now) envelope.now }
     {
-        if self.is(envelope.to) {
+        self.is(envelope.to) && may_speak(&self.tree, envelope)
+    }
+
+    /// The answer to a message with its number, which is refused where it is for another process, or from one
+    /// that may not send it.
+    fn hear(&mut self, number: u64, envelope: &Envelope) -> Result<Vec<u8>, NodeFailure>
+        ensures ok { IfOk result (λ text. AnswersIf (may_hear (state_of self.old) envelope.now)
+            (state_of self.old) (state_of self.new) (MessageInput number envelope.now.message) text.items) }
+        ensures err { IfErr result (TakesIf (may_hear (state_of self.old) envelope.now)
+            (state_of self.old) (state_of self.new) (MessageInput number envelope.now.message)) }
+    {
+        if self.hears(envelope) {
             self.make(InputRef::Message(number, &envelope.message))
         } else {
             refusal(self.alloc, StepError::NoSuch)
@@ -181,19 +200,40 @@ impl<L: LogStore> Serving<L> {
         }
     }
 
-    /// A line for each case in doubt.
+    /// A line for each case in doubt, and for each that an operator decided and that waits to be told.
     fn doubt(&self) -> Result<Vec<u8>, NodeFailure>
-        ensures ok { IfOk result (λ text. text.items
-            ≡ doubts_text (doubts_in (records_at (state_of self.now))) ++ ok_text) }
+        ensures ok { IfOk result (λ text. text.items ≡ text_of_doubts (state_of self.now)) }
         ensures err { IfErr result (λ e. e ≡ NodeFailure.Memory) }
     {
         let records = self.node.records()?;
         let cases = doubts_of(self.alloc, &records)?;
-        Ok(doubt_text(self.alloc, &cases)?)
+        let decisions = decisions_of(self.alloc, &records)?;
+        Ok(doubt_text(self.alloc, &cases, &decisions)?)
     }
 
-    /// The line of how a transaction ended.
-    fn tell(&self, txn: &Txn) -> Result<Vec<u8>, NodeFailure>
+    /// How the log stands.
+    fn status(&self) -> Result<Vec<u8>, NodeFailure>
+        ensures ok { IfOk result (λ text. TellsStatus (state_of self.now) text.items) }
+        ensures err { IfErr result (λ e. e ≡ NodeFailure.Memory) }
+    {
+        let records = self.node.records()?;
+        let log = self.node.log_text()?;
+        let unforced = self.node.unforced_sizes(self.alloc)?;
+        let doubts = doubts_of(self.alloc, &records)?;
+        let decisions = decisions_of(self.alloc, &records)?;
+        let status = Status {
+            boot: boot_of(&records),
+            records: records.len() as u64,
+            unforced: unforced.len() as u64,
+            bytes: log.len() as u64,
+            doubts: doubts.len() as u64,
+            decided: decisions.len() as u64,
+        };
+        Ok(status_text(self.alloc, &status)?)
+    }
+
+    /// The line of how a transaction of this process ended.
+    fn tell_own(&self, txn: &Txn) -> Result<Vec<u8>, NodeFailure>
         ensures ok { IfOk result (λ text. text.items
             ≡ news_text txn.now (news_in (records_at (state_of self.now)) txn.now) ++ ok_text) }
         ensures err { IfErr result (λ e. e ≡ NodeFailure.Memory) }
@@ -201,6 +241,34 @@ impl<L: LogStore> Serving<L> {
         let records = self.node.records()?;
         let news = news_of(&records, txn);
         Ok(outcome_text(self.alloc, *txn, news)?)
+    }
+
+    /// Whether the process has no parent: it is the root of each transaction.
+    fn is_root(&self) -> bool
+        ensures { result ≡ is_at_root (state_of self.now) }
+    {
+        self.tree.parent(self.me).is_none()
+    }
+
+    /// The refusal of what another process is to be asked.
+    fn refuse(&self) -> Result<Vec<u8>, NodeFailure>
+        ensures ok { IfOk result (λ text. text.items ≡ text_of_refusal (step_error_number NoSuch)) }
+        ensures err { IfErr result (λ e. e ≡ NodeFailure.Memory) }
+    {
+        Ok(refused_text(self.alloc, StepError::NoSuch.number())?)
+    }
+
+    /// The line of how a transaction ended, which is refused where this is not its root.
+    fn tell(&self, txn: &Txn) -> Result<Vec<u8>, NodeFailure>
+        ensures ok { IfOk result (λ text. TellsOutcome (is_at_root (state_of self.now)) txn.now
+            (state_of self.now) (state_of self.now) text.items) }
+        ensures err { IfErr result (λ e. e ≡ NodeFailure.Memory) }
+    {
+        if self.is_root() {
+            self.tell_own(txn)
+        } else {
+            self.refuse()
+        }
     }
 
     /// The answer to what was asked.
@@ -216,6 +284,9 @@ impl<L: LogStore> Serving<L> {
             Asked::Trim => self.trim(),
             Asked::Doubt => self.doubt(),
             Asked::Outcome(txn) => self.tell(txn),
+            Asked::Status => self.status(),
+            Asked::Help => Ok(help_text(self.alloc)?),
+            Asked::End => Ok(obeyed_text(self.alloc)?),
             Asked::Unknown => Ok(error_text(self.alloc)?),
         }
     }
@@ -226,7 +297,7 @@ impl<L: LogStore> Serving<L> {
             AnswersLine line.now (state_of self.old) (state_of self.new) text.items) }
         ensures err { IfErr result (TakesLine line.now (state_of self.old) (state_of self.new)) }
     {
-        let asked = asked_of(self.alloc, self.root, line)?;
+        let asked = asked_of(self.alloc, self.tree.root(), line)?;
         self.answer_asked(&asked)
     }
 

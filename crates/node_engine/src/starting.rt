@@ -3,7 +3,16 @@
 ghost use Rattle.std.specs.Prelude.{◌≡◌, false, IfErr, IfOk, length};
 ghost use Rattle.std.specs.List.{list_all};
 ghost use Rattle.tree_node.specs.Reopenings.{kind_by};
-ghost use Rattle.node_engine.specs.Starts.{IsStart, NamesOthers, NoStart, is_own_record};
+ghost use Rattle.tree_model.specs.Records.{record_case};
+ghost use Rattle.node_engine.specs.Starts.{
+  IsStart,
+  NamesOthers,
+  NoStart,
+  is_of_child as is_childs,
+  is_own_record,
+  names_children as names_own_children,
+  owns as owns_case,
+};
 
 use crate::serving::Serving;
 use inquire_core::is_own;
@@ -11,13 +20,14 @@ use log_store::{LogStore, MemoryStore};
 use rec_log::{OpenError, RecLog};
 use std::alloc::{AllocError, Global};
 use thiserror::Error;
-use tree_model::{Kind, LogRecord, ProcessId, Reaction, Tree, TreeEntry};
+use tree_model::{Kind, LogRecord, ProcessId, Reaction, Record, Ticket, Tree, TreeEntry};
 use tree_node::{ReopenError, copied_tree, reopen_node};
 
 /// Why no node was started.
 #[derive(Clone, Copy, Debug, PartialEq, Eq, Error)]
 pub enum StartError {
-    /// The log has a record of another process's, or of another tree's.
+    /// The log has a record of a case of another process's or of another tree's, or one that names a ticket of
+    /// no child in this tree.
     #[error("it is the log of another process")]
     Stranger,
     /// The process does not go on over the log.
@@ -47,14 +57,52 @@ fn kind_of(kind: Kind, parent: Option<ProcessId>) -> Kind
     }
 }
 
+/// Whether a ticket is of a child of this process.
+#[tactic(auto, unfolding(tree_model::specs::Names::same_process))]
+fn is_of_child(tree: &Tree, me: ProcessId, ticket: &Ticket) -> bool
+    ensures { result ≡ is_childs tree.now me ticket.now }
+{
+    match tree.parent(ticket.child) {
+        None => false,
+        Some(parent) => parent == me,
+    }
+}
+
+/// Whether each ticket is of a child of this process.
+fn are_of_children(tree: &Tree, me: ProcessId, tickets: &[Ticket]) -> bool
+    ensures { result ≡ list_all (is_childs tree.now me) tickets.now }
+{
+    tickets.iter().all(|ticket| is_of_child(tree, me, ticket))
+}
+
+/// Whether the tickets that a record names are of children of this process.
+fn names_children(tree: &Tree, me: ProcessId, record: &Record) -> bool
+    ensures { result ≡ names_own_children tree.now me record.now }
+{
+    match record {
+        Record::Collecting(_, tickets)
+        | Record::Prepare(_, tickets)
+        | Record::Commit(_, tickets)
+        | Record::Abort(_, tickets) => are_of_children(tree, me, tickets.as_slice()),
+        _ => true,
+    }
+}
+
 /// Whether a record names no case, or one of the process's own.
-fn names_own(me: ProcessId, parent: Option<ProcessId>, tree: &Tree, kept: &LogRecord) -> bool
-    ensures { result ≡ is_own_record me parent tree.now kept.now }
+fn names_own_case(me: ProcessId, parent: Option<ProcessId>, tree: &Tree, kept: &LogRecord) -> bool
+    ensures { result ≡ owns_case me parent tree.now kept.now.parent (record_case kept.now.entry) }
 {
     match kept.entry.case() {
         None => true,
         Some(case) => is_own(me, parent, tree, kept.parent, &case),
     }
+}
+
+/// Whether a record names no case, or one of the process's own, and no ticket but of its children.
+fn names_own(me: ProcessId, parent: Option<ProcessId>, tree: &Tree, kept: &LogRecord) -> bool
+    ensures { result ≡ is_own_record me parent tree.now kept.now }
+{
+    names_own_case(me, parent, tree, kept) && names_children(tree, me, &kept.entry)
 }
 
 /// Whether each of these records does.
@@ -88,7 +136,8 @@ fn is_own_log(
 }
 
 /// The process of an entry as a node, over the log in a store, and what it did as it opened (`reopen_node`).
-/// Stranger: the log has a record of a case that is not the process's own in this tree; nothing was written.
+/// Stranger: the log has a record of a case that is not the process's own in this tree, or one that names a ticket
+/// of no child of it; nothing was written.
 /// Behind a refusal the store is let go.
 pub fn start<L: LogStore + Drop>(
     alloc: Global,
@@ -104,8 +153,9 @@ pub fn start<L: LogStore + Drop>(
         return Err(StartError::Stranger);
     }
     let copy = copied_tree(alloc, tree.entries())?;
+    let own = copied_tree(alloc, tree.entries())?;
     match reopen_node(alloc, entry, copy, store) {
-        Ok((node, opening)) => Ok((Serving::new(alloc, tree.root(), entry.id, node), opening)),
+        Ok((node, opening)) => Ok((Serving::new(alloc, own, entry.id, node), opening)),
         Err(error) => Err(StartError::Reopen(error)),
     }
 }

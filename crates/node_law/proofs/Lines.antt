@@ -1,5 +1,5 @@
 -- A line that a node answered, or did not answer, is a step of one of the tree's programs.
-use Rattle.std.proofs.Common.{◌≡◌, ◌∙◌, ap, sym, subst, refl, inl, inr, ℕ, Bool, true, false, Option, Some, None, List, Result, Ok, Err}
+use Rattle.std.proofs.Common.{◌≡◌, ◌∙◌, ap, sym, subst, refl, inl, inr, ℕ, Bool, true, false, ◌&&◌, Option, Some, None, List, Result, Ok, Err}
 use Rattle.tree_model.specs.declared.names.ProcessId.{ProcessId}
 use Rattle.tree_model.specs.declared.messages.Envelope.{Envelope}
 use Rattle.tree_model.specs.declared.events.Happening.TheVariants.{Input as Handles}
@@ -11,9 +11,11 @@ use Rattle.tree_model.specs.declared.events.StepError.TheVariants.{Memory, Devic
 use Rattle.tree_model.specs.Names.{same_process}
 use Rattle.tree_model.specs.NameLaws.{same_process_tells}
 use Rattle.tree_model.specs.Plays.{process_of_act}
+use Rattle.tree_model.specs.Trees.{root_of}
+use Rattle.tree_model.specs.declared.names.Txn.{Txn}
 use Rattle.tree_model.specs.World.{InputStands, IsSent}
 use Rattle.core_model.specs.States.{CoreState, SameCore}
-use Rattle.core_law.specs.worlds.Worlds.{Enters, HandlesInput, MovesNode, SameNode, TrimsData, WorldState}
+use Rattle.core_law.specs.worlds.Worlds.{AnswersData, Enters, HandlesInput, MovesNode, SameNode, TrimsData, WorldState}
 use Rattle.manager_model.specs.Data.{Rests}
 use Rattle.tree_node.specs.Nodes.{NotHandled}
 use Rattle.tree_node.specs.Restarts.{NoTrim}
@@ -21,7 +23,7 @@ use Rattle.tree_node.proofs.Same.{rests, same_core}
 use Rattle.node_lines.specs.declared.asked.Asked.{Asked}
 use Rattle.node_lines.specs.declared.asked.Asked.TheVariants as asked
 use Rattle.node_engine.specs.declared.failure.NodeFailure.{NodeFailure}
-use Rattle.node_engine.specs.Answers.{Answers, AnswersIf, NodeState, Takes, TakesIf, Took, Trimmed}
+use Rattle.node_engine.specs.Answers.{Answers, AnswersIf, NodeState, Takes, TakesIf, TellsOutcome, Took, Trimmed, hears, is_root, leaves_it, takes_it}
 use Rattle.node_lives.specs.Lives.{LifeStep}
 use Rattle.node_lives.specs.Lives as lives
 use Rattle.node_law.specs.Nodes.{Answered, EntersAnswer, EntersAnswered, EntersEnd, EntersTake, EntersTaken, EntersTrim, MovesAlone, Silent, Sits, Unanswered, WasSent}
@@ -30,6 +32,10 @@ use Rattle.node_law.specs.Nodes.{Answered, EntersAnswer, EntersAnswered, EntersE
 pub same_as_it_is : (o : Option CoreState) → SameNode o o
 same_as_it_is None = tt
 same_as_it_is (Some s) = same_core s
+
+first_of : (a b : Bool) → (a && b) ≡ true → a ≡ true
+first_of true b h = refl
+first_of false b h = absurd (cc)
 
 pub same_here : (q p : ProcessId) → same_process q p ≡ true → q ≡ p
 same_here q p e = elim (same_process_tells q p) [ inl t ↦ t.1 | inr z ↦ absurd (let clash : true ≡ false = sym e ∙ z.0 in cc) ]
@@ -107,6 +113,7 @@ module _ (s t : WorldState) (old new : NodeState) (was : Sits s old) (same : new
       behind = new.core;
       moves = moves;
       answer = h.answer;
+      answers = subst (λ d. AnswersData old.core.place.role d old.core h.answer i) (sym was.holdings) h.answers;
       broken = h.not_made;
       net = quiet.net;
       delivered = quiet.delivered;
@@ -168,40 +175,52 @@ module _ (s t : WorldState) (old new : NodeState) (was : Sits s old) (same : new
 
   taken_input : (mine : Bool) (i : Input) (why : NodeFailure) → (mine ≡ true → InputStands s.net old.me i)
       → (h : TakesIf mine old new i why) → EntersTake s t old new mine i why h → LifeStep s t
-  taken_input true i why sent h enters = took i (sent refl) h.end h.took enters
+  taken_input true i why sent (takes_it h) enters = took i (sent refl) h.end h.took enters
+  taken_input true i why sent (leaves_it h) enters = still enters h.0
   taken_input false i why sent h enters = still enters h.0
 
+  -- whoever is asked for an outcome, nothing is otherwise
+  untouched : (b : Bool) (x : Txn) (text : List ℕ) → TellsOutcome b x old new text → new ≡ old
+  untouched true x text h = h.0
+  untouched false x text h = h.0
+
   -- a message for this node stands in the net
-  stands_there : (n : ℕ) (e : Envelope) → WasSent s.net (asked.Message n e) → same_process e.to old.me ≡ true
+  stands_there : (n : ℕ) (e : Envelope) → WasSent s.net (asked.Message n e) → hears old e ≡ true
       → InputStands s.net old.me (MessageInput n e.message)
   stands_there n e sent mine =
-      subst (λ q. IsSent s.net q n e.message) (same_here e.to old.me mine)
+      subst (λ q. IsSent s.net q n e.message) (same_here e.to old.me (first_of _ _ mine))
       (record { sender = e.from; place = sent.0; stands = sent.1 })
 
   answered_so : (a : Asked) (text : List ℕ) (h : Answers a old new text) → WasSent s.net a
       → EntersAnswered s t old new a text h → LifeStep s t
   answered_so asked.Nothing text h sent enters = still enters h.0
   answered_so (asked.Act a) text h sent enters =
-      answered_input (same_process (process_of_act old.root a) old.me) (ActInput a) text
+      answered_input (same_process (process_of_act (root_of old.tree) a) old.me) (ActInput a) text
       (λ mine. tt) h enters
   answered_so (asked.Message n e) text h sent enters =
-      answered_input (same_process e.to old.me) (MessageInput n e.message) text
+      answered_input (hears old e) (MessageInput n e.message) text
       (stands_there n e sent) h enters
   answered_so asked.Trim text h sent enters = trimmed h.end h.took enters
   answered_so asked.Doubt text h sent enters = still enters h.0
-  answered_so (asked.Outcome x) text h sent enters = still enters h.0
+  answered_so (asked.Outcome x) text h sent enters = still enters (untouched (is_root old) x text h)
+  answered_so asked.Status text h sent enters = still enters h.0
+  answered_so asked.Help text h sent enters = still enters h.0
+  answered_so asked.End text h sent enters = still enters h.0
   answered_so asked.Unknown text h sent enters = still enters h.0
 
   taken_so : (a : Asked) (why : NodeFailure) (h : Takes a old new why) → WasSent s.net a
       → EntersTaken s t old new a why h → LifeStep s t
   taken_so asked.Nothing why h sent enters = still enters h.0
   taken_so (asked.Act a) why h sent enters =
-      taken_input (same_process (process_of_act old.root a) old.me) (ActInput a) why (λ mine. tt) h enters
+      taken_input (same_process (process_of_act (root_of old.tree) a) old.me) (ActInput a) why (λ mine. tt) h enters
   taken_so (asked.Message n e) why h sent enters =
-      taken_input (same_process e.to old.me) (MessageInput n e.message) why (stands_there n e sent) h enters
+      taken_input (hears old e) (MessageInput n e.message) why (stands_there n e sent) h enters
   taken_so asked.Trim why h sent enters = trimmed h.end h.took enters
   taken_so asked.Doubt why h sent enters = still enters h.0
   taken_so (asked.Outcome x) why h sent enters = still enters h.0
+  taken_so asked.Status why h sent enters = still enters h.0
+  taken_so asked.Help why h sent enters = still enters h.0
+  taken_so asked.End why h sent enters = still enters h.0
   taken_so asked.Unknown why h sent enters = still enters h.0
 
 pub answered : (s t : WorldState) → Answered s t → LifeStep s t

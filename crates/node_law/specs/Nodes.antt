@@ -1,6 +1,7 @@
 -- A tree each process of which is a node, a program of its own over a log in a file.
-use Rattle.std.specs.Prelude.{◌≡◌, ⊤, ℕ, Bool, true, false, Some, Result, Ok, Err, List, [], find, slice_get}
+use Rattle.std.specs.Prelude.{◌≡◌, ◌⊎◌, ⊤, ℕ, Bool, true, false, Some, Result, Ok, Err, List, [], ◌++◌, find, slice_get}
 use Rattle.tree_model.specs.declared.names.ProcessId.{ProcessId}
+use Rattle.tree_model.specs.declared.names.Txn.{Txn}
 use Rattle.tree_model.specs.declared.messages.Envelope.{Envelope}
 use Rattle.tree_model.specs.declared.events.Happening.{Happening}
 use Rattle.tree_model.specs.declared.events.Happening.TheVariants.{Input as Handles, Trim as Trimming}
@@ -8,7 +9,9 @@ use Rattle.tree_model.specs.declared.events.Input.{Input}
 use Rattle.tree_model.specs.declared.events.Input.TheVariants.{Act as ActInput, Message as MessageInput}
 use Rattle.tree_model.specs.declared.events.Reaction.{Reaction}
 use Rattle.tree_model.specs.declared.events.StepError.{StepError}
+use Rattle.tree_model.specs.declared.events.StepError.TheVariants.{NoSuch}
 use Rattle.tree_model.specs.declared.trees.TreeEntry.{TreeEntry}
+use Rattle.tree_model.specs.Errors.{step_error_number}
 use Rattle.tree_model.specs.Names.{same_process}
 use Rattle.tree_model.specs.Nodes.{place_of}
 use Rattle.tree_model.specs.Plays.{process_of_act}
@@ -24,18 +27,24 @@ use Rattle.core_law.specs.worlds.Runs.{IsOpened}
 use Rattle.core_law.specs.worlds.Ties.{FollowsBehindFaults, GoesOnBehindFaults}
 use Rattle.core_law.specs.worlds.Modelled.{KeepsHeadline}
 use Rattle.log_text.specs.declared.form.LogForm.{LogForm}
-use Rattle.tree_node.specs.Reopenings.{ReopensAs, form_by}
+use Rattle.tree_node.specs.declared.reopening.ReopenError.{ReopenError}
+use Rattle.tree_node.specs.declared.reopening.ReopenError.TheVariants.{Damaged, OldFormat}
+use Rattle.tree_node.specs.Reopenings.{NotReopened, ReopensAs, form_by, place_by}
 use Rattle.node_lines.specs.declared.asked.Asked.{Asked}
 use Rattle.node_lines.specs.declared.asked.Asked.TheVariants as asked
 use Rattle.node_engine.specs.declared.failure.NodeFailure.{NodeFailure}
-use Rattle.node_engine.specs.Answers.{Answers, AnswersIf, AnswersLine, NodeState, Takes, TakesIf, TakesLine}
+use Rattle.node_engine.specs.Answers.{Answers, AnswersIf, AnswersLine, NodeState, Takes, TakesIf, TakesLine, hears, leaves_it, takes_it}
+use Rattle.node_lines.specs.Speakers.{may_speak}
+use Rattle.log_news.specs.declared.news.News.{News}
+use Rattle.node_answers.specs.Texts.{news_text, ok_text, refused_text}
 use Rattle.node_lives.specs.Lives.{counted_at}
+use Rattle.node_lives.specs.Outcomes.{NewsAreSo}
 
 -- Where the nodes are.
 
 -- a process of the tree is this node
 pub record Sits (s : WorldState) (n : NodeState) : Type 0 where
-  pub root : n.root ≡ root_of s.tree
+  pub tree : n.tree ≡ s.tree
   pub core : s.node_at n.me ≡ Some n.core
   pub holdings : s.data_at n.me ≡ n.holdings
 
@@ -80,30 +89,37 @@ module _ (s t : WorldState) (old new : NodeState) where
   abbrev pub EntersAnswered : (a : Asked) (text : List ℕ) → Answers a old new text → Type 0
   EntersAnswered asked.Nothing text h = Silent s t
   EntersAnswered (asked.Act a) text h =
-      EntersAnswer (same_process (process_of_act old.root a) old.me) (ActInput a) text h
+      EntersAnswer (same_process (process_of_act (root_of old.tree) a) old.me) (ActInput a) text h
   EntersAnswered (asked.Message n e) text h =
-      EntersAnswer (same_process e.to old.me) (MessageInput n e.message) text h
+      EntersAnswer (hears old e) (MessageInput n e.message) text h
   EntersAnswered asked.Trim text h = EntersTrim s t old.me h.end
   EntersAnswered asked.Doubt text h = Silent s t
   EntersAnswered (asked.Outcome x) text h = Silent s t
+  EntersAnswered asked.Status text h = Silent s t
+  EntersAnswered asked.Help text h = Silent s t
+  EntersAnswered asked.End text h = Silent s t
   EntersAnswered asked.Unknown text h = Silent s t
 
   -- of an input that was made or not, and is not answered
   abbrev pub EntersTake : (mine : Bool) (input : Input) (why : NodeFailure) → TakesIf mine old new input why
       → Type 0
-  EntersTake true input why h = EntersEnd s t old.me (Handles input) h.end
+  EntersTake true input why (takes_it h) = EntersEnd s t old.me (Handles input) h.end
+  EntersTake true input why (leaves_it h) = Silent s t
   EntersTake false input why h = Silent s t
 
   -- of what was asked, and is not answered
   abbrev pub EntersTaken : (a : Asked) (why : NodeFailure) → Takes a old new why → Type 0
   EntersTaken asked.Nothing why h = Silent s t
   EntersTaken (asked.Act a) why h =
-      EntersTake (same_process (process_of_act old.root a) old.me) (ActInput a) why h
+      EntersTake (same_process (process_of_act (root_of old.tree) a) old.me) (ActInput a) why h
   EntersTaken (asked.Message n e) why h =
-      EntersTake (same_process e.to old.me) (MessageInput n e.message) why h
+      EntersTake (hears old e) (MessageInput n e.message) why h
   EntersTaken asked.Trim why h = EntersTrim s t old.me h.end
   EntersTaken asked.Doubt why h = Silent s t
   EntersTaken (asked.Outcome x) why h = Silent s t
+  EntersTaken asked.Status why h = Silent s t
+  EntersTaken asked.Help why h = Silent s t
+  EntersTaken asked.End why h = Silent s t
   EntersTaken asked.Unknown why h = Silent s t
 
 -- A node answered a line, as `run_node` says: what it answers is what it did, and what it sent stands in it.
@@ -214,3 +230,42 @@ StepsGoOn = (s t : WorldState) (es : List Made) (w : World) → IsTree s.tree �
 abbrev pub NodesAreRuns : Type 0
 NodesAreRuns = (tree : List TreeEntry) (s t : WorldState) → IsTree tree → IsOpened s tree → NodeSteps s t
     → KeepsHeadline t
+
+-- Where the state of a tree stands for a run, a message that was sent comes from one who may send it: no node refuses
+-- it for its sender.
+abbrev pub SentMaySpeak : Type 0
+SentMaySpeak = (s : WorldState) (es : List Made) (w : World) → IsTree s.tree → FollowsBehindFaults es w s
+    → (n : ℕ) (e : Envelope) → WasSent s.net (asked.Message n e) → may_speak s.tree e ≡ true
+
+-- an answer tells how a transaction ended, if it tells an end at all, as it did
+pub record TellsSo (w : World) (x : Txn) (text : List ℕ) : Type 0 where
+  pub news : News
+  pub text_is : text ≡ news_text x news ++ ok_text
+  pub so : NewsAreSo w x news
+
+-- it does so, or refuses to tell
+abbrev pub TellsEnd : World → Txn → List ℕ → Type 0
+TellsEnd w x text = TellsSo w x text ⊎ (text ≡ refused_text (step_error_number NoSuch))
+
+-- Where the state of a tree stands for a run, what a node whose device works answers to `outcome` is the outcome of that
+-- transaction; or it refuses to tell, as it is not its root.
+abbrev pub OutcomesAreTold : Type 0
+OutcomesAreTold = (s : WorldState) (es : List Made) (w : World) → FollowsBehindFaults es w s
+    → (old new : NodeState) → Sits s old → old.core.log.failed ≡ false
+    → (line text : List ℕ) (h : AnswersLine line old new text) (x : Txn) → h.asked ≡ asked.Outcome x
+    → TellsEnd w x text
+
+-- a refusal that calls a log neither damaged nor one of the first format
+abbrev pub CallsItRead : ReopenError → Type 0
+CallsItRead (Damaged place) = ⊥
+CallsItRead OldFormat = ⊥
+CallsItRead e = ⊤
+
+-- A file that kept what was forced is a whole log of its process: at its next start no node calls it damaged, nor a log of
+-- the first format.
+module _ {L : Type 0} (bytes : L → List ℕ) (forced failures : L → ℕ) where
+  abbrev pub OwnFilesAreRead : Type 0
+  OwnFilesAreRead = (tree : List TreeEntry) (e : TreeEntry) (c : CoreState) (store : L)
+      → Keeps (form_by e) c (bytes store)
+      → (error : ReopenError) → NotReopened bytes forced failures (form_by e) (place_by tree e) store error
+      → CallsItRead error

@@ -12,7 +12,7 @@ use Rattle.link_script.specs.Names.{txn_at}
 use Rattle.link_script.specs.Events.{event_at}
 use Rattle.node_lines.specs.Lines.{line_at}
 use Rattle.node_lines.specs.declared.asked.Asked.{Asked}
-use Rattle.node_lines.specs.declared.asked.Asked.TheVariants.{Nothing, Act, Message, Trim, Doubt, Outcome, Unknown}
+use Rattle.node_lines.specs.declared.asked.Asked.TheVariants.{Nothing, Act, Message, Trim, Doubt, Outcome, Status, Help, End, Unknown}
 
 -- of the events of a script a node is asked for acts alone
 abbrev pub asked_by_event : Option Event → Asked
@@ -45,10 +45,17 @@ asked_by_ending None other = other
 abbrev pub longer_asked : ProcessId → List ℕ → Asked
 longer_asked root line = asked_by_ending (ending_asked root line) (sent_asked root line)
 
+-- the line by which a node is asked to end
+abbrev pub end_word : List ℕ
+end_word = codes "end"
+
 -- what a line asks of a node, over a tree with this root
 unfoldable pub asked_at : ProcessId → List ℕ → Asked
 asked_at root line =
     if is_skipped line then Nothing
     else if same line (codes "trim") then Trim
     else if same line (codes "doubt") then Doubt
+    else if same line (codes "status") then Status
+    else if same line (codes "help") then Help
+    else if same line end_word then End
     else longer_asked root line

@@ -3,3 +3,4 @@ pub mod Messages
 pub mod Lines
 pub mod Spellings
 pub mod Asked
+pub mod Speakers

@@ -1,7 +1,8 @@
 //! What a line asks of a node.
 
 ghost use Rattle.std.specs.Prelude.{◌≡◌, IfOk};
-ghost use Rattle.node_lines.specs.Asked.{act_asked, asked_at, ending_asked, longer_asked, sent_asked};
+ghost use Rattle.script_words.specs.Steps.{same};
+ghost use Rattle.node_lines.specs.Asked.{act_asked, asked_at, end_word, ending_asked, longer_asked, sent_asked};
 
 use crate::line::line_of;
 use link_script::{event_of, txn_of};
@@ -25,6 +26,12 @@ pub enum Asked {
     Doubt,
     /// How a transaction ended, as far as the log tells.
     Outcome(Txn),
+    /// How its log stands.
+    Status,
+    /// Which lines a node knows.
+    Help,
+    /// That it ends.
+    End,
     /// It is the line of nothing.
     Unknown,
 }
@@ -40,6 +47,9 @@ pub fn asked_of(alloc: Global, root: ProcessId, line: &str) -> Result<Asked, All
     match line {
         "trim" => Ok(Asked::Trim),
         "doubt" => Ok(Asked::Doubt),
+        "status" => Ok(Asked::Status),
+        "help" => Ok(Asked::Help),
+        "end" => Ok(Asked::End),
         _ => longer_of(alloc, root, line),
     }
 }
@@ -83,4 +93,11 @@ fn act_of(alloc: Global, root: ProcessId, line: &str) -> Result<Asked, AllocErro
         Some(Event::Act(act)) => Ok(Asked::Act(act)),
         _ => Ok(Asked::Unknown),
     }
+}
+
+/// Whether a line asks the node to end.
+pub fn asks_end(line: &[u8]) -> bool
+    ensures { result ≡ same line.now end_word }
+{
+    line == "end".as_bytes()
 }

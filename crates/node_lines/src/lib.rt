@@ -9,7 +9,9 @@ mod findings;
 pub mod law;
 mod line;
 mod message;
+mod speakers;
 
-pub use asked::{Asked, asked_of};
+pub use asked::{Asked, asked_of, asks_end};
 pub use line::line_of;
 pub use message::message_of;
+pub use speakers::may_speak;

@@ -85,8 +85,11 @@ type Node = Serving<FileStore<HostFile>>;
 /// out.
 fn let_go(_node: Node) {}
 
+/// Lets a store go.
+fn let_store_go(_store: FileStore<HostFile>) {}
+
 /// Whether a node writes just this as it opened and answers these lines.
-fn answers(rt: &HostRuntime, node: &mut Node, opening: &Reaction, lines: &str, said: &str) -> bool {
+fn answers(rt: &HostRuntime, node: Node, opening: &Reaction, lines: &str, said: &str) -> bool {
     let mut out = Vec::new(rt.alloc());
     let ended = run_node(
         rt.alloc(),
@@ -96,7 +99,13 @@ fn answers(rt: &HostRuntime, node: &mut Node, opening: &Reaction, lines: &str, s
         &mut out,
         &mut Nobody,
     );
-    ended.is_ok() && out.as_slice() == said.as_bytes()
+    match ended {
+        Err(_) => false,
+        Ok(store) => {
+            let_store_go(store);
+            out.as_slice() == said.as_bytes()
+        }
+    }
 }
 
 /// Whether a node over this store writes just this as it opens and answers these lines.
@@ -112,11 +121,7 @@ fn serves(
     };
     match start(rt.alloc(), tree, entry, store) {
         Err(_) => false,
-        Ok((mut node, opening)) => {
-            let answers = answers(rt, &mut node, &opening, lines, said);
-            let_go(node);
-            answers
-        }
+        Ok((node, opening)) => answers(rt, node, &opening, lines, said),
     }
 }
 

@@ -6,6 +6,7 @@
 
 mod chance;
 mod files;
+mod lines;
 mod net;
 mod trial;
 
@@ -20,6 +21,8 @@ fn main(rt: HostRuntime) -> io::Result<()> {
             None => println!(rt; "seed {seed}: failed")?,
         }
     }
+    let lines = trial::run_lines(rt.alloc());
+    println!(rt; "lines of nodes: {lines}")?;
     let files = files::run(&rt);
     println!(rt; "a file of the system: {files}")
 }

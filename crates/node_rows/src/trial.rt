@@ -1,6 +1,7 @@
 //! A tree of nodes in memory, whose nodes end and start again.
 
 use crate::chance::Chance;
+use crate::lines;
 use crate::net::{Mail, Net};
 use audit_engine::{Detail, Ending, run_audit};
 use link_script::read_tree;
@@ -371,6 +372,14 @@ impl Trial {
         format!(in self.alloc;
             "{told} told, {ends} ends, {lost} lost, {repeated} repeated; {found}"
         ).ok()
+    }
+}
+
+/// Says what does not hold of lines of the nodes of the tree, or that all does.
+pub fn run_lines(alloc: Global) -> &'static str {
+    match read_tree(alloc, TREE) {
+        Ok(tree) => lines::run(alloc, &tree),
+        Err(_) => "the tree is not read",
     }
 }
 

@@ -9,7 +9,7 @@ use std::str;
 /// The lines that a node takes.
 const LINES: &str =
     "begin, join, work, commit, abort, ask, heur and forget as `rstar tree` has them, \
-                     N F->T MESSAGE as another node wrote it, trim, doubt or outcome TXN";
+                     N F->T MESSAGE as another node wrote it, trim, doubt, outcome TXN, status, help or end";
 
 /// Tells on standard error of each line that a node refuses, if it is to.
 #[derive(Drop)]
@@ -38,7 +38,7 @@ fn reason(number: &str) -> &'static str {
         "6" => "the process has failed: start it again",
         "7" => "the case is not in doubt here",
         "8" => "no operator decided it: there is nothing to forget",
-        "9" => "it is for another process than this one",
+        "9" => "it is for another process than this one, or from one that may not send it",
         _ => "it is refused",
     }
 }

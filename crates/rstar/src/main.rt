@@ -7,9 +7,11 @@
 mod explainer;
 mod files;
 mod law;
+mod logs;
 mod migration;
 mod node;
 mod running;
+mod source;
 
 use crate::running::Run;
 use audit_engine::{Detail, run_audit, run_log};
@@ -21,6 +23,7 @@ use migrate_engine::run_migrate;
 use migration::FileWords;
 use node::NodeWords;
 use report_io::{read_all, write_all};
+use source::{Source, bytes_in, source_of, tell_refused, tell_waiting};
 use std::alloc::{AllocError, Global};
 use std::io;
 use std::io::Read;
@@ -57,13 +60,15 @@ enum Told {
 }
 
 /// What was read of a command line.
-#[derive(Clone, Copy)]
+#[derive(Drop)]
 enum Asked<'a> {
-    Request(Request, Told),
+    Request(Request, Told, Source<'a>),
     /// A process of a tree, as a program of its own.
     Node(NodeWords<'a>),
     /// The log of a process in a file, by the second format.
     MigrateFile(FileWords<'a>),
+    /// What a request for logs asks of those in files, and whether only their text is written.
+    Files(Request, Told, Vec<&'a str>, bool),
     Memory,
 }
 
@@ -73,7 +78,7 @@ const VERSION: &str = "0.1.0, format of logs 2";
 /// What `rstar --help` says behind its subcommands.
 const EXAMPLES: &str = "\
 Examples:
-  rstar tree < examples/commit.tree
+  rstar tree examples/commit.tree
   rstar tree --logs < examples/commit.tree
   rstar run < examples/commit.tree
   rstar xa < examples/migrate.xa
@@ -157,7 +162,13 @@ either format. Out: for each process 'log P' and a line for each record: the pla
 byte, its kind, its name, and what it carries; 'torn N' behind the last where N bytes are a torn
 tail. 'damaged P PLACE' alone where a log is damaged, 'error ..' where the input is refused.
 
-Example: rstar log < examples/commit.logs";
+With --file nothing is read on standard input: TREE is a file with the processes, and then come the
+number of each process and the file of its log, as 'rstar node' has it. They are read as they are,
+also while the nodes run, and nothing is written to them. With --logs too, their text is written, as
+'rstar tree --logs' has it and this command reads it.
+
+Examples: rstar log < examples/commit.logs
+          rstar log --file tree.toml 1 1.log 2 2.log";
 
 /// What `rstar audit --help` says below its usage.
 const AUDIT_HELP: &str = "\
@@ -172,11 +183,13 @@ its case reports these tickets as decided against the outcome, or as known no mo
 forgotten. The last line is 'mismatches N'; the status is 3 where N is above 0. 'damaged P PLACE'
 alone where a log is damaged, 'error ..' where the input is refused. With --explain, behind each
 line that is in-doubt, shows a mismatch or reports tickets: who asks whom about it, or who
-reported it, a line a step, or what it was told; and what to do.
+reported it, a line a step, or what it was told; and what to do. With --file the logs are read in
+files, as 'rstar log --help' has it.
 
 Examples: rstar audit < examples/commit.logs
           rstar audit --explain < examples/operator.logs
-          rstar tree --logs < examples/commit.tree | rstar audit";
+          rstar tree --logs < examples/commit.tree | rstar audit
+          rstar audit --file tree.toml 1 1.log 2 2.log";
 
 /// What `rstar crash --help` says below its usage.
 const CRASH_HELP: &str = "\
@@ -213,14 +226,23 @@ In, a line each, answered in order, each before the next is read:
   N F->T MESSAGE                       a message to this process, as another node wrote it; N is
                                        passed over
   trim                                 the log
-  doubt                                a line 'doubt CASE' for each case in doubt here
-  outcome TXN                          'outcome TXN committed', 'aborted', 'open' or 'unknown', as
-                                       far as the log tells
+  doubt                                a line 'doubt CASE' for each case in doubt here, in the order
+                                       of their promises, and 'decided CASE commit|abort' for each
+                                       that an operator decided and that waits to be told
+  outcome TXN                          at the root: 'outcome TXN committed', 'aborted', 'open' or
+                                       'unknown', as far as the log tells; 'unknown' is one that
+                                       wrote no record, or that a trim took: who is in doubt of
+                                       it is answered abort by a..., commit by c...
+  status                               'status boot B records N unforced N bytes N in-doubt N
+                                       decided N' of the log
+  help                                 a line for each kind of line that a node knows
+  end                                  all that stands is forced, and it ends; nothing behind is read
 Out: what the process did, as a trace has it, and then 'ok'; 'refused E' (docs/ERRORS.md; 9 what
-is for another process); 'error' where the line is the line of nothing. What an answer rests on
+is for another process, or from one that may not send it); 'error' where the line is the line of nothing. What an answer rests on
 is on the disk before it is written. Whoever carries the messages reads '->T' and may lose,
-repeat and reorder them, and may not alter one or invent one. At the end of the input the status
-is 0. Where the device or memory fails it ends at once, with no answer to the line, and goes on
+repeat and reorder them, and may not alter one or invent one. At the end of the input all that
+stands is forced, and the status is 0. A signal that ends it forces nothing: the next start goes
+on from what was forced. Where the device or memory fails it ends at once, with no answer to the line, and goes on
 when it is started again.
 
 Examples: rstar node tree.toml 1 1.log --new
@@ -293,7 +315,25 @@ fn tree<'a>(alloc: Global) -> Result<Command<'a>, AllocError> {
         "Writes the tree and the logs it leaves, as 'rstar log' reads them",
     ))?
     .arg(counts(alloc)?)?
-    .arg(picture(alloc)?)
+    .arg(picture(alloc)?)?
+    .arg(source::word(alloc))
+}
+
+/// The words of `rstar log`.
+fn log<'a>(alloc: Global) -> Result<Command<'a>, AllocError> {
+    explaining(
+        alloc,
+        "log",
+        "Prints what the logs of a tree hold, one record a line",
+        LOG_HELP,
+    )?
+    .arg(flag(
+        alloc,
+        "logs",
+        "Writes the text of the logs in files, as 'rstar log' reads it",
+    )
+    .requires_arg("file")?)?
+    .arg(logs::file(alloc))
 }
 
 /// The words of `rstar audit`.
@@ -307,8 +347,9 @@ fn audit<'a>(alloc: Global) -> Result<Command<'a>, AllocError> {
     .arg(flag(
         alloc,
         "explain",
-        "Tells of each case in doubt and each mismatch what decided it, and what to do",
-    ))
+        "Tells of each case in doubt and each mismatch what decided it, and what to do; or what is wrong with a refused input",
+    ))?
+    .arg(logs::file(alloc))
 }
 
 /// A word that has to stand there, and what help says of it.
@@ -343,7 +384,7 @@ fn grammar<'a>(alloc: Global) -> Result<Command<'a>, AllocError> {
     subcommand(
         alloc,
         "rstar",
-        "Distributed transactions by the R* commit protocol. Scripts come on standard input.",
+        "Distributed transactions by the R* commit protocol. Scripts come on standard input, or in a file.",
         EXAMPLES,
     )
     .version(VERSION)
@@ -355,13 +396,9 @@ fn grammar<'a>(alloc: Global) -> Result<Command<'a>, AllocError> {
         "xa",
         "Makes the calls of an XA script on a key store with a log, and writes the answers",
         XA_HELP,
-    )?)?
-    .subcommand(explaining(
-        alloc,
-        "log",
-        "Prints what the logs of a tree hold, one record a line",
-        LOG_HELP,
-    )?)?
+    )?
+    .arg(source::word(alloc))?)?
+    .subcommand(log(alloc)?)?
     .subcommand(audit(alloc)?)?
     .subcommand(migration::words(alloc)?)?
     .subcommand(explaining(
@@ -369,7 +406,8 @@ fn grammar<'a>(alloc: Global) -> Result<Command<'a>, AllocError> {
         "crash",
         "Tries a crash of each process behind each event of a script, and tells what stays in doubt",
         CRASH_HELP,
-    )?)?
+    )?
+    .arg(source::word(alloc))?)?
     .subcommand(node_grammar(alloc)?)
 }
 
@@ -415,25 +453,53 @@ fn node_of<'a>(matches: &ArgMatches<'a>) -> Option<NodeWords<'a>> {
     })
 }
 
+/// What a request for logs asks of: those in files, if there is `--file`, or those of its input.
+fn logs_asked<'a>(
+    alloc: Global,
+    matches: &ArgMatches<'a>,
+    request: Request,
+    told: Told,
+    is_text: bool,
+) -> Result<Asked<'a>, AllocError> {
+    Ok(match logs::words_of(alloc, matches)? {
+        Some(words) => Asked::Files(request, told, words, is_text),
+        None => Asked::Request(request, told, Source::Standard),
+    })
+}
+
 /// What these words ask for, the program's name first.
 fn read_words<'a>(alloc: Global, words: &'a [String]) -> Result<Asked<'a>, Error> {
     let matches = grammar(alloc)?.try_get_matches_from(words)?;
     match matches.subcommand() {
         Some((name, found)) => Ok(match name {
-            "tree" => Asked::Request(Request::Tree(output_of(found)), told_of(found)),
-            "run" => Asked::Request(Request::Run(running::asked(found)), told_of(found)),
-            "log" => Asked::Request(Request::Log, told_of(found)),
-            "audit" => Asked::Request(Request::Audit(detail_of(found)), Told::Silent),
+            "tree" => Asked::Request(
+                Request::Tree(output_of(found)),
+                told_of(found),
+                source_of(found),
+            ),
+            "run" => Asked::Request(
+                Request::Run(running::asked(found)),
+                told_of(found),
+                source_of(found),
+            ),
+            "log" => {
+                let is_text = found.get_flag("logs");
+                logs_asked(alloc, found, Request::Log, told_of(found), is_text)?
+            }
+            "audit" => {
+                let request = Request::Audit(detail_of(found));
+                logs_asked(alloc, found, request, told_of(found), false)?
+            }
             "migrate" => match migration::file_of(found) {
                 Some(words) => Asked::MigrateFile(words),
-                None => Asked::Request(Request::Migrate, told_of(found)),
+                None => Asked::Request(Request::Migrate, told_of(found), Source::Standard),
             },
-            "crash" => Asked::Request(Request::Crash, told_of(found)),
+            "crash" => Asked::Request(Request::Crash, told_of(found), source_of(found)),
             "node" => match node_of(found) {
                 Some(words) => Asked::Node(words),
                 None => Asked::Memory,
             },
-            _ => Asked::Request(Request::Xa, told_of(found)),
+            _ => Asked::Request(Request::Xa, told_of(found), source_of(found)),
         }),
         None => Ok(Asked::Memory),
     }
@@ -499,21 +565,95 @@ fn tell(rt: &HostRuntime, text: Option<String>) {
     }
 }
 
-/// Runs what was asked, tells on standard error why it was refused or could not go on, and answers the exit
-/// status.
-fn explained<T: Threads + Wait + Sync>(
+/// Runs what was asked on this input, tells on standard error why it was refused, if that is to be told, and
+/// answers the exit status.
+fn run_on<T: Threads + Wait + Sync>(
     rt: &HostRuntime,
     threads: &T,
     request: Request,
+    told: Told,
+    input: &[u8],
 ) -> Result<u8, Failure> {
-    let alloc = rt.alloc();
-    let input = read_all(alloc, &mut rt.reader())?;
-    let mut reader = input.as_slice();
+    let mut reader = input;
     let status = run(rt, threads, request, &mut reader)?;
-    if status == 1 || status == 2 {
-        tell(rt, refusal_text(alloc, script_of(request), &input).ok());
+    if told == Told::Explained && (status == 1 || status == 2) {
+        tell(rt, refusal_text(rt.alloc(), script_of(request), input).ok());
     }
     Ok(status)
+}
+
+/// Runs what was asked on this input, tells on standard error why it was refused or could not go on, and
+/// answers the exit status.
+fn explained<R: Read, T: Threads + Wait + Sync>(
+    rt: &HostRuntime,
+    threads: &T,
+    request: Request,
+    reader: &mut R,
+) -> Result<u8, Failure> {
+    let input = read_all(rt.alloc(), reader)?;
+    run_on(rt, threads, request, Told::Explained, &input)
+}
+
+/// Runs a request for logs on those in files, and answers the exit status.
+fn perform_files<T: Threads + Wait + Sync>(
+    rt: &HostRuntime,
+    threads: &T,
+    request: Request,
+    told: Told,
+    words: &[&str],
+    is_text: bool,
+) -> u8 {
+    let input = match logs::input_of(rt, words) {
+        Ok(input) => input,
+        Err(end) => return files::status_of(rt, name_of(request), Err(end)),
+    };
+    let ended = if is_text {
+        write_all(&mut io::writer(rt), &input).map(|_| 0)
+    } else {
+        run_on(rt, threads, request, told, &input)
+    };
+    status_by(ended)
+}
+
+/// The name of a request for logs.
+fn name_of(request: Request) -> &'static str {
+    if request == Request::Log {
+        "log"
+    } else {
+        "audit"
+    }
+}
+
+/// Runs what was asked on this input without an explanation, and answers the exit status.
+fn silent<R: Read, T: Threads + Wait + Sync>(
+    rt: &HostRuntime,
+    threads: &T,
+    request: Request,
+    reader: &mut R,
+) -> u8 {
+    let status = status_by(run(rt, threads, request, reader));
+    if status == 1 || status == 2 {
+        tell_refused(rt);
+    }
+    status
+}
+
+/// Runs what was asked on this input, and answers the exit status.
+fn perform_on<R: Read, T: Threads + Wait + Sync>(
+    rt: &HostRuntime,
+    threads: &T,
+    request: Request,
+    told: Told,
+    reader: &mut R,
+) -> u8 {
+    if told == Told::Silent {
+        return silent(rt, threads, request, reader);
+    }
+    let ended = explained(rt, threads, request, reader);
+    if let Err(failure) = ended {
+        tell(rt, failure_text(rt.alloc(), failure).ok());
+    }
+    status_by(ended)
 }
 
 /// Runs what was asked, and answers the exit status.
@@ -522,15 +662,21 @@ fn perform<T: Threads + Wait + Sync>(
     threads: &T,
     request: Request,
     told: Told,
+    source: Source<'_>,
 ) -> u8 {
-    if told == Told::Silent {
-        return status_by(run(rt, threads, request, &mut rt.reader()));
+    match source {
+        Source::Standard => {
+            tell_waiting(rt);
+            perform_on(rt, threads, request, told, &mut rt.reader())
+        }
+        Source::File(path) => match bytes_in(rt, path) {
+            Some(bytes) => {
+                let mut reader = bytes.as_slice();
+                perform_on(rt, threads, request, told, &mut reader)
+            }
+            None => 4,
+        },
     }
-    let ended = explained(rt, threads, request);
-    if let Err(failure) = ended {
-        tell(rt, failure_text(rt.alloc(), failure).ok());
-    }
-    status_by(ended)
 }
 
 /// Reads the command line and runs it.
@@ -549,9 +695,12 @@ fn status_of<T: Threads + Wait + Sync>(rt: &HostRuntime, threads: &T) -> u8 {
         return 4;
     };
     match read_words(alloc, words.as_slice()) {
-        Ok(Asked::Request(request, told)) => perform(rt, threads, request, told),
+        Ok(Asked::Request(request, told, source)) => perform(rt, threads, request, told, source),
         Ok(Asked::Node(words)) => node::run(rt, words),
         Ok(Asked::MigrateFile(words)) => migration::run(rt, words),
+        Ok(Asked::Files(request, told, words, is_text)) => {
+            perform_files(rt, threads, request, told, &words, is_text)
+        }
         Ok(Asked::Memory) => 4,
         Err(error) => {
             if error.kind() == ErrorKind::OutOfMemory {

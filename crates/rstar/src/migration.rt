@@ -1,10 +1,14 @@
 //! `rstar migrate`: the logs of a tree, or the log of one process in a file, by the second format.
 
 use crate::explaining;
-use crate::files::{End, entry_of, failed, refused, status_of, store_in, tree_in};
+use crate::files::{
+    End, entry_of, failed, log_in, no_memory, not_opened, not_own, status_of, tree_in,
+};
 use clap::{Arg, ArgAction, ArgMatches, Command};
+use log_store::{LogStore, MemoryStore};
 use rec_log::{MigrateError, RecLog};
 use std::alloc::{AllocError, Global};
+use tree_model::{Tree, TreeEntry};
 
 /// The words behind `rstar migrate --file`: the file of the log, the file of the tree, and the process.
 #[derive(Clone, Copy)]
@@ -25,7 +29,8 @@ where a log is damaged, 'error ..' where the input is refused.
 
 With --file nothing is read or written but files: LOG is the log of process ME of the tree in the
 file TREE, as 'rstar node TREE ME LOG' has it. It is migrated in place, by one replace: where that
-is cut short, LOG holds the old log or the new one.
+is cut short, LOG holds the old log or the new one. A log of the second format without a torn tail is
+not written at all.
 
 Examples: rstar migrate < examples/commit.logs
           rstar migrate --file 1.log tree.toml 1";
@@ -71,24 +76,55 @@ pub(crate) fn file_of<'a>(matches: &ArgMatches<'a>) -> Option<FileWords<'a>> {
     })
 }
 
-/// Why the log at this path was not migrated.
-fn not_migrated(alloc: Global, path: &str, error: MigrateError) -> End {
-    let told = format!(in alloc; "{path}: {error}");
+/// Why the log at this path was not migrated, which has these bytes.
+fn not_migrated(
+    alloc: Global,
+    path: &str,
+    tree: &Tree,
+    me: &TreeEntry,
+    bytes: &[u8],
+    error: MigrateError,
+) -> End {
     match error {
-        MigrateError::Memory | MigrateError::Device => failed(told),
-        MigrateError::Damaged(_) => refused(told),
+        MigrateError::Memory => no_memory(alloc, path),
+        MigrateError::Device => failed(format!(in alloc; "{path}: {error}")),
+        MigrateError::Damaged(place) => not_own(alloc, path, tree, me, bytes, place),
     }
 }
 
-/// Migrates the log of a process in a file.
+/// These bytes of a process's log, migrated in memory. None: nothing changes.
+fn migrated(
+    alloc: Global,
+    path: &str,
+    tree: &Tree,
+    me: &TreeEntry,
+    bytes: &[u8],
+) -> Result<Option<Vec<u8>>, End> {
+    let Ok(copy) = Vec::from_slice(alloc, bytes) else {
+        return Err(no_memory(alloc, path));
+    };
+    match RecLog::migrate(MemoryStore::from_bytes(copy), me.id, me.kind, alloc) {
+        Ok(store) if store.bytes() == bytes => Ok(None),
+        Ok(store) => match Vec::from_slice(alloc, store.bytes()) {
+            Ok(new) => Ok(Some(new)),
+            Err(_) => Err(no_memory(alloc, path)),
+        },
+        Err((error, _)) => Err(not_migrated(alloc, path, tree, me, bytes, error)),
+    }
+}
+
+/// Migrates the log of a process in a file. It is written only if that changes it.
 fn migrate(rt: &HostRuntime, words: FileWords<'_>) -> Result<(), End> {
     let alloc = rt.alloc();
     let tree = tree_in(rt, words.tree)?;
     let entry = entry_of(alloc, &tree, words.me)?;
-    let store = store_in(rt, words.log, false)?;
-    match RecLog::migrate(store, entry.id, entry.kind, alloc) {
+    let seen = log_in(rt, words.log, false)?;
+    let Some(new) = migrated(alloc, words.log, &tree, entry, seen.bytes())? else {
+        return Ok(());
+    };
+    match seen.settle_as(new) {
         Ok(_store) => Ok(()),
-        Err((error, _store)) => Err(not_migrated(alloc, words.log, error)),
+        Err(error) => Err(not_opened(alloc, words.log, error)),
     }
 }
 

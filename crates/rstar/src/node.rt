@@ -1,9 +1,12 @@
 //! `rstar node`: one process of a tree as a program of its own, over a log in a file.
 
 use crate::explainer::Explainer;
-use crate::files::{End, entry_of, failed, refused, status_of, store_in, tree_in};
-use file_store::{FileStore, HostFile};
-use node_engine::{Serving, StartError, run_node, start};
+use crate::files::{
+    End, device_failed, entry_of, failed, judged, log_in, no_memory, refused, settled, status_of,
+    tree_in,
+};
+use file_store::{FileStore, HostFile, Trouble};
+use node_engine::{NodeFailure, Serving, StartError, run_node, start};
 use std::alloc::{AllocError, Global};
 use std::io::{self, BufReader};
 use tree_model::Reaction;
@@ -23,42 +26,68 @@ pub struct NodeWords<'a> {
 /// A node over a log in a file.
 type FileNode = Serving<FileStore<HostFile>>;
 
-/// Why a node did not start over the log at this path.
-fn not_started(alloc: Global, path: &str, error: StartError) -> End {
-    let told = format!(in alloc; "{path}: {error}");
+/// Why a node did not start over the log at this path, which was judged.
+fn not_started(alloc: Global, path: &str, error: StartError, trouble: &Trouble) -> End {
     match error {
-        StartError::Reopen(ReopenError::Memory | ReopenError::Device) => failed(told),
+        StartError::Reopen(ReopenError::Memory) => no_memory(alloc, path),
+        StartError::Reopen(ReopenError::Device) => device_failed(alloc, path, trouble),
         StartError::Stranger
         | StartError::Reopen(
             ReopenError::Damaged(_) | ReopenError::Unfit | ReopenError::OldFormat,
-        ) => refused(told),
+        ) => refused(format!(in alloc; "{path}: {error}")),
     }
 }
 
-/// The node of these words, and what it did as it opened.
-fn started(rt: &HostRuntime, words: NodeWords<'_>) -> Result<(FileNode, Reaction), End> {
+/// A node that started.
+#[derive(Drop)]
+struct OpenNode {
+    node: FileNode,
+    /// What it did as it opened.
+    opening: Reaction,
+    /// The reason of whatever fails under its log.
+    trouble: Trouble,
+}
+
+/// The node of these words. Its file is written only once it is known that the process goes on over the log.
+fn started(rt: &HostRuntime, words: NodeWords<'_>) -> Result<OpenNode, End> {
     let alloc = rt.alloc();
     let tree = tree_in(rt, words.tree)?;
     let entry = entry_of(alloc, &tree, words.me)?;
-    let store = store_in(rt, words.log, words.is_new)?;
+    let seen = log_in(rt, words.log, words.is_new)?;
+    judged(alloc, words.log, &tree, entry, seen.bytes())?;
+    let (store, trouble) = settled(alloc, words.log, seen)?;
     match start(alloc, &tree, entry, store) {
-        Ok(node) => Ok(node),
-        Err(error) => Err(not_started(alloc, words.log, error)),
+        Ok((node, opening)) => Ok(OpenNode {
+            node,
+            opening,
+            trouble,
+        }),
+        Err(error) => Err(not_started(alloc, words.log, error, &trouble)),
     }
 }
 
-/// Answers the input.
+/// Why a node over the log at this path ended before its input did.
+fn not_ended(alloc: Global, path: &str, failure: NodeFailure, trouble: &Trouble) -> End {
+    match failure {
+        NodeFailure::Device => device_failed(alloc, path, trouble),
+        _ => failed(format!(in alloc; "{failure}")),
+    }
+}
+
+/// Answers the input, and gives the store of the node, all of it forced.
 fn answer_input(
     rt: &HostRuntime,
-    is_explained: bool,
-    node: &mut FileNode,
+    words: NodeWords<'_>,
+    node: FileNode,
     opening: &Reaction,
-) -> Result<(), End> {
+    trouble: &Trouble,
+) -> Result<FileStore<HostFile>, End> {
     let alloc = rt.alloc();
     let Ok(mut reader) = BufReader::new(alloc, rt.reader()) else {
+        let_go(node);
         return Err(failed(Err(AllocError)));
     };
-    let mut witness = Explainer::new(rt, is_explained);
+    let mut witness = Explainer::new(rt, words.is_explained);
     match run_node(
         alloc,
         node,
@@ -67,20 +96,36 @@ fn answer_input(
         &mut io::writer(rt),
         &mut witness,
     ) {
-        Ok(()) => Ok(()),
-        Err(failure) => Err(failed(format!(in alloc; "{failure}"))),
+        Ok(store) => Ok(store),
+        Err(failure) => Err(not_ended(alloc, words.log, failure, trouble)),
     }
 }
 
 /// Lets a node go. One function does it: what letting go of one means is proved once, and not at each way out.
 fn let_go(_node: FileNode) {}
 
+/// Closes the file of a node that ended in order.
+fn close(
+    rt: &HostRuntime,
+    path: &str,
+    mut store: FileStore<HostFile>,
+    trouble: &Trouble,
+) -> Result<(), End> {
+    match store.close() {
+        Ok(()) => Ok(()),
+        Err(_) => Err(device_failed(rt.alloc(), path, trouble)),
+    }
+}
+
 /// Starts the node and answers its input.
 fn serve(rt: &HostRuntime, words: NodeWords<'_>) -> Result<(), End> {
-    let (mut node, opening) = started(rt, words)?;
-    let ended = answer_input(rt, words.is_explained, &mut node, &opening);
-    let_go(node);
-    ended
+    let OpenNode {
+        node,
+        opening,
+        trouble,
+    } = started(rt, words)?;
+    let store = answer_input(rt, words, node, &opening, &trouble)?;
+    close(rt, words.log, store, &trouble)
 }
 
 /// Runs a node, and answers the exit status. Why it did not start, or ended before its input did, stands on

@@ -2,7 +2,7 @@
 
 ghost use Rattle.std.specs.Prelude.{◌<◌, ◌≤◌};
 
-use crate::{explaining, flag};
+use crate::{explaining, flag, source};
 use clap::{Arg, ArgMatches, Command, value_parser};
 use cluster_engine::{Output, run_cluster};
 use report_io::{Failure, Status};
@@ -59,7 +59,8 @@ pub(crate) fn words<'a>(alloc: Global) -> Result<Command<'a>, AllocError> {
         alloc,
         "trace",
         "Writes the journal as a trace, in place of what was told",
-    ))
+    ))?
+    .arg(source::word(alloc))
 }
 
 /// What these words ask for. The number of workers has a default, and its range was checked.

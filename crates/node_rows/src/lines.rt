@@ -1,0 +1,216 @@
+//! Nodes over stores in memory, line by line.
+
+use log_store::{LogStore, MemoryStore};
+use node_engine::{Nobody, run_node, start};
+use std::alloc::Global;
+use tree_model::{ProcessId, Tree};
+
+/// Lines of a coordinator below the root, of which each that comes from one who may not say so is refused.
+const SPEAKERS: &str = "\
+1 4->2 JOIN a1.1
+1 1->2 JOIN a1.1
+join a1.1@2.1.1 3
+1 4->2 JOINED a1.1@2.1.1 4.1.1
+1 3->2 JOINED a1.1@2.1.1 4.1.1
+1 3->2 JOINED a1.1@2.1.1 3.1.1
+1 3->2 ABORT a1.1@2.1.1
+1 9->2 COMMIT a1.1@2.1.1
+1 1->2 COMMIT a1.1
+1 1->2 PREPARE a1.1@3.1.1 0
+1 1->2 YES a1.1@3.1.1
+1 3->1 YES a1.1@3.1.1
+outcome a1.1
+doubt
+status
+end
+doubt
+";
+
+const SPEAKERS_SAID: &str = "\
+log 2 Opened 1 forced
+ok
+refused 9
+1 2->1 JOINED a1.1 2.1.1
+ok
+2 2->3 JOIN a1.1@2.1.1
+ok
+refused 9
+refused 9
+ok
+refused 9
+refused 9
+refused 9
+refused 9
+refused 9
+refused 9
+refused 9
+ok
+status boot 1 records 1 unforced 0 bytes 23 in-doubt 0 decided 0
+ok
+ok
+";
+
+/// Lines of a root, whose last record is not forced by its line.
+const ENDS: &str = "\
+begin pa
+join a1.1 4
+1 4->1 JOINED a1.1 4.1.1
+commit a1.1
+2 4->1 YES a1.1@4.1.1
+outcome a1.1
+3 4->1 ACK a1.1@4.1.1 commit
+";
+
+const ENDS_SAID: &str = "\
+log 1 Opened 1 forced
+ok
+begin a1.1
+ok
+1 1->4 JOIN a1.1
+ok
+ok
+2 1->4 PREPARE a1.1@4.1.1 0
+ok
+log 1 Commit a1.1 forced
+told a1.1 committed
+3 1->4 COMMIT a1.1@4.1.1
+ok
+outcome a1.1 committed
+ok
+log 1 End a1.1 plain
+ok
+";
+
+/// What the next node says over what a crash leaves of that log: nobody is told again.
+const NEXT: &str = "\
+end
+";
+
+const NEXT_SAID: &str = "\
+log 1 Opened 2 forced
+ok
+ok
+";
+
+/// Lines of a manager that an operator decides before it is told.
+const DECIDED: &str = "\
+1 1->4 JOIN a1.1
+2 1->4 JOIN a1.2
+3 1->4 WORK a1.1@4.1.1 1 put x 1
+4 1->4 WORK a1.2@4.1.2 1 put y 2
+5 1->4 PREPARE a1.1@4.1.1 1
+6 1->4 PREPARE a1.2@4.1.2 1
+doubt
+heur a1.1@4.1.1 commit
+doubt
+heur a1.1@4.1.1 rollback
+7 1->4 COMMIT a1.1@4.1.1
+doubt
+";
+
+const DECIDED_SAID: &str = "\
+log 4 Opened 1 forced
+ok
+1 4->1 JOINED a1.1 4.1.1
+ok
+2 4->1 JOINED a1.2 4.1.2
+ok
+ok
+ok
+log 4 Prepared a1.1@4.1.1 forced
+3 4->1 YES a1.1@4.1.1
+ok
+log 4 Prepared a1.2@4.1.2 forced
+4 4->1 YES a1.2@4.1.2
+ok
+doubt a1.1@4.1.1
+doubt a1.2@4.1.2
+ok
+log 4 HeurCommit a1.1@4.1.1 forced
+ok
+doubt a1.2@4.1.2
+decided a1.1@4.1.1 commit
+ok
+refused 7
+log 4 Told a1.1@4.1.1 forced
+5 4->1 ACK a1.1@4.1.1 commit
+ok
+doubt a1.2@4.1.2
+ok
+";
+
+/// Lets a store go.
+fn let_go(_store: MemoryStore) {}
+
+/// The store of a node that ended in order, of which a crash takes what it can, where it wrote just this.
+fn served(
+    alloc: Global,
+    tree: &Tree,
+    process: ProcessId,
+    store: MemoryStore,
+    lines: &str,
+    said: &str,
+) -> Option<MemoryStore> {
+    let entry = tree.entry(process)?;
+    let Ok((node, opening)) = start(alloc, tree, entry, store) else {
+        return None;
+    };
+    let mut out = Vec::new(alloc);
+    let ended = run_node(
+        alloc,
+        node,
+        &opening,
+        &mut lines.as_bytes(),
+        &mut out,
+        &mut Nobody,
+    );
+    let mut left = ended.ok()?;
+    left.crash(0);
+    if out.as_slice() == said.as_bytes() {
+        Some(left)
+    } else {
+        let_go(left);
+        None
+    }
+}
+
+/// Whether a new node writes just this.
+fn says(alloc: Global, tree: &Tree, process: ProcessId, lines: &str, said: &str) -> bool {
+    let store = MemoryStore::from_bytes(Vec::new(alloc));
+    match served(alloc, tree, process, store, lines, said) {
+        None => false,
+        Some(left) => {
+            let_go(left);
+            true
+        }
+    }
+}
+
+/// Whether a node that ends in order leaves all that it wrote.
+fn ends(alloc: Global, tree: &Tree) -> bool {
+    let store = MemoryStore::from_bytes(Vec::new(alloc));
+    let Some(left) = served(alloc, tree, ProcessId(1), store, ENDS, ENDS_SAID) else {
+        return false;
+    };
+    match served(alloc, tree, ProcessId(1), left, NEXT, NEXT_SAID) {
+        None => false,
+        Some(left) => {
+            let_go(left);
+            true
+        }
+    }
+}
+
+/// Says what does not hold of lines of nodes, or that all does.
+pub fn run(alloc: Global, tree: &Tree) -> &'static str {
+    if !says(alloc, tree, ProcessId(2), SPEAKERS, SPEAKERS_SAID) {
+        return "one is heard that may not speak";
+    }
+    if !says(alloc, tree, ProcessId(4), DECIDED, DECIDED_SAID) {
+        return "what was decided is told otherwise";
+    }
+    if !ends(alloc, tree) {
+        return "an end in order does not force";
+    }
+    "as they must"
+}
