@@ -3,6 +3,7 @@ pub mod Traces
 pub mod Fits
 pub mod Sending
 pub mod Going
+pub mod Replaying
 pub mod TreeReports
 pub mod OneScript
 pub mod OneText

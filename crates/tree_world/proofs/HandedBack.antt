@@ -16,7 +16,8 @@ use Rattle.tree_node.specs.declared.opening.OpenError.{OpenError}
 use Rattle.tree_node.specs.declared.opening.OpenError.TheVariants.{Memory}
 use Rattle.tree_world.specs.Openings.{AreHandedBack, HoldsFirst}
 
-kind_of : (k : Kind) (parent : Option ProcessId) → kind_of_role (role_by k parent) ≡ kind_by k parent
+-- the role of an entry's process is of its kind
+pub kind_of : (k : Kind) (parent : Option ProcessId) → kind_of_role (role_by k parent) ≡ kind_by k parent
 kind_of Coordinator None = refl
 kind_of Coordinator (Some p) = refl
 kind_of Manager None = refl

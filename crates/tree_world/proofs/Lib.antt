@@ -15,3 +15,7 @@ pub mod Steps
 pub mod StorePlaces
 pub mod Strangers
 pub mod Reopenings
+pub mod ReadyLogs
+pub mod FromReady
+pub mod FromRestarted
+pub mod ReopenedTrees

@@ -6,3 +6,4 @@ pub mod Unforced
 pub mod Worlds
 pub mod OwnNames
 pub mod Reopenings
+pub mod Readied

@@ -1,7 +1,9 @@
 -- Which records may stand in the log of a process of a tree, and where a log has one that may not.
-use Rattle.std.specs.Prelude.{◌≡◌, ◌⊎◌, ◌^◌, ◌&&◌, ◌||◌, ℕ, zero, suc, Bool, true, false, nat_lt, if◌then◌else◌, Option, Some, None, List, [], ◌∷◌, length, take, drop}
+use Rattle.std.specs.Prelude.{◌^◌, ◌&&◌, ◌||◌, ℕ, zero, suc, Bool, true, false, nat_lt, Option, Some, None, List, [], ◌∷◌, length, take}
 use Rattle.std.specs.List.{list_all}
 use Rattle.tree_model.specs.declared.names.Case.{Case}
+use Rattle.tree_model.specs.declared.names.Kind.{Kind}
+use Rattle.tree_model.specs.declared.names.Kind.TheVariants.{Coordinator, Manager}
 use Rattle.tree_model.specs.declared.names.ProcessId.{ProcessId}
 use Rattle.tree_model.specs.declared.names.Ticket.{Ticket}
 use Rattle.tree_model.specs.declared.records.LogRecord.{LogRecord}
@@ -11,12 +13,13 @@ use Rattle.tree_model.specs.declared.records.Reports.{Reports}
 use Rattle.tree_model.specs.declared.trees.TreeEntry.{TreeEntry}
 use Rattle.tree_model.specs.LogNames.{is_own, same_parent}
 use Rattle.tree_model.specs.Names.{same_process}
-use Rattle.tree_model.specs.Records.{record_case}
+use Rattle.tree_model.specs.Records.{boot_after, record_case}
 use Rattle.tree_model.specs.Trees.{parent_of}
+use Rattle.inquire_core.specs.Numbered.{is_reached}
 use Rattle.inquire_core.specs.Readings.{place_below}
-use Rattle.log_rules.specs.order.Logs.{Damaged, Whole, read_as}
+use Rattle.log_rules.specs.order.Logs.{Damaged, LogReading, Whole, read_as}
 use Rattle.log_text.specs.Forms.{form_in}
-use Rattle.logs_script.specs.Places.{Placed, placed_in, placed_records}
+use Rattle.logs_script.specs.Places.{Placed, placed_records}
 
 -- the parent is the process, or the climb goes on from it
 abbrev pub meets_by : (ProcessId → Bool) → ProcessId → Option ProcessId → Bool
@@ -62,32 +65,52 @@ has_own_names tree me (Abort c ts) = list_all (is_of_child tree me) ts
 has_own_names tree me (End c (Some r)) = reports_those_below tree me r
 has_own_names tree me _ = true
 
--- the record may stand in the log of the process of this entry
-abbrev pub is_at_home : List TreeEntry → TreeEntry → LogRecord → Bool
-is_at_home tree e l = is_own_case tree e l.parent (record_case l.entry) && has_own_names tree e.id l.entry
+-- a manager writes of no case that was numbered in a boot which its log had not reached by then; a coordinator is
+-- restarted also over a record of such a case
+abbrev pub is_reached_by : Kind → ℕ → Record → Bool
+is_reached_by Manager boot r = is_reached boot (record_case r)
+is_reached_by Coordinator boot r = true
+
+-- the record may stand in the log of the process of this entry, if the log has reached this boot
+abbrev pub is_at_home : List TreeEntry → TreeEntry → ℕ → LogRecord → Bool
+is_at_home tree e boot l =
+    is_own_case tree e l.parent (record_case l.entry)
+    && (has_own_names tree e.id l.entry && is_reached_by e.kind boot l.entry)
 
 -- the place of the first record that may not stand there, if one may not
 abbrev pub stranger_or : Bool → ℕ → Option ℕ → Option ℕ
 stranger_or true place more = more
 stranger_or false place more = Some place
 
-unfoldable pub first_stranger : (LogRecord → Bool) → List Placed → Option ℕ
-first_stranger home [] = None
-first_stranger home (x ∷ xs) = stranger_or (home x.read) x.place (first_stranger home xs)
+-- the same of these records, if the log has reached this boot before them
+unfoldable pub first_stranger : (ℕ → LogRecord → Bool) → ℕ → List Placed → Option ℕ
+first_stranger home boot [] = None
+first_stranger home boot (x ∷ xs) =
+    stranger_or (home boot x.read) x.place (first_stranger home (boot_after boot x.read.entry) xs)
 
--- the bytes are a sound log of the process of this entry
-pub record SoundLog (e : TreeEntry) (bytes : List ℕ) : Type 0 where
-  pub records : List LogRecord
-  pub torn : ℕ
-  pub read : read_as e.id e.kind bytes ≡ Whole records torn
+-- the place where a log is damaged, if it is
+abbrev pub damage_in : LogReading → Option ℕ
+damage_in (Whole ls torn) = None
+damage_in (Damaged place) = Some place
 
--- The first frame that is wrong: the log is damaged there, and no record before it may not stand in it; or it is sound
--- or damaged behind that place, and the record there is the first that may not. Where none is wrong it is sound, and
--- each record may stand in it.
-abbrev pub FaultsIn : List TreeEntry → TreeEntry → List ℕ → Option ℕ → Type 0
-FaultsIn tree e bytes None =
-    SoundLog e bytes × (first_stranger (is_at_home tree e) (placed_records (form_in bytes e.id e.kind) bytes) ≡ None)
-FaultsIn tree e bytes (Some place) =
-    (read_as e.id e.kind bytes ≡ Damaged place)
-    ⊎ ((front : ℕ) × (first_stranger (is_at_home tree e)
-    (placed_in (form_in bytes e.id e.kind) 5 0 (take front (drop 5 bytes))) ≡ Some place))
+-- the bytes before the damage; all of them if there is none
+abbrev pub sound_to : Option ℕ → List ℕ → List ℕ
+sound_to None bytes = bytes
+sound_to (Some place) bytes = take place bytes
+
+-- the first of two places, if it is there
+abbrev pub place_or : Option ℕ → Option ℕ → Option ℕ
+place_or (Some place) more = Some place
+place_or None more = more
+
+-- the first of the records, before the damage if there is one, that may not stand in the log of the process of
+-- this entry
+abbrev pub stranger_of : List TreeEntry → TreeEntry → List ℕ → Option ℕ
+stranger_of tree e bytes =
+    first_stranger (is_at_home tree e) 0
+    (placed_records (form_in bytes e.id e.kind) (sound_to (damage_in (read_as e.id e.kind bytes)) bytes))
+
+-- The place of the first frame, in the order of the bytes, that is wrong in the log of the process of this entry, 0 for
+-- the header: a record that may not stand there, or damage. None if the log is sound and each record may stand.
+abbrev pub fault_of : List TreeEntry → TreeEntry → List ℕ → Option ℕ
+fault_of tree e bytes = place_or (stranger_of tree e bytes) (damage_in (read_as e.id e.kind bytes))

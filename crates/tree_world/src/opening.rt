@@ -145,6 +145,7 @@ impl<L: LogStore + Drop> World<L> {
         requires { IsTree tree }
         ensures opened { IfOk result (λ world. IsOpened (state world) tree) }
         ensures headline { IfOk result (λ world. KeepsHeadline (state world)) }
+        ensures flag { IfOk result (λ world. world.reopened ≡ false) }
         ensures err { IfErr result (λ e. NotOpened L.bytes L.failures tree stores.items e.0) }
         ensures handed_back { IfErr result (λ e. AreHandedBack L.bytes L.forced L.failures tree
             stores.items e.1.items e.0) }
@@ -177,6 +178,7 @@ impl World<MemoryStore> {
         requires { IsTree tree }
         ensures opened { IfOk result (λ world. IsOpened (state world) tree) }
         ensures headline { IfOk result (λ world. KeepsHeadline (state world)) }
+        ensures flag { IfOk result (λ world. world.reopened ≡ false) }
         ensures err { IfErr result (λ e. e ≡ OpenError.Memory) }
     {
         let stores = memory_stores(alloc, tree.entries().len())?;
