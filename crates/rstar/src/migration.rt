@@ -92,6 +92,22 @@ fn not_migrated(
     }
 }
 
+/// The bytes in a store; None, if they are these.
+fn changed(
+    alloc: Global,
+    path: &str,
+    store: &MemoryStore,
+    bytes: &[u8],
+) -> Result<Option<Vec<u8>>, End> {
+    if store.bytes() == bytes {
+        return Ok(None);
+    }
+    match Vec::from_slice(alloc, store.bytes()) {
+        Ok(new) => Ok(Some(new)),
+        Err(_) => Err(no_memory(alloc, path)),
+    }
+}
+
 /// These bytes of a process's log, migrated in memory. None: nothing changes.
 fn migrated(
     alloc: Global,
@@ -104,12 +120,8 @@ fn migrated(
         return Err(no_memory(alloc, path));
     };
     match RecLog::migrate(MemoryStore::from_bytes(copy), me.id, me.kind, alloc) {
-        Ok(store) if store.bytes() == bytes => Ok(None),
-        Ok(store) => match Vec::from_slice(alloc, store.bytes()) {
-            Ok(new) => Ok(Some(new)),
-            Err(_) => Err(no_memory(alloc, path)),
-        },
-        Err((error, _)) => Err(not_migrated(alloc, path, tree, me, bytes, error)),
+        Ok(store) => changed(alloc, path, &store, bytes),
+        Err((error, _store)) => Err(not_migrated(alloc, path, tree, me, bytes, error)),
     }
 }
 
