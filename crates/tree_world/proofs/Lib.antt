@@ -13,5 +13,3 @@ pub mod Running
 pub mod Settling
 pub mod Steps
 pub mod StorePlaces
-pub mod Strangers
-pub mod Reopenings

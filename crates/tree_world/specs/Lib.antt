@@ -4,5 +4,3 @@ pub mod Openings
 pub mod Restarts
 pub mod Unforced
 pub mod Worlds
-pub mod OwnNames
-pub mod Reopenings

@@ -29,7 +29,7 @@ use tree_node::{Node, OpenError, copied_tree, open_node};
 use world_journal::Journal;
 
 /// A value more, by its process's name, where there is room.
-pub(crate) fn put_by_name<V: Drop>(values: &mut IndexMap<ProcessId, V>, name: ProcessId, value: V)
+fn put_by_name<V: Drop>(values: &mut IndexMap<ProcessId, V>, name: ProcessId, value: V)
     requires { 0 < spare values.old }
     ensures own { lookup (processes.ghosts.eq name) values.new.entries ≡ Some value }
     ensures others { (q : AnyProcess) → same_process name q ≡ false
@@ -41,7 +41,7 @@ pub(crate) fn put_by_name<V: Drop>(values: &mut IndexMap<ProcessId, V>, name: Pr
 }
 
 /// Puts a store back where it was taken from.
-pub(crate) fn put_back<L>(stores: &mut Vec<L>, store: L)
+fn put_back<L>(stores: &mut Vec<L>, store: L)
     requires { vec_len stores.old < vec_capacity stores.old }
     ensures items { stores.new.items ≡ stores.old.items ++ store ∷ [] }
     ensures room { vec_capacity stores.old ≤ vec_capacity stores.new }
@@ -166,7 +166,6 @@ impl<L: LogStore + Drop> World<L> {
                 nodes: Nodes { nodes },
                 journal: Journal::new(alloc),
             },
-            reopened: false,
         })
     }
 }
