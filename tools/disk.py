@@ -1,6 +1,6 @@
 """What a cut of power or a failed call leaves of a node's file: for tools/live disk.
 
-A session of a node is recorded by strace: each call that opens, writes, syncs, truncates, renames or removes. A cut behind
+A session of a node is recorded by strace: each call that opens, writes, syncs, truncates, renames or removes. A cut after
 any of these calls leaves: of each file what was synced, and of the writes since then any sectors, each old, new or torn; of
 the names what was synced with their folder, and of the renames since then any first ones. Over what is left a node is
 started, and its log must begin with what was written when an answer last called records forced.
@@ -125,7 +125,7 @@ class Disk:
 
     def call(self, name, words, result, watched):
         """Makes a call. What was written when an answer calls records forced is what a later start has to find, or what a
-        replace behind it put there."""
+        replace after it put there."""
         self.changes = False
         if result < 0:
             return
@@ -237,7 +237,7 @@ def places_in(lives, disk, watched):
 
 
 def cuts(command_of, room, folder, starts, seed, log_in, count=10):
-    """Starts nodes over what cuts leave, so many of each session's."""
+    """Starts nodes over what cuts leave, N of each session's."""
     chance, begun, tried, torn = random.Random(seed), 0, 0, 0
     for number in (1, 4):
         watched = f"{number}.log"
@@ -262,12 +262,12 @@ def cuts(command_of, room, folder, starts, seed, log_in, count=10):
                         continue
                     if done.returncode != 0:
                         keep(files, folder)
-                        raise Wrong(f"node {number}, behind {name}({words[:60]}): status {done.returncode}, "
+                        raise Wrong(f"node {number}, after {name}({words[:60]}): status {done.returncode}, "
                                     f"{done.stderr.decode()!r}; {folder}")
                     found = log_in((folder / watched).read_bytes())
                     if not any(found.startswith(safe) for safe in disk.kept):
                         keep(files, folder)
-                        raise Wrong(f"node {number}, behind {name}({words[:60]}): what was safe is not there; {folder}")
+                        raise Wrong(f"node {number}, after {name}({words[:60]}): what was safe is not there; {folder}")
     print(f"{tried} starts over what cuts of power left, {torn} of them with unsynced writes; each found what was safe")
     return tried
 
