@@ -44,7 +44,7 @@ fn damages(rt: &HostRuntime, place: usize) -> bool {
         && matches!(open(rt, rt.alloc(), LOG), Err(OpenError::Damaged))
 }
 
-/// Whether the log, cut off after so many bytes, opens as damaged: its first block is not whole then.
+/// Whether the log, cut off after N bytes, opens as damaged: its first block is not whole then.
 fn cut_damages(rt: &HostRuntime, size: usize) -> bool {
     let Ok(mut text) = fs::read(rt, LOG) else {
         return false;

@@ -16,7 +16,7 @@ pub enum OpenError {
     /// Another process has it open.
     #[error("the log is in use")]
     Busy,
-    /// There is none, and none was to be made: a log that was lost must not be begun anew.
+    /// There is none, and none was to be made: a log that was lost must not be begun again.
     #[error("there is no log")]
     Missing,
     /// There is one, and a new one was to be made.

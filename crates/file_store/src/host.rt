@@ -13,7 +13,7 @@ use std::{fs, io};
 /// How often a call that a signal interrupts is made again.
 const TRIES: u32 = 1_000;
 
-/// At most so many bytes are put together, so that one call writes them.
+/// At most this number of bytes are put together, so that one call writes them.
 const TOGETHER: usize = 4_096;
 
 /// An open log file: its name and its folder, the name under which a new one is written, and the file that has the
@@ -101,7 +101,7 @@ fn clear(rt: &HostRuntime, path: &str) -> io::Result<()> {
     }
 }
 
-/// What a position is after so many bytes and so many more.
+/// What a position is after N bytes and then M.
 fn after(place: u64, head: &[u8], more: &[u8]) -> Option<u64> {
     place
         .checked_add(head.len() as u64)?

@@ -1,4 +1,4 @@
-//! Opening the file of a log: it is looked at, and written anew only once it is known that its process goes on over it.
+//! Opening the file of a log: it is looked at, and written again only once it is known that its process goes on over it.
 
 ghost use Rattle.std.specs.Prelude.{◌≡◌, IfOk, [], length};
 ghost use Rattle.file_store.specs.Seen.{seen_bytes};
@@ -86,7 +86,7 @@ impl SeenLog {
         &self.file
     }
 
-    /// A store over the file, in which these bytes stand in place of those that were found. They are written anew
+    /// A store over the file, in which these bytes stand in place of those that were found. They are written again
     /// first, under the name: what an earlier process could not sync reads as if it were there. Err: they were not.
     pub fn settle_as(self, bytes: Vec<u8>) -> Result<FileStore<HostFile>, OpenError>
         ensures text { IfOk result (λ store. file_bytes store ≡ bytes.items) }
@@ -153,7 +153,7 @@ pub fn look_new(rt: &HostRuntime, alloc: Global, path: &str) -> Result<SeenLog, 
     })
 }
 
-/// Opens the log with this name, as `look` does, and writes what it read anew, before that counts as forced.
+/// Opens the log with this name, as `look` does, and writes what it read again, before that counts as forced.
 pub fn open(rt: &HostRuntime, alloc: Global, path: &str) -> Result<FileStore<HostFile>, OpenError>
     ensures forced { IfOk result (λ store. file_forced store ≡ length (file_bytes store)) }
     ensures works { IfOk result (λ store. file_failures store ≡ 0) }

@@ -38,7 +38,7 @@ fn end_of(place: u64, size: usize) -> Option<u64>
     place.checked_add(HEAD as u64)?.checked_add(size as u64)
 }
 
-/// The number of the file after this one, and where its second block begins after a first one of so many bytes.
+/// The number of the file after this one, and where its second block begins after a first one of N bytes.
 fn placed(number: u64, size: usize) -> Option<(u64, u64)>
     ensures { IfSome result (λ at. (at.0 ≡ number + 1) × (at.1 ≡ 48 + (72 + size))) }
 {

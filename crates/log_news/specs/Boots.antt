@@ -3,7 +3,7 @@ use Rattle.std.specs.Prelude.{ℕ, List, fold}
 use Rattle.tree_model.specs.declared.records.LogRecord.{LogRecord}
 use Rattle.tree_model.specs.Records.{boot_after}
 
--- the boot behind a record of the log
+-- the boot after a record of the log
 abbrev pub boot_behind : ℕ → LogRecord → ℕ
 boot_behind b l = boot_after b l.entry
 

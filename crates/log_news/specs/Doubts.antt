@@ -23,7 +23,7 @@ doubts_by cs c (Decided o) = others_in c cs
 doubts_by cs c (Ended o) = others_in c cs
 doubts_by cs c Over = others_in c cs
 
--- the cases in doubt behind what any record says
+-- the cases in doubt after what any record says
 abbrev pub doubts_behind : List Case → Saying → List Case
 doubts_behind cs None = cs
 doubts_behind cs (Some s) = doubts_by cs s.0 s.1
@@ -42,7 +42,7 @@ doubts_in ls = fold doubts_after [] ls
 abbrev pub other_decisions : Case → List Decision → List Decision
 other_decisions c ds = filter (λ d. not (same_case c d.case)) ds
 
--- the decisions that wait behind a record of this case that says so
+-- the decisions that wait after a record of this case that says so
 abbrev pub decisions_by : List Decision → Case → Stage → List Decision
 decisions_by ds c Open = ds
 decisions_by ds c Doubt = other_decisions c ds
@@ -50,12 +50,12 @@ decisions_by ds c (Decided o) = other_decisions c ds ++ record { case = c; outco
 decisions_by ds c (Ended o) = other_decisions c ds
 decisions_by ds c Over = other_decisions c ds
 
--- the decisions that wait behind what any record says
+-- the decisions that wait after what any record says
 abbrev pub decisions_behind : List Decision → Saying → List Decision
 decisions_behind ds None = ds
 decisions_behind ds (Some s) = decisions_by ds s.0 s.1
 
--- the decisions that wait behind a record of the log
+-- the decisions that wait after a record of the log
 abbrev pub decisions_after : List Decision → LogRecord → List Decision
 decisions_after ds l = decisions_behind ds (saying_of l.entry)
 

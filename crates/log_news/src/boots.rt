@@ -5,7 +5,7 @@ ghost use Rattle.log_news.specs.Boots.{boot_behind, boot_in};
 
 use tree_model::{LogRecord, Record};
 
-/// The boot behind a record of the log.
+/// The boot after a record of the log.
 fn behind(boot: u64, kept: &LogRecord) -> u64
     ensures { result ≡ boot_behind boot kept.now }
 {

@@ -75,7 +75,7 @@ fn forget(decisions: &mut Vec<Decision>, case: Case)
     );
 }
 
-/// The decisions that wait behind a record of the log.
+/// The decisions that wait after a record of the log.
 fn note_decision(decisions: &mut Vec<Decision>, kept: &LogRecord) -> Result<(), AllocError>
     ensures { OnOk result (decisions.new.items ≡ decisions_after decisions.old.items kept.now) }
 {

@@ -211,7 +211,7 @@ TellsOutcome false x old new text = Tells old new text (refused_text (step_error
 abbrev pub doubt_text : NodeState → List ℕ
 doubt_text s = doubts_text (doubts_in (records_at s)) ++ decisions_text (decisions_in (records_at s)) ++ ok_text
 
--- how the log stands that has so many bytes
+-- how the log stands that has N bytes
 abbrev pub status_by : NodeState → ℕ → Status
 status_by s bytes = record {
   boot = boot_in (records_at s);

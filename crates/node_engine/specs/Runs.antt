@@ -112,7 +112,7 @@ abbrev pub EndsBy : Ended → Stand → Reaction → Stand → Type 0
 EndsBy Input start opening now = Served start opening now × ReadsAll start.left now.left
 EndsBy Asked start opening now = AsksEnd start opening now
 
--- how a node stands behind a line, if there was one and it did not ask it to end
+-- how a node stands after a line, if there was one and it did not ask it to end
 abbrev pub LeadsTo : Option Ended → Stand → Reaction → Stand → Type 0
 LeadsTo None start opening now = Served start opening now
 LeadsTo (Some by) start opening now = EndsBy by start opening now

@@ -226,7 +226,7 @@ fn write_end<W: Write, N: Witness>(
     }
 }
 
-/// A node whose input ended: all that stands in its log is forced, and behind that `ok` is written, where a line
+/// A node whose input ended: all that stands in its log is forced, and after that `ok` is written, where a line
 /// asked it to end.
 fn finish<W: Write, L: LogStore + Drop, N: Witness>(
     serving: Serving<L>,
@@ -252,9 +252,9 @@ fn finish<W: Write, L: LogStore + Drop, N: Witness>(
 
 /// Writes what a process did as it opened, and answers each line of the input: by the lines of a trace and
 /// `ok`, by `refused` and a number, or by `error` where it is the line of nothing. Each answer is written
-/// before the next line is read, and behind the records that it rests on, which are forced where the process
-/// forces them. Behind each answer the witness sees it with its line. At the end of the input, and at a line `end`,
-/// all that stands in the log is forced; `end` is answered then, and nothing is read behind it. Ok: so it ended,
+/// before the next line is read, and after the records that it rests on, which are forced where the process
+/// forces them. After each answer the witness sees it with its line. At the end of the input, and at a line `end`,
+/// all that stands in the log is forced; `end` is answered then, and nothing is read after it. Ok: so it ended,
 /// and this is its store.
 pub fn run_node<R: BufRead, W: Write, L: LogStore + Drop, N: Witness>(
     alloc: Global,

@@ -13,7 +13,7 @@ use Rattle.logs_script.specs.declared.line.ProcessLog.{ProcessLog}
 use Rattle.logs_script.specs.Lines.{log_at}
 use Rattle.logs_script.specs.Logs.{each_has_log}
 
--- the word `log`, alone or with something behind it
+-- the word `log`, alone or with something after it
 abbrev pub log_word : List ℕ → Option (List ℕ × List ℕ) → Bool
 log_word line None = same line (codes "log")
 log_word line (Some p) = same p.0 (codes "log")
@@ -34,11 +34,11 @@ leading lines = prefix_len is_ahead lines
 abbrev pub ahead_in : List (List ℕ) → List (List ℕ)
 ahead_in lines = take (leading lines) lines
 
--- the lines behind them
+-- the lines after them
 abbrev pub behind_in : List (List ℕ) → List (List ℕ)
 behind_in lines = drop (leading lines) lines
 
--- what is read behind a line: the line's number, where it is the line of no log
+-- what is read after a line: the line's number, where it is the line of no log
 abbrev pub line_then : List ProcessLog → ℕ → Option ProcessLog
     → (List ProcessLog → Result (List ProcessLog) ℕ) → Result (List ProcessLog) ℕ
 line_then ls n None more = Err n
@@ -62,7 +62,7 @@ unfoldable pub last_said : ℕ → ℕ → List (List ℕ) → ℕ
 last_said last n [] = last
 last_said last n (line ∷ lines) = last_said (if is_skipped line then last else n + 1) (n + 1) lines
 
--- the line at which it is told that the logs ahead are not those of all processes: the first behind them, or, if
+-- the line at which it is told that the logs ahead are not those of all processes: the first after them, or, if
 -- none is, the last of them that is not skipped
 abbrev pub set_line : ℕ → List (List ℕ) → List (List ℕ) → ℕ
 set_line before ahead [] = last_said before before ahead

@@ -12,7 +12,7 @@ use Rattle.link_script.specs.Inputs.{IsFront, IsFrontFault, LinesState, asked_by
 use Rattle.logs_script.specs.declared.line.ProcessLog.{ProcessLog}
 use Rattle.reopen_script.specs.Ahead.{behind_in, leading, logs_ahead}
 
--- the lines behind the logs, where so many lines stand before the first of all these
+-- the lines after the logs, where N lines stand before the first of all these
 abbrev pub lines_behind : List TreeEntry → ℕ → List (List ℕ) → LinesState
 lines_behind tree before lines = record {
   root = root_of tree;
@@ -20,13 +20,13 @@ lines_behind tree before lines = record {
   lines = behind_in lines;
 }
 
--- bytes that begin with this tree and, behind the line of three dashes, which has this number, with these lines, of
--- which no more than 100,000 behind the logs ask for an event
+-- bytes that begin with this tree and, after the line of three dashes, which has this number, with these lines, of
+-- which no more than 100,000 after the logs ask for an event
 pub record HasLines (bytes : List ℕ) (tree : List TreeEntry) (rule : ℕ) (lines : List (List ℕ)) : Type 0 where
   pub front : IsFront bytes tree rule lines
   pub few : asked_in (behind_in lines) ≤ 100000
 
--- bytes that are a script of this tree and these logs, or of none, as far as the lines behind them, which are these
+-- bytes that are a script of this tree and these logs, or of none, as far as the lines after them, which are these
 pub record IsOpenReopen (bytes : List ℕ) (tree : List TreeEntry) (logs : Option (List ProcessLog))
     (s : LinesState) : Type 0 where
   pub rule : ℕ

@@ -10,12 +10,12 @@ use script_words::count_asked;
 use std::alloc::Global;
 use tree_model::{Event, Tree};
 
-/// The tree of a script, the logs of its processes where its events begin with such lines, and the lines behind
+/// The tree of a script, the logs of its processes where its events begin with such lines, and the lines after
 /// them, which are read one after another. Empty lines and lines that begin with `#` are skipped. The faults are
 /// Utf8, TreeText, Tree, TooLong and Line, each judged over the whole input before the next; the lines ahead of
 /// the events do not count for TooLong. Line is that of the first line whose first word is `log`, before any
 /// event, and which is the line of no log; where each is one and they are not those of all processes, each once,
-/// that of the first line behind them, or of the last of them, if none is.
+/// that of the first line after them, or of the last of them, if none is.
 pub fn open_reopen<'a>(
     alloc: Global,
     bytes: &'a [u8],
@@ -43,7 +43,7 @@ pub fn open_reopen<'a>(
 }
 
 /// The tree, the logs and the events of such a script, all of its lines read. The faults are those of
-/// `open_reopen`, and Line of the first line behind the logs that is the line of no event.
+/// `open_reopen`, and Line of the first line after the logs that is the line of no event.
 pub fn read_reopen(
     alloc: Global,
     bytes: &[u8],

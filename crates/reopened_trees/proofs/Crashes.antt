@@ -1,4 +1,4 @@
--- Behind any run every process of a tree can go down by a crash, which leaves of each log what a restart would find.
+-- After any run every process of a tree can go down by a crash, which leaves of each log what a restart would find.
 use Rattle.std.proofs.Common.{◌≡◌, ◌∙◌, ◌||◌, ap, sym, subst, refl, ℕ, zero, suc, Bool, true, false, inl, inr, Some, List, [], ◌∷◌, ◌++◌, take, drop}
 use Rattle.std.proofs.Math.Seq.{take-nil}
 use Rattle.std.proofs.lemmas.List.{append-nil}

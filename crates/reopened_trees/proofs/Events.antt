@@ -20,7 +20,7 @@ use Rattle.reopened_trees.specs.Since.{FollowsSince, GoesOnSince}
 use Rattle.reopened_trees.proofs.Faults.{input_fails_since, restart_fails_since, trim_fails_since}
 use Rattle.reopened_trees.proofs.Steps.{input_since, restart_since, same_since, trim_since, waits_since}
 
--- Later moves behind later moves.
+-- Later moves after later moves.
 
 continues_on : (tree : List TreeEntry) (w0 w1 : World) (first : List Made) → Continues tree w0 first w1
     → (second : List Made) (w2 : World) → Continues tree w1 second w2 → Continues tree w0 (second ++ first) w2

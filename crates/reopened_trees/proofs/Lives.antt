@@ -78,7 +78,7 @@ module _ (past : Earlier) (q : ProcessId) (g : CoreState → CoreState) (es : Li
     listed = λ p. changed_is_some (same_process q p) (s.node_at p) g ∙ f.listed p;
   }
 
--- the state of a tree with one process over a device of which so many failures were counted
+-- the state of a tree with one process over a device of which N failures were counted
 pub counts_since : (past : Earlier) (q : ProcessId) (n : ℕ) (es : List Made) (w : World) (s : WorldState)
     → FollowsSince past es w s → FollowsSince past es w (counted_at q n s)
 counts_since past q n es w s f = changes_alike past q (λ c. counted c n) es w s

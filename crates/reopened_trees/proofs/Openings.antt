@@ -145,7 +145,7 @@ module _ (tree : List TreeEntry) (is_tree : IsTree tree) (logs : ProcessId → L
     node_by : Bool → ProcessId → Option CoreState
     node_by b q = if b then s.node_at q else down_at (is_listed tree q) q
 
-    -- so many processes, the first ones, have restarted
+    -- N processes, the first ones, have restarted
     half : List TreeEntry → WorldState
     half done = record {
       tree = tree;

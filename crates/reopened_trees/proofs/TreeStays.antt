@@ -1,4 +1,4 @@
--- The processes of a tree are the same behind each event, made or not.
+-- The processes of a tree are the same after each event, made or not.
 use Rattle.std.proofs.Common.{◌≡◌, ◌∙◌, ap, ℕ, zero, suc, Option, Some, None, List, [], ◌∷◌, take}
 use Rattle.tree_model.specs.declared.names.ProcessId.{ProcessId}
 use Rattle.tree_model.specs.declared.messages.Envelope.{Envelope}

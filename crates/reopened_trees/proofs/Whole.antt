@@ -36,7 +36,7 @@ stands_behind before sent q (Handles i) s = input_behind before sent q i s
 stands_behind before sent q (Restart k) s = tt
 stands_behind before sent q Trim s = tt
 
--- The net has those of the earlier run, and behind them those that were sent since.
+-- The net has those of the earlier run, and after them those that were sent since.
 
 pub net_since : (tree : List TreeEntry) (o : Earlier) (es : List Made) (sent : List Envelope) (w : World)
     → IsSince tree o es sent w → w.net ≡ o.world.net ++ sent

@@ -23,7 +23,7 @@ abbrev pub ReopenedTreesGoOn : Type 0
 ReopenedTreesGoOn = (tree : List TreeEntry) (logs : ProcessId → List LogRecord) (s : WorldState) (es : List Made) (w : World)
     → IsTree tree → IsReopened tree logs s → IsRun tree es w → AreLeft tree w logs → GoesOnReopened es w s
 
--- each log has what a crash leaves of its process that keeps so many bytes behind the forced front
+-- each log has what a crash leaves of its process that keeps N bytes after the forced front
 abbrev pub AreCut : WorldState → (ProcessId → ℕ) → (ProcessId → List LogRecord) → Type 0
 AreCut s keep logs = (q : ProcessId) (c : CoreState) → s.node_at q ≡ Some c → logs q ≡ left_by c.log (keep q)
 

@@ -38,7 +38,7 @@ pub record IsReopened (tree : List TreeEntry) (logs : ProcessId → List LogReco
   pub delivered : s.delivered ≡ undelivered s.net
   pub entries : s.entries ≡ map (λ e. step_entry e.id (Restart 0) (opening e.id)) tree
 
--- The logs are what a crash of every process leaves behind a run that came to this world: of each the forced records,
+-- The logs are what a crash of every process leaves after a run that came to this world: of each the forced records,
 -- and a front of the others.
 pub record AreLeft (tree : List TreeEntry) (w : World) (logs : ProcessId → List LogRecord) : Type 0 where
   pub keep : ProcessId → ℕ

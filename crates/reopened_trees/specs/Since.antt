@@ -9,7 +9,7 @@ use Rattle.core_law.specs.worlds.Worlds.{WorldState}
 use Rattle.core_law.specs.worlds.Ties.{StandsAt, entered_of}
 use Rattle.reopened_trees.specs.Earlier.{Earlier, IsEarlier, IsSince, SinceReported}
 
--- The state stands for the earlier run and these moves behind it, in which devices may have failed: its messages are
+-- The state stands for the earlier run and these moves after it, in which devices may have failed: its messages are
 -- those that were sent since, its journal has the moves made since but for those in which a device failed, and each
 -- process stands for the model's.
 pub record FollowsSince (o : Earlier) (es : List Made) (w : World) (s : WorldState) : Type 0 where

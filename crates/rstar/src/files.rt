@@ -130,7 +130,7 @@ pub(crate) fn log_in(rt: &HostRuntime, path: &str, is_new: bool) -> Result<SeenL
     }
 }
 
-/// The store over a log that was judged, which is written anew, and the reason of whatever fails under it.
+/// The store over a log that was judged, which is written again, and the reason of whatever fails under it.
 pub(crate) fn settled(
     alloc: Global,
     path: &str,
