@@ -3,7 +3,5 @@ pub mod Heard
 pub mod Made
 pub mod Opened
 pub mod Restarted
-pub mod Numbers
-pub mod Reached
 pub mod Kept
 pub mod Begun

@@ -1,5 +1,5 @@
 -- What each turn makes of a coordinator.
-use Rattle.std.proofs.Common.{◌≡◌, ◌≤◌, ◌+◌, ◌∷◌, [], ℕ, true, false, Option, None, Some, List, map, if◌then◌else◌, Result, Ok, Err, IfOk, IfErr, refl, subst, sym, ap, ◌∙◌, arith}
+use Rattle.std.proofs.Common.{◌≡◌, ◌+◌, ◌∷◌, [], true, false, Option, None, Some, List, map, if◌then◌else◌, Result, Ok, Err, IfOk, IfErr, refl, subst, sym, ap, ◌∙◌}
 use Rattle.std.proofs.lemmas.List.{append-nil}
 use Rattle.tree_model.specs.declared.names.Case.{Case}
 use Rattle.tree_model.specs.declared.names.Kind.TheVariants.{Coordinator}
@@ -7,7 +7,6 @@ use Rattle.tree_model.specs.declared.names.Presumption.{Presumption}
 use Rattle.tree_model.specs.declared.names.Presumption.TheVariants.{PresumeAbort, PresumeCommit}
 use Rattle.tree_model.specs.declared.names.ProcessId.{ProcessId}
 use Rattle.tree_model.specs.declared.names.Ticket.{Ticket}
-use Rattle.tree_model.specs.declared.names.Txn.{Txn}
 use Rattle.tree_model.specs.declared.messages.Envelope.{Envelope}
 use Rattle.tree_model.specs.declared.events.Input.{Input}
 use Rattle.tree_model.specs.declared.events.Reaction.{Reaction}
@@ -24,16 +23,13 @@ use Rattle.tree_model.specs.CoordinatorRows.{Row, Seat as SeatRow, post, unknown
 use Rattle.tree_model.specs.Reactions.{row_effect, sends_only}
 use Rattle.tree_model.specs.Views.{begin_effect}
 use Rattle.tree_model.specs.SameViews.{SameView, open_view}
-use Rattle.tree_model.proofs.NameTests.{case_tells}
-use Rattle.live_table.specs.Tables.{AreApart, case_of, entry_at, live_value}
-use Rattle.live_table.proofs.Writes.{live_found}
+use Rattle.live_table.specs.Tables.{AreApart, live_value}
 use Rattle.rec_log.specs.Sights.{Breaks, LogSight, LogState}
 use Rattle.core_model.specs.States.{CoreState, SameCore, kind_of_role, logged, wrote}
 use Rattle.core_model.specs.Turns.{Says as SaysTurn, Takes as TakesTurn, clear_turn, kept_records, reacted, seat_in, no_answer, this_version}
 use Rattle.core_model.specs.Bounds.{FitsBounds}
 use Rattle.core_model.specs.Makes.{BreaksIn, Makes, NotMade, OpensCase, Unbounded, retired_by}
 use Rattle.core_model.proofs.Alike.{same_view}
-use Rattle.coord_table.specs.declared.held.Held.{Held}
 use Rattle.coord_table.specs.Cases.{Begins, FitsGiven, Gives, Slots, held_view, ticket_in, view_in}
 use Rattle.coord_effects.specs.declared.seat.Seat.{Seat}
 use Rattle.coord_effects.specs.declared.effect.Framed.{Framed}
@@ -42,11 +38,11 @@ use Rattle.coord_effects.specs.Rows.{AreFramed, Does, NotWritten, reaction_by, s
 use Rattle.coord_table.specs.declared.asked.Asked.{Asked}
 use Rattle.coord_table.specs.declared.asked.Asked.TheVariants.{Join, Work, Commit, AbortActive, AbortCollecting, Ask, Joined, Vote, Ack, Inquire, Prepare, Commits, Aborts}
 use Rattle.coord_table.specs.Asks.{asked_row, is_for_any, is_retiring}
-use Rattle.coord_table.specs.Takes.{AddsNone, NotTaken, SameCases, TakesRowOf, retired_if}
+use Rattle.coord_table.specs.Takes.{NotTaken, SameCases, TakesRowOf, retired_if}
 use Rattle.coord_table.proofs.Given.{gone_keeps}
 use Rattle.coord_core.specs.declared.turn.Turn.{Turn}
 use Rattle.coord_core.specs.declared.turn.Turn.TheVariants.{Refuses, Begins as BeginsOne, Issues as IssuesOne, Clears}
-use Rattle.coord_core.specs.States.{CoordinatorValue, IsCoordinator, own_ticket, own_txn, role_below, state}
+use Rattle.coord_core.specs.States.{CoordinatorValue, own_ticket, own_txn, role_below, state}
 use Rattle.coord_core.specs.Meets.{Meets, RetiresAs, RetiresNone, meant, met}
 use Rattle.coord_core.specs.Turned.{Stopped, Turned, WritesDown, framed_of}
 
@@ -244,38 +240,6 @@ retired_as i asked c d (Some t) as' = ap (λ b. if b then None else Some t) (sym
 
 same_of : (v w : CoordinatorView) → v ≡ w → SameView v w
 same_of v w same = subst (λ u. SameView v u) same (same_view v)
-
-live_here : (slots : Slots) (c : Case) (h : Held) → live_value slots c ≡ Some h → (k : ℕ)
-    × (case_of (entry_at slots k) ≡ Some c)
-live_here slots c h e =
-    let there = live_found slots c h e in
-    (there.0, ap case_of there.2 ∙ ap (λ d. Some d) ((case_tells there.1 c).0 there.3))
-
--- no case is live of the transaction that is begun next
-pub fresh_txn : (v : CoordinatorValue) (p : Presumption) → IsCoordinator v
-    → live_value v.slots (root_case (own_txn v p (v.begun + 1))) ≡ None
-fresh_txn v p kept = by_value (live_value v.slots (root_case (own_txn v p (v.begun + 1)))) refl
-  where
-    by_value : (value : Option Held) → live_value v.slots
-        (root_case (own_txn v p (v.begun + 1))) ≡ value → value ≡ None
-    by_value None e = refl
-    by_value (Some h) e =
-        let there = live_here v.slots (root_case (own_txn v p (v.begun + 1))) h e in
-        let clash : v.begun + 1 ≤ v.begun = kept.begun there.0 p (v.begun + 1) there.1 in
-        absurd (omega (arith, clash))
-
--- no case is live of the ticket that is given next
-pub fresh_ticket : (v : CoordinatorValue) (x : Txn) → IsCoordinator v
-    → live_value v.slots (child_case x (own_ticket v (v.given + 1))) ≡ None
-fresh_ticket v x kept = by_value (live_value v.slots (child_case x (own_ticket v (v.given + 1)))) refl
-  where
-    by_value : (value : Option Held) → live_value v.slots
-        (child_case x (own_ticket v (v.given + 1))) ≡ value → value ≡ None
-    by_value None e = refl
-    by_value (Some h) e =
-        let there = live_here v.slots (child_case x (own_ticket v (v.given + 1))) h e in
-        let clash : v.given + 1 ≤ v.given = kept.given there.0 x (v.given + 1) there.1 in
-        absurd (omega (arith, clash))
 
 -- Begin and JOIN.
 
@@ -587,16 +551,6 @@ clear_untaken v new c Exhausted same reported h = (
   },
 )
 clear_untaken v new c e same reported h = absurd (h (view_in v.slots c))
-
--- where no case was added, a case under a key was there before
-pub case_before : (old new : Slots) (k : ℕ) (c : Case) → AddsNone old new
-    → case_of (entry_at new k) ≡ Some c → case_of (entry_at old k) ≡ Some c
-case_before old new k c adds is = by_entry (entry_at new k) refl is
-  where
-    by_entry : (e : Option (Case × Held)) → entry_at new k ≡ e → case_of e ≡ Some c
-        → case_of (entry_at old k) ≡ Some c
-    by_entry None at has = absurd (cc)
-    by_entry (Some p) at has = adds k p at ∙ has
 
 -- A case that is not live.
 

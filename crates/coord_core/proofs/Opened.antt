@@ -21,7 +21,7 @@ use Rattle.core_model.specs.Opening.{IsOpened, first_opened}
 use Rattle.coord_core.proofs.Restarted.{coordinator_kind}
 use Rattle.coord_core.specs.States.{NotOpened, WritesOpened, role_below, state}
 
-none_given : (d : Case) → ticket_in [] d ≡ None
+pub none_given : (d : Case) → ticket_in [] d ≡ None
 unfolding ticket_in
 none_given d = refl
 

@@ -1,17 +1,14 @@
 -- A coordinator that restarted, or was trimmed, or was not.
-use Rattle.std.proofs.Common.{◌≡◌, ◌≤◌, ◌<◌, ◌++◌, [], ℕ, true, false, Option, None, Some, List, map, length, refl, subst, sym, take, ap, ◌∙◌, arith, ◌⊎◌}
+use Rattle.std.proofs.Common.{◌≡◌, ◌++◌, [], ℕ, true, false, Option, None, Some, List, map, length, refl, subst, sym, take, ap, ◌∙◌, ◌⊎◌}
 use Rattle.std.specs.List.{AllByRecursion}
 use Rattle.tree_model.specs.declared.names.Case.{Case}
 use Rattle.tree_model.specs.declared.names.Kind.TheVariants.{Coordinator}
 use Rattle.tree_model.specs.declared.names.ProcessId.{ProcessId}
 use Rattle.tree_model.specs.declared.records.LogRecord.{LogRecord}
 use Rattle.tree_model.specs.declared.records.Record.{Record}
-use Rattle.tree_model.specs.Names.{child_case, root_case}
-use Rattle.tree_model.specs.Records.{boot_of}
 use Rattle.tree_model.specs.Restarts.{data_records}
 use Rattle.tree_model.specs.Standings.{CoordinatorView, unknown_branch}
 use Rattle.tree_model.specs.SameViews.{SameView}
-use Rattle.live_table.specs.Tables.{case_of, entry_at}
 use Rattle.log_text.specs.Made.{frame_record}
 use Rattle.log_rules.specs.sound.Sound.{IsSound}
 use Rattle.log_rules.specs.trim.Trims.{front_of_trim}
@@ -22,19 +19,16 @@ use Rattle.rec_log.specs.declared.log.LogError.TheVariants as log_error
 use Rattle.log_text.specs.Forms.{log_form}
 use Rattle.core_model.specs.States.{SameButLog, SameCore, kind_of_role, logged}
 use Rattle.core_model.specs.Restarting.{NotRestarted, NotTrimmed, Restarts, Trims, read_of, recorded_branch_at, recorded_view_at, restarted_log, trimmed_log}
-use Rattle.core_model.specs.Turns.{kept_records}
 use Rattle.core_model.proofs.Alike.{same_view}
-use Rattle.coord_table.specs.declared.held.Held.{Held}
 use Rattle.coord_table.specs.Cases.{is_for}
-use Rattle.inquire_core.specs.Numbered.{are_numbered, numbered_in}
 use Rattle.inquire_core.specs.Readings.{role_below}
-use Rattle.coord_table.specs.Restores.{IsNumbered, IsRestored, NotRebuilt, Rebuilds, appended_to}
+use Rattle.coord_table.specs.Restores.{NotRebuilt, Rebuilds, appended_to}
 use Rattle.coord_table.specs.declared.rebuilding.Rebuilt.{Rebuilt}
 use Rattle.coord_core.proofs.Made.{never_decided}
 use Rattle.tree_model.specs.declared.events.StepError.{StepError}
 use Rattle.tree_model.specs.declared.events.StepError.TheVariants as steps
 use Rattle.coord_core.specs.Reopened.{NotReopened, error_of_restart}
-use Rattle.coord_core.specs.States.{CoordinatorValue, IsCoordinator, error_of, own_ticket, own_txn, place_of, state}
+use Rattle.coord_core.specs.States.{CoordinatorValue, IsCoordinator, error_of, own_ticket, place_of, state}
 
 -- but for its log nothing is otherwise
 pub same_but_log : (v : CoordinatorValue) (log : LogState)
@@ -140,39 +134,19 @@ not_rebuilt v keep ls steps.Exhausted left h = (
 )
 not_rebuilt v keep ls e left h = absurd h
 
-never : (boot n : ℕ) → boot < boot → n ≤ 0
-never boot n below = absurd (omega arith)
-
--- a live case was numbered in an earlier boot
-numbered_before : (boot : ℕ) (slot : Option (Case × Held)) (c : Case)
-    → ((p : Case × Held) → slot ≡ Some p → IsRestored boot p) → case_of slot ≡ Some c → IsNumbered boot c
-numbered_before boot None c restored at = absurd (cc)
-numbered_before boot (Some p) c restored at =
-    let one : p.0 ≡ c = cc in
-    subst (IsNumbered boot) one (restored p refl).numbered
-
--- the cases that were rebuilt have numbers of earlier boots, and no ticket is active
+-- among the cases that were rebuilt no ticket is active
 pub is_coordinator : (v : CoordinatorValue) (ls : List LogRecord) (r : Rebuilt) (log : LogState)
     → Rebuilds (place_of v) ls r → log.sight.form ≡ log_form v.me Coordinator
-    → are_numbered 0 (kept_records (state (rebuilt_as v log r))) ≡ true
-    → r.boot ≤ boot_of (kept_records (state (rebuilt_as v log r)))
     → IsCoordinator (rebuilt_as v log r)
-is_coordinator v ls r log rebuilds form logged opened =
+is_coordinator v ls r log rebuilds form =
     record {
       form = form;
       active = λ k d p at is.
-          let no : false ≡ true = sym (ap (is_for d) (rebuilds.entries k p at).ungiven) ∙ is in
+          let no : false ≡ true = sym (ap (is_for d) (rebuilds.entries k p at)) ∙ is in
           absurd (cc);
-      begun = λ k p n at. never r.boot n (numbered_before r.boot (entry_at r.cases k)
-          (root_case (own_txn (rebuilt_as v log r) p n)) (rebuilds.entries k) at);
-      given = λ k x n at. never r.boot n (numbered_before r.boot (entry_at r.cases k)
-          (child_case x (own_ticket (rebuilt_as v log r) n)) (rebuilds.entries k) at);
-      numbered = λ k c at.
-          let before : numbered_in c < r.boot =
-          numbered_before r.boot (entry_at r.cases k) c (rebuilds.entries k) at in
-          omega (arith, before);
-      logged = logged;
-      opened = λ works. opened;
+      given = λ d n is.
+          let clash : None ≡ Some (own_ticket (rebuilt_as v log r) n) = sym (rebuilds.tickets d) ∙ is in
+          absurd (cc);
     }
 
 -- over a log that an earlier one left

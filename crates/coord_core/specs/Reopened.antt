@@ -1,5 +1,5 @@
 -- Why no coordinator goes on over a log that an earlier one left.
-use Rattle.std.specs.Prelude.{◌≡◌, ℕ, false, map}
+use Rattle.std.specs.Prelude.{◌≡◌, ℕ}
 use Rattle.tree_model.specs.declared.events.StepError.{StepError}
 use Rattle.tree_model.specs.declared.events.StepError.TheVariants as steps
 use Rattle.tree_model.specs.Nodes.{Place}
@@ -7,8 +7,7 @@ use Rattle.rec_log.specs.Sights.{LogSight, left_by, records_of}
 use Rattle.core_model.specs.States.{CoreState}
 use Rattle.core_model.specs.Restarting.{CannotReopen, NotRestarted}
 use Rattle.coord_core.specs.declared.restarting.ReopenError.{ReopenError}
-use Rattle.coord_core.specs.declared.restarting.ReopenError.TheVariants.{Memory, Device, Unfit, Exhausted}
-use Rattle.inquire_core.specs.Numbered.{are_numbered}
+use Rattle.coord_core.specs.declared.restarting.ReopenError.TheVariants.{Memory, Device, Exhausted}
 
 -- the device failed as a process that sat here over this log restarted, where all its records were kept; and that
 -- left the other log
@@ -31,20 +30,18 @@ pub record CannotReopenOver (place : Place) (log : LogSight) : Type 0 where
   pub left : left_by log keep ≡ records_of log.kept
   pub beyond : CannotReopen before keep
 
--- why no coordinator that sits here goes on over this log, and what log is handed back: it is as it was, but where
--- the device failed; a log is unfit where a record is of a case of a boot that the log had not reached
+-- why no coordinator that sits here goes on over this log, and what log is handed back: it is as it was, unless the
+-- device failed
 abbrev pub NotReopened : Place → LogSight → LogSight → ReopenError → Type 0
 NotReopened place old new Memory = new ≡ old
 NotReopened place old new Device = BreaksOver place old new
-NotReopened place old new Unfit = (new ≡ old) × (are_numbered 0 (map (λ l. l.entry) (records_of old.kept)) ≡ false)
 NotReopened place old new Exhausted = (new ≡ old) × CannotReopenOver place old
 
 -- the number of an error
 abbrev pub reopen_number : ReopenError → ℕ
 reopen_number Memory = 1
 reopen_number Device = 2
-reopen_number Unfit = 3
-reopen_number Exhausted = 4
+reopen_number Exhausted = 3
 
 -- the error of a process that goes on over a log, for that of its restart
 abbrev pub error_of_restart : StepError → ReopenError

@@ -11,20 +11,15 @@ use Rattle.tree_model.specs.declared.records.Record.TheVariants.{Opened}
 use Rattle.tree_model.specs.declared.events.StepError.{StepError}
 use Rattle.tree_model.specs.declared.events.StepError.TheVariants.{Memory, Device}
 use Rattle.tree_model.specs.declared.trees.TreeEntry.{TreeEntry}
-use Rattle.tree_model.specs.Names.{child_case, root_case}
 use Rattle.tree_model.specs.Nodes.{Place}
-use Rattle.tree_model.specs.Records.{boot_of}
 use Rattle.tree_model.specs.Standings.{unknown_branch}
-use Rattle.live_table.specs.Tables.{case_of, entry_at}
 use Rattle.rec_log.specs.declared.log.LogError.{LogError}
 use Rattle.rec_log.specs.declared.log.LogError.TheVariants as log_error
 use Rattle.rec_log.specs.Sights.{Breaks, LogState}
 use Rattle.core_model.specs.States.{CoreState, wrote}
 use Rattle.core_model.specs.Opening.{first_opened}
-use Rattle.core_model.specs.Turns.{kept_records}
 use Rattle.coord_table.specs.Cases.{Slots, ticket_in, view_in}
 use Rattle.coord_table.specs.Takes.{GivenAreActive}
-use Rattle.inquire_core.specs.Numbered.{are_numbered, numbered_in}
 use Rattle.inquire_core.specs.Readings.{place_below}
 use Rattle.log_text.specs.Forms.{log_form}
 
@@ -68,20 +63,12 @@ own_txn v p n = record { root = v.me; boot = v.boot; sequence = n; presumption =
 abbrev pub own_ticket : CoordinatorValue → ℕ → Ticket
 own_ticket v n = record { child = v.me; boot = v.boot; number = n }
 
--- what a coordinator keeps: its log is its own; a case whose ticket is active takes children and
--- work; no case is live of a transaction or a ticket that it did not number yet, or of a later boot; each case
--- of its log was numbered in a boot that the log had reached by then, and while its device has not failed the log
--- has reached its boot
+-- what a coordinator keeps: its log is its own; a case whose ticket is active takes children and work; and no ticket
+-- is active that it did not give yet
 pub record IsCoordinator (v : CoordinatorValue) : Type 0 where
   pub form : v.log.sight.form ≡ log_form v.me Coordinator
   pub active : GivenAreActive v.slots
-  pub begun : (k : ℕ) (p : Presumption) (n : ℕ)
-      → case_of (entry_at v.slots k) ≡ Some (root_case (own_txn v p n)) → n ≤ v.begun
-  pub given : (k : ℕ) (x : Txn) (n : ℕ) → case_of (entry_at v.slots k) ≡ Some (child_case x (own_ticket v n))
-      → n ≤ v.given
-  pub numbered : (k : ℕ) (c : Case) → case_of (entry_at v.slots k) ≡ Some c → numbered_in c ≤ v.boot
-  pub logged : are_numbered 0 (kept_records (state v)) ≡ true
-  pub opened : v.log.sight.failed ≡ false → v.boot ≤ boot_of (kept_records (state v))
+  pub given : (d : Case) (n : ℕ) → ticket_in v.slots d ≡ Some (own_ticket v n) → n ≤ v.given
 
 -- the error of a step for that of a log
 abbrev pub error_of : LogError → StepError

@@ -12,7 +12,6 @@ ghost use Rattle.log_rules.specs.sound.Sound.{IsSound};
 ghost use Rattle.rec_log.specs.Sights.{ReadsAs, left_by, records_of, whole_within};
 ghost use Rattle.core_model.specs.States.{HasNumbers};
 ghost use Rattle.core_model.specs.Turns.{kept_records};
-ghost use Rattle.inquire_core.specs.Numbered.{are_numbered};
 ghost use Rattle.coord_core.specs.States.{state};
 ghost use Rattle.coord_core.specs.Meets.{FindsAt, FindsLive};
 
@@ -147,14 +146,6 @@ impl<L: LogStore> Coordinator<L> {
         ensures { AllByRecursion (IsSound kind.Coordinator) (records_of (state self.now).log.kept) }
     {
         self.log.records_are_sound();
-    }
-
-    /// Each case of its log was numbered in a boot that the log had reached by then, at each moment: also while
-    /// its device has failed, and of whatever a crash leaves of it.
-    pub fn cases_are_numbered(&self)
-        ensures { are_numbered 0 (kept_records (state self.now)) ≡ true }
-    {
-        let _ = &self.alloc;
     }
 
     /// The records of its log, as a list made anew.

@@ -63,7 +63,7 @@ impl<L: LogStore> Coordinator<L> {
             sequence: self.begun + 1,
             presumption,
         };
-        self.cases.begin(self.alloc, Case { txn, ticket: None })?;
+        self.cases.begin(self.alloc, txn)?;
         self.begun += 1;
         Ok(began(self.alloc, txn))
     }

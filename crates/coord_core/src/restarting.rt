@@ -1,21 +1,19 @@
 //! A coordinator's restart, and its trim.
 
 ghost use Rattle.log_text.specs.Forms.{log_form};
-ghost use Rattle.std.specs.Prelude.{◌≡◌, ℕ, IfErr, IfOk, map};
+ghost use Rattle.std.specs.Prelude.{◌≡◌, ℕ, IfErr, IfOk};
 ghost use Rattle.tree_model.specs.declared.names.Kind.TheVariants as kind;
 ghost use Rattle.rec_log.specs.Sights.{left_by, log_state, records_of};
 ghost use Rattle.core_model.specs.States.{CoreState};
 ghost use Rattle.core_model.specs.Restarting.{LeftSo, NotRestarted, NotTrimmed, Restarts, Trims};
-ghost use Rattle.inquire_core.specs.Numbered.{are_numbered};
 ghost use Rattle.coord_core.specs.Reopened.{NotReopened, error_of_restart, reopen_number};
 ghost use Rattle.coord_core.specs.States.{error_of, role_below, state};
 
 use crate::coordinator::Coordinator;
 use coord_table::{Cases, rebuild};
-use inquire_core::are_numbered;
 use log_store::LogStore;
 use rec_log::{LogError, RecLog};
-use std::alloc::{AllocError, Global};
+use std::alloc::Global;
 use thiserror::Error;
 use tree_model::{ProcessId, Reaction, StepError, Tree};
 
@@ -38,9 +36,6 @@ pub enum ReopenError {
     /// The device failed.
     #[error("the device failed")]
     Device,
-    /// A record is of a case of a boot that the log had not reached.
-    #[error("a record is of a case of a boot that the log had not reached")]
-    Unfit,
     /// No log holds what a restart would append: the boots are used up, or an Abort would name more than 255
     /// tickets.
     #[error("numbers are used up")]
@@ -48,15 +43,14 @@ pub enum ReopenError {
 }
 
 impl ReopenError {
-    /// Its number, 1 to 4.
+    /// Its number, 1 to 3.
     pub fn number(self) -> u8
         ensures { result ≡ reopen_number self }
     {
         match self {
             ReopenError::Memory => 1,
             ReopenError::Device => 2,
-            ReopenError::Unfit => 3,
-            ReopenError::Exhausted => 4,
+            ReopenError::Exhausted => 3,
         }
     }
 }
@@ -72,19 +66,10 @@ fn reopen_error(error: StepError) -> ReopenError
     }
 }
 
-/// Whether each case of the log was numbered in a boot that the log had reached by then.
-fn is_fit<L: LogStore>(alloc: Global, log: &RecLog<L>) -> Result<bool, AllocError>
-    ensures { IfOk result (λ fit. fit
-        ≡ are_numbered 0 (map (λ l. l.entry) (records_of log.now.sight.kept))) }
-{
-    let records = log.records(alloc)?;
-    Ok(are_numbered(&records))
-}
-
 impl<L: LogStore> Coordinator<L> {
-    /// Restarts behind a crash that keeps so many of the log's unforced bytes: what is left of the log is
+    /// Restarts after a crash that keeps so many of the log's unforced bytes: what is left of the log is
     /// read, Opened with the next boot is appended, and an Abort record of each case that collected votes
-    /// behind a record, all of it forced by one write. Decisions go out again, and cases in doubt ask. All
+    /// after a record, all of it forced by one write. Decisions go out again, and cases in doubt ask. All
     /// memory is taken before the crash, and the records are gone through once. Memory: nothing changed.
     /// Exhausted: no log holds what it would append, since 2^63 - 1 boots are used up, or an Abort would name
     /// more than 255 tickets; nothing changed. Device: the crash took place and the device failed under it; the coordinator has failed until it is
@@ -124,9 +109,9 @@ impl<L: LogStore> Coordinator<L> {
 
 impl<L: LogStore + Drop> Coordinator<L> {
     /// The coordinator `me` of this tree below this parent, as it restarts over the log that an earlier one
-    /// left: the records that stand in it are what a crash left. A refusal hands the log back. Memory,
-    /// Exhausted, Device: as of `restart`. Unfit: a record of the log is of a case of a boot that the log had not reached, which
-    /// no coordinator writes; the log is as it was.
+    /// left: the records that stand in it are what a crash left. A case of a boot that the log had not reached,
+    /// which no coordinator writes, restarts as the others do. A refusal hands the log back. Memory,
+    /// Exhausted, Device: as of `restart`.
     pub fn reopen(
         alloc: Global,
         me: ProcessId,
@@ -142,11 +127,6 @@ impl<L: LogStore + Drop> Coordinator<L> {
         ensures err { IfErr result (λ e. NotReopened
             (record { me = me; role = role_below parent; tree = tree }) log.sight e.1.sight e.0) }
     {
-        match is_fit(alloc, &log) {
-            Ok(true) => {}
-            Ok(false) => return Err((ReopenError::Unfit, log)),
-            Err(_) => return Err((ReopenError::Memory, log)),
-        }
         let mut coordinator = Coordinator {
             alloc,
             me,

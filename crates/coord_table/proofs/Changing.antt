@@ -3,14 +3,15 @@ use Rattle.std.proofs.Common.{◌≡◌, ℕ, Bool, true, false, Option, None, S
 use Rattle.std.proofs.lemmas.Bool.{cases_eq}
 use Rattle.tree_model.specs.declared.names.Case.{Case}
 use Rattle.tree_model.specs.declared.names.Ticket.{Ticket}
-use Rattle.tree_model.specs.Names.{child_case, same_case, same_txn}
+use Rattle.tree_model.specs.declared.names.Txn.{Txn}
+use Rattle.tree_model.specs.Names.{child_case, root_case, same_case, same_txn}
 use Rattle.tree_model.specs.Standings.{CoordinatorView}
 use Rattle.tree_model.specs.SameViews.{open_view}
 use Rattle.tree_model.proofs.NameTests.{case_tells, txn_tells}
-use Rattle.live_table.specs.Tables.{AreApart, Inserts, Moves as MovesValue, Removes, Updates, entry_at}
-use Rattle.live_table.proofs.Writes.{Moves-changed, Updates-set, live_at, same_case-itself}
+use Rattle.live_table.specs.Tables.{AreApart, Inserts, Moves as MovesValue, Removes, Updates, entry_at, live_value}
+use Rattle.live_table.proofs.Writes.{Moves-changed, Updates-set, live_at, live_found, same_case-itself}
 use Rattle.coord_table.specs.declared.held.Held.{Held}
-use Rattle.coord_table.specs.Cases.{Begins, Ends, FitsGiven, Gives, Moves, Relives, Restores, Retires, Slots, entry_ticket, held_view, is_for, is_given, ticket_in, view_in}
+use Rattle.coord_table.specs.Cases.{Begins, Ends, FitsGiven, Gives, IsFresh, IsUngiven, Moves, Puts, Relives, Restores, Retires, Slots, WasHeld, entry_ticket, held_view, is_for, is_given, ticket_in, view_in}
 use Rattle.coord_table.specs.Lends.{relived, with_live}
 use Rattle.coord_table.proofs.Tickets.{One, given_or_none, one_given, one_stays, ticket_is, ticket_none, ticket_stays}
 
@@ -45,22 +46,83 @@ fits_with old new key slot fits updates its has one =
       one = one;
     }
 
--- an entry that was given for nobody
-pub begins : (old new : Slots) (c : Case) (h : Held) (key : ℕ) → FitsGiven old → h.given_for ≡ None
-    → h.live ≡ open_view → Inserts old new c h key → Begins old new c
-begins old new c h key fits ungiven opened inserts =
+-- a case is held in place of what was held of it
+pub puts_again : (old new : Slots) (c : Case) (before h : Held) (key : ℕ) → AreApart old
+    → entry_at old key ≡ Some (c, before) → Updates old new key (Some (c, h)) → Puts old new c h
+puts_again old new c before h key apart was updates =
+    let live : live_value old c ≡ Some before = live_at old c key (c, before) apart was (same_case-itself c) in
     record {
-      moves = rw (← opened) (moves_view old new c (Some h) inserts.moves);
+      key = key;
+      was = inr (before, was, live);
+      updates = updates;
+      moves = Moves-changed old new key c before h was updates apart;
+      counts = λ none. let clash : Some before ≡ None = sym live ∙ none in absurd (cc);
+    }
+
+-- what was held under the key of a case of which nothing was given for anybody, was given for nobody
+not_given : (old : Slots) (c : Case) (key : ℕ) → IsUngiven old c → WasHeld old c key → (d : Case)
+    → is_given d (entry_at old key) ≡ false
+not_given old c key ungiven (inl free) d = ap (is_given d) free
+not_given old c key ungiven (inr was) d = ap (is_given d) was.1 ∙ ap (is_for d) (ungiven was.0 was.2)
+
+-- a case without a ticket was given for nobody
+pub root_ungiven : (slots : Slots) (x : Txn) → FitsGiven slots → IsUngiven slots (root_case x)
+root_ungiven slots x fits h live = by_given h.given_for refl
+  where
+    by_given : (o : Option Case) → h.given_for ≡ o → h.given_for ≡ None
+    by_given None is = is
+    by_given (Some e) is =
+        let there = live_found slots (root_case x) h live in
+        let one : there.1 ≡ root_case x = (case_tells there.1 (root_case x)).0 there.3 in
+        let ticketed : is_some there.1.ticket ≡ true =
+        fits.ticketed there.0 e (there.1, h) there.2 (ap (is_for e) is ∙ same_case-itself e) in
+        let none : is_some there.1.ticket ≡ false = ap (λ (d : Case). is_some d.ticket) one in
+        let clash : true ≡ false = sym ticketed ∙ none in absurd (cc)
+
+-- a case whose ticket is active for nobody was given for nobody
+pub fresh_ungiven : (slots : Slots) (c : Case) (t : Ticket) → FitsGiven slots → c.ticket ≡ Some t
+    → IsFresh slots t → IsUngiven slots c
+fresh_ungiven slots c t fits has fresh h live = by_given h.given_for refl
+  where
+    by_given : (o : Option Case) → h.given_for ≡ o → h.given_for ≡ None
+    by_given None is = is
+    by_given (Some e) is =
+        let there = live_found slots c h live in
+        let one : there.1 ≡ c = (case_tells there.1 c).0 there.3 in
+        let given : is_given e (entry_at slots there.0) ≡ true =
+        ap (is_given e) there.2 ∙ ap (is_for e) is ∙ same_case-itself e in
+        absurd (fresh e (ticket_is slots e there.0 (fits.one e) given ∙ ap entry_ticket there.2
+        ∙ ap (λ (d : Case). d.ticket) one ∙ has))
+
+-- an entry that was given for nobody
+pub begins : (old new : Slots) (c : Case) (h : Held) → FitsGiven old → h.given_for ≡ None
+    → h.live ≡ open_view → IsUngiven old c → Puts old new c h → Begins old new c
+begins old new c h fits ungiven opened free puts =
+    record {
+      moves = rw (← opened) (moves_view old new c (Some h) puts.moves);
       tickets = λ d.
           let behind : is_given d (Some (c, h)) ≡ false = ap (is_for d) ungiven in
-          ticket_stays old new key (Some (c, h)) d (fits.one d)
-          (one_stays old new key (Some (c, h)) d (fits.one d) inserts.updates behind) inserts.updates
-          (ap (is_given d) inserts.vacant) behind;
-      key = key;
-      updates = subst (λ e. Updates old new key (Some (c, e)))
-          (λ i. record { given_for = ungiven i; live = opened i }) inserts.updates;
-      counts = inserts.counts;
+          ticket_stays old new puts.key (Some (c, h)) d (fits.one d)
+          (one_stays old new puts.key (Some (c, h)) d (fits.one d) puts.updates behind) puts.updates
+          (not_given old c puts.key free puts.was d) behind;
+      key = puts.key;
+      updates = subst (λ e. Updates old new puts.key (Some (c, e)))
+          (λ i. record { given_for = ungiven i; live = opened i }) puts.updates;
+      counts = puts.counts;
     }
+
+-- tickets that fit still fit where a case begins
+pub fits_begun : (old new : Slots) (c : Case) (h : Held) → FitsGiven old → h.given_for ≡ None
+    → Puts old new c h → FitsGiven new
+fits_begun old new c h fits ungiven puts = fits_with old new puts.key (Some (c, h)) fits puts.updates
+    (λ d p at is. absurd (nobody d p at is)) (λ d p at is. absurd (nobody d p at is))
+    (λ d. one_stays old new puts.key (Some (c, h)) d (fits.one d) puts.updates (ap (is_for d) ungiven))
+  where
+    nobody : (d : Case) (p : Case × Held) → Some (c, h) ≡ Some p → is_for d p.1.given_for ≡ true → ⊥
+    nobody d p at is =
+        let entry : (c, h) ≡ p = cc in
+        let no : false ≡ true =
+        sym (ap (is_for d) ungiven) ∙ ap (λ (q : Case × Held). is_for d q.1.given_for) entry ∙ is in absurd (cc)
 
 -- an entry that was given for nobody, and whose case stands in some way
 pub restores : (old new : Slots) (c : Case) (v : CoordinatorView) (key : ℕ) → FitsGiven old
@@ -97,9 +159,13 @@ ungiven_of slots d fits none k = by_entry (entry_at slots k) refl
             sym some ∙ missing
 
 -- an entry whose ticket was given for this case of the parent
-module _ (old new : Slots) (t : Ticket) (h : Held) (key : ℕ) (parent : Case) (fits : FitsGiven old)
+module _ (old new : Slots) (t : Ticket) (h : Held) (parent : Case) (fits : FitsGiven old)
     (given : h.given_for ≡ Some parent) (opened : h.live ≡ open_view)
-    (none : ticket_in old parent ≡ None) (inserts : Inserts old new (child_case parent.txn t) h key) where
+    (none : ticket_in old parent ≡ None) (free : IsUngiven old (child_case parent.txn t))
+    (puts : Puts old new (child_case parent.txn t) h) where
+  abbrev key : ℕ
+  key = puts.key
+
   shown : (d : Case) → is_given d (Some (child_case parent.txn t, h)) ≡ same_case parent d
   shown d = ap (is_for d) given
 
@@ -110,29 +176,29 @@ module _ (old new : Slots) (t : Ticket) (h : Held) (key : ℕ) (parent : Case) (
       by_test true is =
           let same : parent ≡ d = (case_tells parent d).0 is in
           one_given old new key (Some (child_case parent.txn t, h)) d (λ k. ap (λ e. is_given e
-          (entry_at old k)) (sym same) ∙ ungiven_of old parent fits none k) inserts.updates
+          (entry_at old k)) (sym same) ∙ ungiven_of old parent fits none k) puts.updates
       by_test false is = one_stays old new key (Some (child_case parent.txn t, h)) d (fits.one d)
-          inserts.updates (shown d ∙ is)
+          puts.updates (shown d ∙ is)
 
   pub gives : Gives old new parent t
   gives =
       record {
-        moves = rw (← opened) (moves_view old new (child_case parent.txn t) (Some h) inserts.moves);
+        moves = rw (← opened) (moves_view old new (child_case parent.txn t) (Some h) puts.moves);
         ticket =
-            ticket_is new parent key (one_behind parent) (ap (is_given parent) inserts.updates.changed
+            ticket_is new parent key (one_behind parent) (ap (is_given parent) puts.updates.changed
             ∙ shown parent ∙ (case_tells parent parent).1 refl)
-            ∙ ap entry_ticket inserts.updates.changed;
+            ∙ ap entry_ticket puts.updates.changed;
         tickets = λ d differs.
             ticket_stays old new key (Some (child_case parent.txn t, h)) d (fits.one d) (one_behind d)
-            inserts.updates (ap (is_given d) inserts.vacant) (shown d ∙ differs);
+            puts.updates (not_given old (child_case parent.txn t) key free puts.was d) (shown d ∙ differs);
         key = key;
         updates = subst (λ e. Updates old new key (Some (child_case parent.txn t, e)))
-            (λ i. record { given_for = given i; live = opened i }) inserts.updates;
-        counts = inserts.counts;
+            (λ i. record { given_for = given i; live = opened i }) puts.updates;
+        counts = puts.counts;
       }
 
   pub fits_given : FitsGiven new
-  fits_given = fits_with old new key (Some (child_case parent.txn t, h)) fits inserts.updates (λ d p at is.
+  fits_given = fits_with old new key (Some (child_case parent.txn t, h)) fits puts.updates (λ d p at is.
       let entry : (child_case parent.txn t, h) ≡ p = cc in
       let for_d : same_case parent d ≡ true = sym (shown d) ∙ ap (is_given d) at ∙ is in
       let same : parent ≡ d = (case_tells parent d).0 for_d in

@@ -26,7 +26,7 @@ use Rattle.coord_table.specs.declared.rebuilding.Rebuilt.{Rebuilt}
 use Rattle.inquire_core.specs.Summaries.{Summary, no_records, summary_of, view_of}
 use Rattle.inquire_core.specs.Plans.{NotPlanned}
 use Rattle.inquire_core.specs.Readings.{ReadLog, place_below, reading_of, role_below, same}
-use Rattle.coord_table.specs.Restores.{IsRestored, NotRebuilt, Rebuilds, RestoresAll, read_again, resumed_of, view_found}
+use Rattle.coord_table.specs.Restores.{NotRebuilt, Rebuilds, RestoresAll, read_again, resumed_of, view_found}
 use Rattle.inquire_core.proofs.Summaries.{view_recorded}
 use Rattle.inquire_core.proofs.CaseTables.{entry_by}
 use Rattle.inquire_core.proofs.Readings.{each_alike, view_is}
@@ -101,7 +101,7 @@ module _ (me : ProcessId) (parent : Option ProcessId) (tree : List TreeEntry) (l
             ∙ found_view (read_again here ls) c
             ∙ viewed_at parent (read_again here ls) c;
         tickets = restores.tickets;
-        entries = λ k p at. subst (λ b. IsRestored b p) (sym boot) (restores.entries k p at);
+        entries = restores.entries;
         shown =
             reaction
             ∙ (λ i. record {

@@ -22,7 +22,7 @@ use Rattle.coord_table.specs.declared.held.Held.{Held}
 use Rattle.coord_table.specs.Cases.{Restores, Slots, held_view, ticket_in, view_in}
 use Rattle.inquire_core.specs.Summaries.{Summary, restored_view, standing_of, view_of}
 use Rattle.inquire_core.specs.Readings.{ReadLog, Table, same}
-use Rattle.coord_table.specs.Restores.{IsNumbered, IsRestored, RestoresAll, RestoresNext, resumed_of, view_found}
+use Rattle.coord_table.specs.Restores.{IsRestored, RestoresAll, RestoresNext, resumed_of, view_found}
 use Rattle.inquire_core.proofs.CaseTables.{apart_back, is_same}
 
 known_is : (st : Standing) (v : CoordinatorView) → (st ≡ Unknown → ⊥) → known_view st v ≡ v
@@ -34,10 +34,10 @@ known_is Committing v h = refl
 known_is Aborting v h = refl
 known_is Heuristic v h = refl
 
-module _ (boot : ℕ) (s : Seat) (summary : Summary) (old : Slots) (sent : List Envelope)
+module _ (s : Seat) (summary : Summary) (old : Slots) (sent : List Envelope)
     (gone : live_value old s.case ≡ None) where
   -- a case of which nothing is left
-  pub next_unknown : standing_of summary ≡ Unknown → RestoresNext boot s summary old old sent sent
+  pub next_unknown : standing_of summary ≡ Unknown → RestoresNext s summary old old sent sent
   next_unknown unknown =
       record {
         messages = sym (ap (λ (v : CoordinatorView). sent ++ resumes_by (seat s) v v.standing)
@@ -57,8 +57,8 @@ module _ (boot : ℕ) (s : Seat) (summary : Summary) (old : Slots) (sent : List 
       → st ≡ standing_of summary → (st ≡ Unknown → ⊥)
       → live ≡ restored_view st summary → Restores old new s.case live
       → now_sent ≡ sent ++ resumes_by (seat s) live live.standing
-      → IsNumbered boot s.case → RestoresNext boot s summary old new sent now_sent
-  next_live st live new now_sent stands known is restores sends numbered =
+      → RestoresNext s summary old new sent now_sent
+  next_live st live new now_sent stands known is restores sends =
       record {
         messages = sends ∙ ap (λ (v : CoordinatorView). sent ++ resumes_by (seat s) v v.standing) viewed;
         own = restores.moves.own ∙ viewed;
@@ -73,17 +73,14 @@ module _ (boot : ℕ) (s : Seat) (summary : Summary) (old : Slots) (sent : List 
           ∙ ap (λ t. known_view t (restored_view t summary)) stands
 
       entries : (k : ℕ) (p : Case × Held) → entry_at new k ≡ Some p
-          → (entry_at old k ≡ Some p) ⊎ IsRestored boot p
+          → (entry_at old k ≡ Some p) ⊎ IsRestored p
       entries k p at =
           elim (cases_eq k restores.key) [
             | inl one ↦
                 let same_entry : Some (s.case, record { given_for = None; live = live }) ≡ Some p =
                 sym restores.updates.changed ∙ sym (ap (entry_at new) one) ∙ at in
                 let entry : (s.case, record { given_for = None; live = live }) ≡ p = cc in
-                inr (record {
-                  ungiven = ap (λ (q : Case × Held). q.1.given_for) (sym entry);
-                  numbered = subst (λ (q : Case × Held). IsNumbered boot q.0) entry numbered;
-                })
+                inr (ap (λ (q : Case × Held). q.1.given_for) (sym entry))
             | inr other ↦ inl (sym (restores.updates.others k other) ∙ at)
           ]
 
@@ -151,7 +148,7 @@ unfolding ticket_in
 none_given d = refl
 
 -- the entries in front of these rest are restored
-pub record IsRestoring (me : ProcessId) (parent : Option ProcessId) (boot : ℕ) (es rest : Table)
+pub record IsRestoring (me : ProcessId) (parent : Option ProcessId) (es rest : Table)
     (slots : Slots) (sent : List Envelope) : Type 0 where
   pub done : Table
   pub split : done ++ rest ≡ es
@@ -160,14 +157,14 @@ pub record IsRestoring (me : ProcessId) (parent : Option ProcessId) (boot : ℕ)
   pub views : (c : Case) → view_in slots c ≡ view_found (lookup (same c) done)
   pub absent : (c : Case) → lookup (same c) done ≡ None → live_value slots c ≡ None
   pub tickets : (d : Case) → ticket_in slots d ≡ None
-  pub entries : (k : ℕ) (p : Case × Held) → entry_at slots k ≡ Some p → IsRestored boot p
+  pub entries : (k : ℕ) (p : Case × Held) → entry_at slots k ≡ Some p → IsRestored p
 
-module _ (me : ProcessId) (parent : Option ProcessId) (boot : ℕ) (es : Table) where
+module _ (me : ProcessId) (parent : Option ProcessId) (es : Table) where
   pub restoring_begins : (slots : Slots) (sent : List Envelope) → IsDistinct same (keys_of es) → slots ≡ []
-      → sent ≡ [] → IsRestoring me parent boot es es slots sent
+      → sent ≡ [] → IsRestoring me parent es es slots sent
   restoring_begins slots sent apart bare quiet =
-      subst (λ t. IsRestoring me parent boot es es t sent) (sym bare)
-      (subst (λ ms. IsRestoring me parent boot es es [] ms) (sym quiet)
+      subst (λ t. IsRestoring me parent es es t sent) (sym bare)
+      (subst (λ ms. IsRestoring me parent es es [] ms) (sym quiet)
       (record {
         done = [];
         split = refl;
@@ -181,29 +178,16 @@ module _ (me : ProcessId) (parent : Option ProcessId) (boot : ℕ) (es : Table) 
 
   -- the next case is not live yet
   pub restoring_is_new : (c : Case) (s : Summary) (rest : Table) (slots : Slots) (sent : List Envelope)
-      → IsRestoring me parent boot es ((c, s) ∷ rest) slots sent → live_value slots c ≡ None
+      → IsRestoring me parent es ((c, s) ∷ rest) slots sent → live_value slots c ≡ None
   restoring_is_new c s rest slots sent restoring =
       restoring.absent c (not_before c s restoring.done rest
       (subst (λ t. IsDistinct same (keys_of t)) (sym restoring.split) restoring.apart))
 
-  -- each case that is not live yet was numbered before
-  pub restoring_is_numbered : (c : Case) (s : Summary) (rest : Table) (slots : Slots) (sent : List Envelope)
-      → AllByRecursion (λ (e : Case × Summary). IsNumbered boot e.0) es
-      → IsRestoring me parent boot es ((c, s) ∷ rest) slots sent → IsNumbered boot c
-  restoring_is_numbered c s rest slots sent all restoring =
-      there restoring.done (subst (AllByRecursion (λ (e : Case × Summary). IsNumbered boot e.0))
-      (sym restoring.split) all)
-    where
-      there : (done : Table) → AllByRecursion (λ (e : Case × Summary). IsNumbered boot e.0)
-          (done ++ (c, s) ∷ rest) → IsNumbered boot c
-      there [] every = every.0
-      there (e ∷ done) every = there done every.1
-
   pub restoring_goes_on : (c : Case) (s : Summary) (rest : Table) (slots new : Slots)
       (sent now_sent : List Envelope)
-      → IsRestoring me parent boot es ((c, s) ∷ rest) slots sent
-      → RestoresNext boot (record { me = me; parent = parent; case = c }) s slots new sent now_sent
-      → IsRestoring me parent boot es rest new now_sent
+      → IsRestoring me parent es ((c, s) ∷ rest) slots sent
+      → RestoresNext (record { me = me; parent = parent; case = c }) s slots new sent now_sent
+      → IsRestoring me parent es rest new now_sent
   restoring_goes_on c s rest slots new sent now_sent restoring next =
       record {
         done = restoring.done ++ (c, s) ∷ [];
@@ -247,7 +231,7 @@ module _ (me : ProcessId) (parent : Option ProcessId) (boot : ℕ) (es : Table) 
 -- all are restored
 pub restoring_ends : (me : ProcessId) (parent : Option ProcessId) (r : ReadLog)
     (slots : Slots) (sent : List Envelope)
-    → IsRestoring me parent r.boot r.table [] slots sent → RestoresAll me parent r slots sent
+    → IsRestoring me parent r.table [] slots sent → RestoresAll me parent r slots sent
 restoring_ends me parent r slots sent restoring =
     let all : restoring.done ≡ r.table = sym (append-nil restoring.done) ∙ restoring.split in
     record {

@@ -1,5 +1,5 @@
 -- What the live cases of a coordinator say: how each case stands, and which tickets are active.
-use Rattle.std.specs.Prelude.{◌≡◌, ◌+◌, ◌&&◌, ◌||◌, ℕ, Bool, true, false, if◌then◌else◌, Option, Some, None, is_some, List, [], ◌∷◌}
+use Rattle.std.specs.Prelude.{◌≡◌, ◌≢◌, ◌⊎◌, ◌+◌, ◌&&◌, ◌||◌, ℕ, Bool, true, false, if◌then◌else◌, Option, Some, None, is_some, List, [], ◌∷◌}
 use Rattle.tree_model.specs.declared.names.Case.{Case}
 use Rattle.tree_model.specs.declared.names.Ticket.{Ticket}
 use Rattle.tree_model.specs.declared.names.Txn.{Txn}
@@ -8,7 +8,7 @@ use Rattle.tree_model.specs.Records.{in_list}
 use Rattle.tree_model.specs.Standings.{CoordinatorView, unknown_view}
 use Rattle.tree_model.specs.Restarts.{is_known}
 use Rattle.tree_model.specs.SameViews.{open_view}
-use Rattle.live_table.specs.Tables.{Updates, entry_at, live_count, live_value}
+use Rattle.live_table.specs.Tables.{Moves as MovesValue, Updates, entry_at, live_count, live_value}
 use Rattle.coord_table.specs.declared.held.Held.{Held}
 
 -- the slots of the table
@@ -99,13 +99,35 @@ pub record Moves (old new : Slots) (c : Case) (view : CoordinatorView) : Type 0 
   pub own : view_in new c ≡ view
   pub others : (d : Case) → same_case c d ≡ false → view_in new d ≡ view_in old d
 
--- a case begins, and no active ticket moves
+-- what is held of the case, if anything is, was given for nobody
+abbrev pub IsUngiven : Slots → Case → Type 0
+IsUngiven slots c = (h : Held) → live_value slots c ≡ Some h → h.given_for ≡ None
+
+-- the ticket is active for no case of the parent
+abbrev pub IsFresh : Slots → Ticket → Type 0
+IsFresh slots t = (d : Case) → ticket_in slots d ≢ Some t
+
+-- the key was free, or the case was held under it
+abbrev pub WasHeld : Slots → Case → ℕ → Type 0
+WasHeld slots c key =
+    (entry_at slots key ≡ None)
+    ⊎ ((h : Held) × (entry_at slots key ≡ Some (c, h)) × (live_value slots c ≡ Some h))
+
+-- this is held of a case, in place of what was held of it, if anything was
+pub record Puts (old new : Slots) (c : Case) (h : Held) : Type 0 where
+  pub key : ℕ
+  pub was : WasHeld old c key
+  pub updates : Updates old new key (Some (c, h))
+  pub moves : MovesValue old new c (Some h)
+  pub counts : live_value old c ≡ None → live_count new ≡ live_count old + 1
+
+-- a case begins, in place of one of its name, if one was live; and no active ticket moves
 pub record Begins (old new : Slots) (c : Case) : Type 0 where
   pub moves : Moves old new c open_view
   pub tickets : (d : Case) → ticket_in new d ≡ ticket_in old d
   pub key : ℕ
   pub updates : Updates old new key (Some (c, record { given_for = None; live = open_view }))
-  pub counts : live_count new ≡ live_count old + 1
+  pub counts : live_value old c ≡ None → live_count new ≡ live_count old + 1
 
 -- a case is live again as it stands, and no active ticket moves
 pub record Restores (old new : Slots) (c : Case) (view : CoordinatorView) : Type 0 where
@@ -115,7 +137,8 @@ pub record Restores (old new : Slots) (c : Case) (view : CoordinatorView) : Type
   pub key : ℕ
   pub updates : Updates old new key (Some (c, record { given_for = None; live = view }))
 
--- the case of a fresh ticket begins, and the ticket is active for the parent's case
+-- the case of a ticket begins, in place of one of its name, if one was live; and the ticket is active for the parent's
+-- case
 pub record Gives (old new : Slots) (parent : Case) (t : Ticket) : Type 0 where
   pub moves : Moves old new (child_case parent.txn t) open_view
   pub ticket : ticket_in new parent ≡ Some t
@@ -123,7 +146,7 @@ pub record Gives (old new : Slots) (parent : Case) (t : Ticket) : Type 0 where
   pub key : ℕ
   pub updates : Updates old new key
       (Some (child_case parent.txn t, record { given_for = Some parent; live = open_view }))
-  pub counts : live_count new ≡ live_count old + 1
+  pub counts : live_value old (child_case parent.txn t) ≡ None → live_count new ≡ live_count old + 1
 
 -- the key's case stands so in place of how it stood, and no other moves, nor does an active ticket
 pub record Relives (old new : Slots) (key : ℕ) (before behind : CoordinatorView) : Type 0 where

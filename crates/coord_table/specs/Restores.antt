@@ -1,5 +1,5 @@
 -- The live cases as records leave them, and what a restart makes of a log.
-use Rattle.std.specs.Prelude.{◌≡◌, ◌<◌, ◌⊎◌, ⊤, ℕ, false, Option, Some, None, List, ◌++◌, map}
+use Rattle.std.specs.Prelude.{◌≡◌, ◌⊎◌, ⊤, ℕ, false, Option, Some, None, List, ◌++◌, map}
 use Rattle.std.specs.List.{AllByRecursion, flat_map}
 use Rattle.std.specs.Map.{lookup}
 use Rattle.tree_model.specs.declared.names.Case.{Case}
@@ -27,15 +27,8 @@ use Rattle.coord_effects.specs.Rows.{seat}
 use Rattle.coord_table.specs.declared.held.Held.{Held}
 use Rattle.coord_table.specs.Cases.{Slots, ticket_in, view_in}
 use Rattle.inquire_core.specs.Summaries.{Summary, view_of}
-use Rattle.inquire_core.specs.Numbered.{numbered_in}
 use Rattle.inquire_core.specs.Readings.{ReadLog, same}
 use Rattle.coord_table.specs.declared.rebuilding.Rebuilt.{Rebuilt}
-
--- Numbers.
-
--- the case was numbered in a boot before this one
-abbrev pub IsNumbered : ℕ → Case → Type 0
-IsNumbered boot c = numbered_in c < boot
 
 -- Cases.
 
@@ -52,13 +45,12 @@ abbrev pub view_found : Option Summary → CoordinatorView
 view_found None = unknown_view
 view_found (Some s) = view_of s
 
--- what is held under a key was given for nobody, and its case was numbered in a boot before this one
-pub record IsRestored (boot : ℕ) (p : Case × Held) : Type 0 where
-  pub ungiven : p.1.given_for ≡ None
-  pub numbered : IsNumbered boot p.0
+-- what is held under a key was given for nobody
+abbrev pub IsRestored : Case × Held → Type 0
+IsRestored p = p.1.given_for ≡ None
 
 -- one case more stands as its records say, and what it sends again is sent
-pub record RestoresNext (boot : ℕ) (s : Seat) (summary : Summary) (old new : Slots)
+pub record RestoresNext (s : Seat) (summary : Summary) (old new : Slots)
     (sent now_sent : List Envelope) : Type 0 where
   pub messages : now_sent ≡ sent ++ resumed_by (seat s) summary
   pub own : view_in new s.case ≡ view_of summary
@@ -66,7 +58,7 @@ pub record RestoresNext (boot : ℕ) (s : Seat) (summary : Summary) (old new : S
   pub only : (d : Case) → same_case s.case d ≡ false → live_value old d ≡ None → live_value new d ≡ None
   pub tickets : (d : Case) → ticket_in new d ≡ ticket_in old d
   pub entries : (k : ℕ) (p : Case × Held) → entry_at new k ≡ Some p
-      → (entry_at old k ≡ Some p) ⊎ IsRestored boot p
+      → (entry_at old k ≡ Some p) ⊎ IsRestored p
 
 -- each case stands as its records say, no ticket is active, and what the cases send again is sent
 pub record RestoresAll (me : ProcessId) (parent : Option ProcessId) (r : ReadLog) (slots : Slots)
@@ -74,7 +66,7 @@ pub record RestoresAll (me : ProcessId) (parent : Option ProcessId) (r : ReadLog
   pub messages : sent ≡ flat_map (resumed_of me parent) r.table
   pub views : (c : Case) → view_in slots c ≡ view_found (lookup (same c) r.table)
   pub tickets : (d : Case) → ticket_in slots d ≡ None
-  pub entries : (k : ℕ) (p : Case × Held) → entry_at slots k ≡ Some p → IsRestored r.boot p
+  pub entries : (k : ℕ) (p : Case × Held) → entry_at slots k ≡ Some p → IsRestored p
 
 -- A restart.
 
@@ -94,7 +86,7 @@ pub record Rebuilds (place : Place) (ls : List LogRecord) (r : Rebuilt) : Type 0
   pub sound : AreRecords Coordinator (map frame_record r.frames.items)
   pub views : (c : Case) → view_in r.cases c ≡ recorded_view_at place.role (read_again place ls) c
   pub tickets : (d : Case) → ticket_in r.cases d ≡ None
-  pub entries : (k : ℕ) (p : Case × Held) → entry_at r.cases k ≡ Some p → IsRestored r.boot p
+  pub entries : (k : ℕ) (p : Case × Held) → entry_at r.cases k ≡ Some p → IsRestored p
   pub shown : r.reaction ≡ reaction_of (reopening place.role place.me (own_records place ls))
 
 -- why nothing is made of them: memory was refused, or a record that a restart appends can stand in no log

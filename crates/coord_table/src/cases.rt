@@ -4,8 +4,8 @@ ghost use Rattle.std.specs.Prelude.{◌≡◌, false, true, None, Some, IsSome, 
 ghost use Rattle.std.specs.Borrow.{sem};
 ghost use Rattle.std.specs.Option.{option_copied_mut};
 ghost use Rattle.live_table.specs.Tables.{AreApart, case_of, entry_at, live_count, live_value};
-ghost use Rattle.tree_model.specs.Names.{child_case};
-ghost use Rattle.coord_table.specs.Cases.{Begins, Ends, FindsCase, FindsChild, FitsGiven, Gives, Restores, Retires, entry_ticket, has_child, is_for, live_at, ticket_in};
+ghost use Rattle.tree_model.specs.Names.{root_case};
+ghost use Rattle.coord_table.specs.Cases.{Begins, Ends, FindsCase, FindsChild, FitsGiven, Gives, IsFresh, Puts, Restores, Retires, entry_ticket, has_child, is_for, live_at, ticket_in};
 
 use crate::held::Held;
 use coord_case::Live;
@@ -57,6 +57,26 @@ fn ticket_at(table: &LiveTable<Held>, key: usize) -> Option<Ticket>
     match table.case_at(key) {
         None => None,
         Some(case) => case.ticket,
+    }
+}
+
+/// Holds this of the case, in place of what was held of it, if anything was. Memory: nothing changed.
+fn put(table: &mut LiveTable<Held>, case: Case, held: Held) -> Result<(), AllocError>
+    ensures ok { OnOk result (Puts table.old table.new case held) }
+    ensures err { OnErr result (table.new ≡ table.old) }
+{
+    match table.find(&case) {
+        None => {
+            let _ = table.insert(case, held)?;
+            Ok(())
+        }
+        Some(key) => match table.get_mut(key) {
+            Some(before) => {
+                *before = held;
+                Ok(())
+            }
+            None => unreachable!(),
+        },
     }
 }
 
@@ -151,17 +171,18 @@ impl Cases {
         }
     }
 
-    /// A case that was not live begins, without a ticket. Memory: nothing changed.
-    pub fn begin(&mut self, alloc: Global, case: Case) -> Result<(), AllocError>
-        requires { live_value self.old case ≡ None }
-        ensures ok { OnOk result (Begins self.old self.new case) }
+    /// The case of a transaction begins, without a ticket. One of its name that was live, which only a log has that
+    /// no run left, is forgotten. Memory: nothing changed.
+    pub fn begin(&mut self, alloc: Global, txn: Txn) -> Result<(), AllocError>
+        ensures ok { OnOk result (Begins self.old self.new (root_case txn)) }
         ensures err { OnErr result (self.new ≡ self.old) }
     {
+        let case = Case { txn, ticket: None };
         let held = Held {
             given_for: None,
             live: Live::open(alloc),
         };
-        let _ = self.table.insert(case, held)?;
+        put(&mut self.table, case, held)?;
         Ok(())
     }
 
@@ -179,10 +200,10 @@ impl Cases {
         Ok(())
     }
 
-    /// The case of a fresh ticket begins, which was just given for the parent's case. Memory: nothing
-    /// changed.
+    /// The case of a ticket begins, which was just given for the parent's case. One of its name that was live, which
+    /// only a log has that no run left, is forgotten. Memory: nothing changed.
     pub fn give(&mut self, alloc: Global, parent: Case, ticket: Ticket) -> Result<(), AllocError>
-        requires fresh { live_value self.old (child_case parent.txn ticket) ≡ None }
+        requires fresh { IsFresh self.old ticket }
         requires ungiven { ticket_in self.old parent ≡ None }
         ensures ok { OnOk result (Gives self.old self.new parent ticket) }
         ensures err { OnErr result (self.new ≡ self.old) }
@@ -195,7 +216,7 @@ impl Cases {
             given_for: Some(parent),
             live: Live::open(alloc),
         };
-        let _ = self.table.insert(case, held)?;
+        put(&mut self.table, case, held)?;
         Ok(())
     }
 

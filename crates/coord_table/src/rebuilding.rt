@@ -1,8 +1,7 @@
 //! What a restart makes of the records that a crash leaves.
 
-ghost use Rattle.std.specs.Prelude.{◌≡◌, true, IfErr, IfOk, map};
+ghost use Rattle.std.specs.Prelude.{IfErr, IfOk};
 ghost use Rattle.coord_table.specs.Restores.{NotRebuilt, Rebuilds};
-ghost use Rattle.inquire_core.specs.Numbered.{are_numbered};
 ghost use Rattle.inquire_core.specs.Readings.{place_below};
 
 use crate::cases::Cases;
@@ -33,7 +32,6 @@ pub fn rebuild(
     tree: &Tree,
     records: &[LogRecord],
 ) -> Result<Rebuilt, StepError>
-    requires { are_numbered 0 (map (λ l. l.entry) records.now) ≡ true }
     ensures ok { IfOk result (Rebuilds (place_below me parent tree.now) records.now) }
     ensures err { IfErr result (NotRebuilt (place_below me parent tree.now) records.now) }
 {

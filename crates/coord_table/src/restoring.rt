@@ -1,17 +1,16 @@
 //! The live cases, and what each of them sends again.
 
 ghost use Rattle.std.specs.Prelude.{◌≡◌, None, IfOk, OnOk};
-ghost use Rattle.std.specs.List.{AllByRecursion};
 ghost use Rattle.live_table.specs.Tables.{live_value};
-ghost use Rattle.inquire_core.specs.Summaries.{Summary, restored_view};
-ghost use Rattle.coord_table.specs.Restores.{IsNumbered, RestoresAll, RestoresNext};
+ghost use Rattle.inquire_core.specs.Summaries.{restored_view};
+ghost use Rattle.coord_table.specs.Restores.{RestoresAll, RestoresNext};
 
 use crate::cases::Cases;
 use coord_case::Live;
 use coord_rows::{Seat, resume};
 use inquire_core::{Reading, Recorded};
 use std::alloc::{AllocError, Global};
-use tree_model::{Case, Envelopes, ProcessId, Sequence, Standing};
+use tree_model::{Envelopes, ProcessId, Sequence, Standing};
 
 /// The live case: who owes has acknowledged nothing yet.
 fn live_again(alloc: Global, recorded: &Recorded, standing: Standing) -> Result<Live, AllocError>
@@ -29,15 +28,13 @@ fn live_again(alloc: Global, recorded: &Recorded, standing: Standing) -> Result<
 /// One case more, and what it sends.
 fn restore(
     alloc: Global,
-    boot: u64,
     seat: Seat,
     recorded: &Recorded,
     cases: &mut Cases,
     messages: &mut Envelopes,
 ) -> Result<(), AllocError>
     requires new { live_value cases.old seat.case ≡ None }
-    requires numbered { IsNumbered boot seat.case }
-    ensures { OnOk result (RestoresNext boot seat recorded.now cases.old cases.new
+    ensures { OnOk result (RestoresNext seat recorded.now cases.old cases.new
         messages.old messages.new) }
 {
     let standing = recorded.standing();
@@ -57,7 +54,6 @@ pub(crate) fn restores(
     parent: Option<ProcessId>,
     reading: &Reading,
 ) -> Result<(Cases, Envelopes), AllocError>
-    requires { AllByRecursion (λ (e : Case × Summary). IsNumbered reading.now.boot e.0) reading.now.table }
     ensures { IfOk result (λ r. RestoresAll me parent reading.now r.0 r.1) }
 {
     let mut cases = Cases::new(alloc);
@@ -68,14 +64,7 @@ pub(crate) fn restores(
             parent,
             case: *case,
         };
-        restore(
-            alloc,
-            reading.boot(),
-            seat,
-            recorded,
-            &mut cases,
-            &mut messages,
-        )?;
+        restore(alloc, seat, recorded, &mut cases, &mut messages)?;
     }
     Ok((cases, messages))
 }

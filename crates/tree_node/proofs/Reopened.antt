@@ -168,8 +168,6 @@ coordinator_fails bytes forced failures place old new opened left coordinators.D
     let until : h.behind.log.failures ≡ failures new = ap (λ (l : LogSight). l.failures) h.log_left ∙ to in
     let more : MoreFailures (failures old) (failures new) = omega (arith, from, until, h.broke.0.cause) in
     record { left = new; more = more }
-coordinator_fails bytes forced failures place old new opened left coordinators.Unfit opens to h =
-    record { log = opened; opens = opens; why = inl h.1 }
 coordinator_fails bytes forced failures place old new opened left coordinators.Exhausted opens to h =
     let beyond : HoldsNoRestart opened.sight = record {
       process = h.1.before;
@@ -178,7 +176,7 @@ coordinator_fails bytes forced failures place old new opened left coordinators.E
       left = h.1.left;
       beyond = h.1.beyond;
     } in
-    record { log = opened; opens = opens; why = inr beyond }
+    record { log = opened; opens = opens; why = beyond }
 
 pub manager_fails : {S : Type 0} (bytes : S → List ℕ) (forced failures : S → ℕ) (p : ProcessId) (old new : S)
     (e : RestoreError) → NotRestored bytes forced failures p old new e
@@ -273,8 +271,6 @@ coordinator_handed_back bytes forced failures place old new opened left coordina
     ap (λ (l : LogSight). l.failures) h.log_is ∙ opens.failures_stay in
     let until : h.behind.log.failures ≡ failures new = ap (λ (l : LogSight). l.failures) h.log_left ∙ to in
     omega (arith, from, until, h.broke.0.cause)
-coordinator_handed_back bytes forced failures place old new opened left coordinators.Unfit opens to is h =
-    inr (holds_left bytes forced failures (log_form place.me Coordinator) old new opened left opens is h.0)
 coordinator_handed_back bytes forced failures place old new opened left coordinators.Exhausted opens to is h =
     inr (holds_left bytes forced failures (log_form place.me Coordinator) old new opened left opens is h.0)
 

@@ -1,5 +1,5 @@
 -- A process that goes on over the log that an earlier one left, and why none did.
-use Rattle.std.specs.Prelude.{◌≡◌, ⊤, ◌⊎◌, ℕ, true, false, Option, Some, List, ◌++◌, map}
+use Rattle.std.specs.Prelude.{◌≡◌, ⊤, ◌⊎◌, ℕ, true, Option, Some, List, ◌++◌}
 use Rattle.tree_model.specs.declared.names.Kind.{Kind}
 use Rattle.tree_model.specs.declared.names.Kind.TheVariants.{Coordinator, Manager}
 use Rattle.tree_model.specs.declared.names.ProcessId.{ProcessId}
@@ -25,7 +25,6 @@ use Rattle.kv_manager.specs.declared.restart.RecordsError.TheVariants as restart
 use Rattle.kv_manager.specs.Restarts.{NotRebuilt}
 use Rattle.coord_core.specs.declared.restarting.ReopenError.{ReopenError as CoordinatorError}
 use Rattle.coord_core.specs.declared.restarting.ReopenError.TheVariants as coordinators
-use Rattle.inquire_core.specs.Numbered.{are_numbered}
 use Rattle.sub_table.specs.declared.names.RebuildError.{RebuildError}
 use Rattle.sub_table.specs.declared.names.RebuildError.TheVariants as rebuilds
 use Rattle.sub_table.specs.Rebuilt.{AreFit}
@@ -78,12 +77,11 @@ pub record HoldsNoRestart (log : LogSight) : Type 0 where
   pub left : left_by log keep ≡ records_of log.kept
   pub beyond : CannotReopen process keep
 
--- the bytes are the log of records of which one is of a case of a boot that the log had not reached, or behind which
--- no restart can write
+-- the bytes are the log of records after which no restart can write
 pub record LeavesNoCoordinator (p : LogForm) (bytes : List ℕ) (forced failures : ℕ) : Type 0 where
   pub log : LogState
   pub opens : Opens p bytes forced failures log
-  pub why : (are_numbered 0 (map (λ l. l.entry) (records_of log.sight.kept)) ≡ false) ⊎ HoldsNoRestart log.sight
+  pub why : HoldsNoRestart log.sight
 
 -- the bytes are the log of records that leave no process of this kind
 abbrev pub LeavesNone : Kind → LogForm → List ℕ → ℕ → ℕ → Type 0
@@ -164,7 +162,6 @@ error_of_subordinate rebuilds.Exhausted = Unfit
 abbrev pub error_of_coordinator : CoordinatorError → ReopenError
 error_of_coordinator coordinators.Memory = Memory
 error_of_coordinator coordinators.Device = Device
-error_of_coordinator coordinators.Unfit = Unfit
 error_of_coordinator coordinators.Exhausted = Unfit
 
 -- likewise, where its key store was not restored

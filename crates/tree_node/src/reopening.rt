@@ -47,7 +47,7 @@ pub enum ReopenError {
     /// header.
     #[error("damaged at byte {0}")]
     Damaged(usize),
-    /// The records are those of no such process; or numbers are used up behind them.
+    /// The records are those of no such process; or numbers are used up after them.
     #[error("the records are those of no such process")]
     Unfit,
     /// The log is of the first format, and is to be migrated before.
@@ -96,7 +96,7 @@ fn of_coordinator(error: CoordinatorError) -> ReopenError
     match error {
         CoordinatorError::Memory => ReopenError::Memory,
         CoordinatorError::Device => ReopenError::Device,
-        CoordinatorError::Unfit | CoordinatorError::Exhausted => ReopenError::Unfit,
+        CoordinatorError::Exhausted => ReopenError::Unfit,
     }
 }
 
@@ -195,9 +195,8 @@ fn reopen_manager<L: LogStore + Drop>(
 /// with it. A process without a parent is the root, whatever its kind.
 ///
 /// Memory: a growth was refused. Device: the device of the store failed. Damaged: the bytes are no log of such a
-/// process. OldFormat: they are a log of the first format. Unfit: the records leave no manager, or one of them is of
-/// a case of a boot that the log had not reached; or numbers are used up behind them. With a refusal the store is
-/// handed back.
+/// process. OldFormat: they are a log of the first format. Unfit: the records leave no manager, or no subordinate can
+/// have written them; or numbers are used up after them. With a refusal the store is handed back.
 pub fn reopen_over<L: LogStore + Drop>(
     alloc: Global,
     entry: &TreeEntry,

@@ -1,13 +1,13 @@
 -- The stores that are handed back where a tree does not open.
-use Rattle.std.proofs.Common.{◌≡◌, ◌∙◌, sym, ap, subst, refl, ℕ, inl, inr, Option, Some, None, List, [], ◌∷◌, ◌++◌, reverse}
+use Rattle.std.proofs.Common.{◌≡◌, ◌∙◌, sym, ap, refl, ℕ, inl, inr, Option, Some, None, List, [], ◌∷◌, ◌++◌, reverse}
 use Rattle.std.proofs.lemmas.List.{reverse-append}
 use Rattle.tree_model.specs.declared.names.Kind.{Kind}
 use Rattle.tree_model.specs.declared.names.Kind.TheVariants.{Coordinator, Manager}
 use Rattle.tree_model.specs.declared.names.ProcessId.{ProcessId}
 use Rattle.tree_model.specs.declared.trees.TreeEntry.{TreeEntry}
-use Rattle.tree_model.specs.Nodes.{Place, role_by}
+use Rattle.tree_model.specs.Nodes.{role_by}
 use Rattle.log_text.specs.Forms.{log_form}
-use Rattle.rec_log.specs.Sights.{Kept, LogSight, kept_of}
+use Rattle.rec_log.specs.Sights.{LogSight, kept_of}
 use Rattle.core_model.specs.States.{CoreState, form_of, kind_of_role}
 use Rattle.tree_node.specs.Nodes.{HoldsLog}
 use Rattle.tree_node.specs.Openings.{HandsBack, OpenedAs}
@@ -16,7 +16,8 @@ use Rattle.tree_node.specs.declared.opening.OpenError.{OpenError}
 use Rattle.tree_node.specs.declared.opening.OpenError.TheVariants.{Memory}
 use Rattle.tree_world.specs.Openings.{AreHandedBack, HoldsFirst}
 
-kind_of : (k : Kind) (parent : Option ProcessId) → kind_of_role (role_by k parent) ≡ kind_by k parent
+-- the role of an entry's process is of its kind
+pub kind_of : (k : Kind) (parent : Option ProcessId) → kind_of_role (role_by k parent) ≡ kind_by k parent
 kind_of Coordinator None = refl
 kind_of Coordinator (Some p) = refl
 kind_of Manager None = refl

@@ -13,3 +13,9 @@ pub mod Running
 pub mod Settling
 pub mod Steps
 pub mod StorePlaces
+pub mod Strangers
+pub mod Reopenings
+pub mod ReadyLogs
+pub mod FromReady
+pub mod FromRestarted
+pub mod ReopenedTrees

@@ -1,5 +1,5 @@
 -- The processes of a tree, opened one after another.
-use Rattle.std.proofs.Common.{◌≡◌, ◌≢◌, ◌∙◌, sym, ap, subst, ℕ, zero, suc, ◌+◌, ◌<◌, Bool, true, false, if◌then◌else◌, ◌||◌, Option, Some, None, is_some, IsSomeAnd, List, [], ◌∷◌, ◌++◌, length, get_or, take, drop, refl, ◌⊎◌, inl, inr, arith}
+use Rattle.std.proofs.Common.{◌≡◌, ◌≢◌, ◌∙◌, sym, ap, subst, ℕ, zero, suc, ◌+◌, ◌<◌, Bool, true, false, if◌then◌else◌, ◌||◌, Option, Some, None, is_some, IsSomeAnd, List, [], ◌∷◌, length, get_or, take, drop, refl, ◌⊎◌, inl, inr, arith}
 use Rattle.std.specs.List.{list_any}
 use Rattle.tree_model.specs.declared.names.ProcessId.{ProcessId}
 use Rattle.tree_model.specs.declared.trees.TreeEntry.{TreeEntry}
@@ -18,7 +18,7 @@ use Rattle.tree_world.proofs.Handling.{world}
 use Rattle.tree_world.proofs.Processes.{itself}
 
 -- the role of a process is that of the entry that lists it first
-first_role : (es : List TreeEntry) (i : ℕ) (e : TreeEntry) → i < length es → e ≡ get_or es i e
+pub first_role : (es : List TreeEntry) (i : ℕ) (e : TreeEntry) → i < length es → e ≡ get_or es i e
     → is_listed (take i es) e.id ≡ false
     → role_of es e.id ≡ role_by e.kind e.parent
 unfolding is_listed role_of

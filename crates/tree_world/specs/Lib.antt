@@ -4,3 +4,6 @@ pub mod Openings
 pub mod Restarts
 pub mod Unforced
 pub mod Worlds
+pub mod OwnNames
+pub mod Reopenings
+pub mod Readied

@@ -1,19 +1,23 @@
 -- What the code of a world keeps, as the definitions see it.
-use Rattle.std.specs.Prelude.{List, map}
+use Rattle.std.specs.Prelude.{Bool, true, false, List, map}
 use Rattle.tree_model.specs.declared.names.ProcessId.{ProcessId}
 use Rattle.tree_model.specs.declared.records.LogRecord.{LogRecord}
 use Rattle.tree_model.specs.declared.trees.TreeEntry.{TreeEntry}
+use Rattle.tree_model.specs.Trees.{IsTree}
 use Rattle.core_law.specs.worlds.Worlds.{WorldState}
+use Rattle.core_law.specs.worlds.Modelled.{IsModelledTree}
 use Rattle.world_journal.specs.Journals.{JournalState}
 use Rattle.tree_node.specs.declared.node.Node.{Node}
 use Rattle.tree_world.specs.declared.running_tree.RunningTree.{RunningTree}
 use Rattle.tree_world.specs.Nodes.{kept_at, log_by}
 
--- what a contract sees of a tree that runs: the tree, its processes by name, and the journal of their steps
+-- what a contract sees of a tree that runs: the tree, its processes by name, the journal of their steps, and whether
+-- it was opened over the logs that an earlier run left
 pub record WorldValue (L : Type 0) : Type 0 where
   pub tree : List TreeEntry
   pub nodes : List (ProcessId × Node L)
   pub journal : JournalState
+  pub reopened : Bool
 
 -- what the definitions see of it
 abbrev pub state : {L : Type 0} → WorldValue L → WorldState
@@ -27,12 +31,19 @@ state w = record {
 }
 
 -- what a contract sees of what the code keeps
-abbrev pub value_of : {L : Type 0} → RunningTree L → WorldValue L
-value_of w = record { tree = w.tree; nodes = w.nodes.nodes.entries; journal = w.journal }
+abbrev pub value_by : {L : Type 0} → RunningTree L → Bool → WorldValue L
+value_by w reopened =
+    record { tree = w.tree; nodes = w.nodes.nodes.entries; journal = w.journal; reopened = reopened }
 
 -- what the definitions see of what the code keeps
 abbrev pub running_state : {L : Type 0} → RunningTree L → WorldState
-running_state w = state (value_of w)
+running_state w = state (value_by w false)
+
+-- what is kept of the state of a tree: where it was opened over empty logs it stands for a run; where it was opened
+-- over those that an earlier run left, its processes are a tree
+abbrev pub KeepsRun : Bool → WorldState → Type 0
+KeepsRun false s = IsModelledTree s
+KeepsRun true s = IsTree s.tree
 
 -- the records of these processes
 abbrev pub logs_at : WorldState → List TreeEntry → List (List LogRecord)

@@ -6,10 +6,13 @@
 mod byte_logs;
 mod nodes;
 mod opening;
+mod own_names;
+mod reopening;
 mod running_tree;
 mod unforced;
 mod world;
 
 pub use byte_logs::logs_left;
+pub use reopening::ReopenError;
 pub use tree_node::{Node, OpenError, copied_tree};
 pub use world::World;

@@ -29,7 +29,7 @@ use tree_node::{Node, OpenError, copied_tree, open_node};
 use world_journal::Journal;
 
 /// A value more, by its process's name, where there is room.
-fn put_by_name<V: Drop>(values: &mut IndexMap<ProcessId, V>, name: ProcessId, value: V)
+pub(crate) fn put_by_name<V: Drop>(values: &mut IndexMap<ProcessId, V>, name: ProcessId, value: V)
     requires { 0 < spare values.old }
     ensures own { lookup (processes.ghosts.eq name) values.new.entries ≡ Some value }
     ensures others { (q : AnyProcess) → same_process name q ≡ false
@@ -41,7 +41,7 @@ fn put_by_name<V: Drop>(values: &mut IndexMap<ProcessId, V>, name: ProcessId, va
 }
 
 /// Puts a store back where it was taken from.
-fn put_back<L>(stores: &mut Vec<L>, store: L)
+pub(crate) fn put_back<L>(stores: &mut Vec<L>, store: L)
     requires { vec_len stores.old < vec_capacity stores.old }
     ensures items { stores.new.items ≡ stores.old.items ++ store ∷ [] }
     ensures room { vec_capacity stores.old ≤ vec_capacity stores.new }
@@ -145,6 +145,7 @@ impl<L: LogStore + Drop> World<L> {
         requires { IsTree tree }
         ensures opened { IfOk result (λ world. IsOpened (state world) tree) }
         ensures headline { IfOk result (λ world. KeepsHeadline (state world)) }
+        ensures flag { IfOk result (λ world. world.reopened ≡ false) }
         ensures err { IfErr result (λ e. NotOpened L.bytes L.failures tree stores.items e.0) }
         ensures handed_back { IfErr result (λ e. AreHandedBack L.bytes L.forced L.failures tree
             stores.items e.1.items e.0) }
@@ -166,6 +167,7 @@ impl<L: LogStore + Drop> World<L> {
                 nodes: Nodes { nodes },
                 journal: Journal::new(alloc),
             },
+            reopened: false,
         })
     }
 }
@@ -176,6 +178,7 @@ impl World<MemoryStore> {
         requires { IsTree tree }
         ensures opened { IfOk result (λ world. IsOpened (state world) tree) }
         ensures headline { IfOk result (λ world. KeepsHeadline (state world)) }
+        ensures flag { IfOk result (λ world. world.reopened ≡ false) }
         ensures err { IfErr result (λ e. e ≡ OpenError.Memory) }
     {
         let stores = memory_stores(alloc, tree.entries().len())?;

@@ -186,7 +186,7 @@ impl<L: LogStore> RunningTree<L> {
         Ok(())
     }
 
-    /// Restarts a process, which keeps so many bytes behind its forced front; all of them, where no number
+    /// Restarts a process, which keeps so many bytes after its forced front; all of them, where no number
     /// is given.
     fn restart(&mut self, process: ProcessId, bytes: Option<u64>) -> Result<(), StepError>
         ensures ok { OnOk result (Applies (running_state self.old)

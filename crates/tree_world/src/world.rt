@@ -1,11 +1,13 @@
 //! The tree that runs, as a caller sees it.
 
-ghost use Rattle.std.specs.Prelude.{◌≡◌, ◌<◌, ℕ, List, IfErr, IfOk, OnOk, length, map, option_map, slice_get};
+ghost use Rattle.std.specs.Prelude.{◌≡◌, ◌<◌, ℕ, List, false, IfErr, IfOk, OnOk, length, map, option_map, slice_get};
 ghost use Rattle.tree_model.specs.World.{Made, World as ModelWorld};
 ghost use Rattle.core_law.specs.worlds.Worlds.{Applies, Stops};
 ghost use Rattle.core_law.specs.worlds.Runs.{Leads, LeadsUntil};
 ghost use Rattle.core_law.specs.worlds.Ties.{FollowsBehindFaults, GoesOnBehindFaults};
 ghost use Rattle.core_law.specs.worlds.Modelled.{KeepsHeadline};
+ghost use Rattle.reopened_trees.specs.Earlier.{Earlier};
+ghost use Rattle.reopened_trees.specs.Since.{FollowsSince, GoesOnKeeping};
 ghost use Rattle.short_steps.specs.Shown.{entry_part, shown_part};
 ghost use Rattle.tree_node.specs.Nodes.{live_at};
 ghost use Rattle.tree_world.specs.LogsLeft.{LogStandsBy};
@@ -24,20 +26,29 @@ use world_journal::Shown;
 #[derive(Drop)]
 pub struct World<L: LogStore> {
     pub(crate) running: RunningTree<L>,
+    /// Whether it was opened over the logs that an earlier run left.
+    pub(crate) reopened: bool,
 }
 
 impl<L: LogStore> Model for World<L> {
-    ghost use Rattle.tree_world.specs.Worlds.{WorldValue, running_state, value_of};
-    ghost use Rattle.core_law.specs.worlds.Modelled.{IsModelledTree};
+    ghost use Rattle.tree_world.specs.Worlds.{KeepsRun, WorldValue, running_state, value_by};
 
     ghost Value = { WorldValue L };
 
-    ghost view = { λ w. value_of w.running };
+    ghost view = { λ w. value_by w.running w.reopened };
 
-    ghost invariant = { λ w. IsModelledTree (running_state w.running) };
+    ghost invariant = { λ w. KeepsRun w.reopened (running_state w.running) };
 }
 
 impl<L: LogStore> World<L> {
+    /// Whether it was opened over the logs that an earlier run left; then the first steps are the restarts of its
+    /// processes.
+    pub fn is_reopened(&self) -> bool
+        ensures { result ≡ self.now.reopened }
+    {
+        self.reopened
+    }
+
     /// How many steps were made.
     pub fn made(&self) -> usize
         ensures { result ≡ length (state self.now).entries }
@@ -126,19 +137,23 @@ impl<L: LogStore> World<L> {
     /// by an operator's decision; commit is decided only where every participant voted yes or read-only;
     /// every answer that finds its asker in doubt tells the root's outcome; a mismatch stands until it is
     /// forgotten; an operator's record comes from an operator alone; and each End of the root reports
-    /// mismatches truly (R*).
+    /// mismatches truly (R*). Where the tree was opened over the logs of an earlier run, so it is of both parts
+    /// together, from each run that it stood for, and each End of the later part reports truly.
     pub fn apply(&mut self, event: Event) -> Result<(), StepError>
         ensures ok { OnOk result (Applies (state self.old) event (state self.new)) }
         ensures err { IfErr result (λ e. Stops (state self.old) event e (state self.new)) }
         ensures goes_on { (es : List Made) (w : ModelWorld) → FollowsBehindFaults es w (state self.old)
             → GoesOnBehindFaults es w (state self.new) }
-        ensures headline { KeepsHeadline (state self.new) }
+        ensures goes_on_since { (past : Earlier) (es : List Made) (w : ModelWorld)
+            → FollowsSince past es w (state self.old) → GoesOnKeeping past es w (state self.new) }
+        ensures headline { self.old.reopened ≡ false → KeepsHeadline (state self.new) }
+        ensures reopened { self.new.reopened ≡ self.old.reopened }
     {
         self.running.make(event)
     }
 
     /// Makes these events, in order, up to the first that is refused: then how many were made, and why the
-    /// next was not. However it ends, the tree stands for a run that goes on, as behind one event, and the
+    /// next was not. However it ends, the tree stands for a run that goes on, as after one event, and the
     /// same holds of it.
     pub fn run(&mut self, events: &[Event]) -> Result<(), (usize, StepError)>
         ensures ok { OnOk result (Leads (state self.old) events.now (state self.new)) }
@@ -147,7 +162,10 @@ impl<L: LogStore> World<L> {
         ensures within { IfErr result (λ refusal. refusal.0 < length events.now) }
         ensures goes_on { (es : List Made) (w : ModelWorld) → FollowsBehindFaults es w (state self.old)
             → GoesOnBehindFaults es w (state self.new) }
-        ensures headline { KeepsHeadline (state self.new) }
+        ensures goes_on_since { (past : Earlier) (es : List Made) (w : ModelWorld)
+            → FollowsSince past es w (state self.old) → GoesOnKeeping past es w (state self.new) }
+        ensures headline { self.old.reopened ≡ false → KeepsHeadline (state self.new) }
+        ensures reopened { self.new.reopened ≡ self.old.reopened }
     {
         self.running.make_all(events)
     }

@@ -1,24 +1,12 @@
-use Rattle.std.proofs.Common.{◌∙◌, ap, map, refl, subst, sym}
-use Rattle.std.specs.List.{AllByRecursion}
-use Rattle.tree_model.specs.declared.names.Case.{Case}
-use Rattle.tree_model.specs.LogNames.{in_log, own_records}
+use Rattle.std.proofs.Common.{◌∙◌, ap, map, refl}
+use Rattle.tree_model.specs.LogNames.{in_log}
 use Rattle.tree_model.specs.Nodes.{logged_of}
 use Rattle.tree_model.specs.Restarts.{forced_all}
-use Rattle.inquire_core.specs.Readings.{ReadLog, place_below}
-use Rattle.inquire_core.specs.Summaries.{Summary}
-use Rattle.inquire_core.proofs.Numbered.{numbered_before, numbered_own}
-use Rattle.coord_table.specs.Restores.{IsNumbered, NotRebuilt}
+use Rattle.inquire_core.specs.Readings.{place_below}
+use Rattle.coord_table.specs.Restores.{NotRebuilt}
 use Rattle.coord_table.proofs.Framed.{made_error}
 use Rattle.coord_table.proofs.Rebuilds.{not_framed, not_planned, rebuilds}
 use Rattle.coord_table.proofs.rebuilding.rebuild.Goals as goal
-
-pub restores-requires : goal.restores-requires
-restores-requires c =
-    let planned = c.in_ok-appended.ensures.ok in
-    subst (λ (r : ReadLog). AllByRecursion (λ (e : Case × Summary). IsNumbered r.boot e.0) r.table)
-    (sym planned.reading)
-    (numbered_before (own_records (place_below c.args.me c.args.parent c.args.tree.now) c.args.records.now)
-    (numbered_own c.args.me c.args.parent c.args.tree.now 0 c.args.records.now c.requires))
 
 pub returns-clause-ok : goal.returns-clause-ok
 returns-clause-ok c =

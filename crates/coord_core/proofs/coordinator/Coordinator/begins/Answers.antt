@@ -4,22 +4,8 @@ use Rattle.coord_core.specs.declared.turn.Turn.TheVariants.{Begins}
 use Rattle.coord_core.specs.States.{CoordinatorValue, state}
 use Rattle.coord_core.specs.Meets.{RetiresNone, meant}
 use Rattle.coord_core.specs.Turned.{Turned}
-use Rattle.coord_core.proofs.Made.{begun_turn, fresh_txn}
+use Rattle.coord_core.proofs.Made.{begun_turn}
 use Rattle.coord_core.proofs.coordinator.Coordinator.begins.Goals as goal
-
-pub begin-requires : goal.begin-requires
-begin-requires g c =
-    let v : CoordinatorValue = record {
-      me = c.self.inside.me;
-      parent = c.self.inside.parent;
-      tree = c.self.inside.tree;
-      log = c.self.inside.log;
-      boot = c.self.inside.boot;
-      begun = c.self.inside.begun;
-      given = c.self.inside.given;
-      slots = c.self.inside.cases;
-    } in
-    fresh_txn v c.args.presumption c.self.invariant
 
 pub returns-clause-ok : goal.returns-clause-ok
 returns-clause-ok g c =

@@ -1,4 +1,4 @@
-use Rattle.std.proofs.Common.{rules, ap, ◌≡◌, ◌∙◌, IfErr, false, true, subst, sym}
+use Rattle.std.proofs.Common.{rules, ap, ◌≡◌, ◌∙◌, IfErr, true, subst, sym}
 use Rattle.tree_model.specs.declared.events.Input.{Input}
 use Rattle.tree_model.specs.Records.{is_reported}
 use Rattle.tree_model.specs.CoordinatorRows.{unknown_forget}
@@ -15,7 +15,7 @@ use Rattle.coord_core.specs.Turned.{Stopped, Turned, WritesDown, framed_of}
 use Rattle.coord_core.proofs.Made.{clear_breaks, clear_untaken, cleared_turn, seat_for}
 use Rattle.coord_core.proofs.Restarted.{same_log}
 use Rattle.coord_table.proofs.Framed.{made_error}
-use Rattle.coord_core.proofs.Kept.{broken_logged, clear_of_case, never_both, reached_reported, written_form, written_logged, written_opened}
+use Rattle.coord_core.proofs.Kept.{written_form}
 use Rattle.coord_core.proofs.coordinator.Coordinator.clears.Goals as goal
 
 pub write_down-requires-clause-framed : goal.write_down-requires-clause-framed
@@ -83,76 +83,23 @@ returns-clause-ok g c =
 
 pub invariant_of-self-in-Err : goal.invariant_of-self-in-Err
 invariant_of-self-in-Err g c =
-    let v : CoordinatorValue = record {
-      me = c.self.inside.me;
-      parent = c.self.inside.parent;
-      tree = c.self.inside.tree;
-      log = c.self.inside.log;
-      boot = c.self.inside.boot;
-      begun = c.self.inside.begun;
-      given = c.self.inside.given;
-      slots = c.self.inside.cases;
-    } in
-    let does : Does (seat_for v c.args.case)
-    (unknown_forget (seat (seat_for v c.args.case)) unknown_view) c.in_ok-effect.effect unknown_view =
-    subst (λ (s : Seat). Does s (unknown_forget (seat s) unknown_view) c.in_ok-effect.effect unknown_view)
-    c.seat.ensures (c.in_ok-effect.ensures.ok unknown_view) in
-    let told : is_reported (kept_records (state c.args.self.now)) c.args.case ≡ true = search rules in
-    let reported : is_reported (kept_records (state v)) c.args.case ≡ true =
-    subst (λ (w : CoordinatorValue). is_reported (kept_records (state w)) c.args.case ≡ true)
-    (sym c.self.view_is) told in
-    let reached = reached_reported v c.self.invariant c.args.case reported in
-    let all = clear_of_case (seat_for v c.args.case) c.in_ok-effect.effect unknown_view does in
     let breaks : Breaks c.make_room.new.log c.write_down.new.log
     (framed_of c.in_ok-effect.effect.written) = search rules in
     record {
       form = breaks.form ∙ ap (λ (s : LogSight). s.form) c.make_room.ensures.stays ∙ c.self.invariant.form;
       active = c.self.invariant.active;
-      begun = c.self.invariant.begun;
       given = c.self.invariant.given;
-      numbered = c.self.invariant.numbered;
-      logged = broken_logged v c.self.invariant c.args.case c.in_ok-effect.effect.written c.make_room.new.log
-          c.write_down.new.log c.make_room.ensures.stays reached all breaks;
-      opened = λ works. absurd (never_both c.write_down.new.log.sight.failed breaks.failed works);
     }
 
 pub invariant_of-self-3 : goal.invariant_of-self-3
 invariant_of-self-3 g c =
-    let v : CoordinatorValue = record {
-      me = c.self.inside.me;
-      parent = c.self.inside.parent;
-      tree = c.self.inside.tree;
-      log = c.self.inside.log;
-      boot = c.self.inside.boot;
-      begun = c.self.inside.begun;
-      given = c.self.inside.given;
-      slots = c.self.inside.cases;
-    } in
-    let does : Does (seat_for v c.args.case)
-    (unknown_forget (seat (seat_for v c.args.case)) unknown_view) c.in_ok-effect.effect unknown_view =
-    subst (λ (s : Seat). Does s (unknown_forget (seat s) unknown_view) c.in_ok-effect.effect unknown_view)
-    c.seat.ensures (c.in_ok-effect.ensures.ok unknown_view) in
-    let told : is_reported (kept_records (state c.args.self.now)) c.args.case ≡ true = search rules in
-    let reported : is_reported (kept_records (state v)) c.args.case ≡ true =
-    subst (λ (w : CoordinatorValue). is_reported (kept_records (state w)) c.args.case ≡ true)
-    (sym c.self.view_is) told in
-    let reached = reached_reported v c.self.invariant c.args.case reported in
-    let all = clear_of_case (seat_for v c.args.case) c.in_ok-effect.effect unknown_view does in
-    let up : v.log.sight.failed ≡ false =
-    subst (λ (w : CoordinatorValue). w.log.sight.failed ≡ false) (sym c.self.view_is) c.requires.up in
     let writes : WritesDown c.make_room.new.log c.write_down.new.log
     c.in_ok-effect.effect.written = search rules in
     record {
       form = written_form c.make_room.new.log c.write_down.new.log c.in_ok-effect.effect.written writes
           ∙ ap (λ (s : LogSight). s.form) c.make_room.ensures.stays ∙ c.self.invariant.form;
       active = c.self.invariant.active;
-      begun = c.self.invariant.begun;
       given = c.self.invariant.given;
-      numbered = c.self.invariant.numbered;
-      logged = written_logged v c.self.invariant c.args.case c.in_ok-effect.effect.written c.make_room.new.log
-          c.write_down.new.log c.make_room.ensures.stays reached all writes;
-      opened = λ works. written_opened v c.self.invariant c.args.case c.in_ok-effect.effect.written
-          c.make_room.new.log c.write_down.new.log c.make_room.ensures.stays reached all up writes;
     }
 
 pub returns-in_err-effect-clause-err : goal.returns-in_err-effect-clause-err

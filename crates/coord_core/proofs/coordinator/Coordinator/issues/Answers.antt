@@ -1,10 +1,11 @@
 use Rattle.std.proofs.Common.{◌+◌, subst}
 use Rattle.tree_model.specs.declared.events.Input.{Input}
 use Rattle.coord_core.specs.declared.turn.Turn.TheVariants.{Issues}
-use Rattle.coord_core.specs.States.{CoordinatorValue, state}
+use Rattle.coord_core.specs.States.{CoordinatorValue, own_ticket, state}
 use Rattle.coord_core.specs.Meets.{meant}
 use Rattle.coord_core.specs.Turned.{Turned}
-use Rattle.coord_core.proofs.Made.{fresh_ticket, issued_turn}
+use Rattle.coord_core.proofs.Kept.{fresh_ticket, given_active, given_after}
+use Rattle.coord_core.proofs.Made.{issued_turn}
 use Rattle.coord_core.proofs.coordinator.Coordinator.issues.Goals as goal
 
 pub give-requires-clause-fresh : goal.give-requires-clause-fresh
@@ -19,7 +20,7 @@ give-requires-clause-fresh g c =
       given = c.self.inside.given;
       slots = c.self.inside.cases;
     } in
-    fresh_ticket v c.args.case.txn c.self.invariant
+    fresh_ticket v c.self.invariant
 
 pub returns-clause-ok : goal.returns-clause-ok
 returns-clause-ok g c =
@@ -38,3 +39,22 @@ returns-clause-ok g c =
     (meant w (Issues c.args.parent c.args.case)) c.in_ok-reaction.reaction) c.self.view_is
     (issued_turn v c.give.new.self c.args.parent c.args.case c.in_ok-reaction.reaction
     c.in_ok-give.ensures.ok c.in_ok-reaction.ensures)
+
+pub invariant_of-self-2 : goal.invariant_of-self-2
+invariant_of-self-2 g c =
+    let v : CoordinatorValue = record {
+      me = c.self.inside.me;
+      parent = c.self.inside.parent;
+      tree = c.self.inside.tree;
+      log = c.self.inside.log;
+      boot = c.self.inside.boot;
+      begun = c.self.inside.begun;
+      given = c.self.inside.given;
+      slots = c.self.inside.cases;
+    } in
+    let gives = c.in_ok-give.ensures.ok in
+    record {
+      form = c.self.invariant.form;
+      active = given_active v.slots c.give.new.self c.args.case (own_ticket v (v.given + 1)) c.self.invariant.active gives;
+      given = given_after v c.give.new.self c.args.case c.self.invariant gives.ticket gives.tickets;
+    }

@@ -10,4 +10,4 @@ returns-in-Ok-clause-ok g c =
 pub invariant_of-result : goal.invariant_of-result
 invariant_of-result g c =
     opened_keeps c.args.me c.args.parent c.args.tree c.args.log c.write_opened.new.log c.new.result c.requires.form
-    c.requires.empty c.in-Ok.ensures.ok c.new.ensures
+    c.in-Ok.ensures.ok c.new.ensures

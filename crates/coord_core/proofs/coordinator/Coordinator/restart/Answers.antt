@@ -1,56 +1,18 @@
 use Rattle.std.proofs.Common.{◌∙◌, IfErr, map, subst}
 use Rattle.log_text.specs.Made.{frame_record}
-use Rattle.rec_log.specs.Sights.{NotRestarted as LogNotRestarted, Restarts as LogRestarts}
+use Rattle.rec_log.specs.Sights.{Restarts as LogRestarts}
 use Rattle.core_model.specs.Restarting.{NotRestarted, Restarts}
 use Rattle.coord_core.specs.States.{CoordinatorValue, state}
-use Rattle.coord_core.proofs.Kept.{left_logged, restarted_logged, restarted_opened, unrestarted_logged, unrestarted_opened}
 use Rattle.coord_core.proofs.Restarted.{is_coordinator, not_rebuilt, rebuilt_as, restarts}
 use Rattle.coord_table.proofs.Framed.{made_error}
 use Rattle.coord_core.proofs.coordinator.Coordinator.restart.Goals as goal
 
-pub rebuild-requires : goal.rebuild-requires
-rebuild-requires g c =
-    let v : CoordinatorValue = record {
-      me = c.self.inside.me;
-      parent = c.self.inside.parent;
-      tree = c.self.inside.tree;
-      log = c.self.inside.log;
-      boot = c.self.inside.boot;
-      begun = c.self.inside.begun;
-      given = c.self.inside.given;
-      slots = c.self.inside.cases;
-    } in
-    left_logged v c.self.invariant c.args.keep c.deref.result.now
-    (c.deref.ensures.value ∙ c.in_ok-records.ensures {u = tt})
-
 pub invariant_of-self : goal.invariant_of-self
 invariant_of-self g c =
-    let v : CoordinatorValue = record {
-      me = c.self.inside.me;
-      parent = c.self.inside.parent;
-      tree = c.self.inside.tree;
-      log = c.self.inside.log;
-      boot = c.self.inside.boot;
-      begun = c.self.inside.begun;
-      given = c.self.inside.given;
-      slots = c.self.inside.cases;
-    } in
-    let broken : LogNotRestarted c.self.inside.log c.restart.new.self c.args.keep
-    (map frame_record c.in_ok-rebuilt.rebuilt.frames.items) c.in-Err.error =
-    subst (λ frames. LogNotRestarted c.self.inside.log c.restart.new.self c.args.keep (map frame_record frames)
-    c.in-Err.error) c.deref-2.ensures.value c.in-Err.ensures.err in
     record {
       form = c.restart.ensures.form ∙ c.self.invariant.form;
       active = c.self.invariant.active;
-      begun = c.self.invariant.begun;
       given = c.self.invariant.given;
-      numbered = c.self.invariant.numbered;
-      logged = unrestarted_logged v c.self.invariant c.args.keep c.deref.result.now
-          (c.deref.ensures.value ∙ c.in_ok-records.ensures {u = tt}) c.in_ok-rebuilt.rebuilt c.restart.new.self
-          c.in_ok-rebuilt.ensures.ok c.in-Err.error broken;
-      opened = unrestarted_opened v c.self.invariant c.args.keep c.deref.result.now
-          (c.deref.ensures.value ∙ c.in_ok-records.ensures {u = tt}) c.in_ok-rebuilt.rebuilt c.restart.new.self
-          c.in_ok-rebuilt.ensures.ok c.in-Err.error broken;
     }
 
 pub invariant_of-self-2 : goal.invariant_of-self-2
@@ -65,18 +27,8 @@ invariant_of-self-2 g c =
       given = c.self.inside.given;
       slots = c.self.inside.cases;
     } in
-    let restarted : LogRestarts c.self.inside.log c.restart.new.self c.args.keep
-    (map frame_record c.in_ok-rebuilt.rebuilt.frames.items) =
-    subst (λ frames. LogRestarts c.self.inside.log c.restart.new.self c.args.keep (map frame_record frames))
-    c.deref-2.ensures.value c.in_default.ensures.ok in
     is_coordinator v c.deref.result.now c.in_ok-rebuilt.rebuilt c.restart.new.self
     c.in_ok-rebuilt.ensures.ok (c.restart.ensures.form ∙ c.self.invariant.form)
-    (restarted_logged v c.self.invariant c.args.keep c.deref.result.now
-    (c.deref.ensures.value ∙ c.in_ok-records.ensures {u = tt}) c.in_ok-rebuilt.rebuilt c.restart.new.self
-    c.in_ok-rebuilt.ensures.ok restarted)
-    (restarted_opened v c.self.invariant c.args.keep c.deref.result.now
-    (c.deref.ensures.value ∙ c.in_ok-records.ensures {u = tt}) c.in_ok-rebuilt.rebuilt c.restart.new.self
-    c.in_ok-rebuilt.ensures.ok restarted)
 
 pub returns-clause-ok : goal.returns-clause-ok
 returns-clause-ok g c =
@@ -117,4 +69,4 @@ returns-in_err-rebuilt-clause-err g c =
     (made_error (NotRestarted (state v) c.args.keep (state v)) c.in_err-rebuilt.field-0.0
     c.from_residual-in_err-rebuilt.result c.from_residual-in_err-rebuilt.ensures.1
     (not_rebuilt v c.args.keep c.deref.result.now c.in_err-rebuilt.field-0.0
-    (c.deref.ensures.value ∙ c.in_ok-records.ensures {u = tt}) (c.in_err-rebuilt.ensures {u = tt}).err))
+    (c.deref.ensures.value ∙ c.in_ok-records.ensures {u = tt}) c.in_err-rebuilt.ensures.err))

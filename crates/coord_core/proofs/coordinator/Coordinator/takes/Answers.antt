@@ -1,4 +1,4 @@
-use Rattle.std.proofs.Common.{rules, ap, ◌≡◌, false, IfErr, subst, sym, ◌∙◌}
+use Rattle.std.proofs.Common.{rules, ap, IfErr, subst, sym, ◌∙◌}
 use Rattle.tree_model.specs.declared.events.Input.{Input}
 use Rattle.rec_log.specs.Sights.{Breaks, LogSight}
 use Rattle.core_model.specs.States.{SameCore}
@@ -6,15 +6,15 @@ use Rattle.core_model.specs.Turns.{Takes}
 use Rattle.core_model.specs.Makes.{BreaksIn}
 use Rattle.coord_effects.specs.declared.seat.Seat.{Seat}
 use Rattle.coord_effects.specs.Rows.{seat}
-use Rattle.coord_table.specs.Asks.{asked_row}
+use Rattle.coord_table.specs.Asks.{asked_row, is_retiring}
 use Rattle.coord_table.specs.Cases.{view_in}
-use Rattle.coord_table.specs.Takes.{IsAt, NotTaken, TakesRowOf}
+use Rattle.coord_table.specs.Takes.{NotTaken, TakesRowOf}
 use Rattle.coord_table.proofs.Framed.{made_error}
 use Rattle.coord_core.specs.States.{CoordinatorValue, state}
 use Rattle.coord_core.specs.Meets.{RetiresAs, met}
 use Rattle.coord_core.specs.Turned.{Stopped, Turned, WritesDown, framed_of}
-use Rattle.coord_core.proofs.Made.{case_before, row_breaks, row_turn, row_untaken, same_cases, seat_for}
-use Rattle.coord_core.proofs.Kept.{broken_logged, never_both, reached_at, row_of_case, written_form, written_logged, written_opened}
+use Rattle.coord_core.proofs.Made.{row_breaks, row_turn, row_untaken, same_cases, seat_for}
+use Rattle.coord_core.proofs.Kept.{active_before, written_form}
 use Rattle.coord_core.proofs.coordinator.Coordinator.takes.Goals as goal
 
 pub returns-in-Err-clause-err : goal.returns-in-Err-clause-err
@@ -86,24 +86,13 @@ invariant_of-self-in-Err g c =
     c.args.asked c.in_ok-effect.effect =
     subst (λ s. TakesRowOf v.slots c.take.new.cases s c.args.asked c.in_ok-effect.effect)
     c.seat-seat.ensures c.in_ok-effect.ensures.ok in
-    let at : IsAt v.slots c.args.key c.args.case =
-    subst (λ (w : CoordinatorValue). IsAt w.slots c.args.key c.args.case) (sym c.self.view_is) c.requires.at in
-    let up : v.log.sight.failed ≡ false =
-    subst (λ (w : CoordinatorValue). w.log.sight.failed ≡ false) (sym c.self.view_is) c.requires.up in
-    let reached = reached_at v c.self.invariant c.args.key c.args.case at up in
-    let all = row_of_case (seat_for v c.args.case) c.args.asked v.slots c.take.new.cases c.in_ok-effect.effect
-    takes in
     let breaks : Breaks c.make_room.new.log c.write_down.new.log
     (framed_of c.in_ok-effect.effect.written) = search rules in
     record {
       form = breaks.form ∙ ap (λ (s : LogSight). s.form) c.make_room.ensures.stays ∙ c.self.invariant.form;
       active = takes.given;
-      begun = λ k p n is. c.self.invariant.begun k p n (case_before _ _ k _ takes.cases is);
-      given = λ k x n is. c.self.invariant.given k x n (case_before _ _ k _ takes.cases is);
-      numbered = λ k d is. c.self.invariant.numbered k d (case_before _ _ k d takes.cases is);
-      logged = broken_logged v c.self.invariant c.args.case c.in_ok-effect.effect.written c.make_room.new.log
-          c.write_down.new.log c.make_room.ensures.stays reached all breaks;
-      opened = λ works. absurd (never_both c.write_down.new.log.sight.failed breaks.failed works);
+      given = λ d n is. c.self.invariant.given d n
+          (active_before v.slots c.take.new.cases (is_retiring c.args.asked) c.args.case d _ (takes.tickets d) is);
     }
 
 pub invariant_of-self-3 : goal.invariant_of-self-3
@@ -122,26 +111,14 @@ invariant_of-self-3 g c =
     c.args.asked c.in_ok-effect.effect =
     subst (λ s. TakesRowOf v.slots c.take.new.cases s c.args.asked c.in_ok-effect.effect)
     c.seat-seat.ensures c.in_ok-effect.ensures.ok in
-    let at : IsAt v.slots c.args.key c.args.case =
-    subst (λ (w : CoordinatorValue). IsAt w.slots c.args.key c.args.case) (sym c.self.view_is) c.requires.at in
-    let up : v.log.sight.failed ≡ false =
-    subst (λ (w : CoordinatorValue). w.log.sight.failed ≡ false) (sym c.self.view_is) c.requires.up in
-    let reached = reached_at v c.self.invariant c.args.key c.args.case at up in
-    let all = row_of_case (seat_for v c.args.case) c.args.asked v.slots c.take.new.cases c.in_ok-effect.effect
-    takes in
     let writes : WritesDown c.make_room.new.log c.write_down.new.log
     c.in_ok-effect.effect.written = search rules in
     record {
       form = written_form c.make_room.new.log c.write_down.new.log c.in_ok-effect.effect.written writes
           ∙ ap (λ (s : LogSight). s.form) c.make_room.ensures.stays ∙ c.self.invariant.form;
       active = takes.given;
-      begun = λ k p n is. c.self.invariant.begun k p n (case_before _ _ k _ takes.cases is);
-      given = λ k x n is. c.self.invariant.given k x n (case_before _ _ k _ takes.cases is);
-      numbered = λ k d is. c.self.invariant.numbered k d (case_before _ _ k d takes.cases is);
-      logged = written_logged v c.self.invariant c.args.case c.in_ok-effect.effect.written c.make_room.new.log
-          c.write_down.new.log c.make_room.ensures.stays reached all writes;
-      opened = λ works. written_opened v c.self.invariant c.args.case c.in_ok-effect.effect.written
-          c.make_room.new.log c.write_down.new.log c.make_room.ensures.stays reached all up writes;
+      given = λ d n is. c.self.invariant.given d n
+          (active_before v.slots c.take.new.cases (is_retiring c.args.asked) c.args.case d _ (takes.tickets d) is);
     }
 
 pub returns-in_err-effect-clause-err : goal.returns-in_err-effect-clause-err

@@ -1,18 +1,29 @@
 use Rattle.tree_world.specs.Worlds.{running_state}
-use Rattle.tree_world.proofs.Modelled.{applied_from, keeps_headline, stays_modelled}
+use Rattle.tree_world.proofs.Modelled.{applied_from, applied_since, applied_tree, is_tree_of, kept_headline, stays_kept}
 use Rattle.tree_world.proofs.world.World.apply.Goals as goal
 
 pub invariant_of-self : goal.invariant_of-self
 invariant_of-self g c =
-    stays_modelled (running_state c.self.inside.running) (running_state c.make.new.self) c.self.invariant
-    (applied_from (running_state c.self.inside.running) (running_state c.make.new.self) c.args.event
-    c.make.result c.self.invariant c.make.ensures.ok c.make.ensures.err)
+    let old = running_state c.self.inside.running in
+    let new = running_state c.make.new.self in
+    stays_kept c.self.inside.reopened old new c.self.invariant
+    (applied_tree old new c.args.event c.make.result c.make.ensures.ok c.make.ensures.err)
+    (applied_from old new c.args.event c.make.result (is_tree_of c.self.inside.reopened old c.self.invariant)
+    c.make.ensures.ok c.make.ensures.err)
 
 pub returns-clause-goes_on : goal.returns-clause-goes_on
 returns-clause-goes_on g c =
+    let old = running_state c.self.inside.running in
     rw (← c.self.view_is) (λ es w f.
-    (applied_from (running_state c.self.inside.running) (running_state c.make.new.self) c.args.event
-    c.make.result c.self.invariant c.make.ensures.ok c.make.ensures.err es w f).goes_on_so)
+    (applied_from old (running_state c.make.new.self) c.args.event c.make.result
+    (is_tree_of c.self.inside.reopened old c.self.invariant) c.make.ensures.ok c.make.ensures.err es w f).goes_on_so)
+
+pub returns-clause-goes_on_since : goal.returns-clause-goes_on_since
+returns-clause-goes_on_since g c =
+    let old = running_state c.self.inside.running in
+    rw (← c.self.view_is) (applied_since old (running_state c.make.new.self) c.args.event c.make.result
+    (is_tree_of c.self.inside.reopened old c.self.invariant) c.make.ensures.ok c.make.ensures.err)
 
 pub returns-clause-headline : goal.returns-clause-headline
-returns-clause-headline g c = keeps_headline (running_state c.make.new.self) (invariant_of-self g c)
+returns-clause-headline g c =
+    rw (← c.self.view_is) (kept_headline c.self.inside.reopened (running_state c.make.new.self) (invariant_of-self g c))

@@ -1,0 +1,18 @@
+use Rattle.std.proofs.Common.{Some, refl, subst}
+use Rattle.live_table.specs.Tables.{Updates, entry_at}
+use Rattle.live_table.specs.Lends.{rewritten, with_value}
+use Rattle.live_table.proofs.Writes.{Updates-set}
+use Rattle.coord_table.proofs.Changing.{puts_again}
+use Rattle.coord_table.proofs.cases.put.Goals as goal
+
+pub returns-in-Some-get_mut-clause-ok : goal.returns-in-Some-get_mut-clause-ok
+returns-in-Some-get_mut-clause-ok c =
+    let found = c.in-Some.ensures.finds in
+    let updates : Updates c.args.table.now (with_value c.args.table.now c.in-Some.key c.args.held)
+    c.in-Some.key (Some (c.args.case, c.args.held)) =
+    subst (λ e. Updates c.args.table.now (with_value c.args.table.now c.in-Some.key c.args.held) c.in-Some.key
+    (rewritten e c.args.held)) found.1
+    (Updates-set c.args.table.now c.in-Some.key
+    (rewritten (entry_at c.args.table.now c.in-Some.key) c.args.held) (rw found.1 refl)) in
+    puts_again c.args.table.now (with_value c.args.table.now c.in-Some.key c.args.held) c.args.case found.0
+    c.args.held c.in-Some.key c.in-Some.ensures.apart found.1 updates
