@@ -1,5 +1,5 @@
 -- Records that a crash may take, and that take too many bytes.
-use Rattle.std.proofs.Common.{◌≡◌, ◌∙◌, ◌⊎◌, ap, sym, subst, ℕ, ◌<◌, ◌≤◌, ◌^◌, List, length, get_or, take, inl, inr}
+use Rattle.std.proofs.Common.{◌≡◌, ◌∙◌, ◌⊎◌, ap, sym, subst, ℕ, ◌<◌, ◌≤◌, ◌^◌, List, length, get_or, inl, inr}
 use Rattle.std.specs.Prelude.{sum}
 use Rattle.tree_model.specs.declared.trees.TreeEntry.{TreeEntry}
 use Rattle.core_law.specs.worlds.Worlds.{WorldState}

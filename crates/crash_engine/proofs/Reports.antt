@@ -1,50 +1,52 @@
 -- What is written of a script.
-use Rattle.std.proofs.Common.{◌≡◌, sym, subst, ℕ, suc, ◌+◌, ◌<◌, ◌≤◌, ◌&&◌, Bool, true, false, is_some, if◌then◌else◌, Some, None, List, length, take, arith}
+use Rattle.std.proofs.Common.{◌≡◌, sym, subst, ℕ, suc, ◌+◌, ◌<◌, ◌≤◌, ◌&&◌, Bool, true, false, is_some, if◌then◌else◌, Option, Some, None, List, length, take, arith}
 use Rattle.tree_model.specs.declared.events.Event.{Event}
 use Rattle.tree_model.specs.declared.trees.TreeEntry.{TreeEntry}
-use Rattle.link_script.specs.Inputs.{IsScript}
+use Rattle.logs_script.specs.declared.line.ProcessLog.{ProcessLog}
+use Rattle.reopen_script.specs.Inputs.{IsReopenScript}
 use Rattle.core_law.specs.worlds.Refusals.{Refusal}
 use Rattle.crash_engine.specs.Trials.{Adds, EndsAlone, GoesOver, GoesThrough, IsRefused, Known, TriesAll, known_of}
+use Rattle.crash_engine.specs.declared.origin.Origin.{Origin}
 use Rattle.crash_engine.specs.declared.trial.Found.{Found}
 use Rattle.crash_engine.specs.declared.trial.Trial.{Trial}
-use Rattle.crash_engine.specs.Crashes.{IsCrashReport, TriesScript}
+use Rattle.crash_engine.specs.Crashes.{IsCrashReport, TriesFrom, TriesScript}
 use Rattle.crash_engine.specs.Texts.{are_clean, crashes_text, ending_by, is_clean}
 use Rattle.crash_engine.specs.declared.ending.Ending.{Ending}
 use Rattle.crash_engine.specs.declared.ending.Ending.TheVariants as ending
 
 -- one event more is gone through
-pub one_event_more : (tree : List TreeEntry) (known : Known) (events : List Event) (n : ℕ) (refusal : Refusal)
+pub one_event_more : (o : Origin) (known : Known) (events : List Event) (n : ℕ) (refusal : Refusal)
     (old new : List Trial) → is_some refusal ≡ false
-    → Adds tree known (take (n + 1) events) refusal old new → GoesThrough tree known events n old
-    → GoesThrough tree known events (n + 1) new
-one_event_more tree known events n (Some r) old new is adds goes = absurd (cc)
-one_event_more tree known events n None old new is adds goes =
+    → Adds o known (take (n + 1) events) refusal old new → GoesThrough o known events n old
+    → GoesThrough o known events (n + 1) new
+one_event_more o known events n (Some r) old new is adds goes = absurd (cc)
+one_event_more o known events n None old new is adds goes =
     let more : n + 1 ≡ suc n = omega arith in
-    subst (λ k. GoesThrough tree known events k new) (sym more)
-    (old, adds.0, adds.1, goes, subst (λ k. TriesAll tree known (take k events) adds.0) more adds.2)
+    subst (λ k. GoesThrough o known events k new) (sym more)
+    (old, adds.0, adds.1, goes, subst (λ k. TriesAll o known (take k events) adds.0) more adds.2)
 
 -- an event is refused
-pub one_refused : (tree : List TreeEntry) (known : Known) (events : List Event) (n : ℕ) (refusal : Refusal)
+pub one_refused : (o : Origin) (known : Known) (events : List Event) (n : ℕ) (refusal : Refusal)
     (old new : List Trial) → is_some refusal ≡ true
-    → n < length events → Adds tree known (take (n + 1) events) refusal old new → GoesThrough tree known events n old
-    → GoesOver tree known events refusal new
-one_refused tree known events n None old new is within adds goes = absurd (cc)
-one_refused tree known events n (Some r) old new is within adds goes =
+    → n < length events → Adds o known (take (n + 1) events) refusal old new → GoesThrough o known events n old
+    → GoesOver o known events refusal new
+one_refused o known events n None old new is within adds goes = absurd (cc)
+one_refused o known events n (Some r) old new is within adds goes =
     let more : n + 1 ≡ suc n = omega arith in (
       n,
       within,
-      subst (GoesThrough tree known events n) (sym adds.0) goes,
+      subst (GoesThrough o known events n) (sym adds.0) goes,
       subst
-          (λ k. IsRefused tree (take k events) r) more adds.1,
+          (λ k. IsRefused o (take k events) r) more adds.1,
     )
 
 -- all are gone through
-pub all_over : (tree : List TreeEntry) (known : Known) (events : List Event) (n : ℕ) (ts : List Trial)
+pub all_over : (o : Origin) (known : Known) (events : List Event) (n : ℕ) (ts : List Trial)
     → length events ≤ n → n ≤ length events
-    → GoesThrough tree known events n ts → GoesOver tree known events None ts
-all_over tree known events n ts past within goes =
+    → GoesThrough o known events n ts → GoesOver o known events None ts
+all_over o known events n ts past within goes =
     let all : n ≡ length events = omega arith in
-    subst (λ k. GoesThrough tree known events k ts) all goes
+    subst (λ k. GoesThrough o known events k ts) all goes
 
 never_by : (clean : Bool) → ending.Refused ≡ (if clean then ending.Clean else ending.Finds) → ⊥
 never_by true is = absurd (cc)
@@ -62,23 +64,25 @@ ends_so ending.Stopped input text alone ts refusal is tries = tries
 ends_so ending.Finds input text alone ts refusal is tries = tries
 ends_so ending.Refused input text alone ts refusal is tries = absurd (never alone ts refusal is)
 
+-- crashes were tried
+pub tried_from : (o : Origin) (e : Ending) (text : List ℕ) (events : List Event) (alone : Found) (known : Known)
+    (ts : List Trial) (refusal : Refusal) → EndsAlone o events alone → known ≡ known_of alone
+    → GoesOver o known events refusal ts → e ≡ ending_by alone ts refusal → text ≡ crashes_text alone ts refusal
+    → TriesFrom o events e text
+tried_from o e text events alone known ts refusal so left goes ends is = record {
+  refusal = refusal;
+  alone = alone;
+  trials = ts;
+  ends_alone = so;
+  goes = subst (λ k. GoesOver o k events refusal ts) left goes;
+  ends = ends;
+  is = is;
+}
+
 -- the report of a script
-pub reported : (e : Ending) (input text : List ℕ) (tree : List TreeEntry) (events : List Event)
-    (alone : Found) (known : Known) (ts : List Trial) (refusal : Refusal)
-    → IsScript input tree events → EndsAlone tree events alone → known ≡ known_of alone
-    → GoesOver tree known events refusal ts → e ≡ ending_by alone ts refusal
-    → text ≡ crashes_text alone ts refusal
-    → IsCrashReport e input text
-reported e input text tree events alone known ts refusal script so left goes ends is =
-    ends_so e input text alone ts refusal ends (record {
-      tree = tree;
-      events = events;
-      script = script;
-      refusal = refusal;
-      alone = alone;
-      trials = ts;
-      ends_alone = so;
-      goes = subst (λ k. GoesOver tree k events refusal ts) left goes;
-      ends = ends;
-      is = is;
-    })
+pub reported : (e : Ending) (input text : List ℕ) (tree : List TreeEntry) (logs : Option (List ProcessLog))
+    (events : List Event) → IsReopenScript input tree logs events
+    → TriesFrom (record { tree = tree; logs = logs }) events e text → IsCrashReport e input text
+reported e input text tree logs events script tries =
+    ends_so e input text tries.alone tries.trials tries.refusal tries.ends
+    (record { tree = tree; logs = logs; events = events; script = script; tries = tries })

@@ -1,12 +1,14 @@
 -- What the logs of a tree say of its cases.
-use Rattle.std.specs.Prelude.{Bool, true, false, not, List, map, filter}
+use Rattle.std.specs.Prelude.{◌≡◌, ℕ, Bool, true, false, not, Some, List, map, filter}
 use Rattle.std.specs.List.{list_any}
 use Rattle.tree_model.specs.Names.{same_case}
 use Rattle.tree_model.specs.declared.names.Case.{Case}
+use Rattle.tree_model.specs.declared.names.ProcessId.{ProcessId}
 use Rattle.tree_model.specs.declared.events.Act.TheVariants.{Ask}
 use Rattle.tree_model.specs.declared.events.Event.{Event}
 use Rattle.tree_model.specs.declared.events.Event.TheVariants.{Act}
 use Rattle.logs_script.specs.declared.line.ProcessLog.{ProcessLog}
+use Rattle.logs_script.specs.Faults.{first_damage}
 use Rattle.audit_cases.specs.declared.kinds.Own.{Own}
 use Rattle.audit_cases.specs.declared.kinds.Own.TheVariants.{InDoubt}
 use Rattle.tree_audit.specs.Reports.{IsReport}
@@ -20,6 +22,12 @@ pub record Audits (w : WorldState) (r : Report) : Type 0 where
   pub logs : List ProcessLog
   pub are : AreLogs w w.tree logs
   pub says : IsReport w.tree logs r
+
+-- of the logs that the processes of a tree keep this one is damaged, the first in the order of the tree
+pub record IsDamagedThen (w : WorldState) (process : ProcessId) (place : ℕ) : Type 0 where
+  pub logs : List ProcessLog
+  pub are : AreLogs w w.tree logs
+  pub first : first_damage w.tree logs ≡ Some (process, place)
 
 -- by its own records a case is in doubt
 abbrev pub stands_in_doubt : Own → Bool

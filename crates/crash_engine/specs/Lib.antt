@@ -1,4 +1,5 @@
 pub mod Audits
+pub mod Origins
 pub mod Points
 pub mod Trials
 pub mod Crashes

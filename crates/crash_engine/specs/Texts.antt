@@ -8,7 +8,7 @@ use Rattle.tree_engine.specs.Trees.{refused_text}
 use Rattle.crash_engine.specs.declared.auditing.Left.{Left}
 use Rattle.crash_engine.specs.declared.points.Point.{Point}
 use Rattle.crash_engine.specs.declared.trial.Found.{Found}
-use Rattle.crash_engine.specs.declared.trial.Found.TheVariants.{Ended, Refused}
+use Rattle.crash_engine.specs.declared.trial.Found.TheVariants.{Damaged, Ended, Refused}
 use Rattle.crash_engine.specs.declared.trial.Trial.{Trial}
 use Rattle.crash_engine.specs.declared.ending.Ending.{Ending}
 use Rattle.crash_engine.specs.declared.ending.Ending.TheVariants as ending
@@ -61,6 +61,7 @@ left_text l = cases_text (codes " in-doubt") l.in_doubt.items ++ cases_text (cod
 unfoldable pub found_text : Found → List ℕ
 found_text (Ended l) = left_text l
 found_text (Refused event e) = codes " refused" ++ number_word event ++ number_word (step_error_number e)
+found_text (Damaged process place) = codes " damaged" ++ number_word process.0 ++ number_word place
 
 -- the crash: behind so many events this process restarts, and keeps so many bytes
 unfoldable pub point_text : ℕ → Point → List ℕ

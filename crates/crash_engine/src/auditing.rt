@@ -8,7 +8,7 @@ ghost use Rattle.tree_model.specs.declared.trees.TreeEntry.{TreeEntry};
 ghost use Rattle.tree_model.specs.Names.{same_case};
 ghost use Rattle.tree_model.specs.Trees.{IsTree};
 ghost use Rattle.tree_world.specs.Worlds.{state};
-ghost use Rattle.crash_engine.specs.Audits.{Audits, asks_by, asks_for as asks_of_cases, beyond, doubts_in, mismatched_in, stands_in_doubt};
+ghost use Rattle.crash_engine.specs.Audits.{Audits, IsDamagedThen, asks_by, asks_for as asks_of_cases, beyond, doubts_in, mismatched_in, stands_in_doubt};
 
 use audit_cases::Own;
 use left_logs::law::left_logs_are_read;
@@ -16,7 +16,7 @@ use log_store::MemoryStore;
 use report_io::Failure;
 use std::alloc::{AllocError, Global};
 use tree_audit::{AuditError, Line, Report, audit};
-use tree_model::{Act, Case, Event};
+use tree_model::{Act, Case, Event, ProcessId};
 use tree_world::{World, logs_left};
 
 /// The cases that an audit shows in doubt, and those that it shows decided otherwise, in the order of its
@@ -40,20 +40,25 @@ impl Left {
     }
 }
 
-/// Audits the logs that the processes of a tree keep, whose events were all made: none of them is damaged.
-pub(crate) fn audit_of(alloc: Global, world: &World<MemoryStore>) -> Result<Report, Failure>
-    requires is_tree { IsTree (state world.now).tree }
-    requires all_made { (tree : List TreeEntry) × (events : List AnyEvent)
-        × Plays tree events None (state world.now) }
-    ensures audits { IfOk result (λ report. Audits (state world.now) report) }
+/// Audits the logs that the processes of a tree keep; or tells the first that is damaged, and where. None is damaged of
+/// a tree that opened over empty logs and whose events were all made.
+pub(crate) fn audit_of(
+    alloc: Global,
+    world: &World<MemoryStore>,
+) -> Result<Result<Report, (ProcessId, usize)>, Failure>
+    requires { IsTree (state world.now).tree }
+    ensures audits { IfOk result (λ audited. IfOk audited (Audits (state world.now))) }
+    ensures damaged { IfOk result (λ audited. IfErr audited (λ d. IsDamagedThen (state world.now) d.0 d.1)) }
+    ensures never { IfOk result (λ audited. IfErr audited (λ _. (tree : List TreeEntry) (events : List AnyEvent)
+        → Plays tree events None (state world.now) → ⊥)) }
     ensures memory { IfErr result (λ e. e ≡ Failure.Memory) }
 {
     let logs = logs_left(alloc, world)?;
     left_logs_are_read();
     match audit(alloc, world.tree(), &logs) {
-        Ok(report) => Ok(report),
+        Ok(report) => Ok(Ok(report)),
         Err(AuditError::Memory) => Err(Failure::Memory),
-        Err(AuditError::Damaged(_, _)) => unreachable!(),
+        Err(AuditError::Damaged(process, place)) => Ok(Err((process, place))),
     }
 }
 

@@ -7,21 +7,24 @@ ghost use Rattle.report_io.specs.Streams.{IsInput, IsOfRun, WritesFront};
 ghost use Rattle.tree_engine.specs.Failures.{IsStop};
 ghost use Rattle.tree_engine.specs.Trees.{IsNumbered};
 ghost use Rattle.crash_engine.specs.Trials.{GoesOver, known_by};
-ghost use Rattle.crash_engine.specs.Failures.{CannotGoOver, CannotReport};
-ghost use Rattle.crash_engine.specs.Crashes.{IsCrashReport};
+ghost use Rattle.crash_engine.specs.Failures.{CannotGoOver, CannotReport, CannotTry};
+ghost use Rattle.crash_engine.specs.Crashes.{IsCrashReport, TriesFrom};
 ghost use Rattle.crash_engine.specs.Texts.{ending_by};
 ghost use Rattle.crash_engine.specs.declared.ending.Ending.{Ending as AnyEnding};
 
 use crate::auditing::Left;
 use crate::ending::Ending;
 use crate::lines::{are_clean, is_clean, text_of};
+use crate::origin::{Origin, damage_of};
 use crate::trial::{Found, Trial, left_alone, try_alone, try_event};
-use link_script::{ScriptError, read};
+use link_script::ScriptError;
+use logs_script::damaged;
+use reopen_script::read_reopen;
 use report_io::{Failure, read_all, write_all};
 use std::alloc::Global;
 use std::io::{Read, Write};
 use tree_engine::{Refusal, refusal};
-use tree_model::{Event, Tree};
+use tree_model::Event;
 
 /// How many percent of the events so many are.
 fn percent(made: usize, events: usize) -> u64 {
@@ -52,21 +55,21 @@ fn show<P: Write>(
 /// `show` and `try_event`.
 fn try_events<P: Write>(
     alloc: Global,
-    tree: &Tree,
+    origin: &Origin,
     known: &Left,
     events: &[Event],
     progress: &mut P,
 ) -> Result<(Vec<Trial>, Refusal), Failure>
-    requires { IsTree tree.now }
-    ensures goes { IfOk result (λ r. GoesOver tree.now (known_by known.now) events.now r.1 r.0.items) }
+    requires { IsTree origin.now.tree }
+    ensures goes { IfOk result (λ r. GoesOver origin.now (known_by known.now) events.now r.1 r.0.items) }
     ensures numbered { IfOk result (λ r. IsNumbered r.1) }
-    ensures err { IfErr result (λ why. (why ≡ Failure.Memory) ⊎ CannotGoOver tree.now events.now why) }
+    ensures err { IfErr result (λ why. (why ≡ Failure.Memory) ⊎ CannotGoOver origin.now events.now why) }
     ensures why { IfErr result IsOfRun }
 {
     let mut trials = Vec::new(alloc);
     for made in 0..events.len() {
         show(alloc, progress, made + 1, events.len())?;
-        let refusal = try_event(alloc, tree, known, &events[..made + 1], &mut trials)?;
+        let refusal = try_event(alloc, origin, known, &events[..made + 1], &mut trials)?;
         if refusal.is_some() {
             return Ok((trials, refusal));
         }
@@ -85,6 +88,25 @@ fn ending_of(alone: &Found, trials: &[Trial], refusal: Refusal) -> Ending
     }
 }
 
+/// What crashes of a script end with.
+fn crashes<P: Write>(
+    alloc: Global,
+    origin: &Origin,
+    events: &[Event],
+    progress: &mut P,
+) -> Result<(Vec<u8>, Ending), Failure>
+    requires { IsTree origin.now.tree }
+    ensures tries { IfOk result (λ r. TriesFrom origin.now events.now r.1 r.0.items) }
+    ensures err { IfErr result (λ why. (why ≡ Failure.Memory) ⊎ CannotTry origin.now events.now why) }
+    ensures why { IfErr result IsOfRun }
+{
+    let alone = try_alone(alloc, origin, events)?;
+    let known = left_alone(alloc, &alone)?;
+    let (trials, refusal) = try_events(alloc, origin, &known, events, progress)?;
+    let text = text_of(alloc, &alone, &trials, refusal)?;
+    Ok((text, ending_of(&alone, &trials, refusal)))
+}
+
 /// The answer to an input.
 fn answer<P: Write>(
     alloc: Global,
@@ -95,16 +117,15 @@ fn answer<P: Write>(
     ensures err { IfErr result (λ why. (why ≡ Failure.Memory) ⊎ CannotReport input.now why) }
     ensures why { IfErr result IsOfRun }
 {
-    match read(alloc, input) {
-        Ok((tree, events)) => {
-            let alone = try_alone(alloc, &tree, &events)?;
-            let known = left_alone(alloc, &alone)?;
-            let (trials, refusal) = try_events(alloc, &tree, &known, &events, progress)?;
-            let text = text_of(alloc, &alone, &trials, refusal)?;
-            Ok((text, ending_of(&alone, &trials, refusal)))
-        }
-        Err(ScriptError::Fault(fault)) => Ok((refusal(alloc, fault)?, Ending::Refused)),
-        Err(ScriptError::Memory) => Err(Failure::Memory),
+    let (tree, logs, events) = match read_reopen(alloc, input) {
+        Ok(script) => script,
+        Err(ScriptError::Fault(fault)) => return Ok((refusal(alloc, fault)?, Ending::Refused)),
+        Err(ScriptError::Memory) => return Err(Failure::Memory),
+    };
+    let origin = Origin { tree, logs };
+    match damage_of(alloc, &origin)? {
+        Some((process, place)) => Ok((damaged(alloc, process, place)?, Ending::Refused)),
+        None => crashes(alloc, &origin, &events, progress),
     }
 }
 
@@ -114,15 +135,16 @@ fn answer<P: Write>(
 /// parent, everything is delivered again, and the logs are audited. Writes first what the script leaves
 /// without any crash, where it leaves a case in doubt or a mismatch; then a line for each crash that leaves
 /// more than that, and the numbers of crashes; behind them which event was refused, if one was, or alone why
-/// the script was.
+/// the script was. Where the script begins its events with logs, each run opens over them, and a damaged one is told alone.
 ///
-/// Each of these runs is one of the model: the headline holds of it, and mismatches are reported in it. The
+/// Each of these runs is one of the model: the headline holds of it, and mismatches are reported in it; over logs, so
+/// it is from each run that left them, and a log that is damaged after a crash is told: no run leaves such logs. The
 /// time goes with the square of the number of events. `progress` gets a line for each percent of them; a
 /// failed write there is no failure of the run.
 /// After a failed read, or where memory is refused, a device fails or numbers are used up, nothing was
 /// written; after a failed write, a beginning of the text. Device and Exhausted come only of a script, one of
 /// whose runs cannot go on for that; Exhausted also where a process's records that a crash may take come to
-/// 2^64 bytes or more.
+/// 2^64 bytes or more, and Device where the tree does not open once more over its logs.
 pub fn run_crash<R: Read, W: Write, P: Write>(
     alloc: Global,
     reader: &mut R,

@@ -7,6 +7,7 @@ mod auditing;
 mod ending;
 mod engine;
 mod lines;
+mod origin;
 mod points;
 mod trial;
 

@@ -80,6 +80,9 @@ fn push_found(out: &mut Vec<u8>, found: &Found) -> Result<(), AllocError>
         Found::Refused(event, refusal) => {
             push_two(out, " refused", *event, u64::from(refusal.number()))
         }
+        Found::Damaged(process, place) => {
+            push_two(out, " damaged", u64::from(process.0), *place as u64)
+        }
     }
 }
 

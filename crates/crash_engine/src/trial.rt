@@ -4,12 +4,12 @@ ghost use Rattle.std.specs.Prelude.{◌≡◌, ◌⊎◌, ◌++◌, ◌∷◌, [
 ghost use Rattle.tree_model.specs.declared.events.Event.{Event as AnyEvent};
 ghost use Rattle.core_law.specs.worlds.Refusals.{Refusal as AnyRefusal};
 ghost use Rattle.core_law.specs.worlds.Worlds.{WorldState};
-ghost use Rattle.tree_engine.specs.Trees.{IsNumbered, Plays};
-ghost use Rattle.tree_model.specs.declared.trees.TreeEntry.{TreeEntry};
+ghost use Rattle.tree_engine.specs.Trees.{IsNumbered};
 ghost use Rattle.tree_model.specs.Trees.{IsTree};
 ghost use Rattle.tree_world.specs.Worlds.{state};
-ghost use Rattle.tree_engine.specs.Runs.{Begins};
 ghost use Rattle.report_io.specs.Streams.{IsOfRun};
+ghost use Rattle.crash_engine.specs.declared.origin.Origin.{Origin as AnyOrigin};
+ghost use Rattle.crash_engine.specs.Origins.{Opens, PlaysFrom};
 ghost use Rattle.crash_engine.specs.Failures.{
   CannotEndAlone,
   CannotTryAll,
@@ -20,13 +20,13 @@ ghost use Rattle.crash_engine.specs.Failures.{
 ghost use Rattle.crash_engine.specs.Trials.{Adds, AddsTrials, EndsAlone, EndsWith, Leaves, Tries, known_by, known_of, left_beyond, made_by, nothing_known, trial_of};
 
 use crate::auditing::{Left, asks_of, audit_of, cases_beyond, doubts_of, mismatches_of};
+use crate::origin::{Origin, opened};
 use crate::points::{Point, crash_events, points_of};
 use report_io::Failure;
 use std::alloc::{AllocError, Global};
 use tree_audit::{Line, Report};
 use tree_engine::{Refusal, Run};
-use tree_model::{Event, StepError, Tree};
-use tree_world::copied_tree;
+use tree_model::{Event, ProcessId, StepError};
 
 /// What a crash ends with.
 #[derive(Drop)]
@@ -35,6 +35,9 @@ pub enum Found {
     Ended(Left),
     /// The event with this number, from 1, of its run was refused.
     Refused(u64, StepError),
+    /// The log of this process, of a tree that was opened over logs, is damaged there: no run leaves logs that come to
+    /// that.
+    Damaged(ProcessId, usize),
 }
 
 /// A crash behind so many events of a script, and what it ends with.
@@ -43,15 +46,6 @@ pub struct Trial {
     pub events: usize,
     pub point: Point,
     pub found: Found,
-}
-
-/// A run of a tree that opens.
-fn opened(alloc: Global, tree: &Tree) -> Result<Run, Failure>
-    requires { IsTree tree.now }
-    ensures begins { IfOk result (λ run. Begins tree.now run) }
-    ensures memory { IfErr result (λ e. e ≡ Failure.Memory) }
-{
-    Run::open(alloc, copied_tree(alloc, tree.entries())?)
 }
 
 /// The cases of an audit's lines that are in doubt or show a mismatch, beyond the known ones.
@@ -76,25 +70,24 @@ fn found_by(alloc: Global, known: &Left, report: &Report) -> Result<Found, Alloc
 /// What a run ends with, beyond what is known.
 fn found_of(alloc: Global, known: &Left, run: &Run) -> Result<Found, Failure>
     requires is_tree { IsTree (state run.now.world).tree }
-    requires plays { (tree : List TreeEntry) × (events : List AnyEvent)
-        × Plays tree events run.now.refusal (state run.now.world) }
     requires numbered { IsNumbered run.now.refusal }
-    ensures ends { IfOk result (λ found. EndsWith (known_by known.now) (state run.now.world)
-        run.now.refusal found) }
+    ensures ends { IfOk result (λ found. (origin : AnyOrigin) (events : List AnyEvent)
+        → PlaysFrom origin events run.now.refusal (state run.now.world)
+        → EndsWith origin (known_by known.now) (state run.now.world) run.now.refusal found) }
     ensures memory { IfErr result (λ e. e ≡ Failure.Memory) }
 {
     match run.refusal() {
         Some((made, refusal)) => Ok(Found::Refused(made as u64 + 1, refusal)),
-        None => {
-            let report = audit_of(alloc, run.world())?;
-            Ok(found_by(alloc, known, &report)?)
-        }
+        None => match audit_of(alloc, run.world())? {
+            Ok(report) => Ok(found_by(alloc, known, &report)?),
+            Err((process, place)) => Ok(Found::Damaged(process, place)),
+        },
     }
 }
 
 /// Runs these events and the crash behind them, if there is one, in a tree that has just opened, settles,
 /// asks for every case that is in doubt by the logs, settles again, and audits the logs. Where one of these
-/// events or of the crash is refused, that is all. Memory; Device, Exhausted: one of these events cannot be
+/// events or of the crash is refused, or then a log is damaged, that is all. Memory; Device, Exhausted: one of these events cannot be
 /// made for that.
 fn crash(
     alloc: Global,
@@ -103,11 +96,11 @@ fn crash(
     events: &[Event],
     point: Option<Point>,
 ) -> Result<Found, Failure>
-    requires { (tree : List TreeEntry) × Begins tree run.old }
-    ensures tries { IfOk result (λ found. (tree : List TreeEntry) → Begins tree run.old
-        → Tries tree (known_by known.now) events.now point found) }
-    ensures err { IfErr result (λ why. (why ≡ Failure.Memory) ⊎ ((tree : List TreeEntry)
-        → Begins tree run.old → TrialBreaksOff tree events.now point why)) }
+    requires { (origin : AnyOrigin) × Opens origin run.old }
+    ensures tries { IfOk result (λ found. (origin : AnyOrigin) → Opens origin run.old
+        → Tries origin (known_by known.now) events.now point found) }
+    ensures err { IfErr result (λ why. (why ≡ Failure.Memory) ⊎ ((origin : AnyOrigin)
+        → Opens origin run.old → TrialBreaksOff origin events.now point why)) }
     ensures why { IfErr result IsOfRun }
 {
     run.make_all(alloc, events)?;
@@ -115,28 +108,31 @@ fn crash(
     if let Some((made, refusal)) = run.refusal() {
         return Ok(Found::Refused(made as u64 + 1, refusal));
     }
-    let report = audit_of(alloc, run.world())?;
+    let report = match audit_of(alloc, run.world())? {
+        Ok(report) => report,
+        Err((process, place)) => return Ok(Found::Damaged(process, place)),
+    };
     run.make_all(alloc, &asks_of(alloc, &report)?)?;
     run.make_all(alloc, &[Event::Settle])?;
     found_of(alloc, known, run)
 }
 
 /// Tries this crash behind these events, or none, in a run of its own: what it leaves beyond what is known.
-/// Memory; Device, Exhausted: one of the run's events cannot be made for that.
+/// Memory; Device, Exhausted: one of the run's events cannot be made for that, or the tree does not open once more.
 pub fn try_point(
     alloc: Global,
-    tree: &Tree,
+    origin: &Origin,
     known: &Left,
     events: &[Event],
     point: Option<Point>,
 ) -> Result<Found, Failure>
-    requires { IsTree tree.now }
-    ensures tries { IfOk result (λ found. Tries tree.now (known_by known.now) events.now point found) }
+    requires { IsTree origin.now.tree }
+    ensures tries { IfOk result (λ found. Tries origin.now (known_by known.now) events.now point found) }
     ensures err { IfErr result (λ why. (why ≡ Failure.Memory)
-        ⊎ TrialBreaksOff tree.now events.now point why) }
+        ⊎ TrialBreaksOff origin.now events.now point why) }
     ensures why { IfErr result IsOfRun }
 {
-    let mut run = opened(alloc, tree)?;
+    let mut run = opened(alloc, origin)?;
     let found = crash(alloc, known, &mut run, events, point);
     run.close();
     found
@@ -162,21 +158,21 @@ fn push_trial(
 /// Tries a crash at each of these points behind these events. The errors are those of the trial of one.
 fn try_points(
     alloc: Global,
-    tree: &Tree,
+    origin: &Origin,
     known: &Left,
     events: &[Event],
     points: &[Point],
     trials: &mut Vec<Trial>,
 ) -> Result<(), Failure>
-    requires { IsTree tree.now }
-    ensures tried { OnOk result (AddsTrials tree.now (known_by known.now) events.now points.now
+    requires { IsTree origin.now.tree }
+    ensures tried { OnOk result (AddsTrials origin.now (known_by known.now) events.now points.now
         trials.old.items trials.new.items) }
     ensures err { IfErr result (λ why. (why ≡ Failure.Memory)
-        ⊎ PointBreaksOff tree.now events.now points.now why) }
+        ⊎ PointBreaksOff origin.now events.now points.now why) }
     ensures why { IfErr result IsOfRun }
 {
     for point in points {
-        let found = try_point(alloc, tree, known, events, Some(*point))?;
+        let found = try_point(alloc, origin, known, events, Some(*point))?;
         push_trial(trials, events.len(), *point, found)?;
     }
     Ok(())
@@ -186,17 +182,17 @@ fn try_points(
 /// of `try_event`.
 fn try_behind(
     alloc: Global,
-    tree: &Tree,
+    origin: &Origin,
     known: &Left,
     run: &mut Run,
     events: &[Event],
     trials: &mut Vec<Trial>,
 ) -> Result<Refusal, Failure>
-    requires { Begins tree.now run.old }
-    ensures adds { IfOk result (λ refusal. Adds tree.now (known_by known.now) events.now refusal
+    requires { Opens origin.now run.old }
+    ensures adds { IfOk result (λ refusal. Adds origin.now (known_by known.now) events.now refusal
         trials.old.items trials.new.items) }
     ensures numbered { IfOk result IsNumbered }
-    ensures err { IfErr result (λ why. (why ≡ Failure.Memory) ⊎ CannotTryAll tree.now events.now why) }
+    ensures err { IfErr result (λ why. (why ≡ Failure.Memory) ⊎ CannotTryAll origin.now events.now why) }
     ensures why { IfErr result IsOfRun }
 {
     run.make_all(alloc, events)?;
@@ -205,7 +201,7 @@ fn try_behind(
         return Ok(refusal);
     }
     let points = points_of(alloc, run.world())?;
-    try_points(alloc, tree, known, events, &points, trials)?;
+    try_points(alloc, origin, known, events, &points, trials)?;
     Ok(None)
 }
 
@@ -214,34 +210,34 @@ fn try_behind(
 /// process that a crash may take come to 2^64 bytes or more.
 pub fn try_event(
     alloc: Global,
-    tree: &Tree,
+    origin: &Origin,
     known: &Left,
     events: &[Event],
     trials: &mut Vec<Trial>,
 ) -> Result<Refusal, Failure>
-    requires { IsTree tree.now }
-    ensures adds { IfOk result (λ refusal. Adds tree.now (known_by known.now) events.now refusal
+    requires { IsTree origin.now.tree }
+    ensures adds { IfOk result (λ refusal. Adds origin.now (known_by known.now) events.now refusal
         trials.old.items trials.new.items) }
     ensures numbered { IfOk result IsNumbered }
-    ensures err { IfErr result (λ why. (why ≡ Failure.Memory) ⊎ CannotTryAll tree.now events.now why) }
+    ensures err { IfErr result (λ why. (why ≡ Failure.Memory) ⊎ CannotTryAll origin.now events.now why) }
     ensures why { IfErr result IsOfRun }
 {
-    let mut run = opened(alloc, tree)?;
-    let refusal = try_behind(alloc, tree, known, &mut run, events, trials);
+    let mut run = opened(alloc, origin)?;
+    let refusal = try_behind(alloc, origin, known, &mut run, events, trials);
     run.close();
     refusal
 }
 
 /// How many of these events a run of them makes: all, or those before the first that is refused. Memory;
 /// Device, Exhausted: it breaks off for that.
-fn made_of(alloc: Global, tree: &Tree, events: &[Event]) -> Result<usize, Failure>
-    requires { IsTree tree.now }
+fn made_of(alloc: Global, origin: &Origin, events: &[Event]) -> Result<usize, Failure>
+    requires { IsTree origin.now.tree }
     ensures made { IfOk result (λ made. (refusal : AnyRefusal) × (end : WorldState)
-        × Plays tree.now events.now refusal end × (made ≡ made_by events.now refusal)) }
-    ensures err { IfErr result (λ why. (why ≡ Failure.Memory) ⊎ RunBreaksOff tree.now events.now why) }
+        × PlaysFrom origin.now events.now refusal end × (made ≡ made_by events.now refusal)) }
+    ensures err { IfErr result (λ why. (why ≡ Failure.Memory) ⊎ RunBreaksOff origin.now events.now why) }
     ensures why { IfErr result IsOfRun }
 {
-    let mut run = opened(alloc, tree)?;
+    let mut run = opened(alloc, origin)?;
     let made = run.make_all(alloc, events);
     let refusal = run.refusal();
     run.close();
@@ -254,15 +250,15 @@ fn made_of(alloc: Global, tree: &Tree, events: &[Event]) -> Result<usize, Failur
 
 /// What the events of a script leave without any crash: those that a run of them makes, up to the first that
 /// is refused. Memory; Device, Exhausted: the run of the events breaks off for that, or the trial of none.
-pub fn try_alone(alloc: Global, tree: &Tree, events: &[Event]) -> Result<Found, Failure>
-    requires { IsTree tree.now }
-    ensures ends { IfOk result (λ found. EndsAlone tree.now events.now found) }
-    ensures err { IfErr result (λ why. (why ≡ Failure.Memory) ⊎ CannotEndAlone tree.now events.now why) }
+pub fn try_alone(alloc: Global, origin: &Origin, events: &[Event]) -> Result<Found, Failure>
+    requires { IsTree origin.now.tree }
+    ensures ends { IfOk result (λ found. EndsAlone origin.now events.now found) }
+    ensures err { IfErr result (λ why. (why ≡ Failure.Memory) ⊎ CannotEndAlone origin.now events.now why) }
     ensures why { IfErr result IsOfRun }
 {
-    let made = made_of(alloc, tree, events)?;
+    let made = made_of(alloc, origin, events)?;
     let nothing = Left::nothing(alloc);
-    try_point(alloc, tree, &nothing, front(events, made), None)
+    try_point(alloc, origin, &nothing, front(events, made), None)
 }
 
 /// The first so many events, or all.
@@ -285,6 +281,6 @@ pub fn left_alone(alloc: Global, found: &Found) -> Result<Left, AllocError>
             in_doubt: Vec::from_slice(alloc, &left.in_doubt)?,
             mismatches: Vec::from_slice(alloc, &left.mismatches)?,
         }),
-        Found::Refused(_, _) => Ok(Left::nothing(alloc)),
+        Found::Refused(_, _) | Found::Damaged(_, _) => Ok(Left::nothing(alloc)),
     }
 }

@@ -22,4 +22,4 @@ mod program;
 mod reason;
 
 pub use line_faults::Script;
-pub use program::{failure_text, refusal_text};
+pub use program::{failure_text, plain_refusal_text, refusal_text};

@@ -3,10 +3,14 @@
 use crate::clean::cleaned;
 use crate::event::EventFault;
 use crate::history::{History, play};
-use input_faults::{damaged_log, event_place, push_bytes, push_fault, push_line, push_line_fault};
+use input_faults::{
+    LogFault, damaged_log, event_place, push_bytes, push_fault, push_line, push_line_fault,
+    push_reopened_fault,
+};
 use line_faults::Script;
 use link_script::{ScriptError, read, read_front};
-use logs_script::read_logs;
+use logs_script::{ProcessLogs, read_logs};
+use reopen_script::{leading, read_reopen};
 use report_io::Failure;
 use std::alloc::{AllocError, Global};
 use tree_engine::Run;
@@ -23,9 +27,12 @@ fn push_refused(
 ) -> Result<(), AllocError> {
     if let Ok(front) = read_front(alloc, input) {
         let made = number.saturating_sub(1) as usize;
-        if let Some(place) = event_place(&front.lines, made) {
-            let line_number = front.rule.saturating_add(place as u64).saturating_add(1);
-            if let Some(line) = front.lines.get(place) {
+        let ahead = leading(&front.lines);
+        let (_, events) = front.lines.split_at(ahead);
+        if let Some(place) = event_place(events, made) {
+            let before = front.rule.saturating_add(ahead as u64);
+            let line_number = before.saturating_add(place as u64).saturating_add(1);
+            if let Some(line) = events.get(place) {
                 push_line(out, line_number, line)?;
             }
         }
@@ -61,27 +68,50 @@ fn push_reason(
     Ok(())
 }
 
-/// Adds why an event of a script is refused, if one is.
+/// Adds why an event of a script is refused, if one is, or which of its logs is damaged.
 fn push_events(
     alloc: Global,
     out: &mut String,
     input: &[u8],
-    tree: Tree,
+    script: (Tree, Option<ProcessLogs>),
     events: &[Event],
 ) -> Result<(), Failure> {
+    let (tree, logs) = script;
     if let Err(_) = tree.check() {
         return Ok(());
     }
-    let mut run = Run::open(alloc, tree)?;
-    let told = push_reason(alloc, out, input, &mut run, events);
-    run.close();
-    told
+    let opened = match logs {
+        None => Ok(Run::open(alloc, tree)?),
+        Some(logs) => Run::reopen(alloc, tree, logs.as_slice())?,
+    };
+    match opened {
+        Ok(run) => {
+            let mut run = run;
+            let told = push_reason(alloc, out, input, &mut run, events);
+            run.close();
+            told
+        }
+        Err((process, place)) => {
+            let process = process.0;
+            let fault = LogFault::Damaged { process, place };
+            Ok(writeln!(out, "rstar: {fault}")?)
+        }
+    }
 }
 
-/// Adds why a tree script, or an event of it, was refused.
+/// Adds why a tree script, or an event of it, was refused, or which of its logs is damaged.
 fn push_tree(alloc: Global, out: &mut String, input: &[u8]) -> Result<(), Failure> {
+    match read_reopen(alloc, input) {
+        Ok((tree, logs, events)) => push_events(alloc, out, input, (tree, logs), &events),
+        Err(ScriptError::Fault(fault)) => Ok(push_reopened_fault(alloc, out, input, fault)?),
+        Err(ScriptError::Memory) => Err(Failure::Memory),
+    }
+}
+
+/// Adds why a tree script without logs, or an event of it, was refused.
+fn push_plain(alloc: Global, out: &mut String, input: &[u8]) -> Result<(), Failure> {
     match read(alloc, input) {
-        Ok((tree, events)) => push_events(alloc, out, input, tree, &events),
+        Ok((tree, events)) => push_events(alloc, out, input, (tree, None), &events),
         Err(ScriptError::Fault(fault)) => {
             Ok(push_fault(alloc, out, Script::Tree, input, fault)?)
         }
@@ -125,6 +155,13 @@ pub fn refusal_text(alloc: Global, script: Script, input: &[u8]) -> Result<Strin
         Script::Xa => push_xa(alloc, &mut out, input)?,
         Script::Logs => push_logs(alloc, &mut out, input)?,
     }
+    Ok(cleaned(alloc, &out)?)
+}
+
+/// The same of a tree script for a program that takes no logs ahead of its events.
+pub fn plain_refusal_text(alloc: Global, input: &[u8]) -> Result<String, Failure> {
+    let mut out = String::new(alloc);
+    push_plain(alloc, &mut out, input)?;
     Ok(cleaned(alloc, &out)?)
 }
 

@@ -21,4 +21,4 @@ mod refusal;
 
 pub use logs::{LogFault, damaged_log};
 pub use place::event_place;
-pub use refusal::{push_bytes, push_fault, push_line, push_line_fault};
+pub use refusal::{push_bytes, push_fault, push_line, push_line_fault, push_reopened_fault};

@@ -1,6 +1,6 @@
 //! Which log is at fault.
 
-use link_script::{Front, process_of};
+use link_script::process_of;
 use log_text::LogForm;
 use logs_script::{ProcessLog, bytes_of};
 use rec_log::{OpenError, find};
@@ -43,16 +43,20 @@ fn missing(entries: &[TreeEntry], seen: &[ProcessId]) -> Option<LogFault> {
 }
 
 /// Which log is at fault among lines that are all spelled as the lines of logs.
-pub(crate) fn lines_fault(alloc: Global, front: &Front) -> Result<Option<LogFault>, AllocError> {
+pub(crate) fn lines_fault(
+    alloc: Global,
+    tree: &Tree,
+    lines: &[&str],
+) -> Result<Option<LogFault>, AllocError> {
     let mut seen = Vec::new(alloc);
-    for line in &front.lines {
+    for line in lines {
         if says_nothing(line) {
             continue;
         }
         let Some(process) = process_in(line) else {
             return Ok(None);
         };
-        if !front.tree.is_listed(process) {
+        if !tree.is_listed(process) {
             return Ok(Some(LogFault::Strange { process: process.0 }));
         }
         if seen.contains(&process) {
@@ -60,7 +64,7 @@ pub(crate) fn lines_fault(alloc: Global, front: &Front) -> Result<Option<LogFaul
         }
         seen.push(process)?;
     }
-    Ok(missing(front.tree.entries(), &seen))
+    Ok(missing(tree.entries(), &seen))
 }
 
 /// The first log that is damaged, in the order of the tree.

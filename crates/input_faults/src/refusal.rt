@@ -9,8 +9,9 @@ use crate::opening::opening_fault;
 use crate::place::{line_at, line_of_byte};
 use crate::processes::process_fault;
 use line_faults::{Script, finding_of};
-use link_script::{ScriptFault, read_front};
-use script_words::lines_of;
+use link_script::{Front, ScriptFault, read_front};
+use reopen_script::leading;
+use script_words::{count_asked, lines_of};
 use std::alloc::{AllocError, Global};
 use std::str;
 use toml::Table;
@@ -162,7 +163,7 @@ pub fn push_line_fault(
         return Ok(());
     }
     match read_front(alloc, input) {
-        Ok(front) => push_log_fault(out, lines_fault(alloc, &front)?),
+        Ok(front) => push_log_fault(out, lines_fault(alloc, &front.tree, &front.lines)?),
         Err(_) => Ok(()),
     }
 }
@@ -194,5 +195,72 @@ pub fn push_fault(
         ScriptFault::Tree(cause) => push_front(alloc, out, text, Some(cause)),
         ScriptFault::Line(number) => push_line_fault(alloc, out, script, input, number),
         ScriptFault::TooLong => writeln!(out, "wanted: at most 100,000 lines; split the script"),
+    }
+}
+
+/// How a line of a script is read that may begin its events with logs.
+#[derive(Clone, Copy)]
+struct Reading {
+    /// What the line is one of.
+    script: Script,
+    /// The log at fault, where the line may be told for it.
+    fault: Option<LogFault>,
+}
+
+/// How the line of this number is read, where what stands before the lines of the input is sound.
+fn reading_of(alloc: Global, front: &Front, number: u64) -> Result<Reading, AllocError> {
+    let count = leading(&front.lines);
+    let (ahead, _) = front.lines.split_at(count);
+    let last = front.rule.saturating_add(count as u64);
+    let script = if number <= last {
+        Script::Logs
+    } else {
+        Script::Tree
+    };
+    let fault = if count_asked(ahead) > 0 && number <= last.saturating_add(1) {
+        lines_fault(alloc, &front.tree, ahead)?
+    } else {
+        None
+    };
+    Ok(Reading { script, fault })
+}
+
+/// Adds what is wrong with a line of a script that may begin its events with logs.
+fn push_reopened_line(
+    alloc: Global,
+    out: &mut String,
+    input: &[u8],
+    number: u64,
+) -> Result<(), AllocError> {
+    let (Ok(text), Ok(front)) = (str::from_utf8(input), read_front(alloc, input)) else {
+        return Ok(());
+    };
+    let Some(line) = line_at(alloc, text, number)? else {
+        return Ok(());
+    };
+    push_line(out, number, line)?;
+    let reading = reading_of(alloc, &front, number)?;
+    if reading.script == Script::Tree && reading.fault.is_some() {
+        return push_log_fault(out, reading.fault);
+    }
+    if push_finding(alloc, out, reading.script, line)? {
+        return Ok(());
+    }
+    push_log_fault(out, reading.fault)
+}
+
+/// Adds why a script of events was refused that may begin its events with logs.
+pub fn push_reopened_fault(
+    alloc: Global,
+    out: &mut String,
+    input: &[u8],
+    fault: ScriptFault,
+) -> Result<(), AllocError> {
+    match fault {
+        ScriptFault::Line(number) => {
+            writeln!(out, "rstar: {fault}")?;
+            push_reopened_line(alloc, out, input, number)
+        }
+        _ => push_fault(alloc, out, Script::Tree, input, fault),
     }
 }

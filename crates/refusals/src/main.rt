@@ -2,17 +2,20 @@
 //!
 //! Runs scripts, and each of them again and again with one allocation refused: the first, the second, and so
 //! on, until a run meets none. What is refused changes nothing, and what is asked once more is done. Standard
-//! input lists the scripts, a line each: `tree NAME` or `xa NAME`.
+//! input lists the scripts, a line each: `tree NAME`, `xa NAME`, or `reopened NAME` of a tree script that begins its
+//! events with logs, over which the tree opens again and again.
 //!
 //! The refusal comes from outside (`tools/refuse.c`, preloaded). Without it each script is run once.
 #![tactic(auto)]
 
 mod calls;
 mod refuser;
+mod reopenings;
 mod trees;
 
 use crate::calls::sweep_requests;
 use crate::refuser::Refuser;
+use crate::reopenings::sweep_reopening;
 use crate::trees::sweep_events;
 use std::alloc::Global;
 use std::{fs, io};
@@ -44,6 +47,7 @@ impl Met {
 enum Program {
     Tree,
     Xa,
+    Reopened,
 }
 
 impl Program {
@@ -52,13 +56,14 @@ impl Program {
         match word {
             "tree" => Some(Program::Tree),
             "xa" => Some(Program::Xa),
+            "reopened" => Some(Program::Reopened),
             _ => None,
         }
     }
 
     fn ending(self) -> &'static str {
         match self {
-            Program::Tree => "tree",
+            Program::Tree | Program::Reopened => "tree",
             Program::Xa => "xa",
         }
     }
@@ -68,6 +73,7 @@ impl Program {
         match self {
             Program::Tree => sweep_events(alloc, refuser, input),
             Program::Xa => sweep_requests(alloc, refuser, input),
+            Program::Reopened => sweep_reopening(alloc, refuser, input),
         }
     }
 }

@@ -1,7 +1,7 @@
 //! What no script can show: streams and devices that fail, a script cut at every byte, and the calls of a
 //! tree that runs.
 
-use crate::{floods, scripts, stops, streams, worlds};
+use crate::{floods, reopenings, scripts, stops, streams, worlds};
 use std::alloc::Global;
 
 /// Whether the edge of this name holds. There is none of another name, nor where memory is refused.
@@ -17,6 +17,9 @@ pub(crate) fn holds(alloc: Global, name: &str) -> bool {
         "a_world_runs" => worlds::a_world_runs(alloc) == Some(true),
         "a_root_fails_with_its_device" => worlds::a_root_fails_with_its_device(alloc) == Some(true),
         "a_promise_cut_at_each_byte" => stops::a_promise_cut_at_each_byte(alloc) == Some(true),
+        "a_reopening_that_stops_at_each_write" => {
+            reopenings::a_reopening_that_stops_at_each_write(alloc) == Some(true)
+        }
         "floods_keep_the_promises" => floods::floods_keep_the_promises(alloc) == Some(true),
         "nothing_is_left_live" => worlds::nothing_is_left_live(alloc) == Some(true),
         _ => false,

@@ -11,6 +11,7 @@ mod edges;
 mod fakes;
 mod floods;
 mod migrations;
+mod reopenings;
 mod scripts;
 mod stops;
 mod streams;

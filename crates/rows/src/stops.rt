@@ -9,7 +9,8 @@ use tree_audit::{Line, Own, Report, audit};
 use tree_model::{Act, Case, Event, Message, ProcessId, StepError, Tree};
 use tree_world::{OpenError, World, copied_tree, logs_left};
 
-const CALLS: [StoreCall; 3] = [StoreCall::Append, StoreCall::Force, StoreCall::Replace];
+/// The kinds of calls at which a device can stop.
+pub(crate) const CALLS: [StoreCall; 3] = [StoreCall::Append, StoreCall::Force, StoreCall::Replace];
 
 /// A stop of a process's device: at the nth call of a kind, of which the first `keep` bytes are done.
 #[derive(Clone, Copy)]
@@ -110,7 +111,7 @@ fn agree(one: &Line, other: &Line) -> bool {
 }
 
 /// Whether all lines of a transaction say one outcome.
-fn has_one_outcome_each(report: &Report) -> bool {
+pub(crate) fn has_one_outcome_each(report: &Report) -> bool {
     for one in &report.lines {
         if !report.lines.iter().all(|other| agree(one, other)) {
             return false;
@@ -120,7 +121,7 @@ fn has_one_outcome_each(report: &Report) -> bool {
 }
 
 /// The cases in doubt.
-fn cases_in_doubt(alloc: Global, report: &Report) -> Result<Vec<Case>, AllocError> {
+pub(crate) fn cases_in_doubt(alloc: Global, report: &Report) -> Result<Vec<Case>, AllocError> {
     report
         .lines
         .iter()

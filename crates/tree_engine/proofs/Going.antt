@@ -172,7 +172,7 @@ breaks_off s events why few (inl h) = h
 breaks_off s events why few (inr h) = let past = h.1 in absurd (omega (arith, few, past))
 
 -- what a run comes to is a run of the model
-pub ran : (tree : List TreeEntry) (s now : WorldState) (given : List Event)
+unfoldable pub ran : (tree : List TreeEntry) (s now : WorldState) (given : List Event)
     (refusal : Refusal) (n : ℕ) → IsTree tree
     → IsOpened s tree → ComesTo s given refusal n now → Plays tree given refusal now
 ran tree s now given refusal n is opens h = record {

@@ -3,6 +3,8 @@ pub mod Traces
 pub mod Fits
 pub mod Sending
 pub mod Going
+pub mod Refusing
+pub mod Replaying
 pub mod TreeReports
 pub mod OneScript
 pub mod OneText

@@ -1,5 +1,5 @@
 -- One input, one text.
-use Rattle.std.proofs.Common.{◌≡◌, ◌∙◌, ℕ, List, ◌++◌, refl, sym, ap, subst}
+use Rattle.std.proofs.Common.{◌≡◌, ◌∙◌, ◌⊎◌, inl, inr, false, ℕ, List, ◌++◌, refl, sym, ap, subst}
 use Rattle.tree_model.specs.declared.events.Entry.{Entry}
 use Rattle.tree_model.specs.declared.events.Event.{Event}
 use Rattle.tree_model.specs.declared.trees.TreeEntry.{TreeEntry}
@@ -8,11 +8,14 @@ use Rattle.core_law.specs.worlds.Refusals.{LeadsTo, Refusal}
 use Rattle.core_law.specs.worlds.Runs.{IsOpened}
 use Rattle.core_law.specs.worlds.Worlds.{WorldState}
 use Rattle.core_law.proofs.worlds.OneText.{one_text}
+use Rattle.reopen_script.specs.Laws.{BeginsWithNone}
+use Rattle.reopen_script.proofs.Alike.{faults_alike, none_begin}
 use Rattle.report_io.specs.declared.status.Status.{Status}
 use Rattle.report_io.specs.declared.status.Status.TheVariants.{Ended, Refused, Stopped}
 use Rattle.tree_engine.specs.declared.tree.Output.{Output}
 use Rattle.tree_engine.specs.declared.tree.Output.TheVariants.{Counts, Logs, Picture, Trace}
 use Rattle.tree_engine.specs.OneText.{IsTrace, InputsHaveOneText}
+use Rattle.tree_engine.specs.Reports.{IsTreeReport, ReopensScript}
 use Rattle.tree_engine.specs.Trees.{RefusesScript, RunsScript, Tells, counts_text, ending, fault_text, last_line, opened_text, trace_of}
 use Rattle.tree_engine.proofs.OneScript.{no_fault, one_fault, one_script}
 use Rattle.tree_engine.proofs.TreeReports.{script_tree}
@@ -30,7 +33,7 @@ one_count v w tree entries =
 
 -- what is told of two states that show the same is the same
 told : (output : Output) (v w : WorldState) (r s : Refusal) (text second : List ℕ) → IsTrace output
-    → w.tree ≡ v.tree → w.entries ≡ v.entries → s ≡ r → Tells output v r text → Tells output w s second
+    → w.tree ≡ v.tree → w.entries ≡ v.entries → s ≡ r → Tells false output v r text → Tells false output w s second
     → second ≡ text
 told Trace v w r s text second is tree entries same h k =
     k ∙ ap (λ (t : List ℕ). t ++ last_line s) (one_trace v w tree entries)
@@ -68,14 +71,39 @@ not_both : (output : Output) (status : Status) (input text second : List ℕ) �
     → RefusesScript input second → ⊥
 not_both output status input text second h k = no_fault input h.tree h.events k.fault h.script k.there
 
-pub one_input : InputsHaveOneText
-one_input output Ended Ended input text second is h k = runs_alike output Ended Ended input text second is h k
-one_input output Ended Stopped input text second is h k = runs_alike output Ended Stopped input text second is h k
-one_input output Stopped Ended input text second is h k = runs_alike output Stopped Ended input text second is h k
-one_input output Stopped Stopped input text second is h k =
+-- what is written of an input without logs
+abbrev IsPlain : Output → Status → List ℕ → List ℕ → Type 0
+IsPlain output Ended input text = RunsScript output Ended input text
+IsPlain output Stopped input text = RunsScript output Stopped input text
+IsPlain output Refused input text = RefusesScript input text
+
+module _ (output : Output) (input text : List ℕ) (none : BeginsWithNone input) where
+  runs_plain : (status : Status) → RunsScript output status input text ⊎ ReopensScript output status input text
+      → RunsScript output status input text
+  runs_plain status (inl runs) = runs
+  runs_plain status (inr r) = absurd (none_begin input r.tree r.logs r.events none r.script)
+
+  plain : (status : Status) → IsTreeReport output status input text → IsPlain output status input text
+  plain Ended r = runs_plain Ended r
+  plain Stopped r = runs_plain Stopped r
+  plain Refused (inl r) =
+      record { fault = r.fault; there = faults_alike.there input r.fault none r.there; line = r.line }
+  plain Refused (inr d) = absurd (none_begin input d.there.tree d.there.logs d.there.events none d.there.script)
+
+one_plain : (output : Output) (status other : Status) (input text second : List ℕ) → IsTrace output
+    → IsPlain output status input text → IsPlain output other input second → (other ≡ status) × (second ≡ text)
+one_plain output Ended Ended input text second is h k = runs_alike output Ended Ended input text second is h k
+one_plain output Ended Stopped input text second is h k = runs_alike output Ended Stopped input text second is h k
+one_plain output Stopped Ended input text second is h k = runs_alike output Stopped Ended input text second is h k
+one_plain output Stopped Stopped input text second is h k =
     runs_alike output Stopped Stopped input text second is h k
-one_input output Refused Refused input text second is h k = (refl, refused_alike input text second h k)
-one_input output Ended Refused input text second is h k = absurd (not_both output Ended input text second h k)
-one_input output Stopped Refused input text second is h k = absurd (not_both output Stopped input text second h k)
-one_input output Refused Ended input text second is h k = absurd (not_both output Ended input second text k h)
-one_input output Refused Stopped input text second is h k = absurd (not_both output Stopped input second text k h)
+one_plain output Refused Refused input text second is h k = (refl, refused_alike input text second h k)
+one_plain output Ended Refused input text second is h k = absurd (not_both output Ended input text second h k)
+one_plain output Stopped Refused input text second is h k = absurd (not_both output Stopped input text second h k)
+one_plain output Refused Ended input text second is h k = absurd (not_both output Ended input second text k h)
+one_plain output Refused Stopped input text second is h k = absurd (not_both output Stopped input second text k h)
+
+pub one_input : InputsHaveOneText
+one_input output status other input text second is none h k =
+    one_plain output status other input text second is (plain output input text none status h)
+    (plain output input second none other k)

@@ -1,59 +1,168 @@
 -- What is written of a tree script.
-use Rattle.std.proofs.Common.{◌≡◌, ◌∙◌, ◌⊎◌, ◌+◌, ◌<◌, ◌≤◌, ◌^◌, ap, inl, inr, refl, ℕ, Some, None, List, [], ◌++◌, length, Result, Ok, Err, IfOk, arith}
-use Rattle.std.proofs.lemmas.List.{take_all}
-use Rattle.std.specs.Str.Lines.{lines_of_parts}
-use Rattle.tree_model.specs.Trees.{IsTree, root_of}
+use Rattle.std.proofs.Common.{◌≡◌, ◌∙◌, ◌⊎◌, ◌+◌, ◌<◌, ◌≤◌, ◌^◌, ap, sym, subst, inl, inr, refl, ℕ, Bool, is_some, Option, Some, None, List, [], ◌++◌, length, Result, Ok, Err, IfOk, arith}
+use Rattle.tree_model.specs.Trees.{IsTree}
 use Rattle.run_picture.specs.Pictures.{IsPicture}
 use Rattle.tree_model.specs.declared.trees.TreeEntry.{TreeEntry}
 use Rattle.tree_model.specs.declared.events.Entry.{Entry}
 use Rattle.tree_model.specs.declared.events.Event.{Event}
 use Rattle.core_law.specs.worlds.Refusals.{Refusal}
-use Rattle.core_law.specs.worlds.Runs.{IsOpened}
 use Rattle.core_law.specs.worlds.Worlds.{WorldState}
-use Rattle.link_script.specs.Inputs.{AsksFirst, IsFront, IsOpenScript, IsScript, LinesState, asked_by}
+use Rattle.link_script.specs.declared.script.ScriptError.{ScriptError}
+use Rattle.link_script.specs.declared.script.ScriptError.TheVariants.{Fault}
+use Rattle.link_script.specs.declared.script.ScriptFault.{ScriptFault}
+use Rattle.link_script.specs.declared.script.ScriptFault.TheVariants.{Utf8, TreeText, Tree, TooLong, Line}
+use Rattle.link_script.specs.Inputs.{AsksFirst, IsLineError, IsScript, LinesState, asked_by}
+use Rattle.logs_script.specs.declared.line.ProcessLog.{ProcessLog}
+use Rattle.logs_script.specs.Faults.{damage_text}
+use Rattle.tree_model.specs.declared.names.ProcessId.{ProcessId}
 use Rattle.picture_rows.specs.Long.{IsLong}
 use Rattle.link_script.specs.Events.{event_at}
 use Rattle.link_script.specs.Script.{events_at, with_front}
-use Rattle.link_script.proofs.Reading.{HasRead, script_of}
+use Rattle.link_script.proofs.Reading.{HasRead}
+use Rattle.reopen_script.specs.Inputs.{IsOpenReopen, IsReopenError, IsReopenFault, IsReopenScript}
+use Rattle.reopen_script.proofs.Alike.{script_there}
+use Rattle.reopen_script.proofs.Reading.{asks_all, script_of}
 use Rattle.tree_world.specs.Worlds.{state}
 use Rattle.report_io.specs.declared.streams.Failure.{Failure}
 use Rattle.report_io.specs.declared.streams.Failure.TheVariants as failure
 use Rattle.report_io.specs.declared.status.Status.{Status}
+use Rattle.report_io.specs.declared.status.Status.TheVariants.{Refused}
+use Rattle.tree_engine.specs.declared.tree.InputFault.{InputFault}
+use Rattle.tree_engine.specs.declared.tree.InputFault.TheVariants as inputs
 use Rattle.tree_engine.specs.declared.tree.Output.{Output}
 use Rattle.tree_engine.specs.declared.tree.Output.TheVariants.{Picture}
 use Rattle.tree_engine.specs.declared.run.Run.{Run}
-use Rattle.tree_engine.specs.Failures.{BreaksOff, CannotMake, CannotReport, CannotTell, IsBeyond, ScriptBreaksOff}
-use Rattle.tree_engine.specs.Runs.{Begins, Draws, HasCome, PlaysScript}
-use Rattle.tree_engine.specs.Trees.{IsTreeReport, Plays, RunsOver, RunsScript, Tells, ending}
+use Rattle.tree_engine.specs.Failures.{BreaksOff, CannotMake, CannotReport, DrawsTooLong, IsBeyond, ScriptBreaksOff}
+use Rattle.tree_engine.specs.Reopened.{PlaysBy, StartsBy}
+use Rattle.tree_engine.specs.Reports.{IsDamaged, IsFirstFault, IsInputFault, IsTreeReport, ReopensScript}
+use Rattle.tree_engine.specs.Runs.{BeginsBy, ComesTo, Draws, HasCome, HasPlayed, IsDamageBy, PlaysScript}
+use Rattle.tree_engine.specs.Trees.{RunsOver, RunsScript, Tells, ending, fault_text}
 use Rattle.tree_engine.proofs.Going.{breaks_off, ran}
+use Rattle.tree_engine.proofs.Replaying.{replayed}
+
+-- A run that has just begun.
+
+pub begun_by : (tree : List TreeEntry) (logs : Option (List ProcessLog)) (first : Run) → BeginsBy tree logs first
+    → HasCome (state first.world) [] first
+begun_by tree None first b = b.begins
+begun_by tree (Some logs) first b = b.begins
+
+pub starts_by : (tree : List TreeEntry) (logs : Option (List ProcessLog)) (first : Run) → BeginsBy tree logs first
+    → StartsBy tree logs (state first.world)
+starts_by tree None first b = b.opened
+starts_by tree (Some logs) first b = b.reopened
+
+over_by : (tree : List TreeEntry) (logs : Option (List ProcessLog)) (first : Run) → BeginsBy tree logs first
+    → first.world.reopened ≡ is_some logs
+over_by tree None first b = b.first
+over_by tree (Some logs) first b = b.over
+
+unfoldable pub ran_by : (tree : List TreeEntry) (logs : Option (List ProcessLog)) (first : Run) (now : WorldState)
+    (events : List Event) (refusal : Refusal) (n : ℕ) → BeginsBy tree logs first
+    → ComesTo (state first.world) events refusal n now → PlaysBy tree logs events refusal now
+ran_by tree None first now events refusal n b h =
+    ran tree (state first.world) now events refusal n b.is_tree b.opened h
+ran_by tree (Some logs) first now events refusal n b h =
+    replayed tree logs b.is_tree (state first.world) now b.reopened events refusal n h
 
 -- what the lines of a script lead an opened tree to is a run of the script
-pub plays_script : (input : List ℕ) (tree : List TreeEntry) (lines : LinesState) (first run : Run)
-    → IsOpenScript input tree lines → Begins tree first
-    → ((events : List Event) × (asked_by lines ≡ Ok events) × HasCome (state first.world) events run)
+pub plays_script : (input : List ℕ) (tree : List TreeEntry) (logs : Option (List ProcessLog)) (lines : LinesState)
+    (first run : Run) → IsOpenReopen input tree logs lines → BeginsBy tree logs first → HasPlayed first run lines
     → PlaysScript input run
-plays_script input tree lines first run opened begins made = record {
+plays_script input tree logs lines first run opened begins made = record {
   tree = tree;
-  events = made.0;
-  script = script_of input tree lines made.0 opened made.1;
-  plays = ran tree (state first.world) (state run.world) made.0 run.refusal run.made begins.is_tree
-      begins.opened made.2;
-  numbered = made.2.numbered;
+  logs = logs;
+  events = made.events;
+  script = script_of input tree logs lines made.events opened made.asked;
+  plays = ran_by tree logs first (state run.world) made.events run.refusal run.made begins made.come;
+  numbered = made.come.numbered;
+  over = made.over ∙ over_by tree logs first begins;
 }
 
+-- a log that a run does not open over is damaged in the script
+pub damage_there : (input : List ℕ) (tree : List TreeEntry) (logs : Option (List ProcessLog)) (events : List Event)
+    (process : ProcessId) (place : ℕ) → IsReopenScript input tree logs events
+    → IsDamageBy tree logs process place → IsDamaged input process place
+damage_there input tree None events process place script damage = absurd damage
+damage_there input tree (Some logs) events process place script damage =
+    record { tree = tree; logs = logs; events = events; script = script; damage = damage }
+
+-- Faults.
+
+-- what reading an input answers is what is wrong with it
+pub fault_there : (input : List ℕ) (error : ScriptError) (fault : ScriptFault) → error ≡ Fault fault
+    → IsReopenError input error → IsReopenFault input fault
+fault_there input error fault is there = subst (IsReopenError input) is there
+
+-- the first line of no event is what is wrong with a script as far as its lines
+pub line_fault : (input : List ℕ) (tree : List TreeEntry) (logs : Option (List ProcessLog)) (lines : LinesState)
+    (fault : ScriptFault) → IsOpenReopen input tree logs lines → IsLineError (Fault fault) (asked_by lines)
+    → IsReopenFault input fault
+line_fault input tree logs lines (Line n) opened wrong = record {
+  tree = tree;
+  rule = opened.rule;
+  lines = opened.lines;
+  has = opened.has;
+  wrong = inr (logs, opened.logs_are, ap asked_by (sym opened.behind) ∙ wrong);
+}
+line_fault input tree logs lines Utf8 opened wrong = absurd wrong
+line_fault input tree logs lines TreeText opened wrong = absurd wrong
+line_fault input tree logs lines (Tree cause) opened wrong = absurd wrong
+line_fault input tree logs lines TooLong opened wrong = absurd wrong
+
+-- what is first wrong with a script one of whose logs is damaged is what is wrong with it
+pub first_there : (input : List ℕ) (tree : List TreeEntry) (logs : Option (List ProcessLog)) (lines : LinesState)
+    (process : ProcessId) (place : ℕ) (fault : InputFault) → IsOpenReopen input tree logs lines
+    → IsDamageBy tree logs process place → IsFirstFault process place (asked_by lines) fault
+    → IsInputFault input fault
+first_there input tree logs lines process place (inputs.Script fault) opened damage first =
+    line_fault input tree logs lines fault opened first
+first_there input tree logs lines process place (inputs.Damaged p at) opened damage first =
+    asked_so (asked_by lines) refl first
+  where
+    asked_so : (asked : Result (List Event) ℕ) → asked_by lines ≡ asked
+        → IsFirstFault process place asked (inputs.Damaged p at) → IsDamaged input p at
+    asked_so (Err n) is h = absurd h
+    asked_so (Ok events) is (same, there) =
+        subst (λ (q : ProcessId). IsDamaged input q at) (sym same)
+        (subst (λ (k : ℕ). IsDamaged input process k) (sym there)
+        (damage_there input tree logs events process place (script_of input tree logs lines events opened is) damage))
+
+-- the lines of an opened script all ask for events, so that its damaged log is what is first wrong
+pub log_first : (process : ProcessId) (place : ℕ) (asked : Result (List Event) ℕ) (events : List Event)
+    → asked ≡ Ok events → IsFirstFault process place asked (inputs.Damaged process place)
+log_first process place asked events is =
+    subst (λ (r : Result (List Event) ℕ). IsFirstFault process place r (inputs.Damaged process place)) (sym is)
+    (refl, refl)
+
+-- Reports.
+
+-- the line of a fault is the report of an input with which that is wrong
+pub fault_reported : (output : Output) (input text : List ℕ) (fault : ScriptFault) → IsReopenFault input fault
+    → text ≡ fault_text fault → IsTreeReport output Refused input text
+fault_reported output input text fault there line = inl (record { fault = fault; there = there; line = line })
+
+-- the line of a damaged log is the report of an input that begins its events with it
+pub damage_reported : (output : Output) (input text : List ℕ) (process : ProcessId) (place : ℕ)
+    → IsDamaged input process place → text ≡ damage_text process place → IsTreeReport output Refused input text
+damage_reported output input text process place there line =
+    inr (record { process = process; place = place; there = there; line = line })
+
 ends_so : (output : Output) (refusal : Refusal) (status : Status) (input text : List ℕ)
-    → status ≡ ending refusal → RunsScript output status input text → IsTreeReport output status input text
+    → status ≡ ending refusal
+    → RunsScript output status input text ⊎ ReopensScript output status input text
+    → IsTreeReport output status input text
 ends_so output None status input text is runs = rw is (rw is at runs)
 ends_so output (Some refused) status input text is runs = rw is (rw is at runs)
 
 -- what is told of a script's run is the report of the script
 pub run_reported : {A : Type 0} (text_of : A × Status → List ℕ) (output : Output)
-    (input : List ℕ) (tree : List TreeEntry)
-    (events : List Event) (refusal : Refusal) (end : WorldState) (r : A × Status)
-    → IsScript input tree events → Plays tree events refusal end
-    → Tells output end refusal (text_of r) → r.1 ≡ ending refusal
+    (input : List ℕ) (tree : List TreeEntry) (logs : Option (List ProcessLog))
+    (events : List Event) (refusal : Refusal) (end : WorldState) (over : Bool) (r : A × Status)
+    → IsReopenScript input tree logs events → PlaysBy tree logs events refusal end → over ≡ is_some logs
+    → Tells over output end refusal (text_of r) → r.1 ≡ ending refusal
     → IsTreeReport output r.1 input (text_of r)
-run_reported text_of output input tree events refusal end r script plays text status =
+run_reported text_of output input tree None events refusal end over r script plays is text status =
     let runs : RunsOver output tree events r.1 (text_of r) = record {
       refusal = refusal;
       start = plays.start;
@@ -69,30 +178,53 @@ run_reported text_of output input tree events refusal end r script plays text st
       mismatches_are_reported = plays.run.mismatches_are_reported;
       refuses = plays.run.refuses;
       status_is = status;
-      tells = text;
+      tells = rw is at text;
     } in
     ends_so output refusal r.1 input (text_of r) status
-    (record { tree = tree; events = events; script = script; runs = runs })
+    (inl (record {
+      tree = tree;
+      events = events;
+      script = script_there input tree events script;
+      runs = runs;
+    }))
+run_reported text_of output input tree (Some logs) events refusal end over r script plays is text status =
+    ends_so output refusal r.1 input (text_of r) status
+    (inr (record {
+      tree = tree;
+      logs = logs;
+      events = events;
+      script = script;
+      runs = record {
+        refusal = refusal;
+        end = end;
+        plays = plays;
+        status_is = status;
+        tells = rw is at text;
+      };
+    }))
 
 -- likewise, where it was told at all
 pub reported : {A E : Type 0} (text_of : A × Status → List ℕ) (output : Output)
-    (input : List ℕ) (tree : List TreeEntry)
-    (events : List Event) (refusal : Refusal) (end : WorldState) (made : Result (A × Status) E)
-    → IsScript input tree events → Plays tree events refusal end
-    → IfOk made (λ r. Tells output end refusal (text_of r)) → IfOk made (λ r. r.1 ≡ ending refusal)
+    (input : List ℕ) (tree : List TreeEntry) (logs : Option (List ProcessLog))
+    (events : List Event) (refusal : Refusal) (end : WorldState) (over : Bool) (made : Result (A × Status) E)
+    → IsReopenScript input tree logs events → PlaysBy tree logs events refusal end → over ≡ is_some logs
+    → IfOk made (λ r. Tells over output end refusal (text_of r)) → IfOk made (λ r. r.1 ≡ ending refusal)
     → IfOk made (λ r. IsTreeReport output r.1 input (text_of r))
-reported text_of output input tree events refusal end (Err e) script plays text status = text
-reported text_of output input tree events refusal end (Ok r) script plays text status =
-    run_reported text_of output input tree events refusal end r script plays text status
+reported text_of output input tree logs events refusal end over (Err e) script plays is text status = text
+reported text_of output input tree logs events refusal end over (Ok r) script plays is text status =
+    run_reported text_of output input tree logs events refusal end over r script plays is text status
 
 -- the picture of a script's run is the report of the script
 pub drawn_reported : {E : Type 0} {A : Type 0} (text_of : A × Status → List ℕ) (input : List ℕ)
-    (tree : List TreeEntry) (events : List Event) (made : Result (A × Status) E)
-    → IsScript input tree events → IfOk made (λ r. Draws tree events r.1 (text_of r))
+    (tree : List TreeEntry) (logs : Option (List ProcessLog)) (events : List Event) (first : Run)
+    (made : Result (A × Status) E)
+    → IsReopenScript input tree logs events → BeginsBy tree logs first
+    → IfOk made (λ r. Draws (state first.world) events r.1 (text_of r))
     → IfOk made (λ r. IsTreeReport Picture r.1 input (text_of r))
-drawn_reported text_of input tree events (Err e) script draws = draws
-drawn_reported text_of input tree events (Ok r) script draws =
-    run_reported text_of Picture input tree events draws.refusal draws.end r script draws.plays draws.picture
+drawn_reported text_of input tree logs events first (Err e) script begins draws = draws
+drawn_reported text_of input tree logs events first (Ok r) script begins draws =
+    run_reported text_of Picture input tree logs events draws.refusal draws.end (is_some logs) r script
+    (ran_by tree logs first draws.end events draws.refusal draws.count begins draws.come) refl draws.picture
     draws.status_is
 
 -- the tree of a script passed its check
@@ -101,17 +233,17 @@ pub script_tree : (input : List ℕ) (tree : List TreeEntry) (events : List Even
 script_tree input tree events (fronts, behind, text, is, few, asks) = is
 
 -- a run of a tree that has just opened, which was given these events
-pub draws_run : {A E : Type 0} (text_of : A × Status → List ℕ) (tree : List TreeEntry) (events : List Event)
-    (first run : Run) (made : Result (A × Status) E) → Begins tree first
-    → ((start : WorldState) (given : List Event) → HasCome start given first → HasCome start (given ++ events) run)
+pub draws_run : {A E : Type 0} (text_of : A × Status → List ℕ) (events : List Event)
+    (first run : Run) (made : Result (A × Status) E)
+    → HasCome (state first.world) events run
     → IfOk made (λ r. r.1 ≡ ending run.refusal) → IfOk made (λ r. IsPicture (state run.world).entries (text_of r))
-    → IfOk made (λ r. Draws tree events r.1 (text_of r))
-draws_run text_of tree events first run (Err e) begins goes is drawn = is
-draws_run text_of tree events first run (Ok r) begins goes is drawn = record {
+    → IfOk made (λ r. Draws (state first.world) events r.1 (text_of r))
+draws_run text_of events first run (Err e) come is drawn = is
+draws_run text_of events first run (Ok r) come is drawn = record {
   refusal = run.refusal;
+  count = run.made;
   end = state run.world;
-  plays = ran tree (state first.world) (state run.world) events run.refusal run.made begins.is_tree begins.opened
-      (goes (state first.world) [] begins.begins);
+  come = come;
   status_is = is;
   picture = drawn;
 }
@@ -129,76 +261,76 @@ reads_start s =
 -- Why nothing is written.
 
 -- a script's first lines lead the tree, opened, to an event that is not made
-pub script_breaks_off : (input : List ℕ) (tree : List TreeEntry) (lines : LinesState) (first : Run) (why : Failure)
-    → (IsFront input tree lines.before lines.lines × (lines.root ≡ root_of tree)) → Begins tree first
+pub script_breaks_off : (input : List ℕ) (tree : List TreeEntry) (logs : Option (List ProcessLog))
+    (lines : LinesState) (first : Run) (why : Failure)
+    → IsOpenReopen input tree logs lines → BeginsBy tree logs first
     → ((count : ℕ) × (events : List Event) × AsksFirst lines count events
     × BreaksOff (state first.world) events why)
     → ScriptBreaksOff input why
-script_breaks_off input tree lines first why front begins (count, events, asks, breaks) = record {
+script_breaks_off input tree logs lines first why script begins (count, events, asks, breaks) = record {
   tree = tree;
+  logs = logs;
   lines = lines;
-  front = front.0;
-  root = front.1;
+  script = script;
   count = count;
   events = events;
   asks = asks;
   start = state first.world;
-  opens = begins.opened;
+  opens = starts_by tree logs first begins;
   breaks = breaks;
 }
 
--- the lines of a script, all of them, ask for its events
-all_breaks_off : (input : List ℕ) (tree : List TreeEntry) (events : List Event) (start : WorldState)
-    (why : Failure) → IsScript input tree events → IsOpened start tree → BreaksOff start events why
-    → ScriptBreaksOff input why
-all_breaks_off input tree events start why (fronts, behind, text, is, few, asks) opens breaks =
-    let ls = lines_of_parts behind in
-    let lines : LinesState = record { root = root_of tree; before = length fronts + 1; lines = ls } in
-    record {
-      tree = tree;
-      lines = lines;
-      front = record {
-        fronts = fronts;
-        behind = behind;
-        has_text = text;
-        is_tree = is;
-        rule_is = refl;
-        lines_are = refl;
-      };
-      root = refl;
-      count = length ls;
-      events = events;
-      asks = ap (λ (xs : List (List ℕ)). asked_by (record lines { lines = xs })) (take_all (length ls) ls (omega arith))
-          ∙ asks;
-      start = start;
-      opens = opens;
-      breaks = breaks;
-    }
+-- likewise, where memory may be refused
+pub lines_break : (input : List ℕ) (tree : List TreeEntry) (logs : Option (List ProcessLog)) (lines : LinesState)
+    (first : Run) (why : Failure) → IsOpenReopen input tree logs lines → BeginsBy tree logs first
+    → (why ≡ failure.Memory) ⊎ ((count : ℕ) × (events : List Event) × AsksFirst lines count events
+    × BreaksOff (state first.world) events why)
+    → (why ≡ failure.Memory) ⊎ ScriptBreaksOff input why
+lines_break input tree logs lines first why script begins (inl memory) = inl memory
+lines_break input tree logs lines first why script begins (inr breaks) =
+    inr (script_breaks_off input tree logs lines first why script begins breaks)
 
 -- why a script's run is not drawn is why there is no report of it
-pub not_drawn : (input : List ℕ) (tree : List TreeEntry) (events : List Event) (why : Failure)
-    → IsScript input tree events
-    → (why ≡ failure.Memory) ⊎ (((start : WorldState) × IsOpened start tree × BreaksOff start events why)
-    ⊎ ((why ≡ failure.Exhausted) × CannotTell Picture tree events))
+pub not_drawn : (input : List ℕ) (tree : List TreeEntry) (logs : Option (List ProcessLog)) (events : List Event)
+    (first : Run) (why : Failure) → IsReopenScript input tree logs events → BeginsBy tree logs first
+    → (why ≡ failure.Memory) ⊎ (BreaksOff (state first.world) events why
+    ⊎ ((why ≡ failure.Exhausted) × DrawsTooLong (state first.world) events))
     → (why ≡ failure.Memory) ⊎ CannotReport Picture input why
-not_drawn input tree events why script (inl memory) = inl memory
-not_drawn input tree events why script (inr (inl (start, opens, breaks))) =
-    inr (inl (all_breaks_off input tree events start why script opens breaks))
-not_drawn input tree events why script (inr (inr (exhausted, cannot))) =
-    inr (inr (exhausted, record { tree = tree; events = events; script = script; beyond = cannot }))
-
--- why a script's run is not told is why there is no report of it
-pub not_told : (output : Output) (input : List ℕ) (tree : List TreeEntry) (events : List Event)
-    (refusal : Refusal) (end : WorldState) (why : Failure) → IsScript input tree events
-    → Plays tree events refusal end
-    → (why ≡ failure.Memory) ⊎ ((why ≡ failure.Exhausted) × ((given : List Event) → IsBeyond output given end))
-    → (why ≡ failure.Memory) ⊎ CannotReport output input why
-not_told output input tree events refusal end why script plays (inl memory) = inl memory
-not_told output input tree events refusal end why script plays (inr (exhausted, beyond)) =
+not_drawn input tree logs events first why script begins (inl memory) = inl memory
+not_drawn input tree logs events first why script begins (inr (inl breaks)) =
+    let all = asks_all input tree logs events script in
+    inr (inl (script_breaks_off input tree logs all.lines first why all.opened begins
+    (length all.lines.lines, events, all.asks, breaks)))
+not_drawn input tree logs events first why script begins (inr (inr (exhausted, long))) =
     inr (inr (
       exhausted,
       record {
         tree = tree;
+        logs = logs;
+        events = events;
+        script = script;
+        beyond = record {
+          refusal = long.refusal;
+          end = long.end;
+          plays = ran_by tree logs first long.end events long.refusal long.count begins long.come;
+          beyond = long.long;
+        };
+      },
+    ))
+
+-- why a script's run is not told is why there is no report of it
+pub not_told : (output : Output) (input : List ℕ) (tree : List TreeEntry) (logs : Option (List ProcessLog))
+    (events : List Event) (refusal : Refusal) (end : WorldState) (why : Failure)
+    → IsReopenScript input tree logs events → PlaysBy tree logs events refusal end
+    → (why ≡ failure.Memory) ⊎ ((why ≡ failure.Exhausted) × ((given : List Event) → IsBeyond output given end))
+    → (why ≡ failure.Memory) ⊎ CannotReport output input why
+not_told output input tree logs events refusal end why script plays (inl memory) = inl memory
+not_told output input tree logs events refusal end why script plays (inr (exhausted, beyond)) =
+    inr (inr (
+      exhausted,
+      record {
+        tree = tree;
+        logs = logs;
         events = events;
         script = script;
         beyond = record { refusal = refusal; end = end; plays = plays; beyond = beyond events };
@@ -206,42 +338,36 @@ not_told output input tree events refusal end why script plays (inr (exhausted, 
     ))
 
 -- a run that is not drawn, for one of its events is not made, or for its picture would be too long
-pub run_not_made : (tree : List TreeEntry) (events : List Event) (first : Run) (why : Failure)
-    → Begins tree first → length events < 2 ^ 64
+pub run_not_made : (events : List Event) (first : Run) (why : Failure)
+    → HasCome (state first.world) [] first → length events < 2 ^ 64
     → (why ≡ failure.Memory) ⊎ ((start : WorldState) (given : List Event) → HasCome start given first
     → CannotMake start (given ++ events) why)
-    → (why ≡ failure.Memory) ⊎ (((start : WorldState) × IsOpened start tree × BreaksOff start events why)
-    ⊎ ((why ≡ failure.Exhausted) × CannotTell Picture tree events))
-run_not_made tree events first why begins few (inl memory) = inl memory
-run_not_made tree events first why begins few (inr cannot) =
-    inr (inl (
-      state first.world,
-      begins.opened,
-      breaks_off (state first.world) events why few (cannot (state first.world) [] begins.begins),
-    ))
+    → (why ≡ failure.Memory) ⊎ (BreaksOff (state first.world) events why
+    ⊎ ((why ≡ failure.Exhausted) × DrawsTooLong (state first.world) events))
+run_not_made events first why begins few (inl memory) = inl memory
+run_not_made events first why begins few (inr cannot) =
+    inr (inl (breaks_off (state first.world) events why few (cannot (state first.world) [] begins)))
 
 long_on : (tree : List TreeEntry) (few more : ℕ) (es : List Entry) → few ≤ more → IsLong tree few es
     → IsLong tree more es
 long_on tree few more es fewer (inl many) = inl many
 long_on tree few more es fewer (inr many) = inr (omega (arith, fewer, many))
 
-pub run_not_drawn : (tree : List TreeEntry) (events : List Event) (first run : Run) (turns : ℕ) (why : Failure)
-    → Begins tree first
-    → ((start : WorldState) (given : List Event) → HasCome start given first → HasCome start (given ++ events) run)
-    → turns ≤ length events
+pub run_not_drawn : (events : List Event) (first run : Run) (turns : ℕ) (why : Failure)
+    → HasCome (state first.world) events run → turns ≤ length events
     → (why ≡ failure.Memory)
     ⊎ ((why ≡ failure.Exhausted) × IsLong (state run.world).tree turns (state run.world).entries)
-    → (why ≡ failure.Memory) ⊎ (((start : WorldState) × IsOpened start tree × BreaksOff start events why)
-    ⊎ ((why ≡ failure.Exhausted) × CannotTell Picture tree events))
-run_not_drawn tree events first run turns why begins goes few (inl memory) = inl memory
-run_not_drawn tree events first run turns why begins goes few (inr (exhausted, long)) =
+    → (why ≡ failure.Memory) ⊎ (BreaksOff (state first.world) events why
+    ⊎ ((why ≡ failure.Exhausted) × DrawsTooLong (state first.world) events))
+run_not_drawn events first run turns why come few (inl memory) = inl memory
+run_not_drawn events first run turns why come few (inr (exhausted, long)) =
     inr (inr (
       exhausted,
       record {
         refusal = run.refusal;
+        count = run.made;
         end = state run.world;
-        plays = ran tree (state first.world) (state run.world) events run.refusal run.made begins.is_tree begins.opened
-            (goes (state first.world) [] begins.begins);
-        beyond = long_on (state run.world).tree turns (length events) (state run.world).entries few long;
+        come = come;
+        long = long_on (state run.world).tree turns (length events) (state run.world).entries few long;
       },
     ))

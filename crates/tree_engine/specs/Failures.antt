@@ -5,10 +5,11 @@ use Rattle.tree_model.specs.declared.events.Entry.{Entry}
 use Rattle.tree_model.specs.declared.events.Event.{Event}
 use Rattle.tree_model.specs.declared.events.StepError.{StepError}
 use Rattle.tree_model.specs.declared.trees.TreeEntry.{TreeEntry}
-use Rattle.tree_model.specs.Trees.{root_of}
-use Rattle.link_script.specs.Inputs.{AsksFirst, IsFront, IsScript, LinesState}
+use Rattle.link_script.specs.Inputs.{AsksFirst, LinesState}
+use Rattle.logs_script.specs.declared.line.ProcessLog.{ProcessLog}
+use Rattle.reopen_script.specs.Inputs.{IsOpenReopen, IsReopenScript}
 use Rattle.core_law.specs.worlds.Refusals.{Refusal}
-use Rattle.core_law.specs.worlds.Runs.{IsOpened, LeadsUntil}
+use Rattle.core_law.specs.worlds.Runs.{LeadsUntil}
 use Rattle.core_law.specs.worlds.Worlds.{WorldState}
 use Rattle.picture_rows.specs.Long.{IsLong}
 use Rattle.report_io.specs.declared.streams.Failure.{Failure}
@@ -16,8 +17,8 @@ use Rattle.report_io.specs.declared.streams.Failure.TheVariants.{Device, Exhaust
 use Rattle.tree_engine.specs.declared.tree.Output.{Output}
 use Rattle.tree_engine.specs.declared.tree.Output.TheVariants.{Counts, Logs, Picture, Trace}
 use Rattle.tree_engine.specs.Counts.{Fit, rows_of, total_of}
-use Rattle.tree_engine.specs.Runs.{IsFailure}
-use Rattle.tree_engine.specs.Trees.{Plays}
+use Rattle.tree_engine.specs.Reopened.{PlaysBy, StartsBy}
+use Rattle.tree_engine.specs.Runs.{ComesTo, IsFailure}
 
 -- Events.
 
@@ -34,18 +35,18 @@ abbrev pub CannotMake : WorldState → List Event → Failure → Type 0
 CannotMake start events why =
     BreaksOff start events why ⊎ ((why ≡ Exhausted) × (2 ^ 64 ≤ length events))
 
--- The input is a script as far as its lines. The first of them ask for events of which one, in a tree that has opened,
--- is not made for this reason.
+-- The input is a script as far as its lines, of these logs or of none. The first of the lines after them ask for
+-- events of which one, in a tree that has opened over these logs, is not made for this reason.
 pub record ScriptBreaksOff (input : List ℕ) (why : Failure) : Type 0 where
   pub tree : List TreeEntry
+  pub logs : Option (List ProcessLog)
   pub lines : LinesState
-  pub front : IsFront input tree lines.before lines.lines
-  pub root : lines.root ≡ root_of tree
+  pub script : IsOpenReopen input tree logs lines
   pub count : ℕ
   pub events : List Event
   pub asks : AsksFirst lines count events
   pub start : WorldState
-  pub opens : IsOpened start tree
+  pub opens : StartsBy tree logs start
   pub breaks : BreaksOff start events why
 
 -- What is written.
@@ -71,19 +72,30 @@ IsBeyond Logs events w = 2 ^ 64 ≤ message_count w.entries
 IsBeyond Counts events w = (2 ^ 64 ≤ message_count w.entries) ⊎ IsUncounted w
 IsBeyond Picture events w = IsLong w.tree (length events) w.entries
 
--- these events led the tree, opened, to a state of which nothing is written, for numbers are used up
-pub record CannotTell (output : Output) (tree : List TreeEntry) (events : List Event) : Type 0 where
+-- these events led the tree, opened over these logs or over empty ones, to a state of which nothing is written, for
+-- numbers are used up
+pub record CannotTell (output : Output) (tree : List TreeEntry) (logs : Option (List ProcessLog))
+    (events : List Event) : Type 0 where
   pub refusal : Refusal
   pub end : WorldState
-  pub plays : Plays tree events refusal end
+  pub plays : PlaysBy tree logs events refusal end
   pub beyond : IsBeyond output events end
 
--- the input is a script of such a tree and such events
+-- the input is a script of such a tree, such logs and such events
 pub record ScriptIsBeyond (output : Output) (input : List ℕ) : Type 0 where
   pub tree : List TreeEntry
+  pub logs : Option (List ProcessLog)
   pub events : List Event
-  pub script : IsScript input tree events
-  pub beyond : CannotTell output tree events
+  pub script : IsReopenScript input tree logs events
+  pub beyond : CannotTell output tree logs events
+
+-- these events led to a state from this one, whose picture would be too long
+pub record DrawsTooLong (start : WorldState) (events : List Event) : Type 0 where
+  pub refusal : Refusal
+  pub count : ℕ
+  pub end : WorldState
+  pub come : ComesTo start events refusal count end
+  pub long : IsBeyond Picture events end
 
 -- why nothing is written of an input
 abbrev pub CannotReport : Output → List ℕ → Failure → Type 0

@@ -2,6 +2,8 @@ pub mod Counts
 pub mod Texts
 pub mod Logs
 pub mod Trees
+pub mod Reopened
 pub mod Runs
 pub mod Failures
+pub mod Reports
 pub mod OneText

@@ -1,5 +1,5 @@
 -- A run that goes on until an event is refused.
-use Rattle.std.specs.Prelude.{◌≡◌, ◌≢◌, ℕ, None, List, [], length}
+use Rattle.std.specs.Prelude.{◌≡◌, ◌≢◌, ℕ, false, true, is_some, Option, None, Some, Ok, List, [], length}
 use Rattle.tree_model.specs.declared.events.Event.{Event}
 use Rattle.tree_model.specs.declared.events.StepError.{StepError}
 use Rattle.tree_model.specs.declared.events.StepError.TheVariants as steps
@@ -14,8 +14,13 @@ use Rattle.report_io.specs.declared.status.Status.{Status}
 use Rattle.report_io.specs.declared.streams.Failure.{Failure}
 use Rattle.report_io.specs.declared.streams.Failure.TheVariants as failure
 use Rattle.run_picture.specs.Pictures.{IsPicture}
-use Rattle.tree_engine.specs.Trees.{IsNumbered, Plays, ending}
-use Rattle.link_script.specs.Inputs.{IsScript}
+use Rattle.tree_model.specs.declared.names.ProcessId.{ProcessId}
+use Rattle.link_script.specs.Inputs.{LinesState, asked_by}
+use Rattle.logs_script.specs.declared.line.ProcessLog.{ProcessLog}
+use Rattle.reopen_script.specs.Inputs.{IsReopenScript}
+use Rattle.reopened_trees.specs.Reopened.{IsReopened}
+use Rattle.tree_engine.specs.Reopened.{IsDamage, PlaysBy, records_by}
+use Rattle.tree_engine.specs.Trees.{IsNumbered, ending}
 
 -- an event was refused for itself: memory was not refused, no device failed, and numbers are not used up
 abbrev pub IsOwn : StepError → Type 0
@@ -45,19 +50,47 @@ pub record Begins (tree : List TreeEntry) (run : Run) : Type 0 where
   pub is_tree : IsTree tree
   pub opened : IsOpened (state run.world) tree
   pub begins : HasCome (state run.world) [] run
+  pub first : run.world.reopened ≡ false
+
+-- a run of a tree that has just opened over these logs
+pub record BeginsOver (tree : List TreeEntry) (logs : List ProcessLog) (run : Run) : Type 0 where
+  pub is_tree : IsTree tree
+  pub reopened : IsReopened tree (records_by tree logs) (state run.world)
+  pub begins : HasCome (state run.world) [] run
+  pub over : run.world.reopened ≡ true
+
+-- a run of a tree that has just opened over these logs, or over empty ones
+abbrev pub BeginsBy : List TreeEntry → Option (List ProcessLog) → Run → Type 0
+BeginsBy tree None run = Begins tree run
+BeginsBy tree (Some logs) run = BeginsOver tree logs run
+
+-- there are logs, one of which is damaged there
+abbrev pub IsDamageBy : List TreeEntry → Option (List ProcessLog) → ProcessId → ℕ → Type 0
+IsDamageBy tree None process place = ⊥
+IsDamageBy tree (Some logs) process place = IsDamage tree logs process place
+
+-- these lines, made in a tree that has just opened, led a run to its state
+pub record HasPlayed (first run : Run) (lines : LinesState) : Type 0 where
+  pub events : List Event
+  pub asked : asked_by lines ≡ Ok events
+  pub come : HasCome (state first.world) events run
+  pub over : run.world.reopened ≡ first.world.reopened
 
 -- a run of the script that the input is
 pub record PlaysScript (input : List ℕ) (run : Run) : Type 0 where
   pub tree : List TreeEntry
+  pub logs : Option (List ProcessLog)
   pub events : List Event
-  pub script : IsScript input tree events
-  pub plays : Plays tree events run.refusal (state run.world)
+  pub script : IsReopenScript input tree logs events
+  pub plays : PlaysBy tree logs events run.refusal (state run.world)
   pub numbered : IsNumbered run.refusal
+  pub over : run.world.reopened ≡ is_some logs
 
--- a run of these events on this tree, which ended so and is drawn by the text
-pub record Draws (tree : List TreeEntry) (events : List Event) (status : Status) (text : List ℕ) : Type 0 where
+-- these events led to a state from this one, and the text draws how; the run ended so
+pub record Draws (start : WorldState) (events : List Event) (status : Status) (text : List ℕ) : Type 0 where
   pub refusal : Refusal
+  pub count : ℕ
   pub end : WorldState
-  pub plays : Plays tree events refusal end
+  pub come : ComesTo start events refusal count end
   pub status_is : status ≡ ending refusal
   pub picture : IsPicture end.entries text

@@ -1,5 +1,5 @@
 -- What a tree script's run writes.
-use Rattle.std.specs.Prelude.{◌≡◌, ◌+◌, ◌<◌, ◌^◌, ℕ, Option, Some, None, List, [], ◌∷◌, ◌++◌, codes, length}
+use Rattle.std.specs.Prelude.{◌≡◌, ◌+◌, ◌<◌, ◌^◌, ℕ, Bool, false, true, Option, Some, None, List, [], ◌∷◌, ◌++◌, codes, length}
 use Rattle.std.specs.List.{flat_map}
 use Rattle.std.specs.Fmt.{decimal}
 use Rattle.tree_model.specs.declared.trees.TreeEntry.{TreeEntry}
@@ -19,7 +19,7 @@ use Rattle.tree_engine.specs.Counts.{rows_of, total_of}
 use Rattle.tree_engine.specs.Texts.{rows_text, total_text}
 use Rattle.trace_lines.specs.Trace.{entries_text, entry_text, lines_text}
 use Rattle.report_io.specs.declared.status.Status.{Status}
-use Rattle.report_io.specs.declared.status.Status.TheVariants.{Ended, Refused, Stopped}
+use Rattle.report_io.specs.declared.status.Status.TheVariants.{Ended, Stopped}
 use Rattle.tree_reports.specs.SecondRuns.{EndsReported}
 use Rattle.core_law.specs.worlds.Refusals.{IsForItself, IsRunOf, LeadsTo, Refusal, RefusesIn}
 use Rattle.core_law.specs.worlds.Runs.{IsOpened}
@@ -43,6 +43,12 @@ opened_text tree = flat_map (λ e. opening_text e.id.0) tree
 -- the trace of a run, up to where it has come: the lines of its processes' opening, and those of its steps
 abbrev pub trace_of : WorldState → List ℕ
 trace_of w = opened_text w.tree ++ entries_text 0 w.entries
+
+-- likewise, of a tree that was opened over logs or not: over logs the first steps are the restarts of its processes, and
+-- they have the lines of their opening
+abbrev pub trace_by : Bool → WorldState → List ℕ
+trace_by false w = trace_of w
+trace_by true w = entries_text 0 w.entries
 
 -- the lines of a process's reaction before which so many messages were sent
 abbrev pub part_text : ℕ → ProcessId × Reaction → List ℕ
@@ -94,14 +100,14 @@ output_of lines.Trace = Trace
 output_of lines.Logs = Logs
 output_of lines.Counts = Counts
 
--- what is written of a run that ended so: its trace and the last line, or these and the counts, or a picture
--- of its steps, or, where it was to its end, the logs it leaves
-abbrev pub Tells : Output → WorldState → Refusal → List ℕ → Type 0
-Tells Logs w None text = LeavesLogs w text
-Tells Logs w (Some refused) text = text ≡ trace_of w ++ last_line (Some refused)
-Tells Trace w refusal text = text ≡ trace_of w ++ last_line refusal
-Tells Picture w refusal text = IsPicture w.entries text
-Tells Counts w refusal text = text ≡ (trace_of w ++ last_line refusal) ++ counts_text w
+-- what is written of a run that ended so, of a tree that was opened over logs or not: its trace and the last line, or
+-- these and the counts, or a picture of its steps, or, where it was to its end, the logs it leaves
+abbrev pub Tells : Bool → Output → WorldState → Refusal → List ℕ → Type 0
+Tells over Logs w None text = LeavesLogs w text
+Tells over Logs w (Some refused) text = text ≡ trace_by over w ++ last_line (Some refused)
+Tells over Trace w refusal text = text ≡ trace_by over w ++ last_line refusal
+Tells over Picture w refusal text = IsPicture w.entries text
+Tells over Counts w refusal text = text ≡ (trace_by over w ++ last_line refusal) ++ counts_text w
 
 -- The text is that of the run of just these events: they led the tree, opened, to a state that stands for a
 -- run of the model, with its journal, its messages and its processes; of this run the headline holds, each End
@@ -123,7 +129,7 @@ pub record RunsOver (output : Output) (tree : List TreeEntry) (events : List Eve
   pub mismatches_are_reported : EndsReported end.tree moves world follows.is_run
   pub refuses : RefusesIn tree world end.delivered events refusal
   pub status_is : status ≡ ending refusal
-  pub tells : Tells output end refusal text
+  pub tells : Tells false output end refusal text
 
 -- the line of a refused script
 abbrev pub fault_text : ScriptFault → List ℕ
@@ -145,9 +151,3 @@ pub record RefusesScript (input text : List ℕ) : Type 0 where
   pub fault : ScriptFault
   pub there : IsScriptFault input fault
   pub line : text ≡ fault_text fault
-
--- what is written of an input, by how the run ends
-abbrev pub IsTreeReport : Output → Status → List ℕ → List ℕ → Type 0
-IsTreeReport output Ended input text = RunsScript output Ended input text
-IsTreeReport output Stopped input text = RunsScript output Stopped input text
-IsTreeReport output Refused input text = RefusesScript input text

@@ -4,7 +4,7 @@ ghost use Rattle.std.specs.Prelude.{◌≡◌, ◌⊎◌, ◌≤◌, ◌^◌, �
 ghost use Rattle.tree_engine.specs.Counts.{rows_of};
 ghost use Rattle.tree_world.specs.Worlds.{state};
 ghost use Rattle.tree_engine.specs.Failures.{IsUncounted, message_count};
-ghost use Rattle.tree_engine.specs.Trees.{IsNumbered, counts_text, ending, last_line, trace_of};
+ghost use Rattle.tree_engine.specs.Trees.{IsNumbered, counts_text, ending, last_line, trace_by};
 
 use crate::rows::RunCounts;
 use crate::run::Refusal;
@@ -46,8 +46,8 @@ pub(crate) fn counted_trace(
     refusal: Refusal,
 ) -> Result<(Vec<u8>, Status), Failure>
     requires { IsNumbered refusal }
-    ensures text { IfOk result (λ r. r.0.items ≡ (trace_of (state world.now) ++ last_line refusal)
-        ++ counts_text (state world.now)) }
+    ensures text { IfOk result (λ r. r.0.items ≡ (trace_by world.now.reopened (state world.now)
+        ++ last_line refusal) ++ counts_text (state world.now)) }
     ensures status { IfOk result (λ r. r.1 ≡ ending refusal) }
     ensures err { IfErr result (λ why. (why ≡ Failure.Memory) ⊎ ((why ≡ Failure.Exhausted)
         × ((2 ^ 64 ≤ message_count (state world.now).entries) ⊎ IsUncounted (state world.now)))) }

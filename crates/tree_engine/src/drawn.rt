@@ -1,16 +1,13 @@
 //! The picture of a run.
 
-ghost use Rattle.std.specs.Prelude.{◌≡◌, ◌⊎◌, ◌≤◌, ◌++◌, IfErr, IfOk, List, OnOk, length};
+ghost use Rattle.std.specs.Prelude.{◌≡◌, ◌⊎◌, ◌≤◌, ◌++◌, [], IfErr, IfOk, List, OnOk, length};
 ghost use Rattle.tree_model.specs.declared.events.Event.{Event as AnyEvent};
-ghost use Rattle.tree_model.specs.Trees.{IsTree};
 ghost use Rattle.report_io.specs.Streams.{IsOfRun};
 ghost use Rattle.picture_rows.specs.Long.{IsLong};
-ghost use Rattle.core_law.specs.worlds.Runs.{IsOpened};
 ghost use Rattle.core_law.specs.worlds.Worlds.{WorldState};
 ghost use Rattle.run_picture.specs.Pictures.{IsPicture};
 ghost use Rattle.tree_world.specs.Worlds.{state};
-ghost use Rattle.tree_engine.specs.declared.tree.Output.TheVariants as output;
-ghost use Rattle.tree_engine.specs.Failures.{BreaksOff, CannotMake, CannotTell};
+ghost use Rattle.tree_engine.specs.Failures.{BreaksOff, CannotMake, DrawsTooLong};
 ghost use Rattle.tree_engine.specs.Runs.{Draws, HasCome};
 ghost use Rattle.tree_engine.specs.Trees.{ending};
 
@@ -20,7 +17,7 @@ use picture_rows::{PictureError, Turn};
 use report_io::{Failure, Status};
 use run_picture::{Scene, picture};
 use std::alloc::{AllocError, Global};
-use tree_model::{Entry, Event, StepError, Tree};
+use tree_model::{Entry, Event, StepError};
 use tree_world::World;
 
 /// The steps that were made, each made anew.
@@ -123,20 +120,20 @@ fn drawn_run(
     Ok((text, status_of(run.refusal)))
 }
 
-/// Runs these events on a tree, and draws the run. The tree is one that passed its check.
+/// Makes these events in a tree that has just opened, and draws the run.
 pub(crate) fn draw_run(
     alloc: Global,
-    tree: Tree,
+    run: Run,
     events: &[Event],
 ) -> Result<(Vec<u8>, Status), Failure>
-    requires { IsTree tree }
-    ensures draws { IfOk result (λ r. Draws tree events.now r.1 r.0.items) }
+    requires { HasCome (state run.world) [] run }
+    ensures draws { IfOk result (λ r. Draws (state run.world) events.now r.1 r.0.items) }
     ensures err { IfErr result (λ why. (why ≡ Failure.Memory)
-        ⊎ ((start : WorldState) × IsOpened start tree × BreaksOff start events.now why)
-        ⊎ ((why ≡ Failure.Exhausted) × CannotTell output.Picture tree events.now)) }
+        ⊎ BreaksOff (state run.world) events.now why
+        ⊎ ((why ≡ Failure.Exhausted) × DrawsTooLong (state run.world) events.now)) }
     ensures why { IfErr result IsOfRun }
 {
-    let mut run = Run::open(alloc, tree)?;
+    let mut run = run;
     match make_turns(alloc, &mut run, events) {
         Err(failure) => {
             run.close();

@@ -1,18 +1,21 @@
 //! A run that goes on until an event is refused.
 
-ghost use Rattle.std.specs.Prelude.{◌≡◌, ◌⊎◌, ◌+◌, ◌++◌, ◌∷◌, [], IfErr, IfOk, List, OnOk};
+ghost use Rattle.std.specs.Prelude.{◌≡◌, ◌⊎◌, ◌+◌, ◌++◌, ◌∷◌, [], IfErr, IfOk, List, OnOk, map};
 ghost use Rattle.report_io.specs.Streams.{IsOfRun};
 ghost use Rattle.tree_model.specs.declared.events.Event.{Event as AnyEvent};
 ghost use Rattle.tree_model.specs.Trees.{IsTree};
 ghost use Rattle.core_law.specs.worlds.Worlds.{WorldState};
+ghost use Rattle.log_store.specs.Memory.{memory_bytes};
 ghost use Rattle.tree_engine.specs.Failures.{CannotMake};
-ghost use Rattle.tree_engine.specs.Runs.{Begins, HasCome, IsFailure, IsOwn};
+ghost use Rattle.tree_engine.specs.Reopened.{IsDamage, bytes_in};
+ghost use Rattle.tree_engine.specs.Runs.{Begins, BeginsOver, HasCome, IsFailure, IsOwn};
 
 use log_store::MemoryStore;
+use logs_script::{ProcessLog, bytes_of};
 use report_io::Failure;
-use std::alloc::Global;
-use tree_model::{Event, StepError, Tree};
-use tree_world::World;
+use std::alloc::{AllocError, Global};
+use tree_model::{Event, ProcessId, StepError, Tree, TreeEntry};
+use tree_world::{ReopenError, World};
 
 /// How many events were made, and why the next was refused; or none was.
 pub type Refusal = Option<(usize, StepError)>;
@@ -30,6 +33,22 @@ pub fn own_refusal(refusal: StepError) -> Result<StepError, Failure>
         StepError::Exhausted => Err(Failure::Exhausted),
         _ => Ok(refusal),
     }
+}
+
+/// Stores in memory, each with the log of the process at its place.
+fn stores_of(
+    alloc: Global,
+    entries: &[TreeEntry],
+    logs: &[ProcessLog],
+) -> Result<Vec<MemoryStore>, AllocError>
+    ensures { IfOk result (λ stores. map memory_bytes stores.items ≡ bytes_in entries.now logs.now) }
+{
+    let mut stores = Vec::new(alloc);
+    for entry in entries {
+        let bytes = Vec::from_slice(alloc, bytes_of(logs, entry.id))?;
+        stores.push(MemoryStore::from_bytes(bytes))?;
+    }
+    Ok(stores)
 }
 
 /// A tree that runs, how many events were made, and which was refused, if one was: then none behind it is
@@ -54,6 +73,30 @@ impl Run {
                 made: 0,
                 refusal: None,
             }),
+        }
+    }
+
+    /// A tree that opens over these logs, in memory; or the first of them that is damaged, as bytes or as the log of
+    /// its process in this tree, and where. The tree is one that passed its check.
+    pub fn reopen(
+        alloc: Global,
+        tree: Tree,
+        logs: &[ProcessLog],
+    ) -> Result<Result<Run, (ProcessId, usize)>, Failure>
+        requires { IsTree tree }
+        ensures begins { IfOk result (λ opened. IfOk opened (BeginsOver tree logs.now)) }
+        ensures damage { IfOk result (λ opened. IfErr opened (λ d. IsDamage tree logs.now d.0 d.1)) }
+        ensures memory { IfErr result (λ e. e ≡ Failure.Memory) }
+    {
+        let stores = stores_of(alloc, tree.entries(), logs)?;
+        match World::reopen(alloc, tree, stores) {
+            Ok(world) => Ok(Ok(Run {
+                world,
+                made: 0,
+                refusal: None,
+            })),
+            Err((ReopenError::Damaged(process, place), _stores)) => Ok(Err((process, place))),
+            Err((_, _stores)) => Err(Failure::Memory),
         }
     }
 
@@ -89,6 +132,7 @@ impl Run {
         ensures err { IfErr result (λ why. (start : WorldState) (given : List AnyEvent)
             → HasCome start given self.old → CannotMake start (given ++ event ∷ []) why) }
         ensures why { IfErr result IsOfRun }
+        ensures over { self.new.world.reopened ≡ self.old.world.reopened }
     {
         if self.refusal.is_some() {
             return Ok(());
@@ -116,6 +160,7 @@ impl Run {
             ⊎ ((start : WorldState) (given : List AnyEvent)
             → HasCome start given self.old → CannotMake start (given ++ events.now) why)) }
         ensures why { IfErr result IsOfRun }
+        ensures over { self.new.world.reopened ≡ self.old.world.reopened }
     {
         for event in events {
             self.make(event.copied(alloc)?)?;

@@ -5,7 +5,7 @@ ghost use Rattle.trace_lines.specs.Trace.{entries_text};
 ghost use Rattle.short_steps.specs.Shown.{shown_part};
 ghost use Rattle.tree_world.specs.Worlds.{state};
 ghost use Rattle.tree_engine.specs.Failures.{PassesLast, message_count};
-ghost use Rattle.tree_engine.specs.Trees.{AddsStep, IsNumbered, ending, last_line, opened_text, opening_text, part_text, refused_text, trace_of};
+ghost use Rattle.tree_engine.specs.Trees.{AddsStep, IsNumbered, ending, last_line, opened_text, opening_text, part_text, refused_text, trace_by};
 
 use crate::run::Refusal;
 use log_store::MemoryStore;
@@ -16,20 +16,25 @@ use tree_model::TreeEntry;
 use tree_world::World;
 use world_journal::Shown;
 
-/// The trace of what the tree has come to, and how its run ended. Exhausted: 2^64 messages or more were sent.
+/// The trace of what the tree has come to, and how its run ended: of a tree that was opened over logs its first
+/// steps are the restarts of its processes, and they show what each opened. Exhausted: 2^64 messages or more were
+/// sent.
 pub fn trace_text(
     alloc: Global,
     world: &World<MemoryStore>,
     refusal: Refusal,
 ) -> Result<(Vec<u8>, Status), Failure>
     requires { IsNumbered refusal }
-    ensures text { IfOk result (λ r. r.0.items ≡ trace_of (state world.now) ++ last_line refusal) }
+    ensures text { IfOk result (λ r. r.0.items
+        ≡ trace_by world.now.reopened (state world.now) ++ last_line refusal) }
     ensures status { IfOk result (λ r. r.1 ≡ ending refusal) }
     ensures err { IfErr result (λ why. (why ≡ Failure.Memory)
         ⊎ ((why ≡ Failure.Exhausted) × (2 ^ 64 ≤ message_count (state world.now).entries))) }
 {
     let mut out = Vec::new(alloc);
-    push_opened(alloc, &mut out, world.tree().entries())?;
+    if !world.is_reopened() {
+        push_opened(alloc, &mut out, world.tree().entries())?;
+    }
     push_entries(&mut out, world)?;
     match refusal {
         None => {

@@ -3,25 +3,30 @@
 ghost use Rattle.std.specs.Prelude.{◌≡◌, ◌⊎◌, ℕ, [], List, IfErr, IfOk, Ok, OnOk, string_bytes};
 ghost use Rattle.std.specs.Io.KnownBytes.{Appends, Keeps};
 ghost use Rattle.tree_model.specs.declared.events.Event.{Event as AnyEvent};
-ghost use Rattle.link_script.specs.Inputs.{AsksFirst, IsLineError, IsScriptFault, asked_by};
+ghost use Rattle.link_script.specs.Inputs.{AsksFirst, IsLineError, asked_by};
 ghost use Rattle.report_io.specs.declared.status.Status.{Status as AnyStatus};
 ghost use Rattle.report_io.specs.Streams.{IsInput, IsOfRun, WritesFront};
 ghost use Rattle.tree_world.specs.Worlds.{state};
 ghost use Rattle.tree_engine.specs.declared.tree.Output.TheVariants as output;
 ghost use Rattle.tree_engine.specs.Failures.{BreaksOff, CannotReport, IsBeyond, IsStop, ScriptBreaksOff};
-ghost use Rattle.tree_engine.specs.Runs.{HasCome, PlaysScript};
-ghost use Rattle.tree_engine.specs.Trees.{IsNumbered, IsTreeReport, Tells, ending, fault_text, output_of};
+ghost use Rattle.tree_model.specs.Trees.{IsTree};
+ghost use Rattle.tree_engine.specs.Reports.{IsFirstFault, IsInputFault, IsTreeReport};
+ghost use Rattle.tree_engine.specs.Runs.{BeginsBy, HasCome, HasPlayed, IsDamageBy, PlaysScript};
+ghost use Rattle.tree_engine.specs.Trees.{IsNumbered, Tells, ending, fault_text, output_of};
 
 use crate::counting::counted_trace;
 use crate::drawn::draw_run;
 use crate::logs::left_text;
 use crate::run::{Refusal, Run};
 use crate::trace::trace_text;
-use link_script::{Lines, ScriptError, ScriptFault, open, read};
+use link_script::{Lines, ScriptError, ScriptFault};
 use log_store::MemoryStore;
+use logs_script::{ProcessLogs, damaged};
+use reopen_script::{open_reopen, read_reopen};
 use report_io::{Failure, Status, read_all, write_all};
 use std::alloc::{AllocError, Global};
 use std::io::{Read, Write};
+use tree_model::{ProcessId, Tree};
 use tree_world::World;
 
 /// What is written of a run.
@@ -107,10 +112,13 @@ fn picture_report(alloc: Global, input: &[u8]) -> Result<(Vec<u8>, Status), Fail
     ensures err { IfErr result (λ why. (why ≡ Failure.Memory) ⊎ CannotReport Output.Picture input.now why) }
     ensures why { IfErr result IsOfRun }
 {
-    match read(alloc, input) {
-        Ok((tree, events)) => draw_run(alloc, tree, &events),
-        Err(ScriptError::Fault(fault)) => Ok((refusal(alloc, fault)?, Status::Refused)),
-        Err(ScriptError::Memory) => Err(Failure::Memory),
+    let (tree, logs, events) = match read_reopen(alloc, input) {
+        Ok(script) => script,
+        Err(error) => return Ok((refusal(alloc, fault_of(error)?)?, Status::Refused)),
+    };
+    match opened(alloc, tree, logs)? {
+        Ok(run) => draw_run(alloc, run, &events),
+        Err((process, place)) => Ok((damaged(alloc, process, place)?, Status::Refused)),
     }
 }
 
@@ -131,7 +139,10 @@ fn line_report(
             run.close();
             told
         }
-        Err(fault) => Ok((refusal(alloc, fault)?, Status::Refused)),
+        Err(InputFault::Script(fault)) => Ok((refusal(alloc, fault)?, Status::Refused)),
+        Err(InputFault::Damaged(process, place)) => {
+            Ok((damaged(alloc, process, place)?, Status::Refused))
+        }
     }
 }
 
@@ -176,19 +187,64 @@ fn fault_of(error: ScriptError) -> Result<ScriptFault, Failure>
     }
 }
 
+/// What is wrong with an input: with its script, or with one of the logs that it begins with.
+#[derive(Clone, Copy, PartialEq, Eq)]
+enum InputFault {
+    Script(ScriptFault),
+    Damaged(ProcessId, usize),
+}
+
+/// A tree that opens over these logs, or over empty ones if there are none; or the first log that is damaged, and
+/// where.
+fn opened(
+    alloc: Global,
+    tree: Tree,
+    logs: Option<ProcessLogs>,
+) -> Result<Result<Run, (ProcessId, usize)>, Failure>
+    requires { IsTree tree }
+    ensures begins { IfOk result (λ opened. IfOk opened (BeginsBy tree logs)) }
+    ensures damage { IfOk result (λ opened. IfErr opened (λ d. IsDamageBy tree logs d.0 d.1)) }
+    ensures memory { IfErr result (λ e. e ≡ Failure.Memory) }
+{
+    match logs {
+        None => Ok(Ok(Run::open(alloc, tree)?)),
+        Some(logs) => Run::reopen(alloc, tree, logs.as_slice()),
+    }
+}
+
 /// Reads a script, and makes the event of each line as it is read; or tells what is wrong with it.
-fn play(alloc: Global, input: &[u8]) -> Result<Result<Run, ScriptFault>, Failure>
+fn play(alloc: Global, input: &[u8]) -> Result<Result<Run, InputFault>, Failure>
     ensures run { IfOk result (λ played. IfOk played (PlaysScript input.now)) }
-    ensures fault { IfOk result (λ played. IfErr played (IsScriptFault input.now)) }
+    ensures fault { IfOk result (λ played. IfErr played (IsInputFault input.now)) }
     ensures err { IfErr result (λ why. (why ≡ Failure.Memory) ⊎ ScriptBreaksOff input.now why) }
     ensures why { IfErr result IsOfRun }
 {
-    let (tree, lines) = match open(alloc, input) {
-        Ok(opened) => opened,
-        Err(error) => return Ok(Err(fault_of(error)?)),
+    let (tree, logs, lines) = match open_reopen(alloc, input) {
+        Ok(script) => script,
+        Err(error) => return Ok(Err(InputFault::Script(fault_of(error)?))),
     };
-    let mut run = Run::open(alloc, tree)?;
-    match make_lines(alloc, &mut run, &lines) {
+    let run = match opened(alloc, tree, logs)? {
+        Ok(run) => run,
+        Err((process, place)) => return Ok(Err(first_fault(alloc, &lines, process, place)?)),
+    };
+    match play_lines(alloc, run, &lines)? {
+        Ok(run) => Ok(Ok(run)),
+        Err(fault) => Ok(Err(InputFault::Script(fault))),
+    }
+}
+
+/// Makes the event of each of these lines in a tree that has just opened; or tells the first line of no event.
+fn play_lines(alloc: Global, run: Run, lines: &Lines) -> Result<Result<Run, ScriptFault>, Failure>
+    requires { HasCome (state run.world) [] run }
+    ensures run { IfOk result (λ played. IfOk played (λ end. HasPlayed run end lines.now)) }
+    ensures fault { IfOk result (λ played. IfErr played
+        (λ fault. IsLineError (ScriptError.Fault fault) (asked_by lines.now))) }
+    ensures err { IfErr result (λ why. (why ≡ Failure.Memory) ⊎ ((count : ℕ) × (events : List AnyEvent)
+        × AsksFirst lines.now count events × BreaksOff (state run.world) events why)) }
+    ensures why { IfErr result IsOfRun }
+{
+    let mut run = run;
+    match make_lines(alloc, &mut run, lines) {
         Ok(Ok(())) => Ok(Ok(run)),
         Ok(Err(fault)) => {
             run.close();
@@ -209,6 +265,7 @@ fn make_lines(
     lines: &Lines,
 ) -> Result<Result<(), ScriptFault>, Failure>
     requires { HasCome (state run.old.world) [] run.old }
+    ensures over { run.new.world.reopened ≡ run.old.world.reopened }
     ensures made { IfOk result (λ made. OnOk made ((events : List AnyEvent)
         × (asked_by lines.now ≡ Ok events) × HasCome (state run.old.world) events run.new)) }
     ensures fault { IfOk result (λ made. IfErr made
@@ -227,6 +284,22 @@ fn make_lines(
     Ok(Ok(()))
 }
 
+/// What is wrong with an input one of whose logs is damaged there: a line of no event comes first.
+fn first_fault(
+    alloc: Global,
+    lines: &Lines,
+    process: ProcessId,
+    place: usize,
+) -> Result<InputFault, Failure>
+    ensures fault { IfOk result (λ fault. IsFirstFault process place (asked_by lines.now) fault) }
+    ensures memory { IfErr result (λ e. e ≡ Failure.Memory) }
+{
+    match lines.events(alloc) {
+        Ok(_events) => Ok(InputFault::Damaged(process, place)),
+        Err(error) => Ok(InputFault::Script(fault_of(error)?)),
+    }
+}
+
 /// What is written of the tree that has come so far, and how its run ended.
 fn told(
     alloc: Global,
@@ -235,7 +308,8 @@ fn told(
     refusal: Refusal,
 ) -> Result<(Vec<u8>, Status), Failure>
     requires { IsNumbered refusal }
-    ensures text { IfOk result (λ r. Tells (output_of output) (state world.now) refusal r.0.items) }
+    ensures text { IfOk result (λ r. Tells world.now.reopened (output_of output) (state world.now) refusal
+        r.0.items) }
     ensures status { IfOk result (λ r. r.1 ≡ ending refusal) }
     ensures err { IfErr result (λ why. (why ≡ Failure.Memory) ⊎ ((why ≡ Failure.Exhausted)
         × ((events : List AnyEvent) → IsBeyond (output_of output) events (state world.now)))) }

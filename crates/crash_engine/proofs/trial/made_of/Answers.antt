@@ -1,7 +1,7 @@
-use Rattle.std.proofs.Common.{◌∙◌, [], None, Some, refl, subst, sym}
+use Rattle.std.proofs.Common.{◌∙◌, [], None, Some, inl, refl, subst, sym}
 use Rattle.tree_world.specs.Worlds.{state}
-use Rattle.tree_engine.specs.Trees.{Plays}
-use Rattle.crash_engine.proofs.Trying.{comes_to}
+use Rattle.crash_engine.specs.Origins.{PlaysFrom}
+use Rattle.crash_engine.proofs.Trying.{begun, comes_to}
 use Rattle.crash_engine.proofs.Failing.{handed_on, run_breaks}
 use Rattle.crash_engine.proofs.trial.made_of.Goals as goal
 
@@ -10,11 +10,11 @@ returns-in-None-clause-made c =
     let start = state c.in_ok-run.run'.world in
     let run = c.make_all-made.new.self in
     let begins = c.in_ok-run.ensures.begins in
-    let come = c.in_ok-made.ensures.goes_on start [] begins.begins in
-    let plays = comes_to c.args.tree.now start c.args.events.now run begins.is_tree begins.opened come in (
+    let come = c.in_ok-made.ensures.goes_on start [] (begun c.args.origin.now c.in_ok-run.run' begins) in
+    let plays = comes_to c.args.origin.now c.in_ok-run.run' run c.args.events.now begins come in (
       None,
       state run.world,
-      subst (λ r. Plays c.args.tree.now c.args.events.now r (state run.world))
+      subst (λ r. PlaysFrom c.args.origin.now c.args.events.now r (state run.world))
           (sym c.refusal-refusal.ensures ∙ c.in-None.is) plays,
       refl,
     )
@@ -24,11 +24,11 @@ returns-in-Some-clause-made c =
     let start = state c.in_ok-run.run'.world in
     let run = c.make_all-made.new.self in
     let begins = c.in_ok-run.ensures.begins in
-    let come = c.in_ok-made.ensures.goes_on start [] begins.begins in
-    let plays = comes_to c.args.tree.now start c.args.events.now run begins.is_tree begins.opened come in (
+    let come = c.in_ok-made.ensures.goes_on start [] (begun c.args.origin.now c.in_ok-run.run' begins) in
+    let plays = comes_to c.args.origin.now c.in_ok-run.run' run c.args.events.now begins come in (
       Some (c.in-Some.made, c.in-Some.field-0-1),
       state run.world,
-      subst (λ r. Plays c.args.tree.now c.args.events.now r (state run.world))
+      subst (λ r. PlaysFrom c.args.origin.now c.args.events.now r (state run.world))
           (sym c.refusal-refusal.ensures ∙ c.in-Some.is) plays,
       refl,
     )
@@ -40,5 +40,10 @@ returns-in_err-made-clause-err c =
     let why = c.in_err-made.field-0.0 in
     handed_on _ c.from_residual-in_err-made.result why c.from_residual-in_err-made.ensures.1
     c.in_err-made.ensures.err
-    (λ cannot. run_breaks c.args.tree.now c.args.events.now start why begins.opened
-    (cannot start [] begins.begins))
+    (λ cannot. run_breaks c.args.origin.now c.args.events.now c.in_ok-run.run' why begins
+    (cannot start [] (begun c.args.origin.now c.in_ok-run.run' begins)))
+
+pub returns-in_err-run-clause-err : goal.returns-in_err-run-clause-err
+returns-in_err-run-clause-err c =
+    handed_on _ c.from_residual.result c.in_err-run.field-0.0 c.from_residual.ensures.1 c.in_err-run.ensures.err
+    (λ not. inl not)

@@ -1,4 +1,4 @@
-use Rattle.std.proofs.Common.{◌≡◌, ◌⊎◌, ◌+◌, ◌<◌, ◌^◌, ℕ, List, [], ◌∷◌, ◌++◌, inr, length, length-append, arith, rules, subst}
+use Rattle.std.proofs.Common.{◌≡◌, ◌∙◌, ◌⊎◌, ◌+◌, ◌<◌, ◌^◌, ℕ, List, [], ◌∷◌, ◌++◌, inr, length, length-append, arith, refl, rules, subst}
 use Rattle.tree_model.specs.declared.events.Event.{Event}
 use Rattle.link_script.specs.Inputs.{AsksFirst, IsLineError, asked_by}
 use Rattle.report_io.specs.declared.streams.Failure.TheVariants.{Memory}
@@ -12,7 +12,7 @@ use Rattle.tree_engine.proofs.TreeReports.{reads_start}
 use Rattle.tree_engine.proofs.tree.make_lines.Goals as goal
 
 pub loop-place-init : goal.loop-place-init
-loop-place-init c = ([], reads_start c.args.lines.now, c.requires, asks_none c.args.lines.now, omega arith)
+loop-place-init c = ([], reads_start c.args.lines.now, c.requires, asks_none c.args.lines.now, omega arith, refl)
 
 pub returns-in-Err-clause-fault : goal.returns-in-Err-clause-fault
 returns-in-Err-clause-fault c =
@@ -29,6 +29,7 @@ loop-place-preserved-in-Ok-None c =
       h.2,
       asks_no_more c.args.lines.now c.loop-place.place _ h.0 (omega arith) c.in-Ok-None.ensures (search rules) h.3,
       omega (arith, few),
+      h.5,
     )
 
 pub loop-place-preserved : goal.loop-place-preserved
@@ -43,6 +44,7 @@ loop-place-preserved c =
       asks_one_more c.args.lines.now c.loop-place.place _ c.in-Ok-Some.event h.0 (omega arith)
           c.in-Ok-Some.ensures (search rules) h.3,
       omega (arith, few, size),
+      c.in_ok-make-in-Ok-Some.ensures.over ∙ h.5,
     )
 
 pub returns-in_err-make-in-Ok-Some-clause-err : goal.returns-in_err-make-in-Ok-Some-clause-err

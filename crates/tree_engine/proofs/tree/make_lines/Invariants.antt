@@ -1,4 +1,4 @@
-use Rattle.std.proofs.Common.{◌≤◌, List, length}
+use Rattle.std.proofs.Common.{◌≡◌, ◌≤◌, List, length}
 use Rattle.tree_model.specs.declared.events.Event.{Event}
 use Rattle.link_script.specs.Inputs.{AsksFirst}
 use Rattle.link_script.proofs.Reading.{HasRead}
@@ -10,3 +10,4 @@ abbrev pub invariant-loop-place : goal.invariant-loop-place
 invariant-loop-place l =
     (events : List Event) × HasRead l.lines l.place events × HasCome (state l.initial.run.world) events l.run
     × AsksFirst l.lines l.place events × (length events ≤ l.place)
+    × (l.run.world.reopened ≡ l.initial.run.world.reopened)

@@ -24,4 +24,4 @@ returns-in_err-make-clause-err c =
     c.from_residual-in_err-make.ensures.1
     (inr (λ start given h. cannot_all start given events k c.event-item.result rest why next
     (subst (λ e. CannotMake start ((given ++ take k events) ++ e ∷ []) why) c.in_ok-copied.ensures
-    (c.in_err-make.ensures.err start (given ++ take k events) (c.loop-event.invariant start given h)))))
+    (c.in_err-make.ensures.err start (given ++ take k events) (c.loop-event.invariant.0 start given h)))))

@@ -1,4 +1,4 @@
-use Rattle.std.proofs.Common.{List, ◌++◌, take}
+use Rattle.std.proofs.Common.{◌≡◌, List, ◌++◌, take}
 use Rattle.tree_model.specs.declared.events.Event.{Event}
 use Rattle.core_law.specs.worlds.Worlds.{WorldState}
 use Rattle.tree_engine.specs.Runs.{HasCome}
@@ -6,5 +6,6 @@ use Rattle.tree_engine.proofs.run.Run.make_all.Given as goal
 
 abbrev pub invariant-loop-event : goal.invariant-loop-event
 invariant-loop-event l =
-    (start : WorldState) (given : List Event) → HasCome start given l.initial.self
-    → HasCome start (given ++ take l.event-index l.events) l.self
+    ((start : WorldState) (given : List Event) → HasCome start given l.initial.self
+    → HasCome start (given ++ take l.event-index l.events) l.self)
+    × (l.self.world.reopened ≡ l.initial.self.world.reopened)
