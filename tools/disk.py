@@ -287,10 +287,21 @@ def told_in(text):
     return {line.split()[1]: line.split()[2] for line in text.splitlines() if line.startswith("told ")}
 
 
+def trimmed(trace):
+    """Whether a trim put its file in the log's place: a rename after the first answer. Its own answer may have failed since."""
+    answered = False
+    for line in trace.read_text().splitlines():
+        found = CALL.match(line)
+        answered |= bool(found) and found[1] in ("write", "writev") and found[2].startswith("1, ")
+        if answered and found and found[1].startswith("rename") and int(found[3]) == 0:
+            return True
+    return False
+
+
 def failures(command_of, room):
     """Each call of a session on the node's files or its answers fails once."""
     lines = root_lines(1, 6)
-    log = room / "1.log"
+    log, trace = room / "1.log", room / "calls"
     log.unlink(missing_ok=True)
     session = record(command_of(1), room, lines, ["--new"])
     seen, tried, ended = {}, 0, 0
@@ -312,9 +323,10 @@ def failures(command_of, room):
     for name, number, error in wanted:
         for old in room.glob("1.log*"):
             old.unlink()
-        done = subprocess.run(["strace", "-f", "-o", "/dev/null", "-e", f"inject={name}:error={error}:when={number}",
-                               *command_of(1), "--new"], input="".join(line + "\n" for line in lines).encode(),
-                              stdout=subprocess.PIPE, stderr=subprocess.PIPE, check=False)
+        done = subprocess.run(["strace", "-f", "-o", str(trace), "-e", f"trace={CALLS}",
+                               "-e", f"inject={name}:error={error}:when={number}", *command_of(1), "--new"],
+                              input="".join(line + "\n" for line in lines).encode(), stdout=subprocess.PIPE,
+                              stderr=subprocess.PIPE, check=False)
         tried += 1
         text = done.stdout.decode()
         place = f"{name} number {number} answers {error}"
@@ -330,7 +342,7 @@ def failures(command_of, room):
         for txn, end in told.items():
             known = [line for line in again.stdout.decode().splitlines() if line.startswith(f"outcome {txn} ")]
             if known not in ([f"outcome {txn} {end}"], [f"outcome {txn} unknown"]) or \
-                    (known == [f"outcome {txn} unknown"] and "trim 1 " not in text and end == "committed"):
+                    (known == [f"outcome {txn} unknown"] and end == "committed" and not trimmed(trace)):
                 raise Wrong(f"{place}: {txn} was told {end}, and then {known}")
     print(f"{tried} failed calls: the node ended at {ended} of them, and what it had told was there each time")
     return tried

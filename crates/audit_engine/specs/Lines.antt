@@ -7,7 +7,7 @@ use Rattle.tree_model.specs.Texts.{case_text, outcome_word}
 use Rattle.audit_cases.specs.declared.kinds.Own.{Own}
 use Rattle.audit_cases.specs.declared.kinds.Own.TheVariants as own
 use Rattle.tree_audit.specs.declared.report.Line.{Line}
-use Rattle.audit_engine.specs.logs.Lines.{listed_words}
+use Rattle.log_lines.specs.Words.{listed_words}
 
 -- the word of how a case stands by its own records
 abbrev pub own_word : Own → List ℕ

@@ -14,8 +14,8 @@ ghost use Rattle.audit_engine.specs.Lines.{count_text, line_text, lines_text, mi
 use crate::chains::all_namings;
 use crate::detail::Detail;
 use crate::explain::push_explained;
-use crate::logs::lines::push_listed;
 use crate::namings::TreeNamings;
+use log_lines::push_listed;
 use std::alloc::{AllocError, Global};
 use trace_lines::{outcome_word, push, push_case, push_number};
 use tree_audit::{Line, Own, Report, TreeNotes};

@@ -1,6 +1,5 @@
 //! The engine of `rstar log`: what the logs of a tree hold, one record a line.
 
 mod engine;
-pub(crate) mod lines;
 
 pub use engine::run_log;

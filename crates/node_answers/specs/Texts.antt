@@ -8,6 +8,9 @@ use Rattle.tree_model.specs.declared.events.Reaction.{Reaction}
 use Rattle.tree_model.specs.Names.{root_case}
 use Rattle.tree_model.specs.Texts.{case_text, kept_lines, outcome_word, reaction_lines}
 use Rattle.trace_lines.specs.Trace.{lines_text}
+use Rattle.log_text.specs.declared.form.LogForm.{LogForm}
+use Rattle.log_lines.specs.Held.{listed_text}
+use Rattle.log_lines.specs.Words.{bytes_word}
 use Rattle.log_news.specs.declared.doubts.Decision.{Decision}
 use Rattle.node_answers.specs.declared.status.Status.{Status}
 use Rattle.log_news.specs.declared.news.News.{News}
@@ -20,21 +23,10 @@ ok_text = codes "ok\n"
 -- the lines that a node knows, and `ok`
 abbrev pub help_text : List ℕ
 help_text =
-    codes "begin pa|pc\n"
-    ++ codes "join CASE CHILD\n"
-    ++ codes "work CASE CHILD put KEY VALUE|get KEY|del KEY\n"
-    ++ codes "commit TXN\n"
-    ++ codes "abort TXN\n"
-    ++ codes "ask CASE\n"
-    ++ codes "heur CASE commit|rollback\n"
-    ++ codes "forget CASE\n"
-    ++ codes "N F->T MESSAGE\n"
-    ++ codes "trim\n"
-    ++ codes "doubt\n"
-    ++ codes "outcome TXN\n"
-    ++ codes "status\n"
-    ++ codes "help\n"
-    ++ codes "end\n"
+    codes "begin pa|pc\njoin CASE CHILD\nwork CASE CHILD put KEY VALUE|get KEY|del KEY\n"
+    ++ codes "commit TXN\nabort TXN\nask CASE\nheur CASE commit|rollback\nforget CASE\n"
+    ++ codes "N F->T MESSAGE\ntrim\ndoubt\noutcome TXN\nagain CASE\n"
+    ++ codes "status\nlog\ndata\nhelp\nend\n"
     ++ ok_text
 
 -- how a log stands: the boot; how many records it has, and how many of them are not forced; how many bytes; how many
@@ -44,6 +36,22 @@ status_text s =
     codes "status boot " ++ decimal s.boot ++ codes " records " ++ decimal s.records ++ codes " unforced "
     ++ decimal s.unforced ++ codes " bytes " ++ decimal s.bytes ++ codes " in-doubt " ++ decimal s.doubts
     ++ codes " decided " ++ decimal s.decided ++ codes "\n" ++ ok_text
+
+-- what a log of this form holds, line by line, and `ok`
+abbrev pub log_text : LogForm → List ℕ → List ℕ
+log_text form bytes = listed_text form bytes ++ ok_text
+
+-- the line of a key and its value
+abbrev pub pair_line : List ℕ × List ℕ → List ℕ
+pair_line p = codes "data" ++ bytes_word p.0 ++ bytes_word p.1 ++ codes "\n"
+
+-- the lines of keys and values
+abbrev pub pairs_text : List (List ℕ × List ℕ) → List ℕ
+pairs_text ps = flat_map pair_line ps
+
+-- the data of a manager, and `ok`
+abbrev pub data_text : List (List ℕ × List ℕ) → List ℕ
+data_text ps = pairs_text ps ++ ok_text
 
 -- the answer to the line of nothing
 abbrev pub error_text : List ℕ

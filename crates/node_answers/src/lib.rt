@@ -3,9 +3,11 @@
 //! What a process of a tree answers to a line, where it runs as a program of its own, as text.
 #![tactic(auto)]
 
+mod holding;
 mod status;
 mod text;
 
+pub use holding::{data_text, log_text};
 pub use status::{Status, help_text, status_text};
 pub use text::{
     doubt_text, error_text, obeyed_text, outcome_text, refused_text, shown_text, trimmed_text,

@@ -53,21 +53,19 @@ pub fn help_text(alloc: Global) -> Result<Vec<u8>, AllocError>
     ensures { IfOk result (λ text. text.items ≡ help_text) }
 {
     let mut out = Vec::new(alloc);
-    push(&mut out, "begin pa|pc\n")?;
-    push(&mut out, "join CASE CHILD\n")?;
-    push(&mut out, "work CASE CHILD put KEY VALUE|get KEY|del KEY\n")?;
-    push(&mut out, "commit TXN\n")?;
-    push(&mut out, "abort TXN\n")?;
-    push(&mut out, "ask CASE\n")?;
-    push(&mut out, "heur CASE commit|rollback\n")?;
-    push(&mut out, "forget CASE\n")?;
-    push(&mut out, "N F->T MESSAGE\n")?;
-    push(&mut out, "trim\n")?;
-    push(&mut out, "doubt\n")?;
-    push(&mut out, "outcome TXN\n")?;
-    push(&mut out, "status\n")?;
-    push(&mut out, "help\n")?;
-    push(&mut out, "end\n")?;
+    push(
+        &mut out,
+        "begin pa|pc\njoin CASE CHILD\nwork CASE CHILD put KEY VALUE|get KEY|del KEY\n",
+    )?;
+    push(
+        &mut out,
+        "commit TXN\nabort TXN\nask CASE\nheur CASE commit|rollback\nforget CASE\n",
+    )?;
+    push(
+        &mut out,
+        "N F->T MESSAGE\ntrim\ndoubt\noutcome TXN\nagain CASE\n",
+    )?;
+    push(&mut out, "status\nlog\ndata\nhelp\nend\n")?;
     push(&mut out, "ok\n")?;
     Ok(out)
 }

@@ -1,8 +1,9 @@
 -- What comes of a line.
-use Rattle.std.proofs.Common.{◌≡◌, ◌∙◌, ◌++◌, ℕ, Bool, true, false, length, Result, Ok, Err, List, inl, refl, ap, sym, subst}
+use Rattle.std.proofs.Common.{◌≡◌, ◌∙◌, ◌++◌, ◌⊎◌, ℕ, Bool, true, false, length, Option, Some, None, Result, Ok, Err, List, inl, inr, refl, ap, sym, subst}
 use Rattle.std.specs.Prelude.{IfErr, IfOk, OnErr, OnOk}
 use Rattle.std.specs.Result.{IsErrAnd}
 use Rattle.std.specs.Str.{IsUtf8}
+use Rattle.tree_model.specs.declared.messages.Envelope.{Envelope}
 use Rattle.tree_model.specs.declared.names.ProcessId.{ProcessId}
 use Rattle.tree_model.specs.declared.events.Input.{Input}
 use Rattle.tree_model.specs.declared.events.Input.TheVariants.{Act as ActInput, Message as MessageInput}
@@ -24,7 +25,7 @@ use Rattle.node_lines.specs.declared.asked.Asked.TheVariants as asked
 use Rattle.node_lines.specs.Asked.{asked_at}
 use Rattle.node_engine.specs.declared.failure.NodeFailure.{NodeFailure}
 use Rattle.node_engine.specs.declared.failure.NodeFailure.TheVariants as failure
-use Rattle.node_engine.specs.Answers.{Answers, AnswersIf, AnswersInput, AnswersLine, AnswersTrim, IsRefusal, IsUnrefused, IsUnshown, NodeState, Shows, Takes, TakesIf, TakesInput, TakesLine, TakesTrim, TellsOutcome, TellsStatus, hears, leaves_it, records_at, status_by, takes_it}
+use Rattle.node_engine.specs.Answers.{Answers, AnswersIf, AnswersInput, AnswersLine, AnswersTrim, IsRefusal, IsUnrefused, IsUnshown, NodeState, Shows, Takes, TakesAgain, TakesIf, TakesInput, TakesLine, TakesTrim, TellsOutcome, TellsStatus, hears, leaves_it, owed_at, records_at, status_by, takes_it}
 use Rattle.node_answers.specs.declared.status.Status.{Status}
 use Rattle.node_answers.specs.Texts.{news_text, ok_text, refused_text, status_text}
 use Rattle.log_news.specs.News.{news_in}
@@ -176,6 +177,10 @@ if_nothing : (b : Bool) (s : NodeState) (i : Input) → TakesIf b s s i failure.
 if_nothing true s i = leaves_it (refl, refl)
 if_nothing false s i = (refl, refl)
 
+again_nothing : (o : Option (List Envelope)) (s : NodeState) → TakesAgain o s s failure.Memory
+again_nothing None s = (refl, refl)
+again_nothing (Some es) s = (refl, tt)
+
 pub takes_nothing : (a : Asked) (s : NodeState) → Takes a s s failure.Memory
 takes_nothing asked.Nothing s = (refl, refl)
 takes_nothing (asked.Act a) s = if_nothing (same_process (process_of_act (root_of s.tree) a) s.me) s (ActInput a)
@@ -188,7 +193,10 @@ takes_nothing asked.Trim s = record {
 }
 takes_nothing asked.Doubt s = (refl, refl)
 takes_nothing (asked.Outcome x) s = (refl, refl)
+takes_nothing (asked.Again c) s = again_nothing (owed_at s c) s
 takes_nothing asked.Status s = (refl, refl)
+takes_nothing asked.Log s = (refl, refl)
+takes_nothing asked.Data s = (refl, refl)
 takes_nothing asked.Help s = (refl, refl)
 takes_nothing asked.End s = (refl, refl)
 takes_nothing asked.Unknown s = (refl, refl)

@@ -1,2 +1,5 @@
 pub mod Runs
+pub mod Homes
+pub mod Owed
+pub mod Pairs
 pub mod Answering

@@ -1,11 +1,12 @@
 -- What a node has answered, line by line.
-use Rattle.std.proofs.Common.{◌≡◌, ◌∙◌, inr, length, ℕ, Bool, true, false, Some, None, List, [], ◌∷◌, ◌++◌, Result, Ok, Err, refl, sym, ap, subst, append_assoc}
+use Rattle.std.proofs.Common.{◌≡◌, ◌∙◌, inr, length, ℕ, Bool, true, false, Option, Some, None, List, [], ◌∷◌, ◌++◌, Result, Ok, Err, refl, sym, ap, subst, append_assoc}
 use Rattle.std.specs.Prelude.{⊤, IfErr, IfOk, OnOk}
 use Rattle.std.specs.Result.{IsErrAnd}
 use Rattle.std.specs.List.{AllByRecursion, flat_map}
 use Rattle.std.specs.Io.KnownBytes.{Appends, Consumes, IsAtEnd}
 use Rattle.std.proofs.lemmas.List.{append-nil}
 use Rattle.std.proofs.lemmas.Grind.{flat_map-append}
+use Rattle.tree_model.specs.declared.messages.Envelope.{Envelope}
 use Rattle.tree_model.specs.declared.events.Input.{Input as AnyInput}
 use Rattle.tree_model.specs.declared.events.Input.TheVariants.{Act as ActInput, Message as MessageInput}
 use Rattle.tree_model.specs.declared.events.Reaction.{Reaction}
@@ -22,7 +23,7 @@ use Rattle.node_lines.specs.Asked.{end_word}
 use Rattle.script_words.specs.Steps.{same}
 use Rattle.node_engine.specs.declared.failure.NodeFailure.{NodeFailure}
 use Rattle.node_engine.specs.declared.failure.NodeFailure.TheVariants.{Read, Memory, Write, Device, Exhausted}
-use Rattle.node_engine.specs.Answers.{AnswersLine, IsUnrefused, IsUnshown, NodeState, Shows, Takes, TakesIf, TakesLine, Untold, UntoldTrim, hears, leaves_it, takes_it}
+use Rattle.node_engine.specs.Answers.{AnswersLine, IsUnrefused, IsUnshown, NodeState, Shows, Takes, TakesAgain, TakesIf, TakesLine, Untold, UntoldTrim, hears, leaves_it, owed_at, resends, takes_it}
 use Rattle.node_engine.specs.Runs.{ClosesLog, EndedEarly, EndsBy, EndsInOrder, FailsToEnd, GoesOn, IsPiece, Known, ReadsAll, Served, Serves, Stand, Stops, Unanswered, end_text, line_of, stand}
 use Rattle.node_engine.proofs.Answering.{passed_on}
 
@@ -208,6 +209,11 @@ input_own true old new input why (takes_it h) = untold_own old.sent h.end why h.
 input_own true old new input why (leaves_it h) = memory_own why h.1
 input_own false old new input why h = memory_own why h.1
 
+again_own : (o : Option (List Envelope)) (old new : NodeState) (why : NodeFailure) → TakesAgain o old new why
+    → IsOwn why
+again_own None old new why h = memory_own why h.1
+again_own (Some es) old new why h = unshown_own old.sent (resends es) why h.1
+
 taken_own : (a : Asked) (old new : NodeState) (why : NodeFailure) → Takes a old new why → IsOwn why
 taken_own asked.Nothing old new why h = memory_own why h.1
 taken_own (asked.Act a) old new why h =
@@ -217,7 +223,10 @@ taken_own (asked.Message n e) old new why h =
 taken_own asked.Trim old new why h = trim_own h.end why h.untold
 taken_own asked.Doubt old new why h = memory_own why h.1
 taken_own (asked.Outcome x) old new why h = memory_own why h.1
+taken_own (asked.Again c) old new why h = again_own (owed_at old c) old new why h
 taken_own asked.Status old new why h = memory_own why h.1
+taken_own asked.Log old new why h = memory_own why h.1
+taken_own asked.Data old new why h = memory_own why h.1
 taken_own asked.Help old new why h = memory_own why h.1
 taken_own asked.End old new why h = memory_own why h.1
 taken_own asked.Unknown old new why h = memory_own why h.1

@@ -1,8 +1,9 @@
 -- What a node makes of a line, and what it answers.
-use Rattle.std.specs.Prelude.{◌≡◌, ◌≢◌, ◌≤◌, ◌+◌, ◌^◌, ◌⊎◌, ⊤, ℕ, Bool, true, false, ◌&&◌, is_none, Result, Ok, Err, List, [], ◌++◌, length}
+use Rattle.std.specs.Prelude.{◌≡◌, ◌≢◌, ◌≤◌, ◌+◌, ◌^◌, ◌⊎◌, ⊤, ℕ, Bool, true, false, ◌&&◌, is_none, Option, Some, None, Result, Ok, Err, List, [], ◌++◌, length}
 use Rattle.std.specs.Str.{IsUtf8}
 use Rattle.tree_model.specs.declared.messages.Envelope.{Envelope}
 use Rattle.tree_model.specs.declared.names.ProcessId.{ProcessId}
+use Rattle.tree_model.specs.declared.names.Case.{Case}
 use Rattle.tree_model.specs.declared.names.Txn.{Txn}
 use Rattle.tree_model.specs.declared.trees.TreeEntry.{TreeEntry}
 use Rattle.tree_model.specs.declared.events.Input.{Input}
@@ -13,10 +14,13 @@ use Rattle.tree_model.specs.declared.events.StepError.TheVariants.{Memory, Devic
 use Rattle.tree_model.specs.declared.records.LogRecord.{LogRecord}
 use Rattle.tree_model.specs.Errors.{step_error_number}
 use Rattle.tree_model.specs.Names.{same_process}
+use Rattle.tree_model.specs.Nodes.{Place, reaction_of}
 use Rattle.tree_model.specs.Plays.{process_of_act}
+use Rattle.tree_model.specs.Reactions.{sends_only}
 use Rattle.tree_model.specs.Trees.{parent_of, root_of}
 use Rattle.rec_log.specs.Sights.{records_of}
-use Rattle.core_model.specs.States.{CoreState}
+use Rattle.core_model.specs.States.{CoreState, form_of}
+use Rattle.inquire_core.specs.Readings.{place_below}
 use Rattle.core_law.specs.worlds.Worlds.{HandlesInput}
 use Rattle.manager_model.specs.Data.{ManagerData}
 use Rattle.tree_node.specs.declared.node.Node.{Node}
@@ -26,13 +30,15 @@ use Rattle.node_lines.specs.declared.asked.Asked.{Asked}
 use Rattle.node_lines.specs.declared.asked.Asked.TheVariants as asked
 use Rattle.node_lines.specs.Asked.{asked_at}
 use Rattle.node_lines.specs.Speakers.{may_speak}
+use Rattle.node_engine.specs.Again.{owed_again}
+use Rattle.node_engine.specs.DataTexts.{TellsData}
 use Rattle.node_engine.specs.declared.failure.NodeFailure.{NodeFailure}
 use Rattle.node_engine.specs.declared.failure.NodeFailure.TheVariants as failure
 use Rattle.node_engine.specs.declared.serving.Serving.{Serving}
 use Rattle.log_news.specs.Boots.{boot_in}
 use Rattle.log_news.specs.Doubts.{decisions_in, doubts_in}
 use Rattle.log_news.specs.News.{news_in}
-use Rattle.node_answers.specs.Texts.{decisions_text, doubts_text, error_text, help_text, news_text, ok_text, refused_text, shown_text, status_text, trimmed_text}
+use Rattle.node_answers.specs.Texts.{decisions_text, doubts_text, error_text, help_text, log_text, news_text, ok_text, refused_text, shown_text, status_text, trimmed_text}
 use Rattle.node_answers.specs.declared.status.Status.{Status}
 
 -- the tree, and the process; what it keeps and, at a manager, its data; and how many messages it sent since it
@@ -192,7 +198,7 @@ pub record AnswersTrim (old new : NodeState) (text : List ℕ) : Type 0 where
   pub took : Trimmed old new end
   pub told : ToldOfTrim old text end
 
--- Lines.
+-- What the log tells.
 
 -- the records of the node's log
 abbrev pub records_at : NodeState → List LogRecord
@@ -228,6 +234,40 @@ pub record TellsStatus (s : NodeState) (text : List ℕ) : Type 0 where
   pub spells : SpellsLog s.core log
   pub told : text ≡ status_text (status_by s (length log))
 
+-- The log and the data.
+
+-- this tells what the log of the process holds
+pub record TellsLog (s : NodeState) (text : List ℕ) : Type 0 where
+  pub log : List ℕ
+  pub spells : SpellsLog s.core log
+  pub told : text ≡ log_text (form_of s.core.place) log
+
+-- What is sent once more.
+
+-- where the process sits
+abbrev pub own_place : NodeState → Place
+own_place s = place_below s.me (parent_of s.tree s.me) s.tree
+
+-- what is sent once more of a case, by the log; none of one that waits for no acknowledgement
+abbrev pub owed_at : NodeState → Case → Option (List Envelope)
+owed_at s c = owed_again (own_place s) (records_at s) c
+
+-- what is shown of them
+abbrev pub resends : List Envelope → Reaction
+resends es = reaction_of (sends_only es)
+
+-- These messages are told, under the next numbers, and nothing else is otherwise; without them there is a refusal.
+abbrev pub AnswersAgain : Option (List Envelope) → NodeState → NodeState → List ℕ → Type 0
+AnswersAgain None old new text = Tells old new text (refused_text (step_error_number NoSuch))
+AnswersAgain (Some es) old new text = Shows old new (resends es) text
+
+-- nothing is otherwise, and that is not told: memory was refused, or with them 2^64 or more were sent
+abbrev pub TakesAgain : Option (List Envelope) → NodeState → NodeState → NodeFailure → Type 0
+TakesAgain None old new why = TellsNothing old new why
+TakesAgain (Some es) old new why = (new ≡ old) × IsUnshown old.sent (resends es) why
+
+-- Lines.
+
 -- what was asked is answered
 abbrev pub Answers : Asked → NodeState → NodeState → List ℕ → Type 0
 Answers asked.Nothing old new text = Tells old new text []
@@ -236,7 +276,10 @@ Answers (asked.Message n e) old new text = AnswersIf (hears old e) old new (Mess
 Answers asked.Trim old new text = AnswersTrim old new text
 Answers asked.Doubt old new text = Tells old new text (doubt_text old)
 Answers (asked.Outcome x) old new text = TellsOutcome (is_root old) x old new text
+Answers (asked.Again c) old new text = AnswersAgain (owed_at old c) old new text
 Answers asked.Status old new text = (new ≡ old) × TellsStatus old text
+Answers asked.Log old new text = (new ≡ old) × TellsLog old text
+Answers asked.Data old new text = (new ≡ old) × TellsData (records_at old) text
 Answers asked.Help old new text = Tells old new text help_text
 Answers asked.End old new text = Tells old new text ok_text
 Answers asked.Unknown old new text = Tells old new text error_text
@@ -246,6 +289,7 @@ abbrev pub Takes : Asked → NodeState → NodeState → NodeFailure → Type 0
 Takes (asked.Act a) old new why = TakesFor (process_of_act (root_of old.tree) a) old new (ActInput a) why
 Takes (asked.Message n e) old new why = TakesIf (hears old e) old new (MessageInput n e.message) why
 Takes asked.Trim old new why = TakesTrim old new why
+Takes (asked.Again c) old new why = TakesAgain (owed_at old c) old new why
 Takes _ old new why = TellsNothing old new why
 
 -- what a line asks; one that is no text asks nothing that a node knows

@@ -1,3 +1,5 @@
+pub mod Again
+pub mod DataTexts
 pub mod Answers
 pub mod Runs
 pub mod Starts

@@ -1,5 +1,5 @@
 -- A node that starts over a log, and why none did.
-use Rattle.std.specs.Prelude.{◌≡◌, ℕ, Bool, true, false, ◌&&◌, Option, Some, None, List}
+use Rattle.std.specs.Prelude.{◌≡◌, ⊤, ℕ, Bool, true, false, ◌&&◌, Option, Some, None, List}
 use Rattle.std.specs.List.{list_all}
 use Rattle.tree_model.specs.declared.names.Case.{Case}
 use Rattle.tree_model.specs.declared.names.ProcessId.{ProcessId}
@@ -13,10 +13,13 @@ use Rattle.tree_model.specs.LogNames.{is_own}
 use Rattle.tree_model.specs.Nodes.{is_parent}
 use Rattle.tree_model.specs.Records.{record_case}
 use Rattle.tree_model.specs.Trees.{parent_of}
+use Rattle.log_text.specs.declared.form.LogForm.{LogForm}
+use Rattle.log_rules.specs.order.Logs.{Whole, read_log}
 use Rattle.rec_log.specs.Openings.{Opens}
 use Rattle.rec_log.specs.Sights.{LogState, records_of}
 use Rattle.inquire_core.specs.Readings.{place_below}
 use Rattle.tree_node.specs.Nodes.{core_of, data_of}
+use Rattle.tree_node.specs.declared.reopening.ReopenError.TheVariants.{Memory}
 use Rattle.tree_node.specs.Reopenings.{NotReopened, ReopensAs, form_by, place_by}
 use Rattle.node_engine.specs.declared.serving.Serving.{Serving}
 use Rattle.node_engine.specs.declared.starting.StartError.{StartError}
@@ -53,11 +56,29 @@ pub record NamesOthers (tree : List TreeEntry) (e : TreeEntry) (bytes : List ℕ
   pub opens : Opens (form_by e) bytes forced failures log
   pub others : list_all (is_own_record e.id e.parent tree) (records_of log.sight.kept) ≡ false
 
+-- where the bytes are a log, each of its records is at home: it names no case but the process's own, and no ticket but
+-- of its children
+pub record NamesOwn (tree : List TreeEntry) (e : TreeEntry) (bytes : List ℕ) : Type 0 where
+  pub at_home : (ls : List LogRecord) (torn : ℕ) → read_log (form_by e) bytes ≡ Whole ls torn
+      → list_all (is_own_record e.id e.parent tree) ls ≡ true
+
+-- a log over a copy of the bytes, where they are one
+abbrev pub CopyOpens : LogForm → List ℕ → Option LogState → Type 0
+CopyOpens p bytes (Some log) = (forced : ℕ) × (failures : ℕ) × Opens p bytes forced failures log
+CopyOpens p bytes None = (ls : List LogRecord) (torn : ℕ) → read_log p bytes ≡ Whole ls torn → ⊥
+
+-- why it is not known that the bytes are the process's own log: they are not, or memory was refused
+abbrev pub NotHome : List TreeEntry → TreeEntry → List ℕ → StartError → Type 0
+NotHome tree e bytes Stranger = NamesOthers tree e bytes
+NotHome tree e bytes (Reopen Memory) = ⊤
+NotHome tree e bytes error = ⊥
+
 -- a node that has told nothing yet, of the process that goes on over these bytes
 pub record IsStart {L : Type 0} (tree : List TreeEntry) (e : TreeEntry) (bytes : List ℕ) (forced failures : ℕ)
     (s : Serving L) (opening : Reaction) : Type 0 where
   pub reopens : ReopensAs tree e bytes forced failures (core_of s.node) (data_of s.node) opening
   pub state : state_of s ≡ opened tree e.id s.node
+  pub home : NamesOwn tree e bytes
 
 -- why no node was started
 abbrev pub NoStart : {L : Type 0} → (L → List ℕ) → (L → ℕ) → (L → ℕ) → List TreeEntry → TreeEntry → L

@@ -3,6 +3,8 @@
 //! One process of a tree as a program of its own: lines in, lines out.
 #![tactic(auto)]
 
+mod again;
+mod data;
 mod failure;
 mod run;
 mod serving;

@@ -8,8 +8,10 @@ ghost use Rattle.tree_model.specs.Plays.{process_of_act};
 ghost use Rattle.tree_model.specs.Trees.{root_of};
 ghost use Rattle.tree_node.specs.Nodes.{core_of, data_of};
 ghost use Rattle.core_model.specs.Inputs.{input_of};
+ghost use Rattle.core_model.specs.States.{form_of as form_at};
 ghost use Rattle.node_engine.specs.Answers.{
   Answers,
+  AnswersAgain,
   AnswersFor,
   AnswersIf,
   AnswersInput,
@@ -20,36 +22,46 @@ ghost use Rattle.node_engine.specs.Answers.{
   IsUnshown,
   Shows,
   Takes,
+  TakesAgain,
   TakesFor,
   TakesIf,
   TakesInput,
   TakesLine,
   TakesTrim,
+  TellsLog,
   TellsOutcome,
   TellsStatus,
   doubt_text as text_of_doubts,
   hears as may_hear,
   is_root as is_at_root,
+  owed_at,
   opened,
   records_at,
+  resends,
   state_of,
 };
+ghost use Rattle.node_engine.specs.DataTexts.{TellsData};
 ghost use Rattle.tree_model.specs.declared.events.Input.TheVariants.{Act as ActInput, Message as MessageInput};
 ghost use Rattle.log_news.specs.News.{news_in};
 ghost use Rattle.node_answers.specs.Texts.{news_text, ok_text, refused_text as text_of_refusal};
 
+use crate::again::owed;
+use crate::data::{answer, pairs_in};
 use crate::failure::NodeFailure;
 use core_model::InputRef;
 use log_news::{boot_of, decisions_of, doubts_of, news_of};
 use log_store::LogStore;
+use log_text::LogForm;
 use node_answers::{
-    Status, doubt_text, error_text, help_text, obeyed_text, outcome_text, refused_text, shown_text,
-    status_text, trimmed_text,
+    Status, doubt_text, error_text, help_text, log_text, obeyed_text, outcome_text, refused_text,
+    shown_text, status_text, trimmed_text,
 };
 use node_lines::{Asked, asked_of, may_speak};
 use std::alloc::Global;
 use std::str;
-use tree_model::{Act, Envelope, ProcessId, Reaction, StepError, Tree, Txn};
+use tree_model::{
+    Act, Case, Envelope, Envelopes, Kind, ProcessId, Reaction, Sequence, StepError, Tree, Txn,
+};
 use tree_node::Node;
 
 /// A process of a tree that answers lines. Its messages are numbered from 1, from where it opened.
@@ -90,6 +102,29 @@ fn refusal(alloc: Global, error: StepError) -> Result<Vec<u8>, NodeFailure>
         StepError::Memory => Err(NodeFailure::Memory),
         StepError::Device => Err(NodeFailure::Device),
         _ => Ok(refused_text(alloc, error.number())?),
+    }
+}
+
+/// The form of the log of a process.
+fn form_of<L: LogStore>(node: &Node<L>) -> LogForm
+    ensures { result ≡ form_at (core_of node.now).place }
+{
+    match node {
+        Node::Coordinator(coordinator) => LogForm::of(coordinator.me(), Kind::Coordinator),
+        Node::Manager(manager) => LogForm::of(manager.me(), Kind::Manager),
+    }
+}
+
+/// What is shown of messages that are sent once more: the messages alone.
+fn repeated(alloc: Global, messages: Envelopes) -> Reaction
+    ensures { result ≡ resends messages }
+{
+    Reaction {
+        begun: None,
+        written: Sequence::new(alloc),
+        told: None,
+        messages,
+        kept: None,
     }
 }
 
@@ -232,6 +267,50 @@ impl<L: LogStore> Serving<L> {
         Ok(status_text(self.alloc, &status)?)
     }
 
+    /// What the log holds, line by line.
+    fn log(&self) -> Result<Vec<u8>, NodeFailure>
+        ensures ok { IfOk result (λ text. TellsLog (state_of self.now) text.items) }
+        ensures err { IfErr result (λ e. e ≡ NodeFailure.Memory) }
+    {
+        let log = self.node.log_text()?;
+        Ok(log_text(self.alloc, form_of(&self.node), &log)?)
+    }
+
+    /// The data of a manager; a coordinator has none.
+    fn data(&self) -> Result<Vec<u8>, NodeFailure>
+        ensures ok { IfOk result (λ text. TellsData (records_at (state_of self.now)) text.items) }
+        ensures err { IfErr result (λ e. e ≡ NodeFailure.Memory) }
+    {
+        let records = self.node.records()?;
+        let pairs = pairs_in(self.alloc, records)?;
+        Ok(answer(self.alloc, &pairs)?)
+    }
+
+    /// What is to be sent once more of a case, by the log.
+    fn owed(&self, case: &Case) -> Result<Option<Envelopes>, NodeFailure>
+        ensures ok { IfOk result (λ owed. owed ≡ owed_at (state_of self.now) case.now) }
+        ensures err { IfErr result (λ e. e ≡ NodeFailure.Memory) }
+    {
+        let records = self.node.records()?;
+        let parent = self.tree.parent(self.me);
+        Ok(owed(self.alloc, self.me, parent, &self.tree, &records, case)?)
+    }
+
+    /// The answer to a line that asks for a decision once more: its messages, under the next numbers; nothing is
+    /// recorded. Refused, where the case is not this process's or waits for no acknowledgement: there is no such
+    /// message.
+    fn again(&mut self, case: &Case) -> Result<Vec<u8>, NodeFailure>
+        ensures ok { IfOk result (λ text. AnswersAgain (owed_at (state_of self.old) case.now)
+            (state_of self.old) (state_of self.new) text.items) }
+        ensures err { IfErr result (TakesAgain (owed_at (state_of self.old) case.now)
+            (state_of self.old) (state_of self.new)) }
+    {
+        match self.owed(case)? {
+            None => self.refuse(),
+            Some(messages) => self.show(&repeated(self.alloc, messages)),
+        }
+    }
+
     /// The line of how a transaction of this process ended.
     fn tell_own(&self, txn: &Txn) -> Result<Vec<u8>, NodeFailure>
         ensures ok { IfOk result (λ text. text.items
@@ -284,7 +363,10 @@ impl<L: LogStore> Serving<L> {
             Asked::Trim => self.trim(),
             Asked::Doubt => self.doubt(),
             Asked::Outcome(txn) => self.tell(txn),
+            Asked::Again(case) => self.again(case),
             Asked::Status => self.status(),
+            Asked::Log => self.log(),
+            Asked::Data => self.data(),
             Asked::Help => Ok(help_text(self.alloc)?),
             Asked::End => Ok(obeyed_text(self.alloc)?),
             Asked::Unknown => Ok(error_text(self.alloc)?),

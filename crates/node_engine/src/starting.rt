@@ -1,13 +1,16 @@
 //! Starting a node over a log.
 
-ghost use Rattle.std.specs.Prelude.{◌≡◌, false, IfErr, IfOk, length};
+ghost use Rattle.std.specs.Prelude.{◌≡◌, IfErr, IfOk, OnOk};
 ghost use Rattle.std.specs.List.{list_all};
-ghost use Rattle.tree_node.specs.Reopenings.{kind_by};
+ghost use Rattle.rec_log.specs.Sights.{records_of};
+ghost use Rattle.tree_node.specs.Reopenings.{form_by, kind_by};
 ghost use Rattle.tree_model.specs.Records.{record_case};
 ghost use Rattle.node_engine.specs.Starts.{
+  CopyOpens,
   IsStart,
-  NamesOthers,
+  NamesOwn,
   NoStart,
+  NotHome,
   is_of_child as is_childs,
   is_own_record,
   names_children as names_own_children,
@@ -28,7 +31,7 @@ use tree_node::{ReopenError, copied_tree, reopen_node};
 pub enum StartError {
     /// The log has a record of a case of another process's or of another tree's, or one that names a ticket of
     /// no child in this tree.
-    #[error("it is the log of another process")]
+    #[error("it is the log of another process or of another tree")]
     Stranger,
     /// The process does not go on over the log.
     #[error("{0}")]
@@ -114,31 +117,61 @@ fn name_own(me: ProcessId, parent: Option<ProcessId>, tree: &Tree, records: &[Lo
         .all(|record| names_own(me, parent, tree, record))
 }
 
-/// Whether the log that these bytes are is the process's own, as far as its records tell; bytes that are none
-/// name nobody.
+/// The log of the process that these bytes are, over a copy of them in memory; None, where they are none.
+#[tactic(auto, using(crate::proofs::Homes::damaged_is_none, crate::proofs::Homes::old_is_none))]
+fn copied_log(
+    alloc: Global,
+    entry: &TreeEntry,
+    bytes: &[u8],
+) -> Result<Option<RecLog<MemoryStore>>, AllocError>
+    ensures { IfOk result (CopyOpens (form_by entry.now) bytes.now) }
+{
+    let copy = MemoryStore::from_bytes(Vec::from_slice(alloc, bytes)?);
+    match RecLog::open(copy, entry.id, kind_of(entry.kind, entry.parent), alloc) {
+        Ok(log) => Ok(Some(log)),
+        Err((OpenError::Damaged(_), _)) => Ok(None),
+        Err((OpenError::OldFormat, _)) => Ok(None),
+        // A store in memory has no device that fails.
+        Err((OpenError::Memory | OpenError::Device, _)) => Err(AllocError),
+    }
+}
+
+/// Whether each record of a log is the process's own.
 fn is_own_log(
     alloc: Global,
     tree: &Tree,
     entry: &TreeEntry,
-    bytes: &[u8],
+    log: &RecLog<MemoryStore>,
 ) -> Result<bool, AllocError>
-    ensures { IfOk result (λ own. own ≡ false → NamesOthers tree.now entry.now bytes.now) }
+    ensures { IfOk result (λ own. own ≡ list_all (is_own_record entry.now.id entry.now.parent tree.now)
+        (records_of log.now.sight.kept)) }
 {
-    let copy = MemoryStore::from_bytes(Vec::from_slice(alloc, bytes)?);
-    match RecLog::open(copy, entry.id, kind_of(entry.kind, entry.parent), alloc) {
-        Ok(log) => {
-            let records = log.records(alloc)?;
-            Ok(name_own(entry.id, entry.parent, tree, &records))
-        }
-        Err((OpenError::Memory, _)) => Err(AllocError),
-        Err((_, _)) => Ok(true),
+    let records = log.records(alloc)?;
+    Ok(name_own(entry.id, entry.parent, tree, &records))
+}
+
+/// That the log which these bytes are is the process's own, as far as its records tell; bytes that are none name
+/// nobody.
+#[tactic(auto, using(crate::proofs::Homes::none_names_own, crate::proofs::Homes::opened_names_own, crate::proofs::Homes::opened_names_others,))]
+fn check_home(alloc: Global, tree: &Tree, entry: &TreeEntry, bytes: &[u8]) -> Result<(), StartError>
+    ensures ok { OnOk result (NamesOwn tree.now entry.now bytes.now) }
+    ensures err { IfErr result (NotHome tree.now entry.now bytes.now) }
+{
+    let Some(log) = copied_log(alloc, entry, bytes)? else {
+        return Ok(());
+    };
+    if is_own_log(alloc, tree, entry, &log)? {
+        Ok(())
+    } else {
+        Err(StartError::Stranger)
     }
 }
 
 /// The process of an entry as a node, over the log in a store, and what it did as it opened (`reopen_node`).
 /// Stranger: the log has a record of a case that is not the process's own in this tree, or one that names a ticket
-/// of no child of it; nothing was written.
-/// Behind a refusal the store is let go.
+/// of no child of it, as where the tree was changed; nothing was written.
+/// After a refusal the store is let go.
+#[tactic(auto, using(crate::proofs::Homes::not_started))]
 pub fn start<L: LogStore + Drop>(
     alloc: Global,
     tree: &Tree,
@@ -149,9 +182,7 @@ pub fn start<L: LogStore + Drop>(
         (L.bytes store) (L.forced store) (L.failures store) made.0 made.1) }
     ensures err { IfErr result (NoStart L.bytes L.forced L.failures tree.now entry.now store) }
 {
-    if !is_own_log(alloc, tree, entry, store.bytes())? {
-        return Err(StartError::Stranger);
-    }
+    check_home(alloc, tree, entry, store.bytes())?;
     let copy = copied_tree(alloc, tree.entries())?;
     let own = copied_tree(alloc, tree.entries())?;
     match reopen_node(alloc, entry, copy, store) {

@@ -1,56 +1,53 @@
 -- A file that kept what was forced is read at the next start.
-use Rattle.std.proofs.Common.{◌≡◌, ◌∙◌, ℕ, Bool, true, false, List, length, take, nat_lt, ◌≤◌, inl, inr, refl, sym, ap, arith}
-use Rattle.std.proofs.lemmas.Bool.Decides.{nat_tests}
-use Rattle.tree_model.specs.Records.{same_bytes}
+use Rattle.std.proofs.Common.{◌≡◌, ◌∙◌, ◌-◌, ℕ, Bool, true, false, List, Some, find, length, take, nat_lt, ◌≤◌, inl, inr, refl, sym, ap, subst, arith}
 use Rattle.tree_model.specs.declared.records.LogRecord.{LogRecord}
 use Rattle.log_rules.specs.order.Logs.{Damaged as DamagedLog, Whole, read_log}
 use Rattle.log_text.specs.declared.form.LogForm.{LogForm}
-use Rattle.log_text.specs.declared.form.LogFormat.{LogFormat}
-use Rattle.log_text.specs.declared.form.LogFormat.TheVariants.{First, Second}
-use Rattle.log_text.specs.Forms.{header}
-use Rattle.rec_log.specs.Openings.{is_old}
 use Rattle.rec_log.specs.Sights.{left_by}
-use Rattle.rec_log.proofs.Settling.{same_bytes_is}
-use Rattle.rec_log.proofs.Carrying.{old_long}
+use Rattle.node_engine.proofs.Homes.{not_old}
+use Rattle.tree_node.specs.declared.reopening.ReopenError.{ReopenError}
 use Rattle.tree_node.specs.declared.reopening.ReopenError.TheVariants.{Memory, Device, Damaged, Unfit, OldFormat}
 use Rattle.tree_node.specs.Reopenings.{form_by}
-use Rattle.node_law.specs.Nodes.{OwnFilesAreRead}
+use Rattle.tree_node.specs.Reopenings.{NotReopened, place_by}
+use Rattle.core_law.specs.worlds.Worlds.{WorldState}
+use Rattle.core_law.specs.worlds.Ties.{FollowsBehindFaults}
+use Rattle.core_model.specs.States.{CoreState, form_of}
+use Rattle.tree_model.specs.declared.trees.TreeEntry.{TreeEntry}
+use Rattle.tree_model.specs.Names.{same_process}
+use Rattle.tree_model.specs.Trees.{IsTree}
+use Rattle.tree_model.specs.World.{Made, World}
+use Rattle.node_law.specs.Files.{FindsLog, Keeps}
+use Rattle.node_law.specs.Nodes.{CallsItRead, OwnFilesAreRead}
+use Rattle.node_law.proofs.Finding.{finds_kept}
+use Rattle.node_law.proofs.Starts.{listed_place, seat_form}
 
-headers_differ : same_bytes (header First) (header Second) ≡ false
-unfolding same_bytes
-headers_differ = refl
+-- the form of the log of a listed process
+form_is : (s : WorldState) (es : List Made) (w : World) → FollowsBehindFaults es w s → (e : TreeEntry)
+    → find (λ x. same_process x.id e.id) s.tree ≡ Some e → (c : CoreState) → s.node_at e.id ≡ Some c
+    → form_of c.place ≡ form_by e
+form_is s es w f e listed c there =
+    ap form_of ((f.follows.nodes e.id c there).place ∙ listed_place s.tree e listed) ∙ seat_form s.tree e
 
-damaged_by : (p : LogForm) (bytes : List ℕ) (short begins : Bool) → nat_lt (length bytes) 5 ≡ short
-    → same_bytes (take 5 bytes) (header p.format) ≡ begins → short ≡ false → begins ≡ false
-    → read_log p bytes ≡ DamagedLog 0
-unfolding read_log
-damaged_by p bytes short begins s b f g = rw (s, b, f, g) refl
-
-long : (bytes : List ℕ) → 5 ≤ length bytes → nat_lt (length bytes) 5 ≡ false
-long bytes h = grind (arith, nat_tests)
-
--- bytes that begin as a log of the first format are no log of the second
-not_old : (p : LogForm) (bytes : List ℕ) → p.format ≡ Second → is_old bytes ≡ true
-    → (ls : List LogRecord) (torn : ℕ) → read_log p bytes ≡ Whole ls torn → ⊥
-not_old p bytes second old ls torn whole =
-    let is : take 5 bytes ≡ header First = same_bytes_is (take 5 bytes) (header First) old in
-    let differs : same_bytes (take 5 bytes) (header p.format) ≡ false =
-    ap (λ (xs : List ℕ). same_bytes xs (header p.format)) is
-    ∙ (ap (λ (f : LogFormat). same_bytes (header First) (header f)) second ∙ headers_differ) in
-    let damaged : read_log p bytes ≡ DamagedLog 0 =
-    damaged_by p bytes false false (long bytes (old_long bytes old)) differs refl refl in
-    let clash : DamagedLog 0 ≡ Whole ls torn = sym damaged ∙ whole in cc
+module _ {L : Type 0} (bytes : L → List ℕ) (forced failures : L → ℕ) (tree : List TreeEntry) (e : TreeEntry)
+    (c : CoreState) (store : L) (keep : ℕ) (k : Keeps (form_by e) c (bytes store) keep) where
+  read_so : (error : ReopenError) → NotReopened bytes forced failures (form_by e) (place_by tree e) store error
+      → CallsItRead error
+  read_so (Damaged place) h = elim h [
+    | inl d ↦ (let clash : DamagedLog place ≡ Whole (left_by c.log keep) k.torn = sym d ∙ k.read in cc)
+    | inr n ↦ n.1
+  ]
+  read_so OldFormat h = elim h [
+    | inl old ↦ not_old (form_by e) (bytes store) refl old (left_by c.log keep) k.torn k.read
+    | inr n ↦ n.1
+  ]
+  read_so Memory h = tt
+  read_so Device h = tt
+  read_so Unfit h = tt
 
 pub own_files_are_read : {L : Type 0} (bytes : L → List ℕ) (forced failures : L → ℕ)
     → OwnFilesAreRead bytes forced failures
-own_files_are_read bytes forced failures tree e c store k (Damaged place) h = elim h [
-  | inl d ↦ (let clash : DamagedLog place ≡ Whole (left_by c.log k.keep) k.torn = sym d ∙ k.read in cc)
-  | inr n ↦ n.1
-]
-own_files_are_read bytes forced failures tree e c store k OldFormat h = elim h [
-  | inl old ↦ not_old (form_by e) (bytes store) refl old (left_by c.log k.keep) k.torn k.read
-  | inr n ↦ n.1
-]
-own_files_are_read bytes forced failures tree e c store k Memory h = tt
-own_files_are_read bytes forced failures tree e c store k Device h = tt
-own_files_are_read bytes forced failures tree e c store k Unfit h = tt
+own_files_are_read bytes forced failures s es w is_tree f e listed c there store h =
+    let keep = length (bytes store) - h.forced in
+    read_so bytes forced failures s.tree e c store keep
+    (subst (λ (p : LogForm). Keeps p c (bytes store) keep) (form_is s es w f e listed c there)
+    (finds_kept s es w is_tree f e.id c there (bytes store) h))

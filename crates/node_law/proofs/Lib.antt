@@ -1,6 +1,10 @@
+pub mod Fronts
+pub mod Finding
 pub mod Starts
 pub mod Lines
 pub mod Steps
 pub mod Speakers
 pub mod Tells
 pub mod Files
+pub mod Sending
+pub mod Repeats

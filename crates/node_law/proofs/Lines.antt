@@ -16,14 +16,14 @@ use Rattle.tree_model.specs.declared.names.Txn.{Txn}
 use Rattle.tree_model.specs.World.{InputStands, IsSent}
 use Rattle.core_model.specs.States.{CoreState, SameCore}
 use Rattle.core_law.specs.worlds.Worlds.{AnswersData, Enters, HandlesInput, MovesNode, SameNode, TrimsData, WorldState}
-use Rattle.manager_model.specs.Data.{Rests}
+use Rattle.manager_model.specs.Data.{ManagerData, Rests}
 use Rattle.tree_node.specs.Nodes.{NotHandled}
 use Rattle.tree_node.specs.Restarts.{NoTrim}
 use Rattle.tree_node.proofs.Same.{rests, same_core}
 use Rattle.node_lines.specs.declared.asked.Asked.{Asked}
 use Rattle.node_lines.specs.declared.asked.Asked.TheVariants as asked
 use Rattle.node_engine.specs.declared.failure.NodeFailure.{NodeFailure}
-use Rattle.node_engine.specs.Answers.{Answers, AnswersIf, NodeState, Takes, TakesIf, TellsOutcome, Took, Trimmed, hears, is_root, leaves_it, takes_it}
+use Rattle.node_engine.specs.Answers.{Answers, AnswersAgain, AnswersIf, NodeState, Takes, TakesAgain, TakesIf, TellsOutcome, Took, Trimmed, hears, is_root, leaves_it, owed_at, takes_it}
 use Rattle.node_lives.specs.Lives.{LifeStep}
 use Rattle.node_lives.specs.Lives as lives
 use Rattle.node_law.specs.Nodes.{Answered, EntersAnswer, EntersAnswered, EntersEnd, EntersTake, EntersTaken, EntersTrim, MovesAlone, Silent, Sits, Unanswered, WasSent}
@@ -184,6 +184,22 @@ module _ (s t : WorldState) (old new : NodeState) (was : Sits s old) (same : new
   untouched true x text h = h.0
   untouched false x text h = h.0
 
+  -- whatever is told once more, nothing is recorded
+  unrecorded : (o : Option (List Envelope)) (text : List ℕ) → AnswersAgain o old new text
+      → (new.core ≡ old.core) × (new.holdings ≡ old.holdings)
+  unrecorded None text h = (ap (λ (n : NodeState). n.core) h.0, ap (λ (n : NodeState). n.holdings) h.0)
+  unrecorded (Some es) text h =
+      (ap (λ (n : NodeState). n.core) h.after, ap (λ (n : NodeState). n.holdings) h.after)
+
+  repeated : Silent s t → (new.core ≡ old.core) × (new.holdings ≡ old.holdings) → LifeStep s t
+  repeated quiet e = unmoved quiet
+      (subst (λ (c : CoreState). SameCore old.core c) (sym e.0) (same_core old.core))
+      (subst (λ (d : ManagerData). Rests old.holdings d) (sym e.1) (rests old.holdings))
+
+  unsaid : (o : Option (List Envelope)) (why : NodeFailure) → TakesAgain o old new why → new ≡ old
+  unsaid None why h = h.0
+  unsaid (Some es) why h = h.0
+
   -- a message for this node stands in the net
   stands_there : (n : ℕ) (e : Envelope) → WasSent s.net (asked.Message n e) → hears old e ≡ true
       → InputStands s.net old.me (MessageInput n e.message)
@@ -203,7 +219,10 @@ module _ (s t : WorldState) (old new : NodeState) (was : Sits s old) (same : new
   answered_so asked.Trim text h sent enters = trimmed h.end h.took enters
   answered_so asked.Doubt text h sent enters = still enters h.0
   answered_so (asked.Outcome x) text h sent enters = still enters (untouched (is_root old) x text h)
+  answered_so (asked.Again c) text h sent enters = repeated enters (unrecorded (owed_at old c) text h)
   answered_so asked.Status text h sent enters = still enters h.0
+  answered_so asked.Log text h sent enters = still enters h.0
+  answered_so asked.Data text h sent enters = still enters h.0
   answered_so asked.Help text h sent enters = still enters h.0
   answered_so asked.End text h sent enters = still enters h.0
   answered_so asked.Unknown text h sent enters = still enters h.0
@@ -218,7 +237,10 @@ module _ (s t : WorldState) (old new : NodeState) (was : Sits s old) (same : new
   taken_so asked.Trim why h sent enters = trimmed h.end h.took enters
   taken_so asked.Doubt why h sent enters = still enters h.0
   taken_so (asked.Outcome x) why h sent enters = still enters h.0
+  taken_so (asked.Again c) why h sent enters = still enters (unsaid (owed_at old c) why h)
   taken_so asked.Status why h sent enters = still enters h.0
+  taken_so asked.Log why h sent enters = still enters h.0
+  taken_so asked.Data why h sent enters = still enters h.0
   taken_so asked.Help why h sent enters = still enters h.0
   taken_so asked.End why h sent enters = still enters h.0
   taken_so asked.Unknown why h sent enters = still enters h.0

@@ -1,5 +1,5 @@
 -- A node that starts over the file of one before it is a step of one of the tree's programs.
-use Rattle.std.proofs.Common.{◌≡◌, ◌≢◌, ◌∙◌, ap, sym, subst, refl, inl, inr, ℕ, Bool, true, false, cond, if◌then◌else◌, Option, Some, List, [], ◌∷◌, ◌++◌, find}
+use Rattle.std.proofs.Common.{◌≡◌, ◌≢◌, ◌-◌, ◌∙◌, ap, sym, subst, refl, inl, inr, ℕ, Bool, true, false, cond, if◌then◌else◌, Option, Some, None, List, [], ◌∷◌, ◌++◌, find, length}
 use Rattle.tree_model.specs.declared.names.Case.{Case}
 use Rattle.tree_model.specs.declared.names.Outcome.{Outcome}
 use Rattle.tree_model.specs.declared.names.ProcessId.{ProcessId}
@@ -18,9 +18,11 @@ use Rattle.tree_model.specs.Restarts.{recorded_branch, reopens}
 use Rattle.tree_model.specs.SameViews.{SameView}
 use Rattle.tree_model.specs.Standings.{CoordinatorView, ManagerView, mark_of}
 use Rattle.tree_model.proofs.LogNameLaws.{reads_back}
-use Rattle.log_rules.specs.order.Logs.{Whole}
+use Rattle.log_rules.specs.order.Logs.{Whole, read_log}
+use Rattle.log_text.specs.declared.form.LogForm.{LogForm}
+use Rattle.log_text.specs.Forms.{log_form}
 use Rattle.rec_log.specs.Sights.{LogSight, left_by, records_of}
-use Rattle.core_model.specs.States.{CoreState, SameCore, forced_sight, form_of, logged}
+use Rattle.core_model.specs.States.{CoreState, SameCore, forced_sight, form_of, kind_of_role, logged}
 use Rattle.core_model.specs.Opening.{IsOpened as OpensAt, first_opened}
 use Rattle.core_model.specs.Restarting.{ReadOff, Restarts, read_of, recorded_branch_at, recorded_view_at, restarted_log}
 use Rattle.core_law.specs.worlds.Worlds.{RestartsData, SameNode, WorldState}
@@ -28,6 +30,10 @@ use Rattle.manager_model.specs.Data.{ManagerData}
 use Rattle.tree_node.proofs.Reopened.{all_left}
 use Rattle.node_lives.specs.Lives.{LifeStep, anew_at, counted, counted_at, counted_log, saying}
 use Rattle.node_lives.specs.Lives as lives
+use Rattle.tree_model.specs.declared.names.Kind.{Kind}
+use Rattle.tree_model.specs.declared.names.Kind.TheVariants.{Coordinator, Manager}
+use Rattle.tree_node.specs.Reopenings.{form_by, kind_by}
+use Rattle.node_law.specs.Files.{FindsLog, Keeps}
 use Rattle.node_law.specs.Nodes.{Started, StartedFirst}
 use Rattle.node_law.proofs.Lines.{same_as_it_is}
 
@@ -50,7 +56,7 @@ listed_role (x ∷ xs) q e h = by_test (same_process x.id q) (λ found. listed_r
 abbrev seat : List TreeEntry → TreeEntry → Place
 seat tree e = record { me = e.id; role = role_by e.kind e.parent; tree = tree }
 
-listed_place : (tree : List TreeEntry) (e : TreeEntry) → find (λ x. same_process x.id e.id) tree ≡ Some e
+pub listed_place : (tree : List TreeEntry) (e : TreeEntry) → find (λ x. same_process x.id e.id) tree ≡ Some e
     → place_of tree e.id ≡ seat tree e
 listed_place tree e h =
     ap (λ (r : Role). record { me = e.id; role = r; tree = tree }) (listed_role tree e.id e h)
@@ -97,18 +103,38 @@ same_core_is a b e = cc
 abbrev pub IsPlaced : WorldState → Type 0
 IsPlaced s = (q : ProcessId) (c : CoreState) → s.node_at q ≡ Some c → c.place ≡ place_of s.tree q
 
-pub started : (s t : WorldState) → IsPlaced s → Started s t → LifeStep s t
-started s t placed h =
+-- the form by which its log is read
+pub seat_form : (tree : List TreeEntry) (e : TreeEntry) → form_of (seat tree e) ≡ form_by e
+seat_form tree e = by_kind e.kind e.parent
+  where
+    by_kind : (k : Kind) (o : Option ProcessId) → log_form e.id (kind_of_role (role_by k o)) ≡ log_form e.id (kind_by k o)
+    by_kind Coordinator None = refl
+    by_kind Coordinator (Some p) = refl
+    by_kind Manager None = refl
+    by_kind Manager (Some p) = refl
+
+-- what each node finds of its log is what the one before it kept
+abbrev pub AreFound : WorldState → Type 0
+AreFound s = (q : ProcessId) (c : CoreState) → s.node_at q ≡ Some c → (bytes : List ℕ) (h : FindsLog c bytes)
+    → Keeps (form_of c.place) c bytes (length bytes - h.forced)
+
+pub started : (s t : WorldState) → IsPlaced s → AreFound s → Started s t → LifeStep s t
+started s t placed found h =
     let q = h.entry.id in
+    let keep = length h.bytes - h.finds.forced in
     let r = h.reopens in
     let before = counted h.before h.failures in
     let at : h.before.place ≡ seat s.tree h.entry = placed q h.before h.was ∙ listed_place s.tree h.entry h.listed in
-    let left : left_by h.before.log h.keeps.keep ≡ records_of r.log.sight.kept =
-    same_records _ _ h.keeps.torn r.opens.torn (sym h.keeps.read ∙ r.opens.read) in
-    lives.begins q h.failures h.keeps.keep (record {
+    let form : form_of h.before.place ≡ form_by h.entry = ap form_of at ∙ seat_form s.tree h.entry in
+    let keeps = found q h.before h.was h.bytes h.finds in
+    let read : read_log (form_by h.entry) h.bytes ≡ Whole (left_by h.before.log keep) keeps.torn =
+    ap (λ (p : LogForm). read_log p h.bytes) (sym form) ∙ keeps.read in
+    let left : left_by h.before.log keep ≡ records_of r.log.sight.kept =
+    same_records _ _ keeps.torn r.opens.torn (sym read ∙ r.opens.read) in
+    lives.begins q h.failures keep (record {
       before = before;
       behind = h.new.core;
-      keep = h.keeps.keep;
+      keep = keep;
       reaction = h.opening;
       moves = record {
         tree = h.alone.tree;
@@ -118,9 +144,9 @@ started s t placed h =
         others_data = h.alone.others_data;
       };
       keeps = refl;
-      restarts = r.restarts before (record { place_is = at; failures_are = refl }) h.keeps.keep left;
+      restarts = r.restarts before (record { place_is = at; failures_are = refl }) keep left;
       holdings =
-          subst (λ (d : ManagerData). RestartsData h.before.place.role (left_by h.before.log h.keeps.keep) d)
+          subst (λ (d : ManagerData). RestartsData h.before.place.role (left_by h.before.log keep) d)
           (sym (ap (λ p. t.data_at p) (sym h.same) ∙ h.is.holdings))
           (subst (λ (ls : List LogRecord). RestartsData h.before.place.role ls h.new.holdings) (sym left)
           (subst (λ (p : Place). RestartsData p.role (records_of r.log.sight.kept) h.new.holdings) (sym at)

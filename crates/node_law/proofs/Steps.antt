@@ -13,17 +13,18 @@ use Rattle.node_lives.specs.Lives as lives
 use Rattle.node_lives.proofs.Lives.{step_on}
 use Rattle.node_law.specs.Nodes.{NodeStep, NodeSteps, NodesAreRuns, StepsGoOn, answers, ends_in_start, ends_in_trim, ends_unanswered, ends_within, more, none, starts, starts_first}
 use Rattle.node_law.proofs.Lines.{answered, unanswered}
-use Rattle.node_law.proofs.Starts.{IsPlaced, started, started_first}
+use Rattle.node_law.proofs.Finding.{finds_kept}
+use Rattle.node_law.proofs.Starts.{AreFound, IsPlaced, started, started_first}
 
 -- a step of a node is a step of one of the tree's programs
-step_lives : (s t : WorldState) → IsPlaced s → NodeStep s t → LifeStep s t
-step_lives s t placed (answers h) = answered s t h
-step_lives s t placed (ends_unanswered h) = unanswered s t h
-step_lives s t placed (ends_within q i sent h) = lives.breaks q i sent h
-step_lives s t placed (ends_in_trim q h) = lives.trim_breaks q h
-step_lives s t placed (starts h) = started s t placed h
-step_lives s t placed (starts_first h) = started_first s t h
-step_lives s t placed (ends_in_start q n keep h) = lives.begin_breaks q n keep h
+step_lives : (s t : WorldState) → IsPlaced s → AreFound s → NodeStep s t → LifeStep s t
+step_lives s t placed found (answers h) = answered s t h
+step_lives s t placed found (ends_unanswered h) = unanswered s t h
+step_lives s t placed found (ends_within q i sent h) = lives.breaks q i sent h
+step_lives s t placed found (ends_in_trim q h) = lives.trim_breaks q h
+step_lives s t placed found (starts h) = started s t placed found h
+step_lives s t placed found (starts_first h) = started_first s t h
+step_lives s t placed found (ends_in_start q n keep h) = lives.begin_breaks q n keep h
 
 placed_by : (s : WorldState) (es : List Made) (w : World) → FollowsBehindFaults es w s → IsPlaced s
 placed_by s es w f = λ q c there. (f.follows.nodes q c there).place
@@ -34,7 +35,8 @@ module _ (tree : List TreeEntry) (is_tree : IsTree tree) where
 
   node_on : (s t : WorldState) (es : List Made) (w : World) → s.tree ≡ tree → FollowsBehindFaults es w s
       → NodeStep s t → On es w t
-  node_on s t es w is f step = step_on tree is_tree s t es w is f (step_lives s t (placed_by s es w f) step)
+  node_on s t es w is f step = step_on tree is_tree s t es w is f (step_lives s t (placed_by s es w f)
+      (finds_kept s es w (subst IsTree (sym is) is_tree) f) step)
 
   nodes_on : (s : WorldState) (es : List Made) (w : World) → s.tree ≡ tree → FollowsBehindFaults es w s
       → (t : WorldState) → NodeSteps s t → On es w t

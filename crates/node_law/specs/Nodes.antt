@@ -1,5 +1,7 @@
 -- A tree each process of which is a node, a program of its own over a log in a file.
-use Rattle.std.specs.Prelude.{◌≡◌, ◌⊎◌, ⊤, ℕ, Bool, true, false, Some, Result, Ok, Err, List, [], ◌++◌, find, slice_get}
+use Rattle.std.specs.Prelude.{◌≡◌, ◌-◌, ◌⊎◌, ⊤, ℕ, Bool, true, false, Some, Result, Ok, Err, List, [], ◌++◌, find, length, slice_get}
+use Rattle.std.specs.List.{AllByRecursion}
+use Rattle.tree_model.specs.declared.names.Case.{Case}
 use Rattle.tree_model.specs.declared.names.ProcessId.{ProcessId}
 use Rattle.tree_model.specs.declared.names.Txn.{Txn}
 use Rattle.tree_model.specs.declared.messages.Envelope.{Envelope}
@@ -18,25 +20,24 @@ use Rattle.tree_model.specs.Plays.{process_of_act}
 use Rattle.tree_model.specs.Trees.{IsTree, root_of}
 use Rattle.tree_model.specs.World.{InputStands, Made, World}
 use Rattle.log_rules.specs.order.Logs.{Whole, read_log}
-use Rattle.rec_log.specs.Sights.{left_by}
-use Rattle.core_model.specs.States.{CoreState}
+use Rattle.core_model.specs.States.{CoreState, form_of}
 use Rattle.core_model.specs.Opening.{IsOpened as OpensAt}
 use Rattle.core_law.specs.Steps.{restart_of, trim_reaction}
 use Rattle.core_law.specs.worlds.Worlds.{DeviceFails, Enters, RestartFails, TrimFails, WorldState}
 use Rattle.core_law.specs.worlds.Runs.{IsOpened}
 use Rattle.core_law.specs.worlds.Ties.{FollowsBehindFaults, GoesOnBehindFaults}
 use Rattle.core_law.specs.worlds.Modelled.{KeepsHeadline}
-use Rattle.log_text.specs.declared.form.LogForm.{LogForm}
 use Rattle.tree_node.specs.declared.reopening.ReopenError.{ReopenError}
 use Rattle.tree_node.specs.declared.reopening.ReopenError.TheVariants.{Damaged, OldFormat}
 use Rattle.tree_node.specs.Reopenings.{NotReopened, ReopensAs, form_by, place_by}
 use Rattle.node_lines.specs.declared.asked.Asked.{Asked}
 use Rattle.node_lines.specs.declared.asked.Asked.TheVariants as asked
 use Rattle.node_engine.specs.declared.failure.NodeFailure.{NodeFailure}
-use Rattle.node_engine.specs.Answers.{Answers, AnswersIf, AnswersLine, NodeState, Takes, TakesIf, TakesLine, hears, leaves_it, takes_it}
+use Rattle.node_engine.specs.Answers.{Answers, AnswersIf, AnswersLine, NodeState, Takes, TakesIf, TakesLine, hears, leaves_it, owed_at, takes_it}
 use Rattle.node_lines.specs.Speakers.{may_speak}
 use Rattle.log_news.specs.declared.news.News.{News}
 use Rattle.node_answers.specs.Texts.{news_text, ok_text, refused_text}
+use Rattle.node_law.specs.Files.{FindsLog, Keeps}
 use Rattle.node_lives.specs.Lives.{counted_at}
 use Rattle.node_lives.specs.Outcomes.{NewsAreSo}
 
@@ -95,7 +96,10 @@ module _ (s t : WorldState) (old new : NodeState) where
   EntersAnswered asked.Trim text h = EntersTrim s t old.me h.end
   EntersAnswered asked.Doubt text h = Silent s t
   EntersAnswered (asked.Outcome x) text h = Silent s t
+  EntersAnswered (asked.Again c) text h = Silent s t
   EntersAnswered asked.Status text h = Silent s t
+  EntersAnswered asked.Log text h = Silent s t
+  EntersAnswered asked.Data text h = Silent s t
   EntersAnswered asked.Help text h = Silent s t
   EntersAnswered asked.End text h = Silent s t
   EntersAnswered asked.Unknown text h = Silent s t
@@ -117,7 +121,10 @@ module _ (s t : WorldState) (old new : NodeState) where
   EntersTaken asked.Trim why h = EntersTrim s t old.me h.end
   EntersTaken asked.Doubt why h = Silent s t
   EntersTaken (asked.Outcome x) why h = Silent s t
+  EntersTaken (asked.Again c) why h = Silent s t
   EntersTaken asked.Status why h = Silent s t
+  EntersTaken asked.Log why h = Silent s t
+  EntersTaken asked.Data why h = Silent s t
   EntersTaken asked.Help why h = Silent s t
   EntersTaken asked.End why h = Silent s t
   EntersTaken asked.Unknown why h = Silent s t
@@ -152,14 +159,8 @@ pub record Unanswered (s t : WorldState) : Type 0 where
 
 -- Starts.
 
--- The file kept what was forced: what a node left of its log stands in it, the forced records, and of the others
--- so many as stand whole within some bytes. Behind them may stand a torn tail.
-pub record Keeps (p : LogForm) (c : CoreState) (bytes : List ℕ) : Type 0 where
-  pub keep : ℕ
-  pub torn : ℕ
-  pub read : read_log p bytes ≡ Whole (left_by c.log keep) torn
-
--- A node started over the file that one before it left, as `start` says.
+-- A node started over what it found in the file that one before it left, as `start` says. Its restart is entered with so
+-- many bytes as were found behind those that were forced.
 pub record Started (s t : WorldState) : Type 0 where
   pub entry : TreeEntry
   pub listed : find (λ e. same_process e.id entry.id) s.tree ≡ Some entry
@@ -170,12 +171,12 @@ pub record Started (s t : WorldState) : Type 0 where
   pub is : Sits t new
   pub alone : MovesAlone s t entry.id
   pub bytes : List ℕ
-  pub keeps : Keeps (form_by entry) before bytes
+  pub finds : FindsLog before bytes
   pub forced : ℕ
   pub failures : ℕ
   pub opening : Reaction
   pub reopens : ReopensAs s.tree entry bytes forced failures new.core new.holdings opening
-  pub entered : Enters s t entry.id (restart_of before keeps.keep) opening s.delivered
+  pub entered : Enters s t entry.id (restart_of before (length bytes - finds.forced)) opening s.delivered
 
 -- A node started over a file that was just made, or in which no record came to be forced.
 pub record StartedFirst (s t : WorldState) : Type 0 where
@@ -237,6 +238,17 @@ abbrev pub SentMaySpeak : Type 0
 SentMaySpeak = (s : WorldState) (es : List Made) (w : World) → IsTree s.tree → FollowsBehindFaults es w s
     → (n : ℕ) (e : Envelope) → WasSent s.net (asked.Message n e) → may_speak s.tree e ≡ true
 
+-- each of these messages was sent
+abbrev pub WereSent : List Envelope → List Envelope → Type 0
+WereSent net ms = AllByRecursion (λ m. (place : ℕ) × (slice_get net place ≡ Some m)) ms
+
+-- Where the state of a tree stands for a run, what a node whose device works tells once more (`again`) are messages that
+-- were sent before: the net may repeat them as it likes.
+abbrev pub RepeatsWereSent : Type 0
+RepeatsWereSent = (s : WorldState) (es : List Made) (w : World) → IsTree s.tree → FollowsBehindFaults es w s
+    → (old : NodeState) → Sits s old → old.core.log.failed ≡ false → (c : Case) (ms : List Envelope)
+    → owed_at old c ≡ Some ms → WereSent s.net ms
+
 -- an answer tells how a transaction ended, if it tells an end at all, as it did
 pub record TellsSo (w : World) (x : Txn) (text : List ℕ) : Type 0 where
   pub news : News
@@ -261,11 +273,18 @@ CallsItRead (Damaged place) = ⊥
 CallsItRead OldFormat = ⊥
 CallsItRead e = ⊤
 
--- A file that kept what was forced is a whole log of its process: at its next start no node calls it damaged, nor a log of
--- the first format.
+-- Where the state of a tree stands for a run, what the next node finds of a process's log is what that left of it: the
+-- forced records, and of the others those that stand whole within the bytes found behind the forced ones.
+abbrev pub NodesFindTheirLogs : Type 0
+NodesFindTheirLogs = (s : WorldState) (es : List Made) (w : World) → IsTree s.tree → FollowsBehindFaults es w s
+    → (q : ProcessId) (c : CoreState) → s.node_at q ≡ Some c → (bytes : List ℕ) (h : FindsLog c bytes)
+    → Keeps (form_of c.place) c bytes (length bytes - h.forced)
+
+-- What was found of a process's own log is whole: at its next start no node calls it damaged, nor a log of the first format.
 module _ {L : Type 0} (bytes : L → List ℕ) (forced failures : L → ℕ) where
   abbrev pub OwnFilesAreRead : Type 0
-  OwnFilesAreRead = (tree : List TreeEntry) (e : TreeEntry) (c : CoreState) (store : L)
-      → Keeps (form_by e) c (bytes store)
-      → (error : ReopenError) → NotReopened bytes forced failures (form_by e) (place_by tree e) store error
+  OwnFilesAreRead = (s : WorldState) (es : List Made) (w : World) → IsTree s.tree → FollowsBehindFaults es w s
+      → (e : TreeEntry) → find (λ x. same_process x.id e.id) s.tree ≡ Some e
+      → (c : CoreState) → s.node_at e.id ≡ Some c → (store : L) → FindsLog c (bytes store)
+      → (error : ReopenError) → NotReopened bytes forced failures (form_by e) (place_by s.tree e) store error
       → CallsItRead error

@@ -1,17 +1,22 @@
 //! The laws. The functions do nothing: each one's contract is a law.
 
+ghost use Rattle.node_law.specs.Files.{StoresLeaveFiles};
 ghost use Rattle.node_law.specs.Nodes.{
   NodesAreRuns,
+  NodesFindTheirLogs,
   OutcomesAreTold,
   OwnFilesAreRead,
+  RepeatsWereSent,
   SentMaySpeak,
   StepsGoOn,
 };
 
+use file_store::{FileStore, LogFile};
 use log_store::LogStore;
 
 /// Let each process of a tree be a node over its own file, let each message that a node hears be one that a
-/// node of the tree sent, and let each file keep what was forced. Then there is a run of the model whose
+/// node of the tree sent, and let a crash leave of each file what was synced, and any front of a block that was being
+/// written. Then there is a run of the model whose
 /// messages are those that were sent, each node keeps what `Stands` says, the headline holds of the run, and
 /// mismatches are reported in it. A node that ended within a step is a fault of that step.
 pub fn nodes_are_runs()
@@ -31,7 +36,25 @@ pub fn outcomes_are_told()
     ensures { OutcomesAreTold }
 {}
 
-/// A file that kept what was forced is called neither damaged nor one of the first format, whatever its process
+/// Where the state of a tree stands for a run, what a node tells once more, as `again` asks it, are messages that
+/// were sent before: it is no step of the tree, and the net may repeat them as it likes.
+pub fn repeats_were_sent()
+    ensures { RepeatsWereSent }
+{}
+
+/// A store over a file that holds a process's log leaves such a file, once its blocks are on the disk.
+pub fn stores_leave_files<F: LogFile>(store: &FileStore<F>)
+    ensures { StoresLeaveFiles store.now }
+{}
+
+/// Where the state of a tree stands for a run, what the next node of a process finds in the file that a crash left
+/// is what the process kept of its log: the forced records, and of the others those that stand whole within the bytes
+/// found behind the forced ones.
+pub fn nodes_find_their_logs()
+    ensures { NodesFindTheirLogs }
+{}
+
+/// What was found of a process's own log is called neither damaged nor of the first format, whatever its process
 /// wrote, and wherever a crash or an end cut it off.
 pub fn own_files_are_read<L: LogStore>()
     ensures { OwnFilesAreRead L.bytes L.forced L.failures }

@@ -2,17 +2,16 @@
 use Rattle.std.specs.Prelude.{ℕ, List, codes, Option, Some, None, if◌then◌else◌}
 use Rattle.spellings.specs.Words.{cut_at}
 use Rattle.tree_model.specs.declared.names.ProcessId.{ProcessId}
-use Rattle.tree_model.specs.declared.names.Txn.{Txn}
 use Rattle.tree_model.specs.declared.messages.Envelope.{Envelope}
 use Rattle.tree_model.specs.declared.events.Event.{Event}
 use Rattle.tree_model.specs.declared.events.Event.TheVariants.{Act as ActOf, Deliver, Settle, Restart, Trim as TrimOf}
 use Rattle.script_words.specs.Lines.{is_skipped}
 use Rattle.script_words.specs.Steps.{◌>>=◌, same}
-use Rattle.link_script.specs.Names.{txn_at}
+use Rattle.link_script.specs.Names.{case_at, txn_at}
 use Rattle.link_script.specs.Events.{event_at}
 use Rattle.node_lines.specs.Lines.{line_at}
 use Rattle.node_lines.specs.declared.asked.Asked.{Asked}
-use Rattle.node_lines.specs.declared.asked.Asked.TheVariants.{Nothing, Act, Message, Trim, Doubt, Outcome, Status, Help, End, Unknown}
+use Rattle.node_lines.specs.declared.asked.Asked.TheVariants.{Nothing, Act, Message, Trim, Doubt, Outcome, Again, Status, Log, Data, Help, End, Unknown}
 
 -- of the events of a script a node is asked for acts alone
 abbrev pub asked_by_event : Option Event → Asked
@@ -32,18 +31,25 @@ asked_by_line None other = other
 abbrev pub sent_asked : ProcessId → List ℕ → Asked
 sent_asked root line = asked_by_line (line_at root line) (act_asked root line)
 
--- the transaction of a line `outcome`
-unfoldable pub ending_asked : ProcessId → List ℕ → Option Txn
-ending_asked root line = cut_at 32 line >>= λ p. if same p.0 (codes "outcome") then txn_at root p.1 else None
+-- the outcome of this transaction, or that this case's decision is told once more, by the word
+abbrev pub asked_of_name : ProcessId → List ℕ → List ℕ → Option Asked
+asked_of_name root word name =
+    if same word (codes "outcome") then (txn_at root name >>= λ x. Some (Outcome x))
+    else if same word (codes "again") then (case_at root name >>= λ c. Some (Again c))
+    else None
 
--- the outcome of a transaction, or what else is asked
-abbrev pub asked_by_ending : Option Txn → Asked → Asked
-asked_by_ending (Some x) other = Outcome x
-asked_by_ending None other = other
+-- what a line asks that is a word and a name
+unfoldable pub named_asked : ProcessId → List ℕ → Option Asked
+named_asked root line = cut_at 32 line >>= λ p. asked_of_name root p.0 p.1
+
+-- that, or what else is asked
+abbrev pub asked_or : Option Asked → Asked → Asked
+asked_or (Some a) other = a
+asked_or None other = other
 
 -- what a line asks that is no word alone
 abbrev pub longer_asked : ProcessId → List ℕ → Asked
-longer_asked root line = asked_by_ending (ending_asked root line) (sent_asked root line)
+longer_asked root line = asked_or (named_asked root line) (sent_asked root line)
 
 -- the line by which a node is asked to end
 abbrev pub end_word : List ℕ
@@ -56,6 +62,8 @@ asked_at root line =
     else if same line (codes "trim") then Trim
     else if same line (codes "doubt") then Doubt
     else if same line (codes "status") then Status
+    else if same line (codes "log") then Log
+    else if same line (codes "data") then Data
     else if same line (codes "help") then Help
     else if same line end_word then End
     else longer_asked root line

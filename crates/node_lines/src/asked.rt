@@ -2,14 +2,14 @@
 
 ghost use Rattle.std.specs.Prelude.{◌≡◌, IfOk};
 ghost use Rattle.script_words.specs.Steps.{same};
-ghost use Rattle.node_lines.specs.Asked.{act_asked, asked_at, end_word, ending_asked, longer_asked, sent_asked};
+ghost use Rattle.node_lines.specs.Asked.{act_asked, asked_at, end_word, longer_asked, named_asked, sent_asked};
 
 use crate::line::line_of;
-use link_script::{event_of, txn_of};
+use link_script::{case_of, event_of, txn_of};
 use script_words::says_nothing;
 use spellings::word::cut;
 use std::alloc::{AllocError, Global};
-use tree_model::{Act, Envelope, Event, ProcessId, Txn};
+use tree_model::{Act, Case, Envelope, Event, ProcessId, Txn};
 
 /// What a line asks of a node.
 #[derive(Drop)]
@@ -26,8 +26,14 @@ pub enum Asked {
     Doubt,
     /// How a transaction ended, as far as the log tells.
     Outcome(Txn),
+    /// That whoever owes an acknowledgement of the case's decision is told it once more.
+    Again(Case),
     /// How its log stands.
     Status,
+    /// What its log holds.
+    Log,
+    /// Which data its manager has.
+    Data,
     /// Which lines a node knows.
     Help,
     /// That it ends.
@@ -48,6 +54,8 @@ pub fn asked_of(alloc: Global, root: ProcessId, line: &str) -> Result<Asked, All
         "trim" => Ok(Asked::Trim),
         "doubt" => Ok(Asked::Doubt),
         "status" => Ok(Asked::Status),
+        "log" => Ok(Asked::Log),
+        "data" => Ok(Asked::Data),
         "help" => Ok(Asked::Help),
         "end" => Ok(Asked::End),
         _ => longer_of(alloc, root, line),
@@ -58,19 +66,20 @@ pub fn asked_of(alloc: Global, root: ProcessId, line: &str) -> Result<Asked, All
 fn longer_of(alloc: Global, root: ProcessId, line: &str) -> Result<Asked, AllocError>
     ensures { IfOk result (λ asked. asked ≡ longer_asked root line.now) }
 {
-    match ending_of(root, line) {
-        Some(txn) => Ok(Asked::Outcome(txn)),
+    match named_of(root, line) {
+        Some(asked) => Ok(asked),
         None => sent_of(alloc, root, line),
     }
 }
 
-/// The transaction of a line `outcome TXN`.
-#[tactic(auto, unfolding(crate::specs::Asked::ending_asked))]
-fn ending_of(root: ProcessId, line: &str) -> Option<Txn>
-    ensures { result ≡ ending_asked root line.now }
+/// What a line asks that is a word and a name: `outcome TXN` or `again CASE`.
+#[tactic(auto, unfolding(crate::specs::Asked::named_asked))]
+fn named_of(root: ProcessId, line: &str) -> Option<Asked>
+    ensures { result ≡ named_asked root line.now }
 {
     match cut(line, ' ')? {
-        ("outcome", name) => txn_of(root, name),
+        ("outcome", name) => Some(Asked::Outcome(txn_of(root, name)?)),
+        ("again", name) => Some(Asked::Again(case_of(root, name)?)),
         _ => None,
     }
 }

@@ -1,7 +1,8 @@
 //! Nodes over stores in memory, line by line.
 
+use link_script::read_tree;
 use log_store::{LogStore, MemoryStore};
-use node_engine::{Nobody, run_node, start};
+use node_engine::{Nobody, Serving, StartError, run_node, start};
 use std::alloc::Global;
 use tree_model::{ProcessId, Tree};
 
@@ -139,6 +140,174 @@ doubt a1.2@4.1.2
 ok
 ";
 
+/// Lines of a root that tells decisions once more: to those whom they name, until all have acknowledged.
+const AGAIN: &str = "\
+again a1.1
+begin pa
+again a1.1
+join a1.1 4
+1 4->1 JOINED a1.1 4.1.1
+commit a1.1
+again a1.1
+2 4->1 YES a1.1@4.1.1
+again a1.1
+again a1.1@4.1.1
+again a1.1
+3 4->1 ACK a1.1@4.1.1 commit
+again a1.1
+begin pc
+join c1.2 2
+join c1.2 4
+1 2->1 JOINED c1.2 2.1.1
+1 4->1 JOINED c1.2 4.1.2
+commit c1.2
+abort c1.2
+again c1.2
+again
+";
+
+const AGAIN_SAID: &str = "\
+log 1 Opened 1 forced
+ok
+refused 9
+begin a1.1
+ok
+refused 9
+1 1->4 JOIN a1.1
+ok
+ok
+2 1->4 PREPARE a1.1@4.1.1 0
+ok
+refused 9
+log 1 Commit a1.1 forced
+told a1.1 committed
+3 1->4 COMMIT a1.1@4.1.1
+ok
+4 1->4 COMMIT a1.1@4.1.1
+ok
+refused 9
+5 1->4 COMMIT a1.1@4.1.1
+ok
+log 1 End a1.1 plain
+ok
+refused 9
+begin c1.2
+ok
+6 1->2 JOIN c1.2
+ok
+7 1->4 JOIN c1.2
+ok
+ok
+ok
+log 1 Collecting c1.2 forced
+8 1->2 PREPARE c1.2@2.1.1 0
+9 1->4 PREPARE c1.2@4.1.2 0
+ok
+log 1 Abort c1.2 forced
+told c1.2 aborted
+10 1->2 ABORT c1.2@2.1.1
+11 1->4 ABORT c1.2@4.1.2
+ok
+12 1->2 ABORT c1.2@2.1.1
+13 1->4 ABORT c1.2@4.1.2
+ok
+error
+";
+
+/// Lines of a manager that tells what its log holds, and its data.
+const HELD: &str = "\
+data
+1 1->4 JOIN a1.1
+2 1->4 WORK a1.1@4.1.1 1 put y 2
+3 1->4 WORK a1.1@4.1.1 2 put x 1
+4 1->4 PREPARE a1.1@4.1.1 2
+data
+5 1->4 COMMIT a1.1@4.1.1
+data
+log
+again a1.1@4.1.1
+trim
+log
+data
+";
+
+const HELD_SAID: &str = "\
+log 4 Opened 1 forced
+ok
+ok
+1 4->1 JOINED a1.1 4.1.1
+ok
+ok
+ok
+log 4 Prepared a1.1@4.1.1 forced
+2 4->1 YES a1.1@4.1.1
+ok
+ok
+log 4 Committed a1.1@4.1.1 forced
+3 4->1 ACK a1.1@4.1.1 commit
+ok
+data 78 31
+data 79 32
+ok
+log 4
+5 Opened 1
+23 Prepared a1.1@4.1.1 put 79 32 put 78 31
+91 Committed a1.1@4.1.1
+ok
+refused 9
+trim 4 4
+ok
+log 4
+5 Opened 1
+23 Base 1
+36 Pair 78 31
+46 Pair 79 32
+ok
+data 78 31
+data 79 32
+ok
+";
+
+/// The tree in which process 4 has another parent.
+const MOVED: &str = "\
+[[process]]
+id = 1
+kind = \"coordinator\"
+[[process]]
+id = 2
+kind = \"coordinator\"
+parent = 1
+[[process]]
+id = 3
+kind = \"manager\"
+parent = 2
+[[process]]
+id = 4
+kind = \"manager\"
+parent = 2
+";
+
+/// Lines of a root whose log then names a ticket of process 4.
+const NAMES: &str = "\
+begin pc
+join c1.1 4
+1 4->1 JOINED c1.1 4.1.1
+commit c1.1
+";
+
+const NAMES_SAID: &str = "\
+log 1 Opened 1 forced
+ok
+begin c1.1
+ok
+1 1->4 JOIN c1.1
+ok
+ok
+log 1 Collecting c1.1 forced
+2 1->4 PREPARE c1.1@4.1.1 0
+ok
+";
+
 /// Lets a store go.
 fn let_go(_store: MemoryStore) {}
 
@@ -201,6 +370,50 @@ fn ends(alloc: Global, tree: &Tree) -> bool {
     }
 }
 
+/// Lets a node go.
+fn let_node_go(_node: Serving<MemoryStore>) {}
+
+/// Whether no node of the tree starts over this store, since its log is not of the tree.
+fn is_stranger(alloc: Global, tree: &Tree, process: ProcessId, store: MemoryStore) -> bool {
+    let Some(entry) = tree.entry(process) else {
+        return false;
+    };
+    match start(alloc, tree, entry, store) {
+        Err(StartError::Stranger) => true,
+        Err(_) => false,
+        Ok((node, _)) => {
+            let_node_go(node);
+            false
+        }
+    }
+}
+
+/// Whether a node that writes just this leaves a log that is not of a tree which has changed.
+fn is_left_behind(
+    alloc: Global,
+    tree: &Tree,
+    moved: &Tree,
+    process: ProcessId,
+    lines: &str,
+    said: &str,
+) -> bool {
+    let store = MemoryStore::from_bytes(Vec::new(alloc));
+    match served(alloc, tree, process, store, lines, said) {
+        None => false,
+        Some(left) => is_stranger(alloc, moved, process, left),
+    }
+}
+
+/// Whether a tree that has changed is seen: by the parent's log, which names a ticket of no child, and by the
+/// child's, which names a case of another parent.
+fn sees_change(alloc: Global, tree: &Tree) -> bool {
+    let Ok(moved) = read_tree(alloc, MOVED) else {
+        return false;
+    };
+    is_left_behind(alloc, tree, &moved, ProcessId(1), NAMES, NAMES_SAID)
+        && is_left_behind(alloc, tree, &moved, ProcessId(4), DECIDED, DECIDED_SAID)
+}
+
 /// Says what does not hold of lines of nodes, or that all does.
 pub fn run(alloc: Global, tree: &Tree) -> &'static str {
     if !says(alloc, tree, ProcessId(2), SPEAKERS, SPEAKERS_SAID) {
@@ -211,6 +424,15 @@ pub fn run(alloc: Global, tree: &Tree) -> &'static str {
     }
     if !ends(alloc, tree) {
         return "an end in order does not force";
+    }
+    if !says(alloc, tree, ProcessId(1), AGAIN, AGAIN_SAID) {
+        return "a decision is told otherwise once more";
+    }
+    if !says(alloc, tree, ProcessId(4), HELD, HELD_SAID) {
+        return "what a log holds is told otherwise";
+    }
+    if !sees_change(alloc, tree) {
+        return "a tree that has changed is not seen";
     }
     "as they must"
 }

@@ -9,7 +9,7 @@ use std::str;
 /// The lines that a node takes.
 const LINES: &str =
     "begin, join, work, commit, abort, ask, heur and forget as `rstar tree` has them, \
-                     N F->T MESSAGE as another node wrote it, trim, doubt, outcome TXN, status, help or end";
+                     N F->T MESSAGE as another node wrote it, trim, doubt, outcome TXN, again CASE, status, log, data, help or end";
 
 /// Tells on standard error of each line that a node refuses, if it is to.
 #[derive(Drop)]
@@ -29,9 +29,12 @@ impl Explainer {
     }
 }
 
-/// Why a step is refused by this number (docs/ERRORS.md).
-fn reason(number: &str) -> &'static str {
+/// Why a line is refused by this number (docs/ERRORS.md).
+fn reason(line: &str, number: &str) -> &'static str {
     match number {
+        "9" if line.starts_with("again ") => {
+            "the case is not this process's, or waits for no acknowledgement: there is no such message"
+        }
         "3" => "no such case is live here: it was decided, or forgotten, or never begun",
         "4" => "it is no child that can take this",
         "5" => "the case is closed: commit or abort was asked before, or PREPARE came",
@@ -96,7 +99,7 @@ fn told(
         None => Ok(None),
         Some(rest) => {
             let error = rest.trim_end();
-            let why = reason(error);
+            let why = reason(text, error);
             Ok(Some(format!(in alloc; "line {number}: {shown}\nrefused {error}: {why}\n")?))
         }
     }

@@ -3,6 +3,7 @@
 
 use crate::tell;
 use file_store::{FileStore, HostFile, OpenError, SeenLog, Trouble, look, look_new};
+use inquire_core::are_numbered;
 use link_script::{Front, ScriptError, ScriptFault, process_of, read_front};
 use log_store::MemoryStore;
 use node_engine::{Serving, StartError, start};
@@ -234,4 +235,30 @@ pub(crate) fn judged(
             refused(told)
         }
     })
+}
+
+/// Whether the log that these bytes are, over which this process goes on, has a case of a boot that it had not reached.
+fn is_ahead(alloc: Global, me: &TreeEntry, bytes: &[u8]) -> Result<bool, AllocError> {
+    let copy = MemoryStore::from_bytes(Vec::from_slice(alloc, bytes)?);
+    match RecLog::open(copy, me.id, me.kind, alloc) {
+        Ok(log) => {
+            let records = log.records(alloc)?;
+            Ok(!are_numbered(&records))
+        }
+        Err(_) => Ok(false),
+    }
+}
+
+/// Says to the operator what no run leaves: that the log at this path has a case of a boot that it had not reached. The
+/// process goes on over it all the same.
+pub(crate) fn warn(rt: &HostRuntime, path: &str, me: &TreeEntry, bytes: &[u8]) {
+    let alloc = rt.alloc();
+    if let Ok(true) = is_ahead(alloc, me, bytes) {
+        tell(
+            rt,
+            format!(in alloc;
+                "rstar node: {path}: it has a case of a boot that it had not reached, as no run leaves one\n"
+            ).ok(),
+        );
+    }
 }

@@ -18,7 +18,7 @@ use audit_engine::{Detail, run_audit, run_log};
 use clap::error::ErrorKind;
 use clap::{Arg, ArgAction, ArgMatches, Command, Error};
 use crash_engine::run_crash;
-use explanation::{Script, failure_text, refusal_text};
+use explanation::{Script, failure_text, plain_refusal_text, refusal_text};
 use migrate_engine::run_migrate;
 use migration::FileWords;
 use node::NodeWords;
@@ -110,17 +110,20 @@ In: the processes as TOML, a line ---, and an event a line:
   heur CASE commit|rollback            an operator decides a manager's case in doubt
   forget CASE                          and lets it go; at the root: clears what its End reports
 TXN is as a1.1, CASE as a1.1 or a1.1@2.1.1, KEY and VALUE are visible ASCII characters, up to
-64 and 256. Empty lines and lines that begin with # are skipped.
+64 and 256. Empty lines and lines that begin with # are skipped. The events may begin with a
+line 'log P HEX' for the log of each process, as --logs writes them, whole or cut as by a crash:
+then each process restarts over its log, in the order of the tree, and messages begin at 1.
 
 Out: a line for each log record, message and word to the application, 'trim P N' where N
 records remain, and 'end'; 'refused N E' where event N is refused, 'error ..' where the script
-is (docs/ERRORS.md). With --counts, behind that, a line for each process: how many records it
-wrote in its steps, how many of them forced, and how many messages it sent, in all and by kind;
-and 'counts all ..', the sums. The first Opened of each process does not count. With --logs,
-where no event is refused: the processes, a line ---, and a line 'log P HEX' for the log of
-each process, as 'rstar log' and 'rstar audit' read them. With --picture, in place of the trace:
-one SVG file, time downward, a line for each process, an arrow for each delivery, a mark for each
-record; a refused event is its last row.
+is (docs/ERRORS.md), 'damaged P PLACE' if a log that it begins with is. With --counts,
+after that, a line for each process: how many records it wrote in its steps, how many of them
+forced, and how many messages it sent, in all and by kind; and 'counts all ..', the sums. The
+first Opened of a process over an empty log does not count. With --logs, where no event is
+refused: the processes, a line ---, and a line 'log P HEX' for the log of each process, as
+'rstar log' and 'rstar audit' read them. With --picture, in place of the trace: one SVG file,
+time downward, a line for each process, an arrow for each delivery, a mark for each record; a
+refused event is its last row.
 
 Examples: rstar tree < examples/commit.tree
           rstar tree < examples/crash.tree
@@ -195,10 +198,11 @@ Examples: rstar audit < examples/commit.logs
 const CRASH_HELP: &str = "\
 Where it refuses, --explain tells on standard error what is wrong, and what is wanted there.
 
-In: a tree script, as 'rstar tree' reads it. Behind each of its events, each process crashes
-in a run of its own, once with each number of its unforced records kept, from none to all.
-Then messages are delivered as by settle, every case that its log shows in doubt asks its
-parent, messages are delivered again, and the logs are audited. Out: first 'no crash:' and what
+In: a tree script, as 'rstar tree' reads it, with logs ahead of its events or without. Behind
+each of its events, each process crashes in a run of its own, once with each number of its
+unforced records kept, from none to all. Then messages are delivered as by settle, every case
+that its log shows in doubt asks its parent, messages are delivered again, and the logs are
+audited. Out: first 'no crash:' and what
 all events leave without one, where they leave something: 'in-doubt CASE ..', 'mismatch CASE
 ..', or both. Then a line for each crash that leaves more than that: 'event N restart P K:' and
 likewise the cases that it adds; it is the run of the first N events and 'restart P K'.
@@ -233,8 +237,14 @@ In, a line each, answered in order, each before the next is read:
                                        'unknown', as far as the log tells; 'unknown' is one that
                                        wrote no record, or that a trim took: who is in doubt of
                                        it is answered abort by a..., commit by c...
+  again CASE                           the decision of the case once more, to each child that it
+                                       names: for one whose acknowledgement was lost. Nothing is
+                                       recorded; refused 9, if the case waits for none
   status                               'status boot B records N unforced N bytes N in-doubt N
                                        decided N' of the log
+  log                                  what the log holds, as 'rstar log' has it
+  data                                 a line 'data KEY VALUE' for each key of a manager, both in
+                                       hexadecimal
   help                                 a line for each kind of line that a node knows
   end                                  all that stands is forced, and it ends; nothing behind is read
 Out: what the process did, as a trace has it, and then 'ok'; 'refused E' (docs/ERRORS.md; 9 what
@@ -558,6 +568,14 @@ fn script_of(request: Request) -> Script {
     }
 }
 
+/// Why what was asked refused this input, or an event of it. `rstar run` takes no logs ahead of events.
+fn why(alloc: Global, request: Request, input: &[u8]) -> Result<String, Failure> {
+    match request {
+        Request::Run(_) => plain_refusal_text(alloc, input),
+        _ => refusal_text(alloc, script_of(request), input),
+    }
+}
+
 /// Writes a text, if there is one, to standard error, as far as it takes it.
 fn tell(rt: &HostRuntime, text: Option<String>) {
     if let Some(text) = text {
@@ -577,7 +595,7 @@ fn run_on<T: Threads + Wait + Sync>(
     let mut reader = input;
     let status = run(rt, threads, request, &mut reader)?;
     if told == Told::Explained && (status == 1 || status == 2) {
-        tell(rt, refusal_text(rt.alloc(), script_of(request), input).ok());
+        tell(rt, why(rt.alloc(), request, input).ok());
     }
     Ok(status)
 }

@@ -3,7 +3,7 @@
 use crate::explainer::Explainer;
 use crate::files::{
     End, device_failed, entry_of, failed, judged, log_in, no_memory, refused, settled, status_of,
-    tree_in,
+    tree_in, warn,
 };
 use file_store::{FileStore, HostFile, Trouble};
 use node_engine::{NodeFailure, Serving, StartError, run_node, start};
@@ -55,6 +55,7 @@ fn started(rt: &HostRuntime, words: NodeWords<'_>) -> Result<OpenNode, End> {
     let entry = entry_of(alloc, &tree, words.me)?;
     let seen = log_in(rt, words.log, words.is_new)?;
     judged(alloc, words.log, &tree, entry, seen.bytes())?;
+    warn(rt, words.log, entry, seen.bytes());
     let (store, trouble) = settled(alloc, words.log, seen)?;
     match start(alloc, &tree, entry, store) {
         Ok((node, opening)) => Ok(OpenNode {

@@ -2,7 +2,8 @@ use Rattle.std.proofs.Common.{◌∷◌, ◌∙◌, ◌++◌, ◌+◌, ap, sym, 
 use Rattle.std.proofs.lemmas.List.{at_drop_more, drop_all}
 use Rattle.log_text.specs.Forms.{form_in}
 use Rattle.log_rules.specs.order.Logs.{read_as, read_log}
-use Rattle.audit_engine.specs.logs.Reports.{held_text, shown_text}
+use Rattle.log_lines.specs.Held.{held_text}
+use Rattle.audit_engine.specs.logs.Reports.{shown_text}
 use Rattle.logs_script.specs.Faults.{damage_text, first_damage}
 use Rattle.audit_engine.proofs.logs.Shown.{damaged_here, no_log, none_damaged, shown_none, sound_found, sound_more, text_more}
 use Rattle.audit_engine.proofs.logs.engine.shown.Goals as goal
@@ -25,9 +26,9 @@ loop-entry-preserved c =
     let rest = at_drop_more (λ xs. xs) c.args.entries.now c.loop-entry.entry-index e c.loop-entry-test.true
     ∙ ap (λ x. x ∷ drop (c.loop-entry.entry-index + 1) c.args.entries.now) (sym c.entry-item.is) in
     let found = sound_found c.of_bytes-form.result c.bytes_of-bytes.result.now c.in-Ok.found c.in-Ok.ensures.ok in (
-      text_more c.loop-entry.out.items c.push_log.new.out.items _ e
+      text_more c.loop-entry.out.items c.push_held.new.out.items _ e
           (drop (c.loop-entry.entry-index + 1) c.args.entries.now) _ c.args.logs.now
-          (c.in_ok-push_log-in-Ok.ensures
+          (c.in_ok-push_held-in-Ok.ensures
           ∙ ap (λ f. c.loop-entry.out.items ++ held_text f c.bytes_of-bytes.result.now) c.of_bytes-form.ensures
           ∙ ap (λ t. c.loop-entry.out.items ++ held_text (form_in t e.id e.kind) t) c.bytes_of-bytes.ensures) rest
           c.loop-entry.invariant.0,

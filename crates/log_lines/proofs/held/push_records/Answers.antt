@@ -1,10 +1,10 @@
 use Rattle.std.proofs.Common.{◌≡◌, ◌∙◌, ◌++◌, ◌+◌, ◌-◌, suc, ap, sym, arith, length}
 use Rattle.log_text.specs.Forms.{size_bytes}
 use Rattle.logs_script.specs.Places.{placed_in}
-use Rattle.audit_engine.specs.logs.Reports.{records_text}
-use Rattle.audit_engine.proofs.logs.Texts.{text_ends, text_goes_on}
+use Rattle.log_lines.specs.Held.{records_text}
+use Rattle.log_lines.proofs.Texts.{text_ends, text_goes_on}
 use Rattle.logs_script.proofs.PlaceLaws.{frame_size, goes_on, no_frame, stops}
-use Rattle.audit_engine.proofs.logs.engine.push_records.Goals as goal
+use Rattle.log_lines.proofs.held.push_records.Goals as goal
 
 pub returns-in-Err-Malformed : goal.returns-in-Err-Malformed
 returns-in-Err-Malformed c =

@@ -1,7 +1,7 @@
 use Rattle.std.proofs.Common.{◌≡◌, ◌≤◌, ◌+◌, ◌-◌, ◌++◌, length}
 use Rattle.logs_script.specs.Places.{placed_in}
-use Rattle.audit_engine.specs.logs.Reports.{records_text}
-use Rattle.audit_engine.proofs.logs.engine.push_records.Given as goal
+use Rattle.log_lines.specs.Held.{records_text}
+use Rattle.log_lines.proofs.held.push_records.Given as goal
 
 abbrev pub invariant-loop-frame_kind : goal.invariant-loop-frame_kind
 invariant-loop-frame_kind l =

@@ -1,8 +1,8 @@
 use Rattle.std.proofs.Common.{◌∙◌, ◌++◌, ap, sym}
 use Rattle.logs_script.specs.Places.{placed_in}
-use Rattle.audit_engine.specs.logs.Reports.{records_text}
-use Rattle.audit_engine.proofs.logs.Shown.{held_empty, held_sound, joined}
-use Rattle.audit_engine.proofs.logs.engine.push_log.Goals as goal
+use Rattle.log_lines.specs.Held.{records_text}
+use Rattle.log_lines.proofs.Holding.{held_empty, held_sound, joined}
+use Rattle.log_lines.proofs.held.push_held.Goals as goal
 
 pub returns-in-Empty : goal.returns-in-Empty
 returns-in-Empty c =

@@ -1,7 +1,7 @@
-//! The line of a record.
+//! What the line of a record says.
 
 ghost use Rattle.std.specs.Prelude.{◌≡◌, ◌++◌, OnOk};
-ghost use Rattle.audit_engine.specs.logs.Lines.{branch_word, listed_words, record_words, reports_words, ticket_words, write_words, writes_words, bytes_word};
+ghost use Rattle.log_lines.specs.Words.{branch_word, listed_words, record_words, reports_words, ticket_words, write_words, writes_words, bytes_word};
 
 use spellings::hexadecimal::Hexadecimal;
 use std::alloc::{AllocError, Global};
@@ -9,7 +9,7 @@ use trace_lines::{kind_word, outcome_word, push, push_case_word, push_number_wor
 use tree_model::{Branch, Case, Record, Reports, Ticket, Write};
 
 /// A space and bytes in hexadecimal.
-fn push_bytes_word(alloc: Global, out: &mut Vec<u8>, bytes: &[u8]) -> Result<(), AllocError>
+pub fn push_bytes_word(alloc: Global, out: &mut Vec<u8>, bytes: &[u8]) -> Result<(), AllocError>
     ensures { OnOk result (out.new.items ≡ out.old.items ++ bytes_word bytes.now) }
 {
     let digits = Hexadecimal(bytes);
@@ -43,11 +43,7 @@ fn push_tickets(out: &mut Vec<u8>, tickets: &[Ticket]) -> Result<(), AllocError>
 
 /// A word, and the tickets behind it; nothing where there are none.
 #[tactic(auto, unfolding(tree_model::specs::Records::none_of))]
-pub(crate) fn push_listed(
-    out: &mut Vec<u8>,
-    word: &str,
-    tickets: &[Ticket],
-) -> Result<(), AllocError>
+pub fn push_listed(out: &mut Vec<u8>, word: &str, tickets: &[Ticket]) -> Result<(), AllocError>
     ensures { OnOk result (out.new.items ≡ out.old.items ++ listed_words word.now tickets.now) }
 {
     match tickets {

@@ -1,7 +1,7 @@
 -- The text of records, one by one.
 use Rattle.std.proofs.Common.{◌≡◌, ℕ, List, [], ◌∷◌, ◌++◌, sym, ap, ◌∙◌, append-nil, append_assoc}
 use Rattle.tree_model.specs.declared.records.LogRecord.{LogRecord}
-use Rattle.audit_engine.specs.logs.Reports.{placed_text, records_text}
+use Rattle.log_lines.specs.Held.{placed_text, records_text}
 use Rattle.logs_script.specs.Places.{Placed, placed}
 
 pub text_ends : (out total : List ℕ) (xs : List Placed) → xs ≡ [] → out ++ records_text xs ≡ total
