@@ -1,8 +1,8 @@
 #!/usr/bin/env python3
-"""Carries the messages of a tree between its nodes: examples/carrier.py TREE FOLDER [RSTAR]
+"""Carries the messages of a tree between its nodes: examples/carrier.py TREE FOLDER [RSTAR [N=COMMAND..]]
 
 Starts `rstar node` for each process of the tree in the file TREE, over the log FOLDER/N.log, which it makes where there
-is none, and reads lines from standard input:
+is none; and COMMAND in its place for process N, as a leaf over a database (docs/LEAVES.md). It reads lines from standard input:
 
     N LINE    gives LINE to node N, and then passes on each message, the oldest first, until none is left
     kill N    kills node N (SIGKILL) and starts it again
@@ -10,6 +10,7 @@ is none, and reads lines from standard input:
 
 What the nodes answer is written with `[N]` before it. RSTAR is the program, `rstar` if none is named.
 """
+import shlex
 import subprocess
 import sys
 import tomllib
@@ -23,9 +24,8 @@ class Node:
         self.start()
 
     def start(self):
-        new = [] if self.log.exists() else ["--new"]
-        self.process = subprocess.Popen([*self.command, str(self.number), str(self.log), *new], text=True, bufsize=1,
-                                        stdin=subprocess.PIPE, stdout=subprocess.PIPE)
+        new = [] if self.log is None or self.log.exists() else ["--new"]
+        self.process = subprocess.Popen([*self.command, *new], text=True, bufsize=1, stdin=subprocess.PIPE, stdout=subprocess.PIPE)
         self.sent = deque(self.answer())  # a node that starts again asks for what it does not know
 
     def answer(self):
@@ -52,12 +52,18 @@ def deliver(nodes, net):
 
 
 def main():
-    if len(sys.argv) not in (3, 4) or sys.argv[1] in ("-h", "--help"):
+    if sys.argv[1:] in (["-h"], ["--help"]):
+        print(__doc__)
+        return
+    if len(sys.argv) < 3:
         sys.exit(__doc__)
     tree, folder = sys.argv[1], Path(sys.argv[2])
-    command = [sys.argv[3] if len(sys.argv) == 4 else "rstar", "node", tree]
-    numbers = [process["id"] for process in tomllib.loads(Path(tree).read_text())["process"]]
-    nodes = {number: Node(number, command, folder / f"{number}.log") for number in numbers}
+    rstar = sys.argv[3] if len(sys.argv) > 3 else "rstar"
+    others = {int(number): shlex.split(command) for number, _, command in (word.partition("=") for word in sys.argv[4:])}
+    nodes = {}
+    for number in [process["id"] for process in tomllib.loads(Path(tree).read_text())["process"]]:
+        log = None if number in others else folder / f"{number}.log"
+        nodes[number] = Node(number, others.get(number) or [rstar, "node", tree, str(number), str(log)], log)
     loses = False
     for first, _, rest in (line.strip().partition(" ") for line in sys.stdin if line.strip()):
         if first == "lose":
