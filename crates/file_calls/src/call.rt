@@ -10,3 +10,11 @@ pub enum Call {
     /// A file of these bytes alone is to take the place of the file, and to be on the disk with its name.
     Replace(Vec<u8>),
 }
+
+/// Which call it is.
+#[derive(Clone, Copy, PartialEq, Eq)]
+pub enum CallKind {
+    Write,
+    Sync,
+    Replace,
+}

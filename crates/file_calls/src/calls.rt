@@ -1,6 +1,6 @@
 //! The calls that a store asked of its file, in order, shared by the file and by whoever makes them.
 
-use crate::call::Call;
+use crate::call::{Call, CallKind};
 use std::alloc::{AllocError, Global};
 use std::cell::Cell;
 use std::rc::Rc;
@@ -10,6 +10,47 @@ use std::rc::Rc;
 pub struct Calls {
     alloc: Global,
     left: Rc<Cell<Vec<Call>>, Global>,
+}
+
+/// The call that is to be made next.
+#[derive(Clone, Copy)]
+pub struct NextCall {
+    pub kind: CallKind,
+    /// Behind how many bytes of the file it writes.
+    pub place: u64,
+    /// How many bytes it has.
+    pub size: usize,
+}
+
+/// Copies bytes to the front of a room, and gives their number. Where they are more nothing is copied.
+fn copy_into(bytes: &[u8], room: &mut [u8]) -> usize {
+    let size = bytes.len();
+    if size <= room.len() {
+        let (front, _) = room.split_at_mut(size);
+        front.copy_from_slice(bytes);
+    }
+    size
+}
+
+/// A call, with its bytes copied to the front of a room where they fit.
+fn shown(call: &Call, room: &mut [u8]) -> NextCall {
+    match call {
+        Call::Write(place, bytes) => NextCall {
+            kind: CallKind::Write,
+            place: *place,
+            size: copy_into(bytes, room),
+        },
+        Call::Sync => NextCall {
+            kind: CallKind::Sync,
+            place: 0,
+            size: 0,
+        },
+        Call::Replace(bytes) => NextCall {
+            kind: CallKind::Replace,
+            place: 0,
+            size: copy_into(bytes, room),
+        },
+    }
 }
 
 impl Calls {
@@ -48,14 +89,16 @@ impl Calls {
         asked
     }
 
-    /// The call that is to be made next is looked at.
-    pub fn with_next<T: Drop, F: FnOnce(Option<&Call>) -> T>(&self, look: F) -> T
-        requires { F.pre look }
-    {
+    /// The call that is to be made next, with its bytes copied to the front of a room where they fit; None, if no call
+    /// is left.
+    pub fn show_next(&self, room: &mut [u8]) -> Option<NextCall> {
         let left = self.left.replace(Vec::new(self.alloc));
-        let seen = look(left.first());
+        let next = match left.first() {
+            Some(call) => Some(shown(call, room)),
+            None => None,
+        };
         self.left.set(left);
-        seen
+        next
     }
 
     /// The call that is to be made next is left no more.

@@ -8,6 +8,6 @@ mod call;
 mod calls;
 mod file;
 
-pub use call::Call;
-pub use calls::Calls;
+pub use call::CallKind;
+pub use calls::{Calls, NextCall};
 pub use file::CalledFile;

@@ -29,7 +29,9 @@ impl Core {
     pub fn none() -> Core
         ensures { result.node ≡ None }
     {
-        Core { at: ptr::null_mut() }
+        Core {
+            at: ptr::null_mut(),
+        }
     }
 
     /// A handle that owns what a box owned.
@@ -46,7 +48,10 @@ impl Core {
         ensures { self.node ≡ Some result.value }
     {
         let Core { at } = self;
-        Loose { at: at as *mut Kept, alloc }
+        Loose {
+            at: at as *mut Kept,
+            alloc,
+        }
     }
 
     /// A handle of what is kept.

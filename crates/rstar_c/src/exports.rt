@@ -1,12 +1,14 @@
 //! What C calls of a node.
 
 ghost use Rattle.std.specs.Prelude.{◌≡◌, IsSome, None};
+ghost use Rattle.rstar_c.specs.Numbers.{IsRefused};
+ghost use Rattle.rstar_c.specs.Openings.{OpensAt};
+ghost use Rattle.rstar_c.specs.Turns.{PassedAt, ShownAt, TellsAt, TurnedAt};
 
 use crate::core::Core;
-use crate::kept::copy_into;
-use crate::numbers::{DONE, HOW, NO_CALL};
+use crate::numbers::{CALLS, DONE, HOW, IO, NO_CALL};
 use crate::opening::opened;
-use file_calls::Call;
+use file_calls::CallKind;
 use std::alloc::Global;
 use std::mem;
 
@@ -16,6 +18,13 @@ pub extern "C" fn rstar_version() -> u32
     ensures { result ≡ 1 }
 {
     1
+}
+
+/// The number of a refusal, which is none of an answer.
+fn refused(why: u32) -> u32
+    ensures { IsRefused result }
+{
+    if why == DONE || why == CALLS { IO } else { why }
 }
 
 /// Opens a process of a tree over the bytes of its log's file (how is 0), or over a new one (how is 1). 0 or 27: the
@@ -29,6 +38,7 @@ pub extern "C" fn rstar_core_open(
     how: u32,
     core: &mut Core,
 ) -> u32
+    ensures { OpensAt tree.now process file.now how core.old.node core.new.node result }
 {
     if how > 1 {
         return HOW;
@@ -39,7 +49,7 @@ pub extern "C" fn rstar_core_open(
             *core = Core::of(kept);
             status
         }
-        Err(why) => why,
+        Err(why) => refused(why),
     }
 }
 
@@ -53,6 +63,8 @@ pub extern "C" fn rstar_core_line(
     size: &mut usize,
 ) -> u32
     requires open { IsSome core.old.node }
+    ensures turned { TurnedAt line.now core.old.node core.new.node result }
+    ensures shown { ShownAt result core.new.node room.old room.new size.new }
 {
     let mut kept = mem::replace(core, Core::none()).into_box(alloc);
     let status = kept.turn(alloc, line);
@@ -70,6 +82,9 @@ pub extern "C" fn rstar_core_answer(
     size: &mut usize,
 ) -> u32
     requires open { IsSome core.old.node }
+    ensures same { core.new.node ≡ core.old.node }
+    ensures tells { TellsAt core.old.node result }
+    ensures shown { ShownAt result core.old.node room.old room.new size.new }
 {
     let kept = mem::replace(core, Core::none()).into_box(alloc);
     let status = kept.status();
@@ -78,13 +93,12 @@ pub extern "C" fn rstar_core_answer(
     status
 }
 
-/// What is told of a call of the file.
-fn call_in(call: Option<&Call>, room: &mut [u8]) -> (u32, u64, usize) {
-    match call {
-        None => (0, 0, 0),
-        Some(Call::Write(place, bytes)) => (1, *place, copy_into(bytes, room)),
-        Some(Call::Sync) => (2, 0, 0),
-        Some(Call::Replace(bytes)) => (3, 0, copy_into(bytes, room)),
+/// The number of a kind of call.
+fn kind_number(kind: CallKind) -> u32 {
+    match kind {
+        CallKind::Write => 1,
+        CallKind::Sync => 2,
+        CallKind::Replace => 3,
     }
 }
 
@@ -99,23 +113,30 @@ pub extern "C" fn rstar_core_call(
     size: &mut usize,
 ) -> u32
     requires open { IsSome core.old.node }
+    ensures same { core.new.node ≡ core.old.node }
 {
     let kept = mem::replace(core, Core::none()).into_box(alloc);
-    let (what, at, length) = kept.calls.with_next(|call| call_in(call, room));
-    *kind = what;
-    *place = at;
-    *size = length;
+    let next = kept.calls.show_next(room);
     *core = Core::of(kept);
-    if what == 0 { NO_CALL } else { DONE }
+    match next {
+        Some(call) => {
+            *kind = kind_number(call.kind);
+            *place = call.place;
+            *size = call.size;
+            DONE
+        }
+        None => NO_CALL,
+    }
 }
 
 /// Tells that the call that was to be made next was made (1), or failed (0).
 #[unsafe(no_mangle)]
 pub extern "C" fn rstar_core_done(alloc: Global, core: &mut Core, is_made: u32) -> u32
     requires open { IsSome core.old.node }
+    ensures { PassedAt is_made core.old.node core.new.node result }
 {
     let mut kept = mem::replace(core, Core::none()).into_box(alloc);
-    let status = kept.pass(is_made != 0);
+    let status = kept.pass(is_made);
     *core = Core::of(kept);
     status
 }

@@ -1,12 +1,30 @@
 //! What a handle keeps: a node, its last answer, and the calls of its log's file that this waits for.
 
-ghost use Rattle.std.specs.Prelude.{◌≡◌, ◌⊎◌, ◌≤◌, IfErr, IfOk, [], length};
+ghost use Rattle.std.specs.Prelude.{◌≡◌, IfErr, IfOk, [], length};
 ghost use Rattle.node_engine.specs.Answers.{state_of};
-
+ghost use Rattle.node_answers.specs.Texts.{ok_text};
+ghost use Rattle.script_words.specs.Steps.{same};
+ghost use Rattle.node_lines.specs.Asked.{end_word};
+ghost use Rattle.rstar_c.specs.Numbers.{IsTold};
+ghost use Rattle.rstar_c.specs.Turns.{
+  Answered,
+  Closed as IsClosed,
+  Ends,
+  Fills,
+  HasEnded,
+  HasNotEnded,
+  Passed,
+  Shown,
+  TellsBy,
+  Turned,
+  Unanswered,
+  told_of as told_by,
+};
 
 use crate::numbers::{CALLS, DONE, ENDED, NO_CALL, WAITS, failure_number};
 use file_calls::{CalledFile, Calls};
 use file_store::FileStore;
+use node_answers::obeyed_text;
 use node_engine::{Nobody, NodeFailure, Serving, run_node};
 use node_lines::asks_end;
 use std::alloc::Global;
@@ -47,7 +65,8 @@ fn told_of(failure: NodeFailure) -> NodeFailure
 
 /// Makes the answer to a line that does not ask the node to end. Err: by which number there is none.
 fn step(life: &mut Life, line: &[u8]) -> Result<Vec<u8>, u32>
-    ensures { Stepped line.now life.old life.new result }
+    ensures ok { IfOk result (λ text. Answered line.now life.old life.new text.items) }
+    ensures err { IfErr result (Unanswered line.now life.old life.new) }
 {
     let failure = match life {
         Life::Serves(node) => match node.answer(line) {
@@ -77,7 +96,7 @@ fn nothing(alloc: Global) -> Reaction
 
 /// Closes a store, in which all that stands is forced.
 fn closed(mut store: FileStore<CalledFile>) -> Result<(), NodeFailure>
-    ensures { IfOk result (λ _. Closed store) }
+    ensures { IfOk result (λ _. IsClosed store) }
     ensures err { IfErr result (λ e. e ≡ NodeFailure.Device) }
 {
     match store.close() {
@@ -105,11 +124,33 @@ fn ended(alloc: Global, node: FileNode) -> Result<(), NodeFailure>
     }
 }
 
+/// Ends a node in order, and gives the answer to the line that asked for it.
+fn end_node(alloc: Global, node: FileNode) -> Result<Vec<u8>, NodeFailure>
+    ensures { IfOk result (λ text. (text.items ≡ ok_text) × Ends (state_of node)) }
+{
+    match obeyed_text(alloc) {
+        Ok(text) => match ended(alloc, node) {
+            Ok(()) => Ok(text),
+            Err(failure) => Err(failure),
+        },
+        Err(_) => {
+            let_go(node);
+            Err(NodeFailure::Memory)
+        }
+    }
+}
+
+/// Lets a node go. One function does it: what letting go of one means is proved once, and not at each way out.
+fn let_go(_node: FileNode) {}
+
 /// Ends a node in order. Err: by which number it has not.
-fn end(alloc: Global, life: &mut Life) -> Result<(), u32> {
+fn end(alloc: Global, life: &mut Life) -> Result<Vec<u8>, u32>
+    ensures ok { IfOk result (λ text. (text.items ≡ ok_text) × HasEnded life.old life.new) }
+    ensures err { IfErr result (HasNotEnded life.old life.new) }
+{
     let failure = match mem::replace(life, Life::Ended) {
-        Life::Serves(node) => match ended(alloc, Box::into_inner(node)) {
-            Ok(()) => return Ok(()),
+        Life::Serves(node) => match end_node(alloc, Box::into_inner(node)) {
+            Ok(text) => return Ok(text),
             Err(failure) => told_of(failure),
         },
         Life::Failed(failure) => failure,
@@ -140,53 +181,69 @@ impl Kept {
         if self.calls.len() == 0 { DONE } else { CALLS }
     }
 
-    /// There is no answer, for the reason of this number; what was asked of the file is asked no more.
-    fn refuse(&mut self, number: u32) -> u32 {
+    /// There is no answer; what was asked of the file is asked no more.
+    fn forget(&mut self)
+        ensures answer { self.new.answer.items ≡ [] }
+        ensures life { self.new.life ≡ self.old.life }
+    {
         self.calls.clear();
         self.answer.clear();
-        number
     }
 
-    /// Makes the answer to a line that does not ask the node to end.
-    fn answer_line(&mut self, line: &[u8]) -> u32 {
-        match step(&mut self.life, line) {
+    /// Keeps what a line was answered by, or by which number it was not.
+    fn keep(&mut self, made: Result<Vec<u8>, u32>) -> u32
+        ensures life { self.new.life ≡ self.old.life }
+        ensures ok { IfOk made (λ text. (self.new.answer.items ≡ text.items) × IsTold result) }
+        ensures err { IfErr made (λ number. (self.new.answer.items ≡ []) × (result ≡ number)) }
+    {
+        match made {
             Ok(text) => {
                 self.answer = text;
                 self.said()
             }
-            Err(number) => self.refuse(number),
+            Err(number) => {
+                self.forget();
+                number
+            }
         }
+    }
+
+    /// Makes the answer to a line that does not ask the node to end.
+    fn answer_line(&mut self, line: &[u8]) -> u32
+        requires { same line.now end_word ≡ false }
+        ensures { Turned line.now self.old self.new result }
+    {
+        let made = step(&mut self.life, line);
+        self.keep(made)
     }
 
     /// Ends the node in order, and answers as it does.
-    fn answer_end(&mut self, alloc: Global) -> u32 {
-        let mut text = Vec::new(alloc);
-        if text.extend_from_slice(b"ok\n").is_err() {
-            self.life = Life::Failed(NodeFailure::Memory);
-            return self.refuse(failure_number(NodeFailure::Memory));
-        }
-        match end(alloc, &mut self.life) {
-            Ok(()) => {
-                self.answer = text;
-                self.said()
-            }
-            Err(number) => self.refuse(number),
-        }
+    fn answer_end(&mut self, alloc: Global, line: &[u8]) -> u32
+        requires { same line.now end_word ≡ true }
+        ensures { Turned line.now self.old self.new result }
+    {
+        let made = end(alloc, &mut self.life);
+        self.keep(made)
     }
 
     /// Makes the answer to a line.
-    pub fn turn(&mut self, alloc: Global, line: &[u8]) -> u32 {
+    pub fn turn(&mut self, alloc: Global, line: &[u8]) -> u32
+        ensures { Turned line.now self.old self.new result }
+    {
         if self.calls.len() > 0 {
             WAITS
         } else if asks_end(line) {
-            self.answer_end(alloc)
+            self.answer_end(alloc, line)
         } else {
             self.answer_line(line)
         }
     }
 
-    /// How the last answer is told: its size in bytes, if it waits for nothing, and is copied where it fits.
-    pub fn show(&self, status: u32, room: &mut [u8]) -> usize {
+    /// Shows the last answer, which is told by this number: 0, and it is copied to the front of a room, where it fits.
+    /// Gives its size.
+    pub fn show(&self, status: u32, room: &mut [u8]) -> usize
+        ensures { Shown status self.now.answer.items room.old room.new result }
+    {
         if status == DONE {
             copy_into(&self.answer, room)
         } else {
@@ -195,23 +252,29 @@ impl Kept {
     }
 
     /// The number by which the last answer is told.
-    pub fn status(&self) -> u32 {
+    pub fn status(&self) -> u32
+        ensures { TellsBy self.now.life result }
+    {
         match &self.life {
             Life::Failed(failure) => failure_number(*failure),
             Life::Serves(_) | Life::Ended => self.said(),
         }
     }
 
-    /// The call of the file that was to be made next was made, or failed: then the node is over.
-    pub fn pass(&mut self, is_made: bool) -> u32 {
+    /// The call of the file that was to be made next was made (is_made is not 0), or it failed: then the node answers
+    /// no line any more.
+    pub fn pass(&mut self, is_made: u32) -> u32
+        ensures { Passed is_made self.old self.new result }
+    {
         if self.calls.len() == 0 {
             return NO_CALL;
         }
-        if is_made {
+        if is_made != 0 {
             self.calls.pass();
             return DONE;
         }
         self.life = Life::Failed(NodeFailure::Device);
-        self.refuse(failure_number(NodeFailure::Device))
+        self.forget();
+        failure_number(NodeFailure::Device)
     }
 }

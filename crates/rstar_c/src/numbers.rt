@@ -1,6 +1,6 @@
 //! The numbers that calls answer, as `rstar_core.h` names them.
 
-ghost use Rattle.std.specs.Prelude.{◌≡◌, ◌<◌};
+ghost use Rattle.std.specs.Prelude.{◌≡◌};
 ghost use Rattle.rstar_c.specs.Numbers.{failure_number as number_of_failure};
 
 use file_store::OpenError;
@@ -21,6 +21,9 @@ pub const NO_PROCESS: u32 = 3;
 
 /// The tree's text is not UTF-8.
 pub const TREE_UTF8: u32 = 17;
+
+/// The system refused a call.
+pub const IO: u32 = 9;
 
 /// It is said by no number that is known how to open.
 pub const HOW: u32 = 16;
@@ -51,8 +54,7 @@ pub const FOREIGN: u32 = 38;
 
 /// The number of a failure, which every call answers from then on.
 pub fn failure_number(failure: NodeFailure) -> u32
-    ensures number { result ≡ number_of_failure failure }
-    ensures told { 0 < result }
+    ensures { result ≡ number_of_failure failure }
 {
     match failure {
         NodeFailure::Read => 20,
@@ -64,16 +66,14 @@ pub fn failure_number(failure: NodeFailure) -> u32
 }
 
 /// The number of why the bytes of a file are no log's.
-pub fn file_number(error: OpenError) -> u32
-    ensures { 0 < result }
-{
+pub fn file_number(error: OpenError) -> u32 {
     match error {
         OpenError::Memory => 21,
         OpenError::Busy => 5,
         OpenError::Missing => 6,
         OpenError::Exists => 7,
         OpenError::Damaged => 8,
-        OpenError::Io(_) => 9,
+        OpenError::Io(_) => IO,
         OpenError::NoFile => 14,
         OpenError::Linked => 15,
     }
@@ -81,9 +81,7 @@ pub fn file_number(error: OpenError) -> u32
 
 /// The number of why no node was started. A device that fails in an opening is memory that was refused: no call of it
 /// is made before the opening is told.
-pub fn start_number(error: StartError) -> u32
-    ensures { 0 < result }
-{
+pub fn start_number(error: StartError) -> u32 {
     match error {
         StartError::Stranger => 10,
         StartError::Reopen(ReopenError::Damaged(_)) => 11,

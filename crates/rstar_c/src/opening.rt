@@ -1,5 +1,9 @@
 //! Opening a node over the bytes of its log's file.
 
+ghost use Rattle.std.specs.Prelude.{◌≡◌, IfOk, length};
+ghost use Rattle.file_store.specs.Stores.{file_bytes, file_failures, file_forced};
+ghost use Rattle.rstar_c.specs.Openings.{Boxes, FoundIn, IsTreeOf, Opened, ServesBehind};
+
 use crate::kept::{FileNode, Kept, Life};
 use crate::numbers::{
     EXHAUSTED, MEMORY, NO_PROCESS, TREE, TREE_TEXT, TREE_UTF8, failure_number, file_number,
@@ -27,7 +31,9 @@ fn tree_number(error: ScriptError) -> u32 {
 }
 
 /// The tree of a text, which has no line of three dashes.
-fn tree_of(alloc: Global, text: &[u8]) -> Result<Tree, u32> {
+fn tree_of(alloc: Global, text: &[u8]) -> Result<Tree, u32>
+    ensures { IfOk result (λ tree. IsTreeOf text.now tree) }
+{
     let Ok(mut bytes) = Vec::from_slice(alloc, text) else {
         return Err(MEMORY);
     };
@@ -47,7 +53,9 @@ fn tree_of(alloc: Global, text: &[u8]) -> Result<Tree, u32> {
 }
 
 /// The number of the file that these bytes are, and the bytes of the log in it; of a new one, nothing.
-fn found(alloc: Global, file: &[u8], is_new: bool) -> Result<(u64, Vec<u8>), u32> {
+fn found(alloc: Global, file: &[u8], is_new: bool) -> Result<(u64, Vec<u8>), u32>
+    ensures { IfOk result (λ found. FoundIn is_new file.now found.1.items) }
+{
     if is_new {
         return Ok((0, Vec::new(alloc)));
     }
@@ -63,7 +71,11 @@ fn store_of(
     calls: &Calls,
     number: u64,
     bytes: Vec<u8>,
-) -> Result<FileStore<CalledFile>, u32> {
+) -> Result<FileStore<CalledFile>, u32>
+    ensures text { IfOk result (λ store. file_bytes store ≡ bytes.items) }
+    ensures forced { IfOk result (λ store. file_forced store ≡ length bytes.items) }
+    ensures works { IfOk result (λ store. file_failures store ≡ 0) }
+{
     let Ok(shared) = calls.shared() else {
         return Err(MEMORY);
     };
@@ -75,12 +87,9 @@ fn store_of(
 }
 
 /// A node in a box of its own. One function makes it: what moving one means is proved once.
-fn boxed(
-    alloc: Global,
-    node: FileNode,
-    answer: Vec<u8>,
-    calls: Calls,
-) -> Result<Box<Kept>, u32> {
+fn boxed(alloc: Global, node: FileNode, answer: Vec<u8>, calls: Calls) -> Result<Box<Kept>, u32>
+    ensures { IfOk result (λ kept. Boxes node answer.items kept.value) }
+{
     let Ok(node) = Box::new(alloc, node) else {
         return Err(MEMORY);
     };
@@ -101,7 +110,9 @@ fn shown(
     mut node: FileNode,
     opening: &Reaction,
     calls: Calls,
-) -> Result<Box<Kept>, u32> {
+) -> Result<Box<Kept>, u32>
+    ensures { IfOk result (λ kept. ServesBehind node opening.now kept.value kept.value.life) }
+{
     match node.show(opening) {
         Ok(answer) => boxed(alloc, node, answer, calls),
         Err(failure) => Err(failure_number(failure)),
@@ -138,13 +149,7 @@ fn is_of_another(
 }
 
 /// The number of why no node was started over the log in this file.
-fn not_started(
-    alloc: Global,
-    tree: &Tree,
-    me: &TreeEntry,
-    file: &[u8],
-    error: StartError,
-) -> u32 {
+fn not_started(alloc: Global, tree: &Tree, me: &TreeEntry, file: &[u8], error: StartError) -> u32 {
     let StartError::Reopen(ReopenError::Damaged(_)) = error else {
         return start_number(error);
     };
@@ -165,7 +170,9 @@ pub fn opened(
     process: u32,
     file: &[u8],
     is_new: bool,
-) -> Result<Box<Kept>, u32> {
+) -> Result<Box<Kept>, u32>
+    ensures { IfOk result (λ kept. Opened text.now process file.now is_new kept.value) }
+{
     let tree = tree_of(alloc, text)?;
     let Some(entry) = tree.entry(ProcessId(process)) else {
         return Err(NO_PROCESS);

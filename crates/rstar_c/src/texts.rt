@@ -1,5 +1,7 @@
 //! What C calls of an audit: texts of logs, without a node.
 
+ghost use Rattle.rstar_c.specs.Texts.{Audits, Logs, detail_by};
+
 use crate::kept::copy_into;
 use crate::numbers::{DONE, MEMORY};
 use audit_engine::{Detail, run_audit, run_log};
@@ -14,7 +16,9 @@ pub extern "C" fn rstar_audit(
     room: &mut [u8],
     size: &mut usize,
     ending: &mut u32,
-) -> u32 {
+) -> u32
+    ensures { Audits (detail_by is_explained) logs.now room.old room.new size.new ending.new result }
+{
     let detail = if is_explained == 0 {
         Detail::Lines
     } else {
@@ -43,7 +47,9 @@ pub extern "C" fn rstar_log(
     room: &mut [u8],
     size: &mut usize,
     ending: &mut u32,
-) -> u32 {
+) -> u32
+    ensures { Logs logs.now room.old room.new size.new ending.new result }
+{
     let mut text = Vec::new(alloc);
     match run_log(alloc, &mut &*logs, &mut text) {
         Ok(how) => {
