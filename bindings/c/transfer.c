@@ -223,7 +223,7 @@ int main(int argc, char **argv)
     if (child == 0) {
         open_all(argv[1], RSTAR_NEW);
         transfer(30);
-        expect(70, 50, "behind a transfer");
+        expect(70, 50, "after a transfer");
         deaths = 1;
         fflush(stdout);
         transfer(25); /* it is decided, and one leaf has obeyed, when the program dies */
@@ -234,9 +234,9 @@ int main(int argc, char **argv)
         fail("the child", "it was not killed");
     printf("killed\n");
     open_all(argv[1], RSTAR_EXISTING);
-    expect(45, 75, "behind the crash and the recovery");
+    expect(45, 75, "after the crash and the recovery");
     transfer(500); /* more than there is: leaf 2 votes NO */
-    expect(45, 75, "behind a transfer that cannot be");
+    expect(45, 75, "after a transfer that cannot be");
     if (strcmp(told, "aborted"))
         fail("the transfer", told);
     close_all();

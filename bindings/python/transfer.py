@@ -122,7 +122,7 @@ def main():
     if child == 0:
         bank = Bank(folder, new=True)
         bank.transfer(30)
-        bank.expect(70, 50, "behind a transfer")
+        bank.expect(70, 50, "after a transfer")
         bank.leaves[2].dies = True
         bank.transfer(25)  # it is decided, and one leaf has obeyed, when the program dies
         os._exit(1)
@@ -131,10 +131,10 @@ def main():
         sys.exit(f"the child was not killed: {status}")
     print("killed", flush=True)
     bank = Bank(folder, new=False)
-    bank.expect(45, 75, "behind the crash and the recovery")
+    bank.expect(45, 75, "after the crash and the recovery")
     if bank.transfer(500) != "aborted":  # more than there is: leaf 2 votes NO
         sys.exit("it was not aborted")
-    bank.expect(45, 75, "behind a transfer that cannot be")
+    bank.expect(45, 75, "after a transfer that cannot be")
     bank.root.close()
 
 
