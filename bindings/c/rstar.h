@@ -50,7 +50,7 @@ typedef struct rstar_node {
 /* A call is refused. */
 #define RSTAR_NULL 19        /* a place is null */
 #define RSTAR_MEMORY 21      /* memory was refused */
-#define RSTAR_DEVICE 23      /* the log's file failed; errno says why, behind the call that met it */
+#define RSTAR_DEVICE 23      /* the log's file failed; errno says why, after the call that met it */
 #define RSTAR_EXHAUSTED 24   /* numbers are used up */
 #define RSTAR_ENDED 25       /* a line `end` was answered before */
 #define RSTAR_CLOSED 26      /* the handle is of no node */
@@ -72,18 +72,18 @@ typedef struct rstar_node {
 #define RSTAR_EXISTING 0
 #define RSTAR_NEW 1
 
-/* The version of the library, which is RSTAR_VERSION where header and library fit. */
+/* The version of the library, which is RSTAR_VERSION if header and library fit. */
 unsigned int rstar_version(void);
 
 /* Opens a process of a tree (the text of its TOML file) over the log in the file of this name, as `rstar node` does;
- * how is RSTAR_EXISTING, or RSTAR_NEW where a new log is to be made. The file is locked until the node is closed.
+ * how is RSTAR_EXISTING, or RSTAR_NEW if a new log is to be made. The file is locked until the node is closed.
  * RSTAR_DONE: the handle is of a node, and its answer is what the process did as it opened: fetch it by
  * rstar_node_answer. Else the handle is as it was. */
 unsigned int rstar_node_open(const void *tree, size_t tree_size, unsigned int process, const void *path,
                              size_t path_size, unsigned int how, rstar_node *node);
 
 /* Answers a line, without its end, as `rstar node` does. RSTAR_DONE: the step was made, and what it rests on is on the
- * disk. *size is the size of the answer, which is copied to the front of the room where it fits; where it does not,
+ * disk. *size is the size of the answer, which is copied to the front of the room if it fits; if it does not,
  * rstar_node_answer gives it. Else there is no answer, *size is 0, and the room is as it was.
  * RSTAR_MEMORY, RSTAR_DEVICE, RSTAR_EXHAUSTED: the step was made or not, and each later call answers so: close the node
  * and open it again. A line `end` forces all that stands; each later line is RSTAR_ENDED. */
@@ -99,10 +99,10 @@ unsigned int rstar_node_answer(rstar_node *node, void *room, size_t room_size, s
 unsigned int rstar_node_close(rstar_node *node);
 
 /* Audits the logs of a tree, as `rstar audit` does: in comes what `rstar tree --logs` writes, the tree's text and a line
- * for each log. explain 0: a line for each case. Else behind each in doubt, or with a mismatch, what decided it and what
+ * for each log. explain 0: a line for each case. Else also, after each in doubt or with a mismatch, what decided it and what
  * to do. *ending is the program's exit status: 0, 1 (the report says what was refused or damaged) or 3 (a mismatch).
- * *size is the size of the report, which is copied to the front of the room where it fits; call again with more room
- * where it does not. RSTAR_MEMORY: nothing is told, and *ending is 4. */
+ * *size is the size of the report, which is copied to the front of the room if it fits; call again with more room
+ * if it does not. RSTAR_MEMORY: nothing is told, and *ending is 4. */
 unsigned int rstar_audit(const unsigned char *logs, size_t logs_size, unsigned int explain, unsigned char *room,
                          size_t room_size, size_t *size, unsigned int *ending);
 
@@ -112,7 +112,7 @@ unsigned int rstar_log(const unsigned char *logs, size_t logs_size, unsigned cha
 
 /* XIDs in bytes are the format (4 bytes, the high one first), the lengths of both names (1 byte each), and the names: 6
  * to 134 bytes. In text they are as 7:01:02, at most 268 bytes. *size is the size of what is told, which is copied to
- * the front of the room where it fits; it is 0 where nothing is told. No place of these four is null, also of no bytes. */
+ * the front of the room if it fits; it is 0 if nothing is told. No place of these four is null, also of no bytes. */
 
 /* The text of the XID of these bytes. */
 unsigned int rstar_xid_text(const unsigned char *bytes, size_t bytes_size, unsigned char *room, size_t room_size,

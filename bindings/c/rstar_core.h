@@ -21,7 +21,7 @@ typedef struct rstar_core {
 #define RSTAR_CORE_NONE { 0 }
 
 /* Kinds of calls. */
-#define RSTAR_CALL_WRITE 1   /* write these bytes behind so many of the file */
+#define RSTAR_CALL_WRITE 1   /* write these bytes at this place of the file */
 #define RSTAR_CALL_SYNC 2    /* put what was written on the disk */
 #define RSTAR_CALL_REPLACE 3 /* put a file of these bytes alone in the place of the file, on the disk, with its name */
 
@@ -36,7 +36,7 @@ unsigned int rstar_core_open(const unsigned char *tree, size_t tree_size, unsign
                              const unsigned char *file, size_t file_size, unsigned int how, rstar_core *core);
 
 /* Answers a line, without its end, as `rstar node` does.
- *   RSTAR_DONE    the answer is copied to the front of the room where it fits; *size is its size
+ *   RSTAR_DONE    the answer is copied to the front of the room if it fits; *size is its size
  *   RSTAR_CALLS   it waits for calls of the file: make them, and fetch it by rstar_core_answer; *size is 0
  *   RSTAR_WAITS   an earlier answer waits for calls: the line was not taken; *size is 0
  *   RSTAR_ENDED   a line `end` was answered before; *size is 0
@@ -50,7 +50,7 @@ unsigned int rstar_core_line(rstar_core *core, const unsigned char *line, size_t
 unsigned int rstar_core_answer(rstar_core *core, unsigned char *room, size_t room_size, size_t *size);
 
 /* Gives the call of the file that is to be made next: its kind, its place, and its bytes, which are copied to the front
- * of the room where they fit; *size is their size. RSTAR_NO_CALL: none is asked for, and nothing was written. It changes
+ * of the room if they fit; *size is their size. RSTAR_NO_CALL: none is asked for, and nothing was written. It changes
  * nothing. Asks for: an open node. */
 unsigned int rstar_core_call(rstar_core *core, unsigned int *kind, unsigned long *place, unsigned char *room,
                              size_t room_size, size_t *size);

@@ -1,6 +1,6 @@
 /* The nodes of rstar.h: those of rstar_core.h over files of the system.
  *
- * What is proved stands behind rstar_core.h; here stand the calls of the system that a log's file wants, each until it
+ * What is proved is behind rstar_core.h; here are the calls of the system that a log's file wants, each until it
  * is done, and in the order in which it is asked for. An answer leaves the library only once the calls that it waits
  * for have been made. The file is treated as by `rstar node` (crates/file_store, HostFile): what a call does to it, and
  * what is refused, is the same there. */

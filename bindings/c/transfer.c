@@ -3,7 +3,7 @@
  *
  * The root of the tree is a node of the library. Each file is a leaf, with a dozen lines of code: a promise is a row
  * that is committed before the leaf votes YES, and outlives a crash; the outcome moves the money and takes the row away.
- * A child makes a transfer and is killed in the midst of it, behind the decision; the parent opens all again. */
+ * A child makes a transfer and is killed in the midst of it, after the decision; the parent opens all again. */
 #include "rstar.h"
 #include <signal.h>
 #include <sqlite3.h>
@@ -23,7 +23,7 @@ static sqlite3 *files[4]; /* of leaf 2 and leaf 3 */
 static int boots[4], tickets[4];
 static char cases[4][64]; /* the case of the transaction at each leaf */
 static char begun[64], told[64];
-static int deaths; /* the program dies behind so many outcomes that a leaf obeyed; 0: it does not */
+static int deaths; /* the program dies after N outcomes that a leaf obeyed; 0: it does not */
 
 static void fail(const char *what, const char *why)
 {

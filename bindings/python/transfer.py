@@ -4,7 +4,7 @@ coordinator of the library linked in: transfer.py FOLDER
 
 The root of the tree is a node of the library; each file is a leaf. A promise is a row that is committed before the leaf votes
 YES, and outlives a crash; the outcome moves the money and takes the row away. A child makes a transfer and is killed in the
-midst of it, behind the decision; the parent opens all again."""
+midst of it, after the decision; the parent opens all again."""
 import os
 import signal
 import sqlite3

@@ -5,7 +5,7 @@
 /* The next call of this name fails, with this reason; each does, until another name, or null, is given. */
 void fail_next(const char *call, int reason);
 
-/* The allocation with this number from now on is refused, and all behind it are not; 0: none. Tells whether one was. */
+/* The allocation with this number from now on is refused, and those after it are not; 0: none. Tells whether one was. */
 int refuse_malloc(int number);
 
 #endif

@@ -1,7 +1,7 @@
 /* Opens two nodes in a child, has it commit until it is killed (SIGKILL), and opens them again: kills TREE FOLDER ROUNDS
  *
  * The child tells each transaction that was told committed. What was told committed is committed for ever: each opening
- * behind a kill asks the root's log for it. At the end nothing is in doubt. */
+ * after a kill asks the root's log for it. At the end nothing is in doubt. */
 #include "rstar.h"
 #include <signal.h>
 #include <stdio.h>
@@ -178,7 +178,7 @@ int main(int argc, char **argv)
         }
     }
     close_both();
-    printf("%d kills; %lu transactions were told committed, %lu of them asked for behind the kill; nothing is in doubt\n",
+    printf("%d kills; %lu transactions were told committed, %lu of them asked for after the kill; nothing is in doubt\n",
            rounds, all, checked);
     return 0;
 }

@@ -181,8 +181,8 @@ static void lines(void)
     want(rstar_node_line(&first, "doubt", 5, last, sizeof last, 0), RSTAR_NULL, "a size that is null");
     want(rstar_node_line(0, "doubt", 5, last, sizeof last, &size), RSTAR_NULL, "a line to no handle");
     said(&first, "end", "ok\n");
-    want(say(&first, "doubt"), RSTAR_ENDED, "a line behind `end`");
-    want(rstar_node_close(&first), RSTAR_DONE, "a close behind `end`");
+    want(say(&first, "doubt"), RSTAR_ENDED, "a line after `end`");
+    want(rstar_node_close(&first), RSTAR_DONE, "a close after `end`");
 }
 
 /* A device that fails under a line: it is told by that line, by each later call and by the close. */
@@ -212,12 +212,12 @@ static void devices(void)
             exit(1);
         }
         fail_next(0, 0);
-        want(say(&first, "doubt"), RSTAR_DEVICE, "a line behind a failed device");
-        want(rstar_node_answer(&first, last, sizeof last, &last_size), RSTAR_DEVICE, "the answer behind a failed device");
-        want(rstar_node_close(&first), RSTAR_DEVICE, "a close behind a failed device");
-        want(say(&first, "doubt"), RSTAR_CLOSED, "a line behind that close");
+        want(say(&first, "doubt"), RSTAR_DEVICE, "a line after a failed device");
+        want(rstar_node_answer(&first, last, sizeof last, &last_size), RSTAR_DEVICE, "the answer after a failed device");
+        want(rstar_node_close(&first), RSTAR_DEVICE, "a close after a failed device");
+        want(say(&first, "doubt"), RSTAR_CLOSED, "a line after that close");
     }
-    want(open_as(1, log, RSTAR_EXISTING, &first), RSTAR_DONE, "the log behind failed devices");
+    want(open_as(1, log, RSTAR_EXISTING, &first), RSTAR_DONE, "the log after failed devices");
     fail_next("fdatasync", ENOSPC);
     want(rstar_node_close(&first), RSTAR_DEVICE, "a close whose force fails");
     fail_next("rename", EIO);
@@ -265,8 +265,8 @@ static void memory(void)
         }
         want(why, RSTAR_MEMORY, "memory refused under a line");
         later = say(&first, "doubt");
-        want(later, RSTAR_MEMORY, "a line behind refused memory");
-        want(rstar_node_close(&first), RSTAR_MEMORY, "a close behind refused memory");
+        want(later, RSTAR_MEMORY, "a line after refused memory");
+        want(rstar_node_close(&first), RSTAR_MEMORY, "a close after refused memory");
     }
     printf("    %d allocations of a line refused\n", n - 1);
     for (n = 1; n < 5000; n++) {
@@ -314,7 +314,7 @@ static void core(void)
     want(rstar_core_call(&node, &kind, &place, room, sizeof room, &size), RSTAR_NO_CALL, "a call that is not asked for");
     want(rstar_core_done(&node, 1), RSTAR_NO_CALL, "a call that was not asked for");
     want(rstar_core_done(&node, 0), RSTAR_NO_CALL, "a failure of a call that was not asked for");
-    want(rstar_core_answer(&node, room, sizeof room, &size), RSTAR_DONE, "the answer behind its calls");
+    want(rstar_core_answer(&node, room, sizeof room, &size), RSTAR_DONE, "the answer after its calls");
     rstar_core_close(&node);
     if (node.at) {
         fprintf(stderr, "a close left the handle open\n");

@@ -78,7 +78,7 @@ impl Calls {
         count
     }
 
-    /// Asks for one more call, behind the others. Err: it is not asked for.
+    /// Asks for one more call, after the others. Err: it is not asked for.
     pub(crate) fn ask(&self, call: Call) -> Result<(), AllocError> {
         let mut left = self.left.replace(Vec::new(self.alloc));
         let asked = match left.push(call) {

@@ -1,4 +1,4 @@
-//! A log's file whose calls are made by somebody else, behind the store's back but before anybody is told of it.
+//! A log's file whose calls somebody else makes, before anybody is told of what rests on them.
 
 use crate::call::Call;
 use crate::calls::Calls;

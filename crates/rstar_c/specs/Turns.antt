@@ -16,8 +16,8 @@ use Rattle.rstar_c.specs.declared.kept.Life.{Life}
 use Rattle.rstar_c.specs.declared.kept.Life.TheVariants.{Serves, Failed, Ended}
 use Rattle.rstar_c.specs.Numbers.{IsTold, failure_number}
 
--- why a step failed: the calls of the file are asked for in it and made behind it, so what fails there is the asking,
--- for want of memory
+-- why a step failed: the calls of the file are asked for in it and made after it, so what fails there is the asking, for
+-- want of memory
 abbrev pub told_of : NodeFailure → NodeFailure
 told_of failure.Device = failure.Memory
 told_of failure.Read = failure.Read
@@ -72,12 +72,12 @@ pub data Turned (line : List ℕ) (old new : Kept) (status : ℕ) : Type 0 where
       → Turned line old new status
   waits : status ≡ 28 → new ≡ old → Turned line old new status
 
--- how the last answer of a node is told: by its failure, or else at once or behind calls of the file
+-- how the last answer of a node is told: by its failure, or else at once or after calls of the file
 abbrev pub TellsBy : Life → ℕ → Type 0
 TellsBy (Failed why) status = status ≡ failure_number why
 TellsBy _ status = IsTold status
 
--- a text stands at the front of a room, or had none in it
+-- a text is at the front of a room, if the room holds it
 abbrev pub Fills : (text old new : List ℕ) → Type 0
 Fills text old new = length text ≤ length old → new ≡ text ++ drop (length text) old
 

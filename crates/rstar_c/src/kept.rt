@@ -96,7 +96,7 @@ fn nothing(alloc: Global) -> Reaction
 
 /// Closes a store, in which all that stands is forced.
 fn closed(mut store: FileStore<CalledFile>) -> Result<(), NodeFailure>
-    ensures { IfOk result (λ _. IsClosed store) }
+    ensures ok { IfOk result (λ _. IsClosed store) }
     ensures err { IfErr result (λ e. e ≡ NodeFailure.Device) }
 {
     match store.close() {
