@@ -1,10 +1,13 @@
 -- A node whose input is empty ends as it stood.
-use Rattle.std.proofs.Common.{◌≡◌, ◌∙◌, inl, inr, ℕ, Bool, true, false, Some, None, List, [], ◌∷◌, ◌++◌, refl, sym, ap, subst, true≢false}
+use Rattle.std.proofs.Common.{◌≡◌, ◌∙◌, inl, inr, IfOk, ℕ, Bool, Result, Ok, Err, true, false, Some, None, List, [], ◌∷◌, ◌++◌, refl, sym, ap, subst, true≢false}
 use Rattle.std.specs.List.{flat_map}
 use Rattle.std.specs.Io.KnownBytes.{Consumes}
 use Rattle.tree_model.specs.declared.events.Reaction.{Reaction}
 use Rattle.tree_model.specs.declared.names.ProcessId.{ProcessId}
 use Rattle.tree_model.specs.Trees.{root_of}
+use Rattle.file_store.specs.declared.store.FileStore.{FileStore}
+use Rattle.file_store.specs.Stores.{file_bytes, file_failures, file_forced}
+use Rattle.file_calls.specs.declared.file.CalledFile.{CalledFile}
 use Rattle.core_model.specs.States.{CoreState}
 use Rattle.node_lines.specs.declared.asked.Asked.{Asked}
 use Rattle.node_lines.specs.declared.asked.Asked.TheVariants as asked
@@ -12,9 +15,10 @@ use Rattle.node_lines.specs.Asked.{asked_at}
 use Rattle.node_engine.specs.declared.run.Ended.{Ended}
 use Rattle.node_engine.specs.declared.run.Ended.TheVariants.{Input, Asked as EndAsked}
 use Rattle.node_engine.specs.Answers.{Answers, AnswersLine, Asks, NodeState}
-use Rattle.node_engine.specs.Runs.{ClosesLog, EndsBy, EndsInOrder, Known, Served, Serves, Stand, line_of}
+use Rattle.node_engine.specs.Runs.{ClosesLog, EndsBy, EndsInOrder, Known, Served, Serves, Stand, line_of, stand}
+use Rattle.rstar_c.specs.Turns.{Closed, Ends}
 
-is_nil : List ℕ → Bool
+abbrev is_nil : List ℕ → Bool
 is_nil [] = true
 is_nil (x ∷ xs) = false
 
@@ -70,3 +74,14 @@ pub ends_closes : {L : Type 0} (bytes : L → List ℕ) (forced failures : L →
 ends_closes bytes forced failures start opening left held store none h =
     subst (λ (c : CoreState). ClosesLog bytes forced failures c store) (ends_core h.by start opening h.last none h.ends)
     h.closes
+
+-- a node that was given no line has ended in order, where its store was closed
+pub if_ended : {V E : Type 0} (r : Result V E) (s : NodeState) (from held : Known) (opening : Reaction) (left now : Known)
+    (store : FileStore CalledFile) → from ≡ Some [] → IfOk r (λ _. Closed store)
+    → EndsInOrder file_bytes file_forced file_failures (stand from held s) opening left now store → IfOk r (λ _. Ends s)
+if_ended (Ok v) s from held opening left now store none closed h = record {
+  store = store;
+  closes = ends_closes file_bytes file_forced file_failures (stand from held s) opening left now store none h;
+  closed = closed;
+}
+if_ended (Err e) s from held opening left now store none closed h = tt

@@ -1,6 +1,6 @@
 //! What a handle keeps: a node, its last answer, and the calls of its log's file that this waits for.
 
-ghost use Rattle.std.specs.Prelude.{◌≡◌, IfErr, IfOk, [], length};
+ghost use Rattle.std.specs.Prelude.{◌≡◌, IfErr, IfOk, [], false, length, true};
 ghost use Rattle.node_engine.specs.Answers.{state_of};
 ghost use Rattle.node_answers.specs.Texts.{ok_text};
 ghost use Rattle.script_words.specs.Steps.{same};
