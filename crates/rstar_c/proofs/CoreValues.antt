@@ -13,7 +13,7 @@ use denote.Struct.Struct.{within}
 use denote.Struct.Owning.{shape}
 use Rattle.rstar_c.specs.Handles.{handle_owns}
 use Rattle.rstar_c.specs.contracts.kept.Kept as kept
-use Rattle.rstar_c.specs.contracts.core.Core as handle
+use Rattle.rstar_c.specs.contracts.handle.Core as handle
 
 abbrev pub handle_val : Ptr → Val
 handle_val p = vstruct (vcons (ptr_val p) vnil)

@@ -5,7 +5,7 @@ ghost use Rattle.rstar_c.specs.Numbers.{IsRefused};
 ghost use Rattle.rstar_c.specs.Openings.{OpensAt};
 ghost use Rattle.rstar_c.specs.Turns.{PassedAt, ShownAt, TellsAt, TurnedAt};
 
-use crate::core::Core;
+use crate::handle::Core;
 use crate::numbers::{CALLS, DONE, HOW, IO, NO_CALL};
 use crate::opening::opened;
 use file_calls::CallKind;

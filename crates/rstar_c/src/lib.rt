@@ -3,8 +3,8 @@
 //! A node, an audit and names for a program in another language: what C calls (`rstar_core.h`).
 #![tactic(auto)]
 
-mod core;
 mod exports;
+mod handle;
 mod kept;
 mod numbers;
 mod opening;

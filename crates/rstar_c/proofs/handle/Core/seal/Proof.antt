@@ -24,10 +24,10 @@ use Rattle.std.specs.contracts.impls.GlobalAllocator.TheImpl.{ghosts}
 use Rattle.held.proofs.Laid.{Row, laid, laid_fits, take_apart}
 use Rattle.rstar_c.specs.contracts.kept.Kept as kept
 use Rattle.rstar_c.proofs.CoreValues.{handle_val, handle_in}
-use Rattle.rstar_c.specs.contracts.core.Core.seal.{ended, clauses}
-use Rattle.rstar_c.specs.contracts.core.Core.seal.Key.{name as #self}
-use Rattle.rstar_c.proofs.core.Core.seal.Statement.{statement}
-use Rattle.rstar_c.proofs.core.Core.seal.Code as code
+use Rattle.rstar_c.specs.contracts.handle.Core.seal.{ended, clauses}
+use Rattle.rstar_c.specs.contracts.handle.Core.seal.Key.{name as #self}
+use Rattle.rstar_c.proofs.handle.Core.seal.Statement.{statement}
+use Rattle.rstar_c.proofs.handle.Core.seal.Code as code
 
 pub seal_spec : {M : Type 1} → statement M
 seal_spec 𝓤 𝓛 𝓜 𝓡 wired =

@@ -19,10 +19,10 @@ use denote.Triple.Walked.{walk_of}
 use Rattle.std.proofs.raw_atomic.Walks.{proved_at, leaves}
 use Rattle.rstar_c.specs.contracts.kept.Kept as kept
 use Rattle.rstar_c.proofs.CoreValues.{handle_val, handle_in}
-use Rattle.rstar_c.specs.contracts.core.Core.none.{ended, clauses}
-use Rattle.rstar_c.specs.contracts.core.Core.none.Key.{name as #self}
-use Rattle.rstar_c.proofs.core.Core.none.Statement.{statement}
-use Rattle.rstar_c.proofs.core.Core.none.Code as code
+use Rattle.rstar_c.specs.contracts.handle.Core.none.{ended, clauses}
+use Rattle.rstar_c.specs.contracts.handle.Core.none.Key.{name as #self}
+use Rattle.rstar_c.proofs.handle.Core.none.Statement.{statement}
+use Rattle.rstar_c.proofs.handle.Core.none.Code as code
 
 pub none_spec : {M : Type 1} → statement M
 none_spec 𝓤 𝓛 𝓜 𝓡 wired =

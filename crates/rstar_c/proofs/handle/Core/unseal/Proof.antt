@@ -29,12 +29,12 @@ use Rattle.rstar_c.specs.Handles.{handle_owns}
 use Rattle.std.specs.Option.{IsSome}
 use Rattle.held.specs.Boxes.{heap}
 use Rattle.rstar_c.specs.contracts.kept.Kept as kept
-use Rattle.rstar_c.specs.contracts.core.Core as handle
+use Rattle.rstar_c.specs.contracts.handle.Core as handle
 use Rattle.rstar_c.proofs.CoreValues.{handle_val, handle_out}
-use Rattle.rstar_c.specs.contracts.core.Core.unseal.{ended, clauses}
-use Rattle.rstar_c.specs.contracts.core.Core.unseal.Key.{name as #self}
-use Rattle.rstar_c.proofs.core.Core.unseal.Statement.{statement}
-use Rattle.rstar_c.proofs.core.Core.unseal.Code as code
+use Rattle.rstar_c.specs.contracts.handle.Core.unseal.{ended, clauses}
+use Rattle.rstar_c.specs.contracts.handle.Core.unseal.Key.{name as #self}
+use Rattle.rstar_c.proofs.handle.Core.unseal.Statement.{statement}
+use Rattle.rstar_c.proofs.handle.Core.unseal.Code as code
 
 -- what is there
 some_of : (A : Type 0) (m : Option A) → IsSome m → (x : A) × (m ≡ Some x)
