@@ -260,15 +260,12 @@ static unsigned int refused(void)
     return errno == ENOMEM ? RSTAR_MEMORY : RSTAR_IO;
 }
 
-/* The folder that has this name in it, open. */
+/* The folder that has this name in it, open. The name is whole, from the root on. */
 static int folder_of(const char *path)
 {
-    const char *slash = strrchr(path, '/');
-    size_t size = slash ? (size_t)(slash - path) : 0;
+    size_t size = (size_t)(strrchr(path, '/') - path);
     char *folder;
     int fd, reason;
-    if (!slash)
-        return opened(".", O_RDONLY);
     if (size == 0)
         return opened("/", O_RDONLY);
     folder = malloc(size + 1);
@@ -361,6 +358,37 @@ static unsigned int look(struct log_file *file, const char *path, unsigned char 
     return read_file(file->fd, bytes, size);
 }
 
+/* The same name from the root on, in memory of its own, so that it stays the file's when the program changes its folder.
+ * Null: a call failed. */
+static char *whole_name(const char *path)
+{
+    const char *slash = strrchr(path, '/'), *last = slash ? slash + 1 : path;
+    size_t size = slash ? (size_t)(slash - path) : 0;
+    char *folder, *real, *whole;
+    if (!*last) {
+        errno = EISDIR;
+        return 0;
+    }
+    folder = malloc(size + 2);
+    if (!folder)
+        return 0;
+    memcpy(folder, path, size);
+    strcpy(folder + size, !slash ? "." : size == 0 ? "/" : "");
+    real = realpath(folder, 0);
+    free(folder);
+    if (!real)
+        return 0;
+    whole = malloc(strlen(real) + strlen(last) + 2);
+    if (whole) {
+        strcpy(whole, real);
+        if (strcmp(real, "/"))
+            strcat(whole, "/");
+        strcat(whole, last);
+    }
+    free(real);
+    return whole;
+}
+
 /* Looks that nothing has the name of a new log. */
 static unsigned int look_new(struct log_file *file, const char *path)
 {
@@ -370,11 +398,8 @@ static unsigned int look_new(struct log_file *file, const char *path)
         return RSTAR_EXISTS;
     if (errno != ENOENT)
         return refused();
-    own = malloc(strlen(path) + 1);
-    if (!own)
-        return RSTAR_MEMORY;
-    strcpy(own, path);
-    return name_file(file, own);
+    own = whole_name(path);
+    return own ? name_file(file, own) : refused();
 }
 
 static unsigned int open_over(const void *tree, size_t tree_size, unsigned int process, const char *path,
