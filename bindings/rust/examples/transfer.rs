@@ -6,7 +6,8 @@
 //! in the midst of it, after the decision; the parent opens all again.
 
 use rstar::{How, Node};
-use std::ffi::{CString, c_char, c_int, c_void};
+use std::ffi::CString;
+use std::os::raw::{c_char, c_int, c_void};
 use std::os::unix::process::ExitStatusExt;
 use std::process::{Command, exit};
 use std::ptr::{null, null_mut};
@@ -15,7 +16,7 @@ const TREE: &str = "[[process]]\nid = 1\nkind = \"coordinator\"\n\
     [[process]]\nid = 2\nkind = \"manager\"\nparent = 1\n[[process]]\nid = 3\nkind = \"manager\"\nparent = 1\n";
 
 #[link(name = "sqlite3")]
-unsafe extern "C" {
+extern "C" {
     fn sqlite3_open(path: *const c_char, file: *mut *mut c_void) -> c_int;
     fn sqlite3_prepare_v2(file: *mut c_void, text: *const c_char, size: c_int, made: *mut *mut c_void, rest: *const c_void) -> c_int;
     fn sqlite3_bind_text(made: *mut c_void, at: c_int, text: *const c_char, size: c_int, free: isize) -> c_int;

@@ -28,7 +28,7 @@ struct Handle {
     file: *mut c_void,
 }
 
-unsafe extern "C" {
+extern "C" {
     fn rstar_version() -> u32;
     fn rstar_node_open(
         tree: *const c_void, tree_size: usize, process: u32, path: *const c_void, path_size: usize, how: u32, node: *mut Handle,
