@@ -87,12 +87,24 @@ fn store_of(
 }
 
 /// A node in a box of its own. One function makes it: what moving one means is proved once.
-fn boxed(alloc: Global, node: FileNode, answer: Vec<u8>, calls: Calls) -> Result<Box<Kept>, u32>
-    ensures { IfOk result (λ kept. Boxes node answer.items kept.value) }
+fn boxed(alloc: Global, node: FileNode) -> Result<Box<FileNode>, u32>
+    ensures { IfOk result (λ made. made.value ≡ node) }
 {
-    let Ok(node) = Box::new(alloc, node) else {
-        return Err(MEMORY);
-    };
+    match Box::new(alloc, node) {
+        Ok(node) => Ok(node),
+        Err(_) => Err(MEMORY),
+    }
+}
+
+/// What a handle keeps of a node that was just opened.
+fn kept_of(
+    alloc: Global,
+    node: Box<FileNode>,
+    answer: Vec<u8>,
+    calls: Calls,
+) -> Result<Box<Kept>, u32>
+    ensures { IfOk result (λ kept. Boxes node.value answer.items kept.value) }
+{
     let kept = Kept {
         life: Life::Serves(node),
         answer,
@@ -114,7 +126,7 @@ fn shown(
     ensures { IfOk result (λ kept. ServesBehind node opening.now kept.value kept.value.life) }
 {
     match node.show(opening) {
-        Ok(answer) => boxed(alloc, node, answer, calls),
+        Ok(answer) => kept_of(alloc, boxed(alloc, node)?, answer, calls),
         Err(failure) => Err(failure_number(failure)),
     }
 }
