@@ -194,7 +194,8 @@ public final class Transfer {
             for (String line = lines.readLine(); line != null; line = lines.readLine()) {
                 System.out.println(line);
                 if (line.equals("kill me")) {
-                    child.destroyForcibly(); // SIGKILL
+                    child.toHandle().destroyForcibly(); // SIGKILL
+                    break;
                 }
             }
         }
