@@ -1,4 +1,5 @@
 pub mod NameReading
+pub mod MarkReading
 pub mod Lists
 pub mod Owned
 pub mod Texts

@@ -7,7 +7,6 @@ ghost use Rattle.xa_xid.specs.Bytes.{xid_bytes};
 ghost use Rattle.tree_model.specs.LogNames.{name_xid};
 ghost use Rattle.tree_model.specs.declared.records.Branch.TheVariants.{Case as CaseBranch};
 ghost use Rattle.log_text.specs.Forms.{size_bytes, size_limit, unowned};
-ghost use Rattle.log_text.specs.Marks.{mark_of};
 ghost use Rattle.log_text.specs.Payloads.{
   FitsFrame,
   FitsFrameIn,
@@ -32,7 +31,6 @@ ghost use Rattle.log_text.specs.Payloads.{
 };
 
 use crate::form::{LogForm, LogFormat};
-use crate::mark::Mark;
 use crate::xids::{branch_xid, format_of, ticket_name, txn_name};
 use std::alloc::{AllocError, Global};
 use std::snapshot::Snapshot;
@@ -321,8 +319,8 @@ fn record_bytes(
     Ok(text)
 }
 
-/// The frame that a record is in the log of a process, and its mark. It is made before anything is written,
-/// as it takes memory. The record itself is not kept: only clauses read it.
+/// The frame that a record is in the log of a process. It is made before anything is written, as it takes
+/// memory. The record itself is not kept: only clauses read it.
 #[derive(Drop)]
 pub struct Frame {
     entry: Snapshot<Record>,
@@ -330,11 +328,9 @@ pub struct Frame {
     bytes: Vec<u8>,
     /// The boot of an Opened, which also says whose log it is: that the log knows to which it is written.
     boot: Option<u64>,
-    mark: Mark,
     ghost spells: { bytes.items
         ≡ record_text unowned (record { entry = entry.value; parent = parent.value }) },
     ghost boots: { boot ≡ boot_in entry.value },
-    ghost marks: { mark ≡ mark_of (record { entry = entry.value; parent = parent.value }) },
 }
 
 /// The record as it stands in the log of a process, whosever it is.
@@ -375,7 +371,6 @@ impl Frame {
             parent: Snapshot::of(&parent),
             bytes,
             boot: boot_of(entry),
-            mark: Mark::of(entry, parent),
         })
     }
 
@@ -421,12 +416,5 @@ impl Frame {
             Some(boot) => text.extend_from_slice(&form.opened(boot)),
             None => text.extend_from_slice(self.bytes()),
         }
-    }
-
-    /// What a trim must know of its record.
-    pub fn mark(&self) -> Mark
-        ensures { result ≡ mark_of (frame_record self.now) }
-    {
-        self.mark
     }
 }
