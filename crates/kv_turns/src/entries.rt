@@ -2,15 +2,17 @@
 
 ghost use Rattle.std.specs.Prelude.{◌≡◌, IfOk};
 ghost use Rattle.tree_model.specs.declared.names.Kind.TheVariants as kind;
+ghost use Rattle.tree_model.specs.declared.records.Branch.{Branch as AnyBranch};
+ghost use Rattle.log_text.specs.Branches.{entry_under};
 ghost use Rattle.log_text.specs.Made.{frame_record};
 ghost use Rattle.log_text.specs.Parts.{name_in};
 ghost use Rattle.log_rules.specs.sound.Sound.{IsSound, IsSoundName};
 ghost use Rattle.kv_turns.specs.Turns.{IsEntry, applies, entry_of, entry_record, has_writes, heur_entry};
 ghost use Rattle.tree_model.specs.ManagerRows.{presumption_of};
 
-use log_text::{Frame, name_in};
+use log_text::{BranchEntry, Frame, name_in};
 use std::alloc::{AllocError, Global};
-use tree_model::{Branch, Outcome, Presumption, ProcessId, Record, Sequence, Write, Writes};
+use tree_model::{Branch, Outcome, Presumption, ProcessId, Write};
 use xa_xid::Xid;
 
 /// A record of a branch.
@@ -60,15 +62,11 @@ pub(crate) fn presumption_of(branch: Branch) -> Presumption
     }
 }
 
-/// The same writes again.
-fn copied(writes: &[Write], alloc: Global) -> Result<Writes, AllocError>
-    ensures { IfOk result (λ copy. copy ≡ writes.now) }
+/// The name that an XID is read as is whole.
+fn is_whole_name(xid: &Xid)
+    ensures { IsSoundName (name_in xid.now).0 (name_in xid.now).1 }
 {
-    let mut copy = Vec::with_capacity(alloc, writes.len())?;
-    for write in writes {
-        copy.push(write.copied(alloc)?)?;
-    }
-    Ok(Sequence::from_vec(copy))
+    let _parts = xid.parts();
 }
 
 impl Entry {
@@ -96,20 +94,20 @@ impl Entry {
         matches!(self, Entry::Prepared | Entry::Direct)
     }
 
-    /// The record under this name.
-    fn record(self, branch: Branch, writes: &[Write], alloc: Global) -> Result<Record, AllocError>
-        ensures { IfOk result (λ entry. entry ≡ entry_of self branch writes.now) }
+    /// The record of a branch that has written this, but for its name.
+    fn with_writes(self, writes: &[Write]) -> BranchEntry<'_>
+        ensures { (b : AnyBranch) → entry_under result b ≡ entry_of self b writes.now }
     {
-        Ok(match self {
-            Entry::Prepared => Record::Prepared(branch, copied(writes, alloc)?),
-            Entry::Committed => Record::Committed(branch),
-            Entry::RolledBack => Record::RolledBack(branch),
-            Entry::Direct => Record::Direct(branch, copied(writes, alloc)?),
-            Entry::HeurCommit => Record::HeurCommit(branch),
-            Entry::HeurRollback => Record::HeurRollback(branch),
-            Entry::Told(outcome) => Record::Told(branch, outcome),
-            Entry::Forgot => Record::Forgot(branch),
-        })
+        match self {
+            Entry::Prepared => BranchEntry::Prepared(writes),
+            Entry::Committed => BranchEntry::Committed,
+            Entry::RolledBack => BranchEntry::RolledBack,
+            Entry::Direct => BranchEntry::Direct(writes),
+            Entry::HeurCommit => BranchEntry::HeurCommit,
+            Entry::HeurRollback => BranchEntry::HeurRollback,
+            Entry::Told(outcome) => BranchEntry::Told(outcome),
+            Entry::Forgot => BranchEntry::Forgot,
+        }
     }
 
     /// The record of a branch that has written this, as it stands in a log.
@@ -118,8 +116,8 @@ impl Entry {
         ensures frame { IfOk result (λ frame. frame_record frame ≡ entry_record self xid.now writes.now) }
         ensures sound { IsSound kind.Manager (entry_record self xid.now writes.now) }
     {
-        let (parent, branch) = name_of(xid);
-        let entry = self.record(branch, writes, alloc)?;
-        Frame::of(&entry, parent, alloc)
+        is_whole_name(xid);
+        let entry = self.with_writes(writes);
+        Frame::of_branch(&entry, xid, alloc)
     }
 }

@@ -1,5 +1,5 @@
 -- The name that an XID is.
-use Rattle.std.proofs.Common.{◌≡◌, ◌≢◌, ◌+◌, ◌<◌, ◌^◌, ℕ, Bool, true, false, List, [], ◌∷◌, ◌++◌, length, drop, Option, Some, None, refl, sym, ap, ◌∙◌, arith, if◌then◌else◌, get_or, is_some}
+use Rattle.std.proofs.Common.{◌≡◌, ◌≢◌, ◌+◌, ◌<◌, ◌^◌, ℕ, Bool, true, false, List, [], ◌∷◌, ◌++◌, length, drop, Option, Some, None, refl, sym, ap, ◌∙◌, arith, if◌then◌else◌, get_or, is_some, cond}
 use Rattle.std.proofs.lemmas.Bool.Decides.{nat_tests}
 use Rattle.std.proofs.lemmas.Grind.{common_steps}
 use Rattle.xa_xid.specs.declared.error.XidError.{XidError}
@@ -17,6 +17,7 @@ use Rattle.tree_model.specs.declared.names.Ticket.{Ticket}
 use Rattle.tree_model.specs.declared.names.Txn.{Txn}
 use Rattle.tree_model.specs.declared.records.Branch.TheVariants.{Foreign}
 use Rattle.tree_model.specs.Branches.{branch_format, branch_parts, below_bytes, txn_bytes, ticket_bytes, FitsTxn, FitsBelow}
+use Rattle.tree_model.specs.LogNames.{name_xid}
 use Rattle.tree_model.specs.Records.{same_bytes, same_xid}
 use Rattle.log_text.proofs.xids.BranchLaws.{txn_again, ticket_again, txn_is, ticket_is, length-ticket_bytes}
 use Rattle.log_text.specs.Parts.{Front, Name, below_in, case_name, name_by, name_at, name_in, presumption_in, txn_in, xid_at}
@@ -165,3 +166,25 @@ pub no_name : (bytes : List ℕ) (fault : XidError) → front_fault bytes ≡ So
     → ◌≡◌ {A = Front Name} None (name_at bytes)
 unfolding name_at xid_at
 no_name bytes fault e = rw e refl
+
+-- An XID is that of its name.
+
+xid_of_case : (x : Txn) (b : Option (ProcessId × Ticket))
+    → name_xid (case_name x b).0 (case_name x b).1 ≡ branch_parts x b
+xid_of_case x None = refl
+xid_of_case x (Some b) = refl
+
+-- the XID of the name that an XID is read as is this XID
+pub name_again : (xid : XidParts) → name_xid (name_in xid).0 (name_in xid).1 ≡ xid
+unfolding name_in
+name_again xid = by_test (same_xid (branch_parts (txn_in (presumption_in xid.format) xid.gtrid)
+    (below_in xid.bqual)) xid) refl
+  where
+    by_test : (b : Bool)
+        → same_xid (branch_parts (txn_in (presumption_in xid.format) xid.gtrid) (below_in xid.bqual)) xid ≡ b
+        → name_xid (cond b (case_name (txn_in (presumption_in xid.format) xid.gtrid) (below_in xid.bqual))
+        (None, Foreign xid)).0
+        (cond b (case_name (txn_in (presumption_in xid.format) xid.gtrid) (below_in xid.bqual))
+        (None, Foreign xid)).1 ≡ xid
+    by_test true e = xid_of_case _ (below_in xid.bqual) ∙ same_xid_is _ xid e
+    by_test false e = refl

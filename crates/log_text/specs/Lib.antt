@@ -5,3 +5,4 @@ pub mod Parts
 pub mod Reading
 pub mod Made
 pub mod Marks
+pub mod Branches

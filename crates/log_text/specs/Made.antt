@@ -4,4 +4,4 @@ use Rattle.log_text.specs.declared.encode.Frame.{Frame}
 
 -- the record that a frame is of
 abbrev pub frame_record : Frame → LogRecord
-frame_record f = record { entry = f.entry.value; parent = f.parent.value }
+frame_record f = f.made_of.value

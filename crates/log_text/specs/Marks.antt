@@ -1,5 +1,5 @@
 -- What a trim must know of a record: its mark.
-use Rattle.std.specs.Prelude.{Bool, true, false, if◌then◌else◌, option_map, List, Option, Some, None}
+use Rattle.std.specs.Prelude.{ℕ, ◌==◌, ◌||◌, Bool, true, false, if◌then◌else◌, option_map, List, [], ◌∷◌, Option, Some, None}
 use Rattle.xa_xid.specs.declared.xid.Xid.{Xid}
 use Rattle.tree_model.specs.declared.names.Ticket.{Ticket}
 use Rattle.tree_model.specs.declared.records.LogRecord.{LogRecord}
@@ -48,3 +48,26 @@ mark_of l = record { name = log_name l; deed = deed_of l.entry }
 abbrev pub opens : Deed → Bool
 opens deed.Opens = true
 opens _ = false
+
+-- The mark of a record, by the bytes of its frame.
+
+-- what a record of this kind does that has no name; none, where a record of this kind has one
+abbrev pub nameless : ℕ → Option Deed
+nameless kind =
+    if kind == 1 then Some deed.Opens else if (kind == 25) || (kind == 26) then Some deed.Nothing else None
+
+-- what a decision does behind whose name these bytes stand: it settles where it names no tickets
+abbrev pub decision_in : List ℕ → Deed
+decision_in [] = deed.Owes
+decision_in (count ∷ rest) = if count == 0 then deed.Settles else deed.Owes
+
+-- what a record of this kind does that has a name, by the bytes behind it
+abbrev pub deed_in : ℕ → List ℕ → Deed
+deed_in kind rest =
+    if (kind == 2) || (kind == 3) then deed.Begins
+    else if (kind == 4) || (kind == 5) then decision_in rest
+    else if kind == 7 then deed.Reports
+    else if kind == 8 then deed.Clears
+    else if kind == 17 then deed.Prepares
+    else if (kind == 21) || ((kind == 22) || (kind == 23)) then deed.Waits
+    else deed.Ends

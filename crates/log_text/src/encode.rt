@@ -7,7 +7,6 @@ ghost use Rattle.xa_xid.specs.Bytes.{xid_bytes};
 ghost use Rattle.tree_model.specs.LogNames.{name_xid};
 ghost use Rattle.tree_model.specs.declared.records.Branch.TheVariants.{Case as CaseBranch};
 ghost use Rattle.log_text.specs.Forms.{size_bytes, size_limit, unowned};
-ghost use Rattle.log_text.specs.Marks.{mark_of};
 ghost use Rattle.log_text.specs.Payloads.{
   FitsFrame,
   FitsFrameIn,
@@ -31,19 +30,18 @@ ghost use Rattle.log_text.specs.Payloads.{
   writes_text,
 };
 
+use crate::branch::{BranchEntry, branch_bytes};
 use crate::form::{LogForm, LogFormat};
-use crate::mark::Mark;
+use crate::ghosts::GhostRecord;
 use crate::xids::{branch_xid, format_of, ticket_name, txn_name};
 use std::alloc::{AllocError, Global};
-use std::snapshot::Snapshot;
 use tree_model::{
     Branch, Bytes, Case, LogRecord, Outcome, ProcessId, Record, Reports, Ticket, Tickets, Write,
-    Writes,
 };
 use xa_xid::Xid;
 
 /// How many bytes a frame is thought to have. A longer one grows.
-const FRAME: usize = 128;
+pub(crate) const FRAME: usize = 128;
 
 /// The XID that a log writes for a name: a branch, and the parent of a case below the root. It takes no
 /// memory.
@@ -74,7 +72,7 @@ fn push_parts(text: &mut Vec<u8>, format: i32, gtrid: &[u8], bqual: &[u8]) -> Re
 }
 
 /// The bytes of an XID.
-fn push_xid(text: &mut Vec<u8>, xid: &Xid) -> Result<(), AllocError>
+pub(crate) fn push_xid(text: &mut Vec<u8>, xid: &Xid) -> Result<(), AllocError>
     ensures { OnOk result (text.new.items ≡ text.old.items ++ xid_bytes xid.now) }
 {
     let (format, gtrid, bqual) = xid.parts();
@@ -172,13 +170,13 @@ fn push_write(text: &mut Vec<u8>, write: &Write) -> Result<(), AllocError>
     }
 }
 
-fn push_writes(text: &mut Vec<u8>, writes: &Writes) -> Result<(), AllocError>
+pub(crate) fn push_writes(text: &mut Vec<u8>, writes: &[Write]) -> Result<(), AllocError>
     requires count { length writes.now < 256 }
     requires each { All SizedWrite writes.now }
     ensures { OnOk result (text.new.items ≡ text.old.items ++ writes_text writes.now) }
 {
     text.push(writes.len() as u8)?;
-    for write in writes.as_slice() {
+    for write in writes {
         push_write(text, write)?;
     }
     Ok(())
@@ -222,7 +220,7 @@ fn push_payload(
         }
         Record::Prepared(branch, writes) | Record::Direct(branch, writes) => {
             push_name(text, parent, branch)?;
-            push_writes(text, writes)
+            push_writes(text, writes.as_slice())
         }
         Record::Committed(branch)
         | Record::RolledBack(branch)
@@ -268,7 +266,7 @@ fn kind_byte(entry: &Record) -> u8
 }
 
 /// A frame's kind, with room for the length of its payload.
-fn push_head(text: &mut Vec<u8>, format: LogFormat, kind: u8) -> Result<(), AllocError>
+pub(crate) fn push_head(text: &mut Vec<u8>, format: LogFormat, kind: u8) -> Result<(), AllocError>
     ensures { OnOk result (text.new.items ≡ text.old.items ++ kind ∷ replicate (size_bytes format) 0) }
 {
     match format {
@@ -278,7 +276,7 @@ fn push_head(text: &mut Vec<u8>, format: LogFormat, kind: u8) -> Result<(), Allo
 }
 
 /// Writes the length of a frame's payload where there is room for it.
-fn write_length(text: &mut Vec<u8>, format: LogFormat)
+pub(crate) fn write_length(text: &mut Vec<u8>, format: LogFormat)
     requires room { 1 + size_bytes format ≤ length text.old.items }
     requires short { length text.old.items < 1 + size_bytes format + size_limit format }
     ensures { text.new.items ≡ take 1 text.old.items
@@ -321,20 +319,16 @@ fn record_bytes(
     Ok(text)
 }
 
-/// The frame that a record is in the log of a process, and its mark. It is made before anything is written,
-/// as it takes memory. The record itself is not kept: only clauses read it.
+/// The frame that a record is in the log of a process. It is made before anything is written, as it takes
+/// memory. The record itself is not kept: only clauses read it.
 #[derive(Drop)]
 pub struct Frame {
-    entry: Snapshot<Record>,
-    parent: Snapshot<Option<ProcessId>>,
+    made_of: GhostRecord,
     bytes: Vec<u8>,
     /// The boot of an Opened, which also says whose log it is: that the log knows to which it is written.
     boot: Option<u64>,
-    mark: Mark,
-    ghost spells: { bytes.items
-        ≡ record_text unowned (record { entry = entry.value; parent = parent.value }) },
-    ghost boots: { boot ≡ boot_in entry.value },
-    ghost marks: { mark ≡ mark_of (record { entry = entry.value; parent = parent.value }) },
+    ghost spells: { bytes.items ≡ record_text unowned made_of.value },
+    ghost boots: { boot ≡ boot_in made_of.value.entry },
 }
 
 /// The record as it stands in the log of a process, whosever it is.
@@ -361,6 +355,7 @@ fn boot_of(entry: &Record) -> Option<u64>
 }
 
 impl Frame {
+    ghost use Rattle.log_text.specs.Branches.{branch_record};
     ghost use Rattle.log_text.specs.Made.{frame_record};
 
     /// The frame of a record under the parent of its name.
@@ -371,11 +366,22 @@ impl Frame {
     {
         let bytes = frame_bytes(entry, parent, alloc)?;
         Ok(Frame {
-            entry: Snapshot::of(entry),
-            parent: Snapshot::of(&parent),
+            made_of: GhostRecord::of(entry, &parent),
             bytes,
             boot: boot_of(entry),
-            mark: Mark::of(entry, parent),
+        })
+    }
+
+    /// The frame of a record of the branch of this XID, made of the XID's bytes: no name is spelled.
+    pub fn of_branch(entry: &BranchEntry<'_>, xid: &Xid, alloc: Global) -> Result<Frame, AllocError>
+        requires { FitsFrame (branch_record entry.now xid.now) }
+        ensures { IfOk result (λ frame. frame_record frame ≡ branch_record entry.now xid.now) }
+    {
+        let bytes = branch_bytes(entry, xid, alloc)?;
+        Ok(Frame {
+            made_of: GhostRecord::of_branch(xid, entry),
+            bytes,
+            boot: None,
         })
     }
 
@@ -421,12 +427,5 @@ impl Frame {
             Some(boot) => text.extend_from_slice(&form.opened(boot)),
             None => text.extend_from_slice(self.bytes()),
         }
-    }
-
-    /// What a trim must know of its record.
-    pub fn mark(&self) -> Mark
-        ensures { result ≡ mark_of (frame_record self.now) }
-    {
-        self.mark
     }
 }

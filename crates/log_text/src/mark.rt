@@ -1,12 +1,11 @@
 //! What a trim must know of a record, without its bytes.
 
-ghost use Rattle.std.specs.Prelude.{◌≡◌, option_map};
-ghost use Rattle.tree_model.specs.LogNames.{record_name};
-ghost use Rattle.tree_model.specs.Records.{none_of};
-ghost use Rattle.log_text.specs.Marks.{decision_by, deed_of, log_name, mark_of, opens};
+ghost use Rattle.std.specs.Prelude.{◌≡◌, Some};
+ghost use Rattle.log_text.specs.Marks.{deed_in, mark_of, nameless, opens};
+ghost use Rattle.log_text.specs.Reading.{read_record};
+ghost use Rattle.log_text.specs.declared.form.LogForm.{LogForm};
+ghost use Rattle.tree_model.specs.declared.records.LogRecord.{LogRecord};
 
-use crate::encode::name_xid;
-use tree_model::{Branch, ProcessId, Record, Tickets};
 use xa_xid::Xid;
 
 /// What a record does to what is said of its name.
@@ -43,72 +42,56 @@ pub struct Mark {
     pub deed: Deed,
 }
 
-/// The name of a record, as the log writes it; Opened, Base and Pair have none.
-fn log_name(entry: &Record, parent: Option<ProcessId>) -> Option<Xid>
-    ensures { result ≡ log_name (record { entry = entry.now; parent = parent }) }
+/// What a record of this kind does that has no name; none, if a record of this kind has one.
+fn nameless(kind: u8) -> Option<Deed>
+    ensures { result ≡ nameless kind }
 {
-    let branch = match entry {
-        Record::Collecting(case, _)
-        | Record::Prepare(case, _)
-        | Record::Commit(case, _)
-        | Record::Abort(case, _)
-        | Record::End(case, _)
-        | Record::Cleared(case) => Branch::Case(*case),
-        Record::Prepared(branch, _)
-        | Record::Committed(branch)
-        | Record::RolledBack(branch)
-        | Record::Direct(branch, _)
-        | Record::HeurCommit(branch)
-        | Record::HeurRollback(branch)
-        | Record::Told(branch, _)
-        | Record::Forgot(branch) => *branch,
-        Record::Opened(_) | Record::Base(_) | Record::Pair(..) => return None,
-    };
-    Some(name_xid(parent, branch))
+    match kind {
+        0x01 => Some(Deed::Opens),
+        0x19 | 0x1a => Some(Deed::Nothing),
+        _ => None,
+    }
 }
 
-impl Deed {
-    /// What a decision does that names these tickets.
-    #[tactic(auto, unfolding(tree_model::specs::Records::none_of))]
-    fn decision(tickets: &Tickets) -> Deed
-        ensures { result ≡ decision_by tickets.now }
-    {
-        match tickets.as_slice() {
-            [] => Deed::Settles,
-            _ => Deed::Owes,
-        }
-    }
-
-    /// What a record does.
-    fn of(entry: &Record) -> Deed
-        ensures { result ≡ deed_of entry.now }
-    {
-        match entry {
-            Record::Opened(_) => Deed::Opens,
-            Record::Collecting(..) | Record::Prepare(..) => Deed::Begins,
-            Record::Commit(_, tickets) | Record::Abort(_, tickets) => Deed::decision(tickets),
-            Record::Prepared(..) => Deed::Prepares,
-            Record::HeurCommit(_) | Record::HeurRollback(_) | Record::Told(..) => Deed::Waits,
-            Record::End(_, Some(_)) => Deed::Reports,
-            Record::Cleared(_) => Deed::Clears,
-            Record::End(_, None)
-            | Record::Committed(_)
-            | Record::RolledBack(_)
-            | Record::Direct(..)
-            | Record::Forgot(_) => Deed::Ends,
-            Record::Base(_) | Record::Pair(..) => Deed::Nothing,
-        }
+/// What a record of this kind does, by the bytes after its name.
+fn deed_in(kind: u8, rest: &[u8]) -> Deed
+    ensures { result ≡ deed_in kind rest.now }
+{
+    match (kind, rest) {
+        (0x02 | 0x03, _) => Deed::Begins,
+        (0x04 | 0x05, [0, ..]) => Deed::Settles,
+        (0x04 | 0x05, _) => Deed::Owes,
+        (0x07, _) => Deed::Reports,
+        (0x08, _) => Deed::Clears,
+        (0x11, _) => Deed::Prepares,
+        (0x15 | 0x16 | 0x17, _) => Deed::Waits,
+        _ => Deed::Ends,
     }
 }
 
 impl Mark {
-    /// What a trim must know of a record under the parent of its name.
-    pub fn of(entry: &Record, parent: Option<ProcessId>) -> Mark
-        ensures { result ≡ mark_of (record { entry = entry.now; parent = parent }) }
+    /// The mark of the record that a frame of this kind and payload reads as, if it reads as one. Of the payload only
+    /// the name is read, and whether a decision names anybody. It takes no memory.
+    pub fn in_frame(kind: u8, payload: &[u8]) -> Mark
+        ensures { (f : LogForm) (l : LogRecord) → read_record f kind payload.now ≡ Some l
+            → result ≡ mark_of l }
     {
-        Mark {
-            name: log_name(entry, parent),
-            deed: Deed::of(entry),
+        if let Some(deed) = nameless(kind) {
+            return Mark { name: None, deed };
+        }
+        match Xid::front(payload) {
+            Ok((xid, size)) => {
+                let (_, rest) = payload.split_at(size);
+                Mark {
+                    name: Some(xid),
+                    deed: deed_in(kind, rest),
+                }
+            }
+            // No record has such a payload.
+            Err(_) => Mark {
+                name: None,
+                deed: Deed::Nothing,
+            },
         }
     }
 

@@ -1,12 +1,12 @@
 -- The bytes that are known to be whole records.
-use Rattle.std.proofs.Common.{◌≡◌, ◌≤◌, ◌+◌, ◌-◌, ℕ, Bool, List, ◌++◌, length, take, drop, sym, ap, subst, ◌∙◌, arith, append_assoc, drop-drop, length-append, length-drop, length-take, take-append-drop}
-use Rattle.std.proofs.lemmas.List.{length-take-le}
+use Rattle.std.proofs.Common.{◌≡◌, ◌≤◌, ◌+◌, ◌-◌, ◌⊎◌, inl, inr, ℕ, Bool, true, List, ◌++◌, length, take, drop, sym, ap, subst, ◌∙◌, arith, append_assoc, drop-drop, length-append, length-drop, length-take, take-append-drop}
+use Rattle.std.proofs.lemmas.List.{length-take-le, take-append-le, take_all}
 use Rattle.log_text.specs.declared.form.LogForm.{LogForm}
 use Rattle.tree_model.specs.declared.records.LogRecord.{LogRecord}
 use Rattle.rec_log.specs.Texts.{is_whole, records_in}
 use Rattle.rec_log.specs.Sights.{EndsSound, IsKnown, IsLogText, LogState, Sounds, body, log_state, whole_within}
-use Rattle.rec_log.proofs.Frames.{more_records, more_whole}
-use Rattle.rec_log.proofs.Turns.{take_within}
+use Rattle.rec_log.proofs.Frames.{header_long, more_records, more_whole, nothing_whole}
+use Rattle.rec_log.proofs.Turns.{body_more, take_within}
 use Rattle.rec_log.proofs.Within.{left_records}
 use Rattle.rec_log.proofs.Written.{body_taken}
 
@@ -23,6 +23,64 @@ known_left p text forced known n k le m = record {
   header = k.header;
   within = omega (arith, k.within, le, m, length-take n text);
   whole = ap (is_whole p 0) (known_same text known n k.header (omega (arith, k.within, m))) ∙ k.whole;
+}
+
+-- Of a text with a header.
+
+-- the text of a log has a header
+pub log_is_long : (p : LogForm) (text : List ℕ) (forced : ℕ) (failed : Bool) → IsLogText p text forced failed
+    → 5 ≤ length text
+log_is_long p text forced failed is =
+    omega (arith, ap length is.begins, header_long p.format, length-take 5 text)
+
+-- the header alone is known
+pub known_header : (p : LogForm) (text : List ℕ) (forced known : ℕ) → 5 ≤ forced → known ≡ 5
+    → IsKnown p text forced known
+known_header p text forced known h e = record {
+  header = omega (arith, e);
+  within = omega (arith, e, h);
+  whole = ap (λ n. is_whole p 0 (take (n - 5) (body text))) e ∙ nothing_whole p;
+}
+
+-- a whole text is known, where all of it is forced
+pub known_all : (p : LogForm) (text : List ℕ) (forced known : ℕ) → 5 ≤ length text
+    → is_whole p 0 (body text) ≡ true → known ≡ length text → length text ≤ forced → IsKnown p text forced known
+known_all p text forced known long whole e le = record {
+  header = omega (arith, e, long);
+  within = omega (arith, e, le);
+  whole = ap (is_whole p 0) (take_all (known - 5) (drop 5 text) (omega (arith, e, length-drop 5 text))) ∙ whole;
+}
+
+-- of a whole text, as much as is forced of it, or the header alone
+pub known_either : (p : LogForm) (text : List ℕ) (forced size known : ℕ) → 5 ≤ length text → 5 ≤ forced
+    → is_whole p 0 (body text) ≡ true → size ≡ length text → ((size ≤ forced) × (known ≡ size)) ⊎ (known ≡ 5)
+    → IsKnown p text forced known
+known_either p text forced size known long h whole e (inl all) =
+    known_all p text forced known long whole (all.1 ∙ e) (omega (arith, all.0, e))
+known_either p text forced size known long h whole e (inr none) = known_header p text forced known h none
+
+-- of a text that goes on, what was known before
+pub known_more : (p : LogForm) (text text' more : List ℕ) (forced forced' known : ℕ) → IsKnown p text forced known
+    → forced ≤ length text → text' ≡ text ++ more → forced ≤ forced' → IsKnown p text' forced' known
+known_more p text text' more forced forced' known k le e f =
+    let same : take (known - 5) (body text') ≡ take (known - 5) (body text) =
+    ap (λ t. take (known - 5) (body t)) e
+    ∙ ap (take (known - 5)) (body_more text more (omega (arith, k.header, k.within, le)))
+    ∙ take-append-le (known - 5) (drop 5 text) more
+    (omega (arith, k.header, k.within, le, length-drop 5 text)) in
+    record {
+      header = k.header;
+      within = omega (arith, k.within, f);
+      whole = ap (is_whole p 0) same ∙ k.whole;
+    }
+
+-- of the same text, what was known before
+pub known_still : (p : LogForm) (text text' : List ℕ) (forced forced' known : ℕ) → IsKnown p text forced known
+    → text' ≡ text → forced ≤ forced' → IsKnown p text' forced' known
+known_still p text text' forced forced' known k e f = record {
+  header = k.header;
+  within = omega (arith, k.within, f);
+  whole = ap (λ t. is_whole p 0 (take (known - 5) (body t))) e ∙ k.whole;
 }
 
 -- What stands behind it.

@@ -11,6 +11,5 @@ pub mod Within
 pub mod Rewriting
 pub mod Restarting
 pub mod Known
-pub mod Indexes
 pub mod Trims
 pub mod SoundRecords

@@ -1,6 +1,6 @@
 -- Reading a log from its first frame on.
-use Rattle.std.proofs.Common.{◌≡◌, ◌≤◌, ◌+◌, ◌*◌, ◌-◌, ℕ, zero, suc, true, List, [], ◌∷◌, ◌++◌, length, map, option_map, take, drop, Option, Some, None, refl, sym, ap, ◌∙◌, arith, append_assoc, take-append-drop, length-append}
-use Rattle.std.proofs.lemmas.List.{map-append, take_all}
+use Rattle.std.proofs.Common.{◌≡◌, ◌≤◌, ◌+◌, ◌*◌, ◌-◌, ℕ, zero, suc, true, List, [], ◌∷◌, ◌++◌, length, take, drop, Option, Some, None, refl, sym, ap, ◌∙◌, arith, append_assoc, take-append-drop, length-append}
+use Rattle.std.proofs.lemmas.List.{take_all}
 use Rattle.tree_model.specs.declared.records.LogRecord.{LogRecord}
 use Rattle.log_text.specs.declared.form.LogForm.{LogForm}
 use Rattle.log_text.specs.declared.form.LogFormat.{LogFormat}
@@ -11,9 +11,7 @@ use Rattle.log_text.specs.Reading.{read_record}
 use Rattle.log_rules.specs.order.Orders.{SeenLog, after, nothing_seen}
 use Rattle.log_rules.specs.order.Logs.{LogReading, Whole, Damaged, frame_by, read_frames, record_by, seen_by, with_first}
 use Rattle.rec_log.specs.Texts.{and_records, is_whole, records_in, whole_if}
-use Rattle.rec_log.specs.Openings.{Ends, after_frame, marks_read}
-use Rattle.log_text.specs.declared.mark.Mark.{Mark}
-use Rattle.log_text.specs.Marks.{mark_of}
+use Rattle.rec_log.specs.Openings.{Ends, after_frame}
 use Rattle.rec_log.proofs.Frames.{Cuts, cut_there, cuts, is_behind, more_records, more_whole, no_bytes, nothing_whole, no_records, step, step_whole, taken}
 
 abbrev pub with_all : List LogRecord → LogReading → LogReading
@@ -133,22 +131,19 @@ frame_at Second (a ∷ b ∷ d ∷ g ∷ h ∷ rest) c e =
 
 -- The loop.
 
--- so much was read, and the rest is to be read; these are the marks of what was read
-pub record Reads (p : LogForm) (bytes : List ℕ) (s : SeenLog) (rest : List ℕ) (marks : List Mark) : Type 0 where
+-- so much was read, and the rest is to be read
+pub record Reads (p : LogForm) (bytes : List ℕ) (s : SeenLog) (rest : List ℕ) : Type 0 where
   pub sound : List ℕ
   pub split : bytes ≡ sound ++ rest
   pub whole : is_whole p 0 sound ≡ true
-  pub marked : map mark_of (records_in p 0 sound) ≡ marks
   pub read : read_frames p 5 nothing_seen 0 bytes
       ≡ with_all (records_in p 0 sound) (read_frames p (5 + length sound) s 0 rest)
 
-pub reads_first : (p : LogForm) (bytes : List ℕ) (s : SeenLog) (marks : List Mark) → s ≡ nothing_seen → marks ≡ []
-    → Reads p bytes s bytes marks
-reads_first p bytes s marks e f = record {
+pub reads_first : (p : LogForm) (bytes : List ℕ) (s : SeenLog) → s ≡ nothing_seen → Reads p bytes s bytes
+reads_first p bytes s e = record {
   sound = [];
   split = refl;
   whole = nothing_whole p;
-  marked = ap (map mark_of) (no_records p) ∙ sym f;
   read = ap (λ t. read_frames p 5 t 0 bytes) (sym e)
       ∙ ap (λ ls. with_all ls (read_frames p 5 s 0 bytes)) (sym (no_records p));
 }
@@ -160,10 +155,10 @@ reads_record p place s t c l r f =
     ap (λ o. record_by place s o (λ u. read_frames p (place + suc (size_bytes p.format) + length c.1) u 0 c.2)) r
     ∙ ap (λ o. seen_by place l o (λ u. read_frames p (place + suc (size_bytes p.format) + length c.1) u 0 c.2)) f
 
-reads_on : (p : LogForm) (bytes rest : List ℕ) (s t : SeenLog) (c : Cut) (l : LogRecord) (marks next : List Mark)
-    → Reads p bytes s rest marks → first_frame p.format rest ≡ Some c
-    → read_record p c.0 c.1 ≡ Some l → after s l ≡ Some t → next ≡ marks ++ mark_of l ∷ [] → Reads p bytes t c.2 next
-reads_on p bytes rest s t c l marks next h e r f n =
+reads_on : (p : LogForm) (bytes rest : List ℕ) (s t : SeenLog) (c : Cut) (l : LogRecord)
+    → Reads p bytes s rest → first_frame p.format rest ≡ Some c
+    → read_record p c.0 c.1 ≡ Some l → after s l ≡ Some t → Reads p bytes t c.2
+reads_on p bytes rest s t c l h e r f =
     let a = frame_at p.format rest c e in
     let own : records_in p 0 a.frame ≡ l ∷ [] = step p a.frame (c.0, c.1, []) a.alone
     ∙ ap (λ o. and_records o (records_in p 0 [])) r ∙ ap (λ ls. l ∷ ls) (no_records p) in
@@ -177,8 +172,6 @@ reads_on p bytes rest s t c l marks next h e r f n =
       sound = h.sound ++ a.frame;
       split = h.split ∙ ap (λ z. h.sound ++ z) a.split ∙ sym (append_assoc h.sound a.frame c.2);
       whole = more_whole p 0 h.sound a.frame h.whole own_whole;
-      marked = ap (map mark_of) all ∙ map-append mark_of (records_in p 0 h.sound) (l ∷ [])
-          ∙ ap (λ ms. ms ++ mark_of l ∷ []) h.marked ∙ sym n;
       read = h.read ∙ ap (with_all (records_in p 0 h.sound))
           (step_read p (5 + length h.sound) s rest c e ∙ reads_record p (5 + length h.sound) s t c l r f
           ∙ ap (λ n. with_first l (read_frames p n t 0 c.2)) place)
@@ -188,18 +181,14 @@ reads_on p bytes rest s t c l marks next h e r f n =
     }
 
 -- the record of the frame may follow
-pub reads_next : (p : LogForm) (bytes rest : List ℕ) (s t : SeenLog) (c : Cut) (m : Mark) (marks next : List Mark)
-    → Reads p bytes s rest marks → first_frame p.format rest ≡ Some c
-    → after_frame s (read_record p c.0 c.1) ≡ Some t → option_map mark_of (read_record p c.0 c.1) ≡ Some m
-    → next ≡ marks ++ m ∷ [] → Reads p bytes t c.2 next
-reads_next p bytes rest s t c m marks next h e f g n = by_record (read_record p c.0 c.1) refl f g
+pub reads_next : (p : LogForm) (bytes rest : List ℕ) (s t : SeenLog) (c : Cut) → Reads p bytes s rest
+    → first_frame p.format rest ≡ Some c → after_frame s (read_record p c.0 c.1) ≡ Some t → Reads p bytes t c.2
+reads_next p bytes rest s t c h e f = by_record (read_record p c.0 c.1) refl f
   where
     by_record : (o : Option LogRecord) → read_record p c.0 c.1 ≡ o → after_frame s o ≡ Some t
-        → option_map mark_of o ≡ Some m → Reads p bytes t c.2 next
-    by_record None r k q = absurd (cc)
-    by_record (Some l) r k q =
-        let same : mark_of l ≡ m = cc in
-        reads_on p bytes rest s t c l marks next h e r k (n ∙ ap (λ x. marks ++ x ∷ []) (sym same))
+        → Reads p bytes t c.2
+    by_record None r k = absurd (cc)
+    by_record (Some l) r k = reads_on p bytes rest s t c l h e r k
 
 pub torn_read : (p : LogForm) (place : ℕ) (s : SeenLog) (rest : List ℕ) → first_frame p.format rest ≡ None
     → read_frames p place s 0 rest ≡ Whole [] (length rest)
@@ -208,75 +197,67 @@ torn_read p place s [] e = refl
 torn_read p place s (b ∷ bs) e = ap (λ o. frame_by p place s (suc (length bs)) o
     (λ at t k. read_frames p at t k bs)) e
 
-read_all : (p : LogForm) (bytes rest : List ℕ) (s : SeenLog) (marks : List Mark) (h : Reads p bytes s rest marks)
+read_all : (p : LogForm) (bytes rest : List ℕ) (s : SeenLog) (h : Reads p bytes s rest)
     → first_frame p.format rest ≡ None
     → read_frames p 5 nothing_seen 0 bytes ≡ Whole (records_in p 0 h.sound) (length rest)
-read_all p bytes rest s marks h e =
+read_all p bytes rest s h e =
     h.read ∙ ap (with_all (records_in p 0 h.sound)) (torn_read p (5 + length h.sound) s rest e)
     ∙ with_all_whole (records_in p 0 h.sound) (length rest)
 
-pub reads_all : (p : LogForm) (bytes rest : List ℕ) (s : SeenLog) (marks : List Mark) → Reads p bytes s rest marks
+pub reads_all : (p : LogForm) (bytes rest : List ℕ) (s : SeenLog) → Reads p bytes s rest
     → first_frame p.format rest ≡ None → Ends p bytes (length rest)
-reads_all p bytes rest s marks h e = record {
+reads_all p bytes rest s h e = record {
   sound = h.sound;
   tail = rest;
   split = h.split;
   size = refl;
   whole = h.whole;
-  read = read_all p bytes rest s marks h e;
+  read = read_all p bytes rest s h e;
 }
-
-pub marks_all : (p : LogForm) (bytes rest : List ℕ) (s : SeenLog) (marks : List Mark) → Reads p bytes s rest marks
-    → first_frame p.format rest ≡ None → marks ≡ marks_read (read_frames p 5 nothing_seen 0 bytes)
-marks_all p bytes rest s marks h e = sym (ap marks_read (read_all p bytes rest s marks h e) ∙ h.marked)
 
 place_of : (bytes sound rest : List ℕ) → bytes ≡ sound ++ rest
     → 5 + length sound ≡ 5 + (length bytes - length rest)
 place_of bytes sound rest e = omega (arith, ap length e, length-append sound rest)
 
-damaged_at : (p : LogForm) (bytes rest : List ℕ) (s : SeenLog) (marks : List Mark) (h : Reads p bytes s rest marks)
+damaged_at : (p : LogForm) (bytes rest : List ℕ) (s : SeenLog) (h : Reads p bytes s rest)
     (place : ℕ)
     → place ≡ 5 + (length bytes - length rest)
     → read_frames p (5 + length h.sound) s 0 rest ≡ Damaged (5 + length h.sound)
     → read_frames p 5 nothing_seen 0 bytes ≡ Damaged place
-damaged_at p bytes rest s marks h place e d =
+damaged_at p bytes rest s h place e d =
     h.read ∙ ap (with_all (records_in p 0 h.sound)) d
     ∙ with_all_damaged (records_in p 0 h.sound) (5 + length h.sound)
     ∙ ap Damaged (place_of bytes h.sound rest h.split ∙ sym e)
 
 -- no record is read there
-damaged_record : (p : LogForm) (bytes rest : List ℕ) (s : SeenLog) (c : Cut) (marks : List Mark) (place : ℕ)
-    → Reads p bytes s rest marks → first_frame p.format rest ≡ Some c
+damaged_record : (p : LogForm) (bytes rest : List ℕ) (s : SeenLog) (c : Cut) (place : ℕ)
+    → Reads p bytes s rest → first_frame p.format rest ≡ Some c
     → read_record p c.0 c.1 ≡ None → place ≡ 5 + (length bytes - length rest)
     → read_frames p 5 nothing_seen 0 bytes ≡ Damaged place
-damaged_record p bytes rest s c marks place h e r is =
-    damaged_at p bytes rest s marks h place is (step_read p (5 + length h.sound) s rest c e
+damaged_record p bytes rest s c place h e r is =
+    damaged_at p bytes rest s h place is (step_read p (5 + length h.sound) s rest c e
     ∙ ap (λ o. record_by (5 + length h.sound) s o
     (λ u. read_frames p (5 + length h.sound + suc (size_bytes p.format) + length c.1) u 0 c.2)) r)
 
 -- the record may not follow
-damaged_order : (p : LogForm) (bytes rest : List ℕ) (s : SeenLog) (c : Cut) (l : LogRecord) (marks : List Mark)
-    (place : ℕ) → Reads p bytes s rest marks → first_frame p.format rest ≡ Some c
+damaged_order : (p : LogForm) (bytes rest : List ℕ) (s : SeenLog) (c : Cut) (l : LogRecord)
+    (place : ℕ) → Reads p bytes s rest → first_frame p.format rest ≡ Some c
     → read_record p c.0 c.1 ≡ Some l → after s l ≡ None → place ≡ 5 + (length bytes - length rest)
     → read_frames p 5 nothing_seen 0 bytes ≡ Damaged place
-damaged_order p bytes rest s c l marks place h e r f is =
-    damaged_at p bytes rest s marks h place is (step_read p (5 + length h.sound) s rest c e
+damaged_order p bytes rest s c l place h e r f is =
+    damaged_at p bytes rest s h place is (step_read p (5 + length h.sound) s rest c e
     ∙ ap (λ o. record_by (5 + length h.sound) s o
     (λ u. read_frames p (5 + length h.sound + suc (size_bytes p.format) + length c.1) u 0 c.2)) r
     ∙ ap (λ o. seen_by (5 + length h.sound) l o
     (λ u. read_frames p (5 + length h.sound + suc (size_bytes p.format) + length c.1) u 0 c.2)) f)
 
 -- there is no record, or it may not follow
-pub damaged_next : (p : LogForm) (bytes rest : List ℕ) (s : SeenLog) (c : Cut) (marks : List Mark) (place : ℕ)
-    → Reads p bytes s rest marks → first_frame p.format rest ≡ Some c → after_frame s (read_record p c.0 c.1) ≡ None
+pub damaged_next : (p : LogForm) (bytes rest : List ℕ) (s : SeenLog) (c : Cut) (place : ℕ)
+    → Reads p bytes s rest → first_frame p.format rest ≡ Some c → after_frame s (read_record p c.0 c.1) ≡ None
     → place ≡ 5 + (length bytes - length rest) → read_frames p 5 nothing_seen 0 bytes ≡ Damaged place
-damaged_next p bytes rest s c marks place h e f is = by_record (read_record p c.0 c.1) refl f
+damaged_next p bytes rest s c place h e f is = by_record (read_record p c.0 c.1) refl f
   where
     by_record : (o : Option LogRecord) → read_record p c.0 c.1 ≡ o → after_frame s o ≡ None
         → read_frames p 5 nothing_seen 0 bytes ≡ Damaged place
-    by_record None r k = damaged_record p bytes rest s c marks place h e r is
-    by_record (Some l) r k = damaged_order p bytes rest s c l marks place h e r k is
-
-pub shorter_rest : (p : LogForm) (bytes rest : List ℕ) (s : SeenLog) (marks : List Mark) → Reads p bytes s rest marks
-    → length rest ≤ length bytes
-shorter_rest p bytes rest s marks h = omega (arith, ap length h.split, length-append h.sound rest)
+    by_record None r k = damaged_record p bytes rest s c place h e r is
+    by_record (Some l) r k = damaged_order p bytes rest s c l place h e r k is

@@ -1,6 +1,6 @@
 -- Restarts.
-use Rattle.std.proofs.Common.{◌≡◌, ◌≤◌, ◌+◌, ◌-◌, inl, inr, ℕ, Bool, true, false, List, [], ◌++◌, length, map, take, drop, Some, None, refl, sym, ap, subst, ◌∙◌, arith, append_assoc, append-nil, take-append-drop, length-append, ◌∷◌, length-drop, length-take, if◌then◌else◌}
-use Rattle.std.proofs.lemmas.List.{map-append, take-append-le}
+use Rattle.std.proofs.Common.{◌≡◌, ◌≤◌, ◌+◌, ◌-◌, inl, inr, ℕ, Bool, true, false, List, [], ◌++◌, length, take, drop, Some, None, refl, sym, ap, subst, ◌∙◌, arith, append_assoc, append-nil, take-append-drop, length-append, ◌∷◌, length-drop, length-take, if◌then◌else◌}
+use Rattle.std.proofs.lemmas.List.{take-append-le}
 use Rattle.std.proofs.Math.Seq.{take-append_seam}
 use Rattle.log_text.specs.declared.form.LogForm.{LogForm}
 use Rattle.tree_model.specs.declared.records.LogRecord.{LogRecord}
@@ -10,14 +10,10 @@ use Rattle.log_text.specs.declared.form.LogFormat.TheVariants.{Second}
 use Rattle.log_text.specs.Forms.{header}
 use Rattle.log_text.specs.Payloads.{records_text}
 use Rattle.log_text.specs.Reading.{read_record}
-use Rattle.log_text.specs.declared.mark.Mark.{Mark}
-use Rattle.log_text.specs.Marks.{mark_of}
 use Rattle.rec_log.specs.Texts.{and_records, is_whole, records_in, whole_if, whole_size}
 use Rattle.rec_log.specs.Sights.{AreRecords, EndsSound, IsLogText, LogState, RestartBreaks, Restarts, Sounds, body, front, left_by, log_state, whole_within}
 use Rattle.rec_log.specs.Restarting.{BreaksLeft, LeavesText, StandsLeft, WritesLeft}
 use Rattle.rec_log.proofs.Frames.{front_of, header_dropped, header_long, header_taken, more_records, more_whole, no_frame, nothing_whole, step, step_whole}
-use Rattle.rec_log.specs.Trimming.{IsIndex}
-use Rattle.rec_log.proofs.Indexes.{marks_behind}
 use Rattle.rec_log.proofs.Openings.{frame_at}
 use Rattle.rec_log.proofs.Turns.{all_front, body_more, front_grows, front_more, drop_all, records_stand, take_within}
 use Rattle.rec_log.proofs.Within.{left_records, whole_is_full}
@@ -66,33 +62,6 @@ pub sounds_strange : (p : LogForm) (bytes rest : List ℕ) (c : Cut) → Passes 
 sounds_strange p bytes rest c h e r = sounds_of p bytes rest h
     (step p rest c e ∙ ap (λ o. and_records o (records_in p 0 c.2)) r)
 
--- The marks of the whole frames at the front.
-
-pub marks_on : (p : LogForm) (bytes rest : List ℕ) (c : Cut) (l : LogRecord) (marks next : List Mark)
-    → map mark_of (records_in p 0 bytes) ≡ marks ++ map mark_of (records_in p 0 rest)
-    → first_frame p.format rest ≡ Some c → read_record p c.0 c.1 ≡ Some l → next ≡ marks ++ mark_of l ∷ []
-    → map mark_of (records_in p 0 bytes) ≡ next ++ map mark_of (records_in p 0 c.2)
-marks_on p bytes rest c l marks next h e r n =
-    h ∙ ap (λ ls. marks ++ map mark_of ls) (step p rest c e ∙ ap (λ o. and_records o (records_in p 0 c.2)) r)
-    ∙ sym (append_assoc marks (mark_of l ∷ []) (map mark_of (records_in p 0 c.2)))
-    ∙ ap (λ ms. ms ++ map mark_of (records_in p 0 c.2)) (sym n)
-
-marks_end : (p : LogForm) (bytes rest : List ℕ) (marks : List Mark)
-    → map mark_of (records_in p 0 bytes) ≡ marks ++ map mark_of (records_in p 0 rest)
-    → records_in p 0 rest ≡ [] → map mark_of (records_in p 0 bytes) ≡ marks
-marks_end p bytes rest marks h e = h ∙ ap (λ ls. marks ++ map mark_of ls) e ∙ append-nil marks
-
-pub marks_torn : (p : LogForm) (bytes rest : List ℕ) (marks : List Mark)
-    → map mark_of (records_in p 0 bytes) ≡ marks ++ map mark_of (records_in p 0 rest)
-    → first_frame p.format rest ≡ None → map mark_of (records_in p 0 bytes) ≡ marks
-marks_torn p bytes rest marks h e = marks_end p bytes rest marks h (no_frame p rest e)
-
-pub marks_strange : (p : LogForm) (bytes rest : List ℕ) (c : Cut) (marks : List Mark)
-    → map mark_of (records_in p 0 bytes) ≡ marks ++ map mark_of (records_in p 0 rest)
-    → first_frame p.format rest ≡ Some c → read_record p c.0 c.1 ≡ None → map mark_of (records_in p 0 bytes) ≡ marks
-marks_strange p bytes rest c marks h e r = marks_end p bytes rest marks h
-    (step p rest c e ∙ ap (λ o. and_records o (records_in p 0 c.2)) r)
-
 -- The text that a restart writes.
 
 record Parts (p : LogForm) (left : List ℕ) (rs : List LogRecord) (text : List ℕ) : Type 0 where
@@ -127,19 +96,6 @@ text_records p left text rs are q =
     ∙ ap (records_in p 0) (header_dropped p.format (q.sound ++ records_text p rs)) ∙ more_records p 0 q.sound (records_text p rs) q.whole
     ∙ ap (λ t. records_in p 0 q.sound ++ t) (written p rs are)
     ∙ ap (λ t. t ++ rs) (sym q.all)
-
--- what is left and new records, by their marks: those that were known, and those behind them
-pub text_marks : (p : LogForm) (left text : List ℕ) (size : ℕ) (marks behind : List Mark) (rs : List LogRecord)
-    → AreRecords p.kind rs → take 5 left ≡ header p.format → LeavesText p left rs text
-    → IsIndex p left size marks → map mark_of (records_in p 0 (drop size left) ++ rs) ≡ behind
-    → map mark_of (records_in p 0 (body text)) ≡ marks ++ behind
-text_marks p left text size marks behind rs are h l i e =
-    let more = map mark_of (records_in p 0 (drop size left)) in
-    ap (map mark_of) (text_records p left text rs are (parts_of p left text rs h l))
-    ∙ map-append mark_of (records_in p 0 (body left)) rs
-    ∙ ap (λ ms. ms ++ map mark_of rs) (marks_behind p left size marks more i refl)
-    ∙ append_assoc marks more (map mark_of rs)
-    ∙ ap (λ ms. marks ++ ms) (sym (map-append mark_of (records_in p 0 (drop size left)) rs) ∙ e)
 
 pub text_settled : (p : LogForm) (left text : List ℕ) (rs : List LogRecord) (forced : ℕ) → p.format ≡ Second
     → AreRecords p.kind rs

@@ -1,5 +1,5 @@
 -- Each record that is read off bytes can stand in a log.
-use Rattle.std.proofs.Common.{◌≡◌, ◌+◌, ◌*◌, ℕ, zero, suc, List, [], ◌∷◌, length, take, drop, Option, Some, None, refl, subst, sym}
+use Rattle.std.proofs.Common.{◌≡◌, ◌+◌, ◌*◌, ℕ, zero, suc, List, [], ◌∷◌, length, Option, Some, None, refl, subst, sym}
 use Rattle.std.specs.List.{AllByRecursion}
 use Rattle.log_text.specs.declared.form.LogForm.{LogForm}
 use Rattle.tree_model.specs.declared.records.LogRecord.{LogRecord}

@@ -1,12 +1,12 @@
 -- Carrying a log of the first format over into the second.
 use Rattle.std.specs.Prelude.{◌≡◌, ◌++◌, ℕ, Bool, true, false, List, length}
 use Rattle.tree_model.specs.declared.records.LogRecord.{LogRecord}
-use Rattle.log_store.specs.Stores.{ReplaceBreaks, Replaces, SameStore}
+use Rattle.log_store.specs.Stores.{ReplaceBreaks, SameStore}
 use Rattle.log_text.specs.declared.form.LogForm.{LogForm}
 use Rattle.log_text.specs.Forms.{header, old_form}
 use Rattle.log_text.specs.Payloads.{records_text}
 use Rattle.log_rules.specs.order.Logs.{Whole, Damaged, read_log}
-use Rattle.rec_log.specs.Openings.{BreaksOpening, Settles, is_old}
+use Rattle.rec_log.specs.Openings.{Settles, is_old}
 use Rattle.rec_log.specs.declared.opening.OpenError.{OpenError}
 use Rattle.rec_log.specs.declared.opening.OpenError.TheVariants as opening
 use Rattle.rec_log.specs.declared.migrating.MigrateError.{MigrateError}

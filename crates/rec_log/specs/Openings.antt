@@ -1,12 +1,10 @@
 -- Opening a log over a store.
-use Rattle.std.specs.Prelude.{◌≡◌, ◌<◌, ◌≤◌, ◌⊎◌, ⊤, ℕ, Bool, true, false, Option, Some, None, List, [], ◌++◌, length, map, take, drop}
+use Rattle.std.specs.Prelude.{◌≡◌, ◌<◌, ◌≤◌, ◌⊎◌, ⊤, ℕ, Bool, true, false, Option, Some, None, List, [], ◌++◌, length, take, drop}
 use Rattle.log_text.specs.declared.form.LogForm.{LogForm}
 use Rattle.tree_model.specs.declared.records.LogRecord.{LogRecord}
 use Rattle.log_store.specs.Stores.{ReplaceBreaks, SameStore}
-use Rattle.log_rules.specs.order.Logs.{LogReading, Whole, Damaged, read_frames, read_log}
+use Rattle.log_rules.specs.order.Logs.{Whole, Damaged, read_frames, read_log}
 use Rattle.log_rules.specs.order.Orders.{SeenLog, after, nothing_seen}
-use Rattle.log_text.specs.Marks.{mark_of}
-use Rattle.log_text.specs.declared.mark.Mark.{Mark}
 use Rattle.rec_log.specs.Texts.{is_whole, records_in}
 use Rattle.rec_log.specs.Sights.{LogSight, LogState, bytes_behind, kept_of, records_of}
 use Rattle.tree_model.specs.Records.{same_bytes}
@@ -25,11 +23,6 @@ is_old bytes = same_bytes (take 5 bytes) (header First)
 abbrev pub after_frame : SeenLog → Option LogRecord → Option SeenLog
 after_frame s None = None
 after_frame s (Some l) = after s l
-
--- the marks of the records that are read
-abbrev pub marks_read : LogReading → List Mark
-marks_read (Whole ls torn) = map mark_of ls
-marks_read (Damaged place) = []
 
 -- the frames in these bytes are sound, but for a torn tail of so many bytes
 pub record Ends (p : LogForm) (bytes : List ℕ) (torn : ℕ) : Type 0 where

@@ -36,7 +36,6 @@
 //! ```
 #![tactic(auto)]
 
-mod index;
 pub mod law;
 mod log;
 mod migrating;

@@ -1,34 +1,27 @@
 //! A log as its records.
 
-ghost use Rattle.std.specs.Prelude.{◌≡◌, ◌≤◌, ◌<◌, ◌+◌, ◌++◌, ◌∷◌, [], true, false, IfOk, IfErr, OnOk, drop, length, map, take};
+ghost use Rattle.std.specs.Prelude.{◌≡◌, ◌≤◌, ◌<◌, ◌+◌, ◌++◌, ◌∷◌, ◌⊎◌, [], true, false, IfOk, IfErr, OnOk, drop, length, map, take};
 ghost use Rattle.std.specs.List.{AllByRecursion};
-ghost use Rattle.log_rules.specs.order.Logs.{read_log};
 ghost use Rattle.log_rules.specs.sound.Sound.{IsSound};
-ghost use Rattle.log_text.specs.Marks.{mark_of};
-ghost use Rattle.log_text.specs.Reading.{read_record};
 ghost use Rattle.log_text.specs.Forms.{header, log_form};
 ghost use Rattle.log_text.specs.Made.{frame_record};
 ghost use Rattle.log_text.specs.Payloads.{record_size, record_text, records_text};
 ghost use Rattle.rec_log.specs.Sights.{Appended, AreRecords, Breaks, EndsSound, Forced, IsKnown, IsRecord, NotRestarted, NotRewritten, ReadsAs, Restarts, Rewritten, Sounds, body, left_by, log_state, records_of, whole_within};
 ghost use Rattle.log_store.specs.Stores.{AppendBreaks, Appends, MemoryRefuses, Replaces};
-ghost use Rattle.rec_log.specs.Openings.{IsFound, IsRefused, NotOpened, Opens, Settles, is_old, marks_read};
+ghost use Rattle.rec_log.specs.Openings.{IsFound, IsRefused, NotOpened, Opens, Settles, is_old};
 ghost use Rattle.rec_log.specs.Errors.{log_error_number};
 ghost use Rattle.rec_log.specs.Restarting.{BreaksLeft, PutsLeft, WritesLeft};
 ghost use Rattle.rec_log.specs.Texts.{records_in};
 ghost use Rattle.rec_log.specs.Trimming.{Spells, Trimmed, trim_of};
 
-use crate::index::{Index, LogText, push_marks};
-use crate::opening::{Found, OpenError, find_marks, is_old};
-use crate::trimming::trimmed_text;
+use crate::opening::{Found, OpenError, find, is_old};
+use crate::trimming::{TrimmedText, trimmed_text};
 use log_store::{LogStore, MemoryStore, StoreError};
-use log_text::{Frame, HEADER_SIZE, LogForm, LogFormat, Mark, ReadFault, first_frame, read_record};
+use log_text::{Frame, HEADER_SIZE, LogForm, LogFormat, ReadFault, first_frame, read_record};
 use std::alloc::{AllocError, Global};
 use std::marker::Model;
 use thiserror::Error;
 use tree_model::{Kind, LogRecord, ProcessId};
-
-/// How many records an event writes at most.
-const RECORDS: usize = 4;
 
 /// Why a log did not do what it was asked.
 #[derive(Clone, Copy, Debug, PartialEq, Eq, Error)]
@@ -53,21 +46,19 @@ impl LogError {
     }
 }
 
-/// The log of a process. What it keeps of its records is their bytes, and an index for its trims.
+/// The log of a process. What it keeps of its records is their bytes.
 #[derive(Drop)]
 pub struct RecLog<L: LogStore> {
     form: LogForm,
     store: L,
-    /// What a trim must know of the records, and how many bytes at the front are known to be the header and
-    /// whole records, all of them forced.
-    index: Index,
+    /// How many bytes at the front are known to be the header and whole records, all of them forced: a restart
+    /// looks for the end of the last whole record after them alone.
+    known: usize,
     failed: bool,
 }
 
 impl<L: LogStore> Model for RecLog<L> {
-    ghost use Rattle.std.specs.Prelude.{◌≤◌};
-    ghost use Rattle.rec_log.specs.Sights.{LogState, IsLogText, log_state};
-    ghost use Rattle.rec_log.specs.Trimming.{IsIndexed};
+    ghost use Rattle.rec_log.specs.Sights.{IsKnown, IsLogText, LogState, log_state};
 
     ghost Value = { LogState };
 
@@ -75,8 +66,7 @@ impl<L: LogStore> Model for RecLog<L> {
         (L.room l.store) l.failed };
 
     ghost invariant = { λ l. IsLogText l.form (L.bytes l.store) (L.forced l.store) l.failed
-        × IsIndexed l.form (L.bytes l.store) l.index.size l.index.marks.items l.index.forced
-        × (l.index.forced.size ≤ L.forced l.store) };
+        × IsKnown l.form (L.bytes l.store) (L.forced l.store) l.known };
 }
 
 /// The bytes behind the header.
@@ -150,39 +140,20 @@ fn front_of(bytes: &[u8], size: usize, alloc: Global) -> Result<Vec<u8>, AllocEr
     Vec::from_slice(alloc, front)
 }
 
-/// Whole frames of records.
-#[derive(Drop)]
-struct Sound {
-    /// Where they end.
-    end: usize,
-    /// The marks of their records.
-    marks: Vec<Mark>,
-}
-
-/// The whole frames of records at the front.
-fn sound_front(form: LogForm, bytes: &[u8], alloc: Global) -> Result<Sound, AllocError>
-    ensures end { IfOk result (λ sound. Sounds form bytes.now sound.end) }
-    ensures marks { IfOk result (λ sound. map mark_of (records_in form 0 bytes.now) ≡ sound.marks.items) }
+/// Where the whole frames of records at the front end.
+fn sound_front(form: LogForm, bytes: &[u8], alloc: Global) -> Result<usize, AllocError>
+    ensures { IfOk result (λ end. Sounds form bytes.now end) }
 {
-    let mut marks = Vec::new(alloc);
     let mut rest = bytes;
     while let Some((frame_kind, payload, behind)) = first_frame(form.format, rest) {
         match read_record(form, frame_kind, payload, alloc) {
-            Ok(record) => marks.push(Mark::of(&record.entry, record.parent))?,
-            Err(ReadFault::Malformed) => {
-                return Ok(Sound {
-                    end: bytes.len() - rest.len(),
-                    marks,
-                });
-            }
+            Ok(_) => {}
+            Err(ReadFault::Malformed) => return Ok(bytes.len() - rest.len()),
             Err(ReadFault::Memory) => return Err(AllocError),
         }
         rest = behind;
     }
-    Ok(Sound {
-        end: bytes.len() - rest.len(),
-        marks,
-    })
+    Ok(bytes.len() - rest.len())
 }
 
 /// Adds the bytes of these frames in a log of this form.
@@ -202,20 +173,14 @@ pub(crate) fn push_frames(
     Ok(())
 }
 
-/// Where the whole frames of records at the front end, looked for behind the known bytes, and the marks of
-/// those behind them.
-fn sound_end(form: LogForm, left: &[u8], known: usize, alloc: Global) -> Result<Sound, AllocError>
+/// Where the whole frames of records at the front end, looked for after the known bytes.
+fn sound_end(form: LogForm, left: &[u8], known: usize, alloc: Global) -> Result<usize, AllocError>
     requires { IsKnown form left.now (length left.now) known }
-    ensures end { IfOk result (λ sound. EndsSound form left.now sound.end) }
-    ensures marks { IfOk result (λ sound. map mark_of (records_in form 0 (drop known left.now))
-        ≡ sound.marks.items) }
+    ensures { IfOk result (λ end. EndsSound form left.now end) }
 {
     let (_, behind) = left.split_at(known);
-    let sound = sound_front(form, behind, alloc)?;
-    Ok(Sound {
-        end: known + sound.end,
-        marks: sound.marks,
-    })
+    let size = sound_front(form, behind, alloc)?;
+    Ok(known + size)
 }
 
 /// Appends the bytes of a frame in a log of this form.
@@ -244,8 +209,6 @@ struct Left {
     is_torn: bool,
     /// Where one is, all that is to stand; else the new frames, which are to stand behind what is left.
     text: Vec<u8>,
-    /// The marks of the records that are to stand behind the known bytes.
-    marks: Vec<Mark>,
 }
 
 /// What a restart writes over what a crash left.
@@ -258,24 +221,17 @@ fn text_left(
 ) -> Result<Left, AllocError>
     requires second { form.format ≡ LogFormat.Second }
     requires known { IsKnown form left.now (length left.now) known }
-    ensures text { IfOk result (λ r. WritesLeft form left.now (map frame_record new.now) r.is_torn
+    ensures { IfOk result (λ r. WritesLeft form left.now (map frame_record new.now) r.is_torn
         r.text.items) }
-    ensures marks { IfOk result (λ r. map mark_of (records_in form 0 (drop known left.now)
-        ++ map frame_record new.now) ≡ r.marks.items) }
 {
-    let Sound { end, mut marks } = sound_end(form, left, known, alloc)?;
+    let end = sound_end(form, left, known, alloc)?;
     let is_torn = end < left.len();
     let mut text = Vec::new(alloc);
     if is_torn {
         text.extend_from_slice(&left[..end])?;
     }
     push_frames(&mut text, form, new)?;
-    push_marks(&mut marks, new)?;
-    Ok(Left {
-        is_torn,
-        text,
-        marks,
-    })
+    Ok(Left { is_torn, text })
 }
 
 /// Puts these bytes in place of all that stands, or behind it, and forces all.
@@ -294,17 +250,14 @@ fn write_left<L: LogStore>(store: &mut L, anew: bool, text: &[u8]) -> Result<(),
 }
 
 /// The text of a log of these records alone.
-fn text_of(form: LogForm, new: &[Frame], alloc: Global) -> Result<LogText, AllocError>
+fn text_of(form: LogForm, new: &[Frame], alloc: Global) -> Result<Vec<u8>, AllocError>
     requires { form.format ≡ LogFormat.Second }
-    ensures text { IfOk result (λ log. log.text.items
+    ensures { IfOk result (λ text. text.items
         ≡ header form.format ++ records_text form (map frame_record new.now)) }
-    ensures marks { IfOk result (λ log. log.marks.items ≡ map mark_of (map frame_record new.now)) }
 {
     let mut text = Vec::from_slice(alloc, &form.format.header())?;
     push_frames(&mut text, form, new)?;
-    let mut marks = Vec::new(alloc);
-    push_marks(&mut marks, new)?;
-    Ok(LogText { text, marks })
+    Ok(text)
 }
 
 /// A store in which this text stands, forced, in place of what stood there.
@@ -320,24 +273,22 @@ pub(crate) fn replaced<L: LogStore + Drop>(store: L, text: &[u8]) -> Result<L, (
     }
 }
 
-/// A store in which a log of whole frames stands that begins with these bytes, and the marks of its records.
+/// A store in which a log of whole frames stands that begins with these bytes.
 pub(crate) fn settled<L: LogStore + Drop>(
     form: LogForm,
     store: L,
     alloc: Global,
-) -> Result<(L, Vec<Mark>), (OpenError, L)>
+) -> Result<L, (OpenError, L)>
     requires { is_old (L.bytes store) ≡ false }
-    ensures ok { IfOk result (λ r. Settles form (L.bytes store) (L.forced store) (L.failures store)
-        (L.bytes r.0) (L.forced r.0) (L.failures r.0)) }
-    ensures marks { IfOk result (λ r. r.1.items ≡ marks_read (read_log form (L.bytes store))) }
+    ensures ok { IfOk result (λ new. Settles form (L.bytes store) (L.forced store) (L.failures store)
+        (L.bytes new) (L.forced new) (L.failures new)) }
     ensures err { IfErr result (λ e. NotOpened L.bytes L.forced L.failures form store e.1 e.0) }
 {
-    let (found, marks) = match find_marks(form, store.bytes(), alloc) {
+    let found = match find(form, store.bytes(), alloc) {
         Err(error) => return Err((error, store)),
         Ok(found) => found,
     };
-    let store = settled_as(form, store, found, alloc)?;
-    Ok((store, marks))
+    settled_as(form, store, found, alloc)
 }
 
 /// The same, where it is known what the store's bytes are.
@@ -368,6 +319,14 @@ fn settled_as<L: LogStore + Drop>(
     }
 }
 
+/// How many bytes are known to be whole records and forced, of so many that are whole records and so many that are
+/// forced.
+fn known_of(size: usize, forced: usize) -> usize
+    ensures { ((size ≤ forced) × (result ≡ size)) ⊎ (result ≡ 5) }
+{
+    if size <= forced { size } else { HEADER_SIZE }
+}
+
 impl<L: LogStore + Drop> RecLog<L> {
     /// The log of this process over a store. A torn tail is removed, and an empty log is given its header, by
     /// one `replace`; otherwise the store is left as it is. A refusal hands the store back.
@@ -386,12 +345,12 @@ impl<L: LogStore + Drop> RecLog<L> {
             return Err((OpenError::OldFormat, store));
         }
         let form = LogForm::of(process, kind);
-        let (store, marks) = settled(form, store, alloc)?;
-        let index = Index::new(store.bytes().len(), marks, store.forced());
+        let store = settled(form, store, alloc)?;
+        let known = known_of(store.bytes().len(), store.forced());
         Ok(RecLog {
             form,
             store,
-            index,
+            known,
             failed: false,
         })
     }
@@ -419,7 +378,6 @@ impl<L: LogStore> RecLog<L> {
         ensures stays { self.new.sight ≡ self.old.sight }
         ensures room { OnOk result (more ≤ self.new.room) }
     {
-        self.index.reserve(RECORDS)?;
         self.store.reserve(more)
     }
 
@@ -436,13 +394,10 @@ impl<L: LogStore> RecLog<L> {
         ensures err { IfErr result (λ e. (e ≡ LogError.Device)
             × Breaks self.old self.new (frame_record frame.now ∷ [])) }
     {
-        let from = self.store.bytes().len();
         if let Err(_) = append_frame(&mut self.store, self.form, frame) {
             self.failed = true;
             return Err(LogError::Device);
         }
-        let to = self.store.bytes().len();
-        self.index.follow(frame, from, to);
         Ok(())
     }
 
@@ -457,7 +412,7 @@ impl<L: LogStore> RecLog<L> {
             self.failed = true;
             return Err(LogError::Device);
         }
-        self.index.force();
+        self.known = self.store.bytes().len();
         Ok(())
     }
 
@@ -501,9 +456,8 @@ impl<L: LogStore> RecLog<L> {
             ≡ length (whole_within (self.now.sight.behind + keep) self.now.sight.kept.unforced)) }
     {
         let (bytes, forced) = (self.store.bytes(), self.store.forced());
-        let known = self.index.forced.size;
-        let left = records_behind(self.form, left_by(bytes, forced, keep), known, alloc)?;
-        let front = records_behind(self.form, left_by(bytes, forced, 0), known, alloc)?;
+        let left = records_behind(self.form, left_by(bytes, forced, keep), self.known, alloc)?;
+        let front = records_behind(self.form, left_by(bytes, forced, 0), self.known, alloc)?;
         Ok(left.len() - front.len())
     }
 
@@ -527,25 +481,22 @@ impl<L: LogStore> RecLog<L> {
     {
         let forced = self.store.forced();
         let left = left_by(self.store.bytes(), forced, keep);
-        let left = match text_left(self.form, left, self.index.forced.size, new, alloc) {
+        let left = match text_left(self.form, left, self.known, new, alloc) {
             Ok(left) => left,
             Err(_) => return Err(LogError::Memory),
         };
-        if let Err(_) = self.index.reserve(left.marks.len()) {
-            return Err(LogError::Memory);
-        }
         if let Err(_) = self.store.reserve(left.text.len()) {
             return Err(LogError::Memory);
         }
         self.store.crash(keep);
         match write_left(&mut self.store, left.is_torn, &left.text) {
             Ok(()) => {
-                self.index.go_back(&left.marks, self.store.bytes().len());
+                self.known = self.store.bytes().len();
                 self.failed = false;
                 Ok(())
             }
             Err(_) => {
-                self.index.clear();
+                self.known = HEADER_SIZE;
                 self.failed = true;
                 Err(LogError::Device)
             }
@@ -562,15 +513,14 @@ impl<L: LogStore> RecLog<L> {
         ensures err { IfErr result (λ e. NotRewritten self.old self.new (map frame_record new.now) e) }
     {
         match text_of(self.form, new, alloc) {
-            Ok(LogText { text, marks }) => self.put(&text, marks),
+            Ok(text) => self.put(&text),
             Err(_) => Err(LogError::Memory),
         }
     }
 
-    /// Puts the log of this text in place of all that stand; these are the marks of its records.
-    fn put(&mut self, text: &[u8], marks: Vec<Mark>) -> Result<(), LogError>
+    /// Puts the log of this text in place of all that stand.
+    fn put(&mut self, text: &[u8]) -> Result<(), LogError>
         requires works { self.old.sight.failed ≡ false }
-        requires marks { map mark_of (records_in self.old.sight.form 0 (body text.now)) ≡ marks.items }
         requires sound { Spells self.old.sight.form text.now
             (records_in self.old.sight.form 0 (body text.now)) }
         ensures form { self.new.sight.form ≡ self.old.sight.form }
@@ -583,11 +533,11 @@ impl<L: LogStore> RecLog<L> {
             return Err(LogError::Memory);
         }
         if let Err(_) = self.store.replace(text) {
-            self.index.clear();
+            self.known = HEADER_SIZE;
             self.failed = true;
             return Err(LogError::Device);
         }
-        self.index = Index::new(text.len(), marks, text.len());
+        self.known = text.len();
         Ok(())
     }
 
@@ -604,17 +554,12 @@ impl<L: LogStore> RecLog<L> {
             (trim_of self.old (map frame_record behind.now)) e) }
     {
         let bytes = self.store.bytes();
-        // All is indexed, but where an append had no memory for the mark of its record.
-        if let Err(_) = self.index.extend(self.form, bytes, alloc) {
-            return Err(LogError::Memory);
-        }
-        let log = match trimmed_text(self.form, body(bytes), &self.index.marks, behind, alloc) {
-            Ok(log) => log,
+        let trimmed = match trimmed_text(self.form, body(bytes), behind, alloc) {
+            Ok(trimmed) => trimmed,
             Err(_) => return Err(LogError::Memory),
         };
-        let LogText { text, marks } = log;
-        let count = marks.len();
-        match self.put(&text, marks) {
+        let TrimmedText { text, count } = trimmed;
+        match self.put(&text) {
             Ok(()) => Ok(count),
             Err(error) => Err(error),
         }

@@ -1,11 +1,11 @@
 //! Carrying a log of the first format over into the second.
 
-ghost use Rattle.std.specs.Prelude.{◌≡◌, ◌++◌, ℕ, List, true, false, IfErr, IfOk, OnOk};
+ghost use Rattle.std.specs.Prelude.{◌≡◌, ◌++◌, ℕ, List, true, IfErr, IfOk, OnOk};
 ghost use Rattle.std.specs.List.{All};
 ghost use Rattle.log_store.specs.Stores.{Replaces};
 ghost use Rattle.log_text.specs.Forms.{log_form, old_form};
 ghost use Rattle.log_text.specs.Payloads.{FitsFrame, records_text};
-ghost use Rattle.rec_log.specs.Openings.{IsNoLog, NotOpened, Settles, is_old};
+ghost use Rattle.rec_log.specs.Openings.{IsNoLog, is_old};
 ghost use Rattle.rec_log.specs.Migrating.{Carries, Migrates, NotCarried, NotMigrated, error_of_open, migrate_error_number};
 
 use crate::log::{RecLog, body, records_in, replaced, settled};
@@ -102,21 +102,6 @@ fn carried<L: LogStore + Drop>(form: LogForm, store: L, alloc: Global) -> Result
     }
 }
 
-/// A store in which a log of whole frames stands that begins with these bytes.
-fn settled_store<L: LogStore + Drop>(
-    form: LogForm,
-    store: L,
-    alloc: Global,
-) -> Result<L, (OpenError, L)>
-    requires { is_old (L.bytes store) ≡ false }
-    ensures ok { IfOk result (λ new. Settles form (L.bytes store) (L.forced store) (L.failures store)
-        (L.bytes new) (L.forced new) (L.failures new)) }
-    ensures err { IfErr result (λ e. NotOpened L.bytes L.forced L.failures form store e.1 e.0) }
-{
-    let (store, _) = settled(form, store, alloc)?;
-    Ok(store)
-}
-
 impl<L: LogStore + Drop> RecLog<L> {
     /// Gives the store back with the log of this process in the second format. One of the first format is
     /// carried over: the same records, all of them forced, without a torn tail, by one `replace`. One of the
@@ -137,7 +122,7 @@ impl<L: LogStore + Drop> RecLog<L> {
         let migrated = if is_old(store.bytes()) {
             carried(form, store, alloc)
         } else {
-            settled_store(form, store, alloc)
+            settled(form, store, alloc)
         };
         match migrated {
             Ok(store) => Ok(store),

@@ -1,16 +1,13 @@
 //! Opening a log over the bytes of a store.
 
-ghost use Rattle.std.specs.Prelude.{◌≡◌, ◌≤◌, ◌-◌, None, Some, IfOk, IfErr, OnOk, length, take, drop, option_map};
-ghost use Rattle.log_rules.specs.order.Logs.{read_frames, read_log};
-ghost use Rattle.log_rules.specs.order.Orders.{nothing_seen};
-ghost use Rattle.log_text.specs.Marks.{mark_of};
+ghost use Rattle.std.specs.Prelude.{◌≡◌, ◌≤◌, ◌-◌, None, Some, IfOk, IfErr, OnOk, length, take, drop};
 ghost use Rattle.log_text.specs.Reading.{read_record};
 ghost use Rattle.rec_log.specs.Errors.{open_error_number};
-ghost use Rattle.rec_log.specs.Openings.{Ends, IsFault, IsFound, IsNoLog, after_frame, is_old, marks_read};
+ghost use Rattle.rec_log.specs.Openings.{Ends, IsFault, IsFound, IsNoLog, after_frame, is_old};
 ghost use Rattle.tree_model.specs.Records.{same_bytes};
 
 use log_rules::order::Seen;
-use log_text::{HEADER_SIZE, LogForm, LogFormat, Mark, ReadFault, first_frame, read_record};
+use log_text::{HEADER_SIZE, LogForm, LogFormat, ReadFault, first_frame, read_record};
 use std::alloc::{AllocError, Global};
 use thiserror::Error;
 
@@ -56,48 +53,41 @@ impl From<AllocError> for OpenError {
     }
 }
 
-/// Takes the record of a frame, and gives its mark. Malformed comes exactly where there is none, or it may not
-/// follow the records so far. Behind an error nothing more is known.
+/// Takes the record of a frame. Malformed comes exactly where there is none, or it may not follow the records so
+/// far. After an error nothing more is known.
 fn take_frame(
     seen: &mut Seen,
     form: LogForm,
     frame_kind: u8,
     payload: &[u8],
     alloc: Global,
-) -> Result<Mark, ReadFault>
+) -> Result<(), ReadFault>
     ensures ok { OnOk result (after_frame seen.old
         (read_record form frame_kind payload.now) ≡ Some seen.new) }
-    ensures mark { IfOk result (λ mark. option_map mark_of (read_record form frame_kind payload.now) ≡ Some mark) }
     ensures err { IfErr result (λ e. e ≡ ReadFault.Malformed
         → after_frame seen.old (read_record form frame_kind payload.now) ≡ None) }
 {
     let record = read_record(form, frame_kind, payload, alloc)?;
-    let mark = Mark::of(&record.entry, record.parent);
-    seen.take(record)?;
-    Ok(mark)
+    seen.take(record)
 }
 
-/// How many bytes of a torn tail stand behind the sound frames in the bytes behind a header, and the marks of
-/// the records of these frames.
-fn torn_tail(form: LogForm, bytes: &[u8], alloc: Global) -> Result<(usize, Vec<Mark>), OpenError>
-    ensures ok { IfOk result (λ r. Ends form bytes.now r.0) }
-    ensures marks { IfOk result (λ r. r.1.items
-        ≡ marks_read (read_frames form 5 nothing_seen 0 bytes.now)) }
+/// How many bytes of a torn tail stand behind the sound frames in the bytes behind a header.
+fn torn_tail(form: LogForm, bytes: &[u8], alloc: Global) -> Result<usize, OpenError>
+    ensures ok { IfOk result (λ torn. Ends form bytes.now torn) }
     ensures err { IfErr result (λ e. IsFault form bytes.now e) }
 {
     let mut seen = Seen::new(alloc);
-    let mut marks = Vec::new(alloc);
     let mut rest = bytes;
     while let Some((frame_kind, payload, behind)) = first_frame(form.format, rest) {
         let place = HEADER_SIZE + (bytes.len() - rest.len());
         match take_frame(&mut seen, form, frame_kind, payload, alloc) {
-            Ok(mark) => marks.extend_from_slice(&[mark])?,
+            Ok(()) => {}
             Err(ReadFault::Malformed) => return Err(OpenError::Damaged(place)),
             Err(ReadFault::Memory) => return Err(OpenError::Memory),
         }
         rest = behind;
     }
-    Ok((rest.len(), marks))
+    Ok(rest.len())
 }
 
 /// What a store's bytes are to a log that opens.
@@ -110,28 +100,14 @@ pub enum Found {
 }
 
 /// What these bytes are as a log of this form.
+#[tactic(auto, unfolding(log_rules::specs::order::Logs::read_log))]
 pub fn find(form: LogForm, bytes: &[u8], alloc: Global) -> Result<Found, OpenError>
     ensures ok { IfOk result (λ found. IsFound form bytes.now found) }
     ensures err { IfErr result (λ e. IsNoLog form bytes.now e) }
 {
-    let (found, _) = find_marks(form, bytes, alloc)?;
-    Ok(found)
-}
-
-/// What these bytes are as a log of this form, and the marks of its records.
-#[tactic(auto, unfolding(log_rules::specs::order::Logs::read_log))]
-pub(crate) fn find_marks(
-    form: LogForm,
-    bytes: &[u8],
-    alloc: Global,
-) -> Result<(Found, Vec<Mark>), OpenError>
-    ensures ok { IfOk result (λ r. IsFound form bytes.now r.0) }
-    ensures marks { IfOk result (λ r. r.1.items ≡ marks_read (read_log form bytes.now)) }
-    ensures err { IfErr result (λ e. IsNoLog form bytes.now e) }
-{
     if bytes.len() < HEADER_SIZE {
         return if is_same(bytes, &form.format.header()[..bytes.len()]) {
-            Ok((Found::Empty, Vec::new(alloc)))
+            Ok(Found::Empty)
         } else {
             Err(OpenError::Damaged(0))
         };
@@ -140,8 +116,8 @@ pub(crate) fn find_marks(
     if !is_same(header, &form.format.header()) {
         return Err(OpenError::Damaged(0));
     }
-    let (torn, marks) = torn_tail(form, frames, alloc)?;
-    Ok((Found::Sound(torn), marks))
+    let torn = torn_tail(form, frames, alloc)?;
+    Ok(Found::Sound(torn))
 }
 
 #[tactic(auto, using(crate::proofs::Keys::same_bytes_is_equality))]

@@ -1,58 +1,78 @@
 //! The text of the records that stay in a trim.
 
-ghost use Rattle.std.specs.Prelude.{◌≡◌, ◌++◌, ◌∷◌, [], IfOk, OnOk, if◌then◌else◌, length, map};
+ghost use Rattle.std.specs.Prelude.{◌≡◌, ◌≤◌, ◌++◌, [], true, IfNone, IfOk, IfSome, OnOk, if◌then◌else◌, length, map};
 ghost use Rattle.log_text.specs.Forms.{header};
 ghost use Rattle.log_text.specs.Made.{frame_record};
 ghost use Rattle.log_text.specs.Payloads.{records_text};
 ghost use Rattle.log_rules.specs.trim.Trims.{front_of_trim, last_opened};
 ghost use Rattle.log_rules.specs.trim.Tables.{lives_of, picked};
-ghost use Rattle.log_text.specs.Marks.{mark_of};
+ghost use Rattle.log_text.specs.Marks.{opens};
 ghost use Rattle.rec_log.specs.Sights.{AreRecords};
-ghost use Rattle.rec_log.specs.Texts.{records_in};
-ghost use Rattle.rec_log.specs.Trimming.{Fronts, Holds, Spells, Stays, marks_in};
+ghost use Rattle.rec_log.specs.Texts.{is_whole, records_in};
+ghost use Rattle.rec_log.specs.Trimming.{BeginsWith, Holds, Spells, opened_count};
 
-use crate::index::{LogText, push_marks};
 use crate::log::push_frames;
 use log_rules::trim::Lives;
 use log_text::{Frame, LogForm, LogFormat, Mark, first_frame};
 use std::alloc::{AllocError, Global};
 
-/// Records that stay: their frames, and their marks.
+/// Records that stay: their frames, and how many they are.
 #[derive(Drop)]
 struct Staying {
     frames: Vec<u8>,
-    marks: Vec<Mark>,
+    count: usize,
 }
 
-/// The first frame of bytes that begin with a record, and what is behind it.
-fn frame_at(format: LogFormat, bytes: &[u8]) -> (&[u8], &[u8])
-    ensures { Fronts format bytes.now result.0.now result.1.now }
+/// A log of what stays in a trim: all its bytes, and how many records they are.
+#[derive(Drop)]
+pub(crate) struct TrimmedText {
+    pub(crate) text: Vec<u8>,
+    pub(crate) count: usize,
+}
+
+/// The first frame of bytes that are whole records, the mark of its record, and the bytes after it.
+fn frame_at(form: LogForm, bytes: &[u8]) -> Option<(&[u8], Mark, &[u8])>
+    requires { is_whole form 0 bytes.now ≡ true }
+    ensures some { IfSome result (λ r. BeginsWith form bytes.now r.0.now r.1 r.2.now) }
+    ensures none { IfNone result (records_in form 0 bytes.now ≡ []) }
 {
-    match first_frame(format, bytes) {
-        Some((_, _, behind)) => bytes.split_at(bytes.len() - behind.len()),
-        None => (bytes, bytes),
+    match first_frame(form.format, bytes) {
+        Some((kind, payload, rest)) => {
+            let (frame, _) = bytes.split_at(bytes.len() - rest.len());
+            Some((frame, Mark::in_frame(kind, payload), rest))
+        }
+        None => None,
     }
 }
 
-/// The frame of the last Opened, and its mark; no bytes where there is none.
-fn opened_frame<'a>(form: LogForm, bytes: &'a [u8], marks: &[Mark]) -> (&'a [u8], Option<Mark>)
-    requires { map mark_of (records_in form 0 bytes.now) ≡ marks.now }
-    ensures { Stays form (last_opened (records_in form 0 bytes.now)) result.0.now (marks_in result.1) }
+/// The frame of the last Opened, with one more record of this mark and frame.
+fn last_opened<'a>(opened: &'a [u8], mark: &Mark, frame: &'a [u8]) -> &'a [u8]
+    ensures { result.now ≡ (if opens mark.now.deed then frame.now else opened.now) }
+{
+    if mark.is_opened() { frame } else { opened }
+}
+
+/// The frame of the last Opened, and what the records say of each name. No bytes where there is no Opened.
+fn read_marks<'a>(
+    form: LogForm,
+    bytes: &'a [u8],
+    alloc: Global,
+) -> Result<(&'a [u8], Lives), AllocError>
+    requires { is_whole form 0 bytes.now ≡ true }
+    ensures opened { IfOk result (λ r. Holds form r.0.now (last_opened (records_in form 0 bytes.now))) }
+    ensures lives { IfOk result (λ r. r.1 ≡ lives_of (records_in form 0 bytes.now)) }
 {
     let mut opened: &'a [u8] = &[];
-    let mut found = None;
-    let mut left = marks;
+    let mut lives = Lives::new(alloc);
+    let mut place = 0;
     let mut rest = bytes;
-    while let [mark, later @ ..] = left {
-        let (frame, behind) = frame_at(form.format, rest);
-        if mark.is_opened() {
-            opened = frame;
-            found = Some(*mark);
-        }
-        left = later;
-        rest = behind;
+    while let Some((frame, mark, after)) = frame_at(form, rest) {
+        opened = last_opened(opened, &mark, frame);
+        lives.note(place, &mark)?;
+        place += 1;
+        rest = after;
     }
-    (opened, found)
+    Ok((opened, lives))
 }
 
 /// Adds a frame that is to be kept.
@@ -65,61 +85,39 @@ fn keep_frame(keeps: bool, frames: &mut Vec<u8>, frame: &[u8]) -> Result<(), All
     Ok(())
 }
 
-/// Adds the mark of a record that is to be kept.
-fn keep_mark(keeps: bool, marks: &mut Vec<Mark>, mark: Mark) -> Result<(), AllocError>
-    ensures { OnOk result (marks.new.items ≡ marks.old.items ++ (if keeps then mark ∷ [] else [])) }
+/// How many records a frame adds that is to be kept.
+fn one_if(keeps: bool) -> usize
+    ensures { result ≡ (if keeps then 1 else 0) }
 {
-    if keeps {
-        marks.extend_from_slice(&[mark])?;
-    }
-    Ok(())
+    if keeps { 1 } else { 0 }
 }
 
-/// The records that stay, of those with these marks.
+/// The records that stay, of those in these bytes.
 fn kept_frames(
     form: LogForm,
     bytes: &[u8],
-    marks: &[Mark],
     lives: &Lives,
     alloc: Global,
 ) -> Result<Staying, AllocError>
-    requires { map mark_of (records_in form 0 bytes.now) ≡ marks.now }
-    ensures { IfOk result (λ kept. Stays form (picked lives.now 0 (records_in form 0 bytes.now))
-        kept.frames.items kept.marks.items) }
+    requires { is_whole form 0 bytes.now ≡ true }
+    ensures held { IfOk result (λ kept. Holds form kept.frames.items
+        (picked lives.now 0 (records_in form 0 bytes.now))) }
+    ensures count { IfOk result (λ kept. kept.count
+        ≡ length (picked lives.now 0 (records_in form 0 bytes.now))) }
+    ensures few { IfOk result (λ kept. kept.count ≤ length bytes.now) }
 {
     let mut frames = Vec::new(alloc);
-    let mut kept = Vec::new(alloc);
+    let mut count = 0;
     let mut place = 0;
-    let mut left = marks;
     let mut rest = bytes;
-    while let [mark, later @ ..] = left {
-        let (frame, behind) = frame_at(form.format, rest);
-        let keeps = lives.keeps(place, mark);
+    while let Some((frame, mark, after)) = frame_at(form, rest) {
+        let keeps = lives.keeps(place, &mark);
         keep_frame(keeps, &mut frames, frame)?;
-        keep_mark(keeps, &mut kept, *mark)?;
+        count += one_if(keeps);
         place += 1;
-        left = later;
-        rest = behind;
+        rest = after;
     }
-    Ok(Staying {
-        frames,
-        marks: kept,
-    })
-}
-
-/// The records that stay in a trim of those with these marks.
-fn staying_records(
-    form: LogForm,
-    bytes: &[u8],
-    marks: &[Mark],
-    alloc: Global,
-) -> Result<Staying, AllocError>
-    requires { map mark_of (records_in form 0 bytes.now) ≡ marks.now }
-    ensures { IfOk result (λ kept. Stays form (picked (lives_of (records_in form 0 bytes.now)) 0
-        (records_in form 0 bytes.now)) kept.frames.items kept.marks.items) }
-{
-    let lives = Lives::of(marks, alloc)?;
-    kept_frames(form, bytes, marks, &lives, alloc)
+    Ok(Staying { frames, count })
 }
 
 /// A text of the header, the frame of the last Opened, and the frames that stay.
@@ -137,39 +135,34 @@ fn front_text(
     Ok(text)
 }
 
-/// The mark of the last Opened, where there is one, and those that stay.
-fn front_marks(opened: Option<Mark>, kept: &[Mark], alloc: Global) -> Result<Vec<Mark>, AllocError>
-    ensures { IfOk result (λ marks. marks.items ≡ marks_in opened ++ kept.now) }
+/// How many records the frame of the last Opened is.
+fn opened_count(opened: &[u8]) -> usize
+    ensures { result ≡ opened_count opened.now }
 {
-    let mut marks = Vec::new(alloc);
-    if let Some(mark) = opened {
-        marks.push(mark)?;
-    }
-    marks.extend_from_slice(kept)?;
-    Ok(marks)
+    if opened.is_empty() { 0 } else { 1 }
 }
 
 /// A log of what stays of the records in these bytes, and of these records behind it.
 pub(crate) fn trimmed_text(
     form: LogForm,
     bytes: &[u8],
-    marks: &[Mark],
     behind: &[Frame],
     alloc: Global,
-) -> Result<LogText, AllocError>
+) -> Result<TrimmedText, AllocError>
     requires second { form.format ≡ LogFormat.Second }
     requires records { AreRecords form.kind (map frame_record behind.now) }
-    requires marked { map mark_of (records_in form 0 bytes.now) ≡ marks.now }
+    requires whole { is_whole form 0 bytes.now ≡ true }
     ensures text { IfOk result (λ log. Spells form log.text.items
         (front_of_trim (records_in form 0 bytes.now) ++ map frame_record behind.now)) }
-    ensures marks { IfOk result (λ log. map mark_of (front_of_trim (records_in form 0 bytes.now)
-        ++ map frame_record behind.now) ≡ log.marks.items) }
+    ensures count { IfOk result (λ log. log.count
+        ≡ length (front_of_trim (records_in form 0 bytes.now) ++ map frame_record behind.now)) }
 {
-    let (opened, first) = opened_frame(form, bytes, marks);
-    let kept = staying_records(form, bytes, marks, alloc)?;
+    let (opened, lives) = read_marks(form, bytes, alloc)?;
+    let kept = kept_frames(form, bytes, &lives, alloc)?;
     let mut text = front_text(form.format, opened, &kept.frames, alloc)?;
-    let mut marks = front_marks(first, &kept.marks, alloc)?;
     push_frames(&mut text, form, behind)?;
-    push_marks(&mut marks, behind)?;
-    Ok(LogText { text, marks })
+    Ok(TrimmedText {
+        text,
+        count: opened_count(opened) + kept.count + behind.len(),
+    })
 }

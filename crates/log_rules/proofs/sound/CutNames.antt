@@ -11,16 +11,9 @@ use Rattle.xa_xid.specs.declared.error.XidError.TheVariants.{Truncated}
 use Rattle.xa_xid.specs.Bytes.{front_fault, front_parts, format_of, xid_bytes}
 use Rattle.xa_xid.specs.Xids.{XidParts, xid_fault}
 use Rattle.xa_xid.proofs.Reading.{parts, reads}
-use Rattle.tree_model.specs.declared.names.ProcessId.{ProcessId}
-use Rattle.tree_model.specs.declared.names.Ticket.{Ticket}
-use Rattle.tree_model.specs.declared.names.Txn.{Txn}
-use Rattle.tree_model.specs.declared.records.Branch.TheVariants.{Foreign}
-use Rattle.tree_model.specs.Branches.{branch_parts}
-use Rattle.tree_model.specs.LogNames.{name_xid}
-use Rattle.tree_model.specs.Records.{same_xid}
-use Rattle.log_text.specs.Parts.{Front, Name, below_in, case_name, name_at, name_in, presumption_in, txn_in, xid_at}
+use Rattle.log_text.specs.Parts.{Front, Name, name_at, name_in, xid_at}
 use Rattle.log_text.specs.Payloads.{name_text}
-use Rattle.log_text.proofs.NameReading.{same_xid_is}
+use Rattle.log_text.proofs.NameReading.{name_again}
 use Rattle.log_rules.specs.sound.Written.{AreBytes}
 use Rattle.log_rules.proofs.sound.Cuts.{IsCut, bytes_behind, none_some, some_is}
 
@@ -85,26 +78,6 @@ xid_cut xs p h e = by_fault (is_some (front_fault xs)) refl e
         })
 
 -- The name.
-
-xid_of_case : (x : Txn) (b : Option (ProcessId × Ticket))
-    → name_xid (case_name x b).0 (case_name x b).1 ≡ branch_parts x b
-xid_of_case x None = refl
-xid_of_case x (Some b) = refl
-
--- the XID of the name that an XID is read as is this XID
-pub name_again : (xid : XidParts) → name_xid (name_in xid).0 (name_in xid).1 ≡ xid
-unfolding name_in
-name_again xid = by_test (same_xid (branch_parts (txn_in (presumption_in xid.format) xid.gtrid)
-    (below_in xid.bqual)) xid) refl
-  where
-    by_test : (b : Bool)
-        → same_xid (branch_parts (txn_in (presumption_in xid.format) xid.gtrid) (below_in xid.bqual)) xid ≡ b
-        → name_xid (cond b (case_name (txn_in (presumption_in xid.format) xid.gtrid) (below_in xid.bqual))
-        (None, Foreign xid)).0
-        (cond b (case_name (txn_in (presumption_in xid.format) xid.gtrid) (below_in xid.bqual))
-        (None, Foreign xid)).1 ≡ xid
-    by_test true e = xid_of_case _ (below_in xid.bqual) ∙ same_xid_is _ xid e
-    by_test false e = refl
 
 abbrev pub text_of_name : Name → List ℕ
 text_of_name n = name_text n.0 n.1

@@ -23,7 +23,7 @@ use Rattle.log_text.specs.declared.form.LogForm.{LogForm}
 use Rattle.log_text.specs.declared.form.LogFormat.{LogFormat}
 use Rattle.log_text.specs.declared.form.LogFormat.TheVariants.{First, Second}
 use Rattle.log_text.specs.Parts.{Front, Name, key_at, name_at, reports_of, tickets_of, value_at, writes_of}
-use Rattle.log_text.specs.Payloads.{key_text, kind_byte, name_text, opened_by, owner_text, payload_text, reports_text, tickets_text, value_text, writes_text}
+use Rattle.log_text.specs.Payloads.{key_text, kind_byte, name_text, opened_by, owner_text, payload_text, tickets_text, value_text, writes_text}
 use Rattle.log_text.specs.Reading.{alone_record, bare, below, boot_by, branch_record, case_record, coordinator_record, kind_record, listing, manager_record, named, of_branch, of_case, of_name, opened_boot, owned_boot, pair_by, pair_of, read_record, told, writing}
 use Rattle.tree_model.specs.LogNames.{unnamed}
 use Rattle.log_rules.specs.sound.Written.{AreBytes, IsWrittenAs, ReadIsWritten}

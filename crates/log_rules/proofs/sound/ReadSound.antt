@@ -1,5 +1,5 @@
 -- What is read of a payload can stand in a log.
-use Rattle.std.proofs.Common.{◌≡◌, ◌≤◌, ◌<◌, ◌+◌, ◌*◌, ◌^◌, ℕ, zero, suc, Bool, true, false, ◌&&◌, ◌||◌, cond, nat_le, nat_lt, List, [], ◌∷◌, ◌++◌, length, take, drop, Option, Some, None, option_map, refl, sym, ap, subst, ◌∙◌, arith}
+use Rattle.std.proofs.Common.{◌≡◌, ◌≤◌, ◌<◌, ◌+◌, ◌*◌, ◌^◌, ℕ, zero, suc, Bool, true, false, ◌&&◌, ◌||◌, cond, nat_le, nat_lt, List, [], ◌∷◌, length, take, drop, Option, Some, None, option_map, refl, ap, subst, ◌∙◌, arith}
 use Rattle.std.specs.Prelude.{◌==◌, is_some, All, bytes_eq, if◌then◌else◌}
 use Rattle.std.specs.Int.{w32, from_be_bytes}
 use Rattle.std.specs.List.{AllByRecursion}
@@ -35,8 +35,8 @@ use Rattle.log_text.specs.Reading.{alone_record, bare, below, boot_by, branch_re
 use Rattle.tree_model.specs.LogNames.{unnamed}
 use Rattle.log_rules.specs.sound.Sound.{AreSoundReports, AreSoundTickets, AreSoundWrites, IsSound, IsSoundEntry, IsSoundKey, IsSoundName, IsSoundTicket, IsSoundWrite}
 use Rattle.log_rules.specs.sound.Written.{AreBytes, ReadIsSound}
-use Rattle.log_rules.proofs.sound.Cuts.{IsCut, alone_is, at_most, both, bytes_behind, first_bytes, front_tickets_cut, key_cut, none_some, passed, piece_cut, some_is, tail_bytes, ticket_cut, value_cut, write_cut}
-use Rattle.log_rules.proofs.sound.CutNames.{enough, four_below, name_cut, no_fault, xid_cut}
+use Rattle.log_rules.proofs.sound.Cuts.{alone_is, at_most, both, bytes_behind, first_bytes, front_tickets_cut, none_some, passed, piece_cut, some_is, tail_bytes, ticket_cut, write_cut}
+use Rattle.log_rules.proofs.sound.CutNames.{enough, four_below, name_cut, no_fault}
 use Rattle.log_rules.proofs.sound.OwnNames.{names_are_sound}
 
 less : (n m : ℕ) → nat_lt n m ≡ true → n < m

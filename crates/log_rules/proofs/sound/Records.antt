@@ -17,7 +17,7 @@ use Rattle.log_text.specs.declared.form.LogFormat.{LogFormat}
 use Rattle.log_text.specs.declared.form.LogFormat.TheVariants.{First, Second}
 use Rattle.log_text.specs.Parts.{name_at, value_at}
 use Rattle.log_text.specs.Payloads.{kind_byte, name_text, opened_text, owner_text, payload_text, reports_text, tickets_text, value_text, writes_text}
-use Rattle.log_text.specs.Reading.{below, coordinator_record, kind_record, listing, manager_record, named, of_branch, of_name, opened_boot, pair_by, pair_of, read_record, writing}
+use Rattle.log_text.specs.Reading.{below, coordinator_record, listing, manager_record, named, of_branch, of_name, opened_boot, pair_by, pair_of, read_record, writing}
 use Rattle.tree_model.specs.LogNames.{unnamed}
 use Rattle.log_rules.specs.sound.Sound.{IsSoundEntry, IsSoundName, RecordsReadBack}
 use Rattle.log_rules.proofs.sound.Names.{name_back}

@@ -1,5 +1,5 @@
 -- The marks of records say what the records say.
-use Rattle.std.proofs.Common.{◌≡◌, ℕ, suc, Bool, true, false, if◌then◌else◌, List, [], ◌∷◌, map, Option, Some, None, refl, sym, ap, ◌∙◌}
+use Rattle.std.proofs.Common.{◌≡◌, ℕ, Bool, true, false, if◌then◌else◌, List, Option, Some, None, refl, ap, ◌∙◌}
 use Rattle.indexmap.specs.IndexMap.{insert_entry}
 use Rattle.xa_xid.specs.declared.xid.Xid.{Xid}
 use Rattle.tree_model.specs.declared.names.Ticket.{Ticket}
@@ -10,11 +10,10 @@ use Rattle.tree_model.specs.Records.{is_opened, none_of}
 use Rattle.log_rules.specs.declared.trim.lives.Life.{Life}
 use Rattle.log_rules.specs.declared.trim.lives.Said.{Said}
 use Rattle.log_rules.specs.declared.trim.lives.Said.TheVariants as said
-use Rattle.log_text.specs.declared.mark.Deed.{Deed}
 use Rattle.log_text.specs.declared.mark.Deed.TheVariants as deed
-use Rattle.log_rules.specs.trim.Tables.{Table, decides, is_prepared, life_after, life_in, lives_from, lives_of, log_name, noted, noted_by, said_after, same}
+use Rattle.log_rules.specs.trim.Tables.{Table, decides, is_prepared, life_after, life_in, log_name, noted, noted_by, said_after, same}
 use Rattle.log_text.specs.Marks.{decision_by, deed_of, mark_of, opens}
-use Rattle.log_rules.specs.trim.Marks.{life_by, lives_by, lives_past, marked, marked_by, promises, said_by}
+use Rattle.log_rules.specs.trim.Marks.{life_by, marked, marked_by, promises, said_by}
 
 -- What a record does.
 
@@ -141,10 +140,6 @@ noted_is : (i : ℕ) (t : Table) (r : Record) (o : Option Xid) → marked_by i t
 noted_is i t r None = refl
 noted_is i t r (Some x) = ap (λ (life : Life). insert_entry same t x life) (life_is i (life_in t x) r)
 
--- the marks of records make the table that the records make
-pub lives_same : (i : ℕ) (t : Table) (ls : List LogRecord) → lives_past i t (map mark_of ls) ≡ lives_from i t ls
-unfolding lives_past lives_from
-lives_same i t [] = refl
-lives_same i t (l ∷ ls) =
-    ap (λ u. lives_past (suc i) u (map mark_of ls)) (noted_is i t l.entry (log_name l))
-    ∙ lives_same (suc i) (noted i t l) ls
+-- the mark of a record makes the table that the record makes
+pub marked_is : (i : ℕ) (t : Table) (l : LogRecord) → marked i t (mark_of l) ≡ noted i t l
+marked_is i t l = noted_is i t l.entry (log_name l)

@@ -1,5 +1,5 @@
 -- The table that the marks of records make.
-use Rattle.std.specs.Prelude.{ℕ, suc, Bool, true, false, if◌then◌else◌, List, [], ◌∷◌, Option, Some, None}
+use Rattle.std.specs.Prelude.{ℕ, Bool, true, false, if◌then◌else◌, Option, Some, None}
 use Rattle.indexmap.specs.IndexMap.{insert_entry}
 use Rattle.xa_xid.specs.declared.xid.Xid.{Xid}
 use Rattle.log_text.specs.declared.mark.Deed.{Deed}
@@ -51,12 +51,3 @@ marked_by i t d (Some x) = insert_entry same t x (life_by i (life_in t x) d)
 -- the table behind the record of this mark, before which so many stand
 abbrev pub marked : ℕ → Table → Mark → Table
 marked i t m = marked_by i t m.deed m.name
-
--- the table behind the records of these marks, before which so many stand
-unfoldable pub lives_past : ℕ → Table → List Mark → Table
-lives_past i t [] = t
-lives_past i t (m ∷ ms) = lives_past (suc i) (marked i t m) ms
-
--- what the records of these marks say of each name
-abbrev pub lives_by : List Mark → Table
-lives_by ms = lives_past 0 [] ms

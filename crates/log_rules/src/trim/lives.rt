@@ -1,8 +1,8 @@
 //! What the records of a log say of each name, as far as a trim must know.
 
-ghost use Rattle.std.specs.Prelude.{◌≡◌, IfOk, OnOk, length};
+ghost use Rattle.std.specs.Prelude.{◌≡◌, [], OnOk};
 ghost use Rattle.log_rules.specs.trim.Tables.{is_live, keeps_by, life_in, no_life};
-ghost use Rattle.log_rules.specs.trim.Marks.{decided_by, life_by, lives_by, lives_past, marked, said_by};
+ghost use Rattle.log_rules.specs.trim.Marks.{decided_by, life_by, marked, said_by};
 
 use indexmap::IndexMap;
 use log_text::{Deed, Mark};
@@ -108,6 +108,15 @@ impl Life {
 }
 
 impl Lives {
+    /// Nothing is noted of any name. It takes no memory.
+    pub fn new(alloc: Global) -> Lives
+        ensures { result ≡ [] }
+    {
+        Lives {
+            lives: IndexMap::new(alloc),
+        }
+    }
+
     /// What is noted of a name.
     fn life(&self, name: &Xid) -> Life
         ensures { result ≡ life_in self.now name.now }
@@ -121,8 +130,8 @@ impl Lives {
         }
     }
 
-    /// Notes the record that stands behind so many others.
-    fn note(&mut self, place: usize, mark: &Mark) -> Result<(), AllocError>
+    /// Notes the record of this mark, before which so many stand.
+    pub fn note(&mut self, place: usize, mark: &Mark) -> Result<(), AllocError>
         ensures { OnOk result (self.new ≡ marked place self.old mark.now) }
     {
         let Some(name) = mark.name else {
@@ -131,24 +140,6 @@ impl Lives {
         let life = self.life(&name).after(place, mark.deed);
         self.lives.insert(name, life)?;
         Ok(())
-    }
-
-    /// What the records of these marks say of each name.
-    #[tactic(auto, unfolding(crate::specs::trim::Marks::lives_past))]
-    pub fn of(marks: &[Mark], alloc: Global) -> Result<Lives, AllocError>
-        ensures { IfOk result (λ lives. lives ≡ lives_by marks.now) }
-    {
-        let mut lives = Lives {
-            lives: IndexMap::new(alloc),
-        };
-        let mut place = 0;
-        let mut rest = marks;
-        while let [mark, behind @ ..] = rest {
-            lives.note(place, mark)?;
-            place += 1;
-            rest = behind;
-        }
-        Ok(lives)
     }
 
     /// Whether the record stays that stands behind so many others.

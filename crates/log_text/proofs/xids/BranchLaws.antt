@@ -1,6 +1,8 @@
 -- The numbers in the names of branches are read back.
 use Rattle.std.proofs.Math.Seq.{drop-append-add}
-use Rattle.std.proofs.lemmas.List.{append-nil, take_all, length-drop}
+use Rattle.std.proofs.lemmas.List.{append-nil, take_all, length-drop, take-append-drop}
+use Rattle.std.proofs.Common.{drop-drop}
+use Rattle.log_text.proofs.NumberBytes.{AreBytes, bytes_behind, number_again}
 use Rattle.std.proofs.Common.{◌≢◌, Option, Some, None, [], ◌-◌, take, ◌≡◌, ◌+◌, ◌^◌, ◌<◌, ◌++◌, ℕ, List, length, drop, refl, arith, ap, ◌∙◌, sym}
 use Rattle.byteorder.specs.Endian.{big_bytes, big_number}
 use Rattle.byteorder.specs.Numbers.{big_number-reads_back, length-bytes_high_first}
@@ -112,3 +114,69 @@ pub one_ticket : (b : Option (ProcessId × Ticket)) (name : List ℕ) → below_
     → length name ≡ 24
 one_ticket None name e h = absurd (h (sym (ap length e)))
 one_ticket (Some t) name e h = omega (arith, length-ticket_bytes t, ap length e)
+
+-- What is read of a name spells the name again.
+
+pub txn_spelled : (name : List ℕ) → AreBytes name → length name ≡ 20
+    → big_bytes 4 (big_number 4 name)
+    ++ (big_bytes 8 (big_number 8 (drop 4 name)) ++ big_bytes 8 (big_number 8 (drop 12 name))) ≡ name
+txn_spelled name h n =
+    let root : big_bytes 4 (big_number 4 name) ≡ take 4 name = number_again 4 name h (omega (arith, n)) in
+    let boot : big_bytes 8 (big_number 8 (drop 4 name)) ≡ take 8 (drop 4 name) =
+    number_again 8 (drop 4 name) (bytes_behind 4 name h) (omega (arith, n, length-drop 4 name)) in
+    let sequence : big_bytes 8 (big_number 8 (drop 12 name)) ≡ drop 12 name =
+    number_again 8 (drop 12 name) (bytes_behind 12 name h) (omega (arith, n, length-drop 12 name))
+    ∙ take_all 8 (drop 12 name) (omega (arith, n, length-drop 12 name)) in
+    (λ i. root i ++ (boot i ++ sequence i))
+    ∙ ap (λ t. take 4 name ++ (take 8 (drop 4 name) ++ t)) (sym (drop-drop 8 4 name))
+    ∙ ap (λ t. take 4 name ++ t) (take-append-drop 8 (drop 4 name)) ∙ take-append-drop 4 name
+
+pub ticket_spelled : (name : List ℕ) → AreBytes name → length name ≡ 24
+    → big_bytes 4 (big_number 4 name) ++ (big_bytes 4 (big_number 4 (drop 4 name))
+    ++ (big_bytes 8 (big_number 8 (drop 8 name)) ++ big_bytes 8 (big_number 8 (drop 16 name)))) ≡ name
+ticket_spelled name h n =
+    let parent : big_bytes 4 (big_number 4 name) ≡ take 4 name = number_again 4 name h (omega (arith, n)) in
+    let child : big_bytes 4 (big_number 4 (drop 4 name)) ≡ take 4 (drop 4 name) =
+    number_again 4 (drop 4 name) (bytes_behind 4 name h) (omega (arith, n, length-drop 4 name)) in
+    let boot : big_bytes 8 (big_number 8 (drop 8 name)) ≡ take 8 (drop 8 name) =
+    number_again 8 (drop 8 name) (bytes_behind 8 name h) (omega (arith, n, length-drop 8 name)) in
+    let number : big_bytes 8 (big_number 8 (drop 16 name)) ≡ drop 16 name =
+    number_again 8 (drop 16 name) (bytes_behind 16 name h) (omega (arith, n, length-drop 16 name))
+    ∙ take_all 8 (drop 16 name) (omega (arith, n, length-drop 16 name)) in
+    (λ i. parent i ++ (child i ++ (boot i ++ number i)))
+    ∙ ap (λ t. take 4 name ++ (take 4 (drop 4 name) ++ (take 8 (drop 8 name) ++ t))) (sym (drop-drop 8 8 name))
+    ∙ ap (λ t. take 4 name ++ (take 4 (drop 4 name) ++ t)) (take-append-drop 8 (drop 8 name))
+    ∙ ap (λ t. take 4 name ++ (take 4 (drop 4 name) ++ t)) (sym (drop-drop 4 4 name))
+    ∙ ap (λ t. take 4 name ++ t) (take-append-drop 4 (drop 4 name)) ∙ take-append-drop 4 name
+
+-- the number that is read of a name, from this place on
+pub number_there : (n k v : ℕ) (name : List ℕ) → v ≡ big_number n (take (length name - k) (drop k name))
+    → v ≡ big_number n (drop k name)
+number_there n k v name e =
+    e ∙ ap (λ (l : List ℕ). big_number n l) (take_all (length name - k) (drop k name) (omega (arith, length-drop k name)))
+
+pub txn_spells : (name : List ℕ) (root boot sequence : ℕ) (p : Presumption) → AreBytes name → length name ≡ 20
+    → root ≡ big_number 4 name → boot ≡ big_number 8 (take (length name - 4) (drop 4 name))
+    → sequence ≡ big_number 8 (take (length name - 12) (drop 12 name))
+    → txn_bytes (record { root = record { 0 = root }; boot = boot; sequence = sequence; presumption = p }) ≡ name
+unfolding txn_bytes
+txn_spells name root boot sequence p h n r b s =
+    let there = number_there 8 4 boot name b in
+    let last = number_there 8 12 sequence name s in
+    (λ i. big_bytes 4 (r i) ++ (big_bytes 8 (there i) ++ big_bytes 8 (last i))) ∙ txn_spelled name h n
+
+pub ticket_spells : (name : List ℕ) (parent child boot number : ℕ) → AreBytes name → length name ≡ 24
+    → parent ≡ big_number 4 name → child ≡ big_number 4 (take (length name - 4) (drop 4 name))
+    → boot ≡ big_number 8 (take (length name - 8) (drop 8 name))
+    → number ≡ big_number 8 (take (length name - 16) (drop 16 name))
+    → ticket_bytes (
+      record { 0 = parent },
+      record { child = record { 0 = child }; boot = boot; number = number },
+    ) ≡ name
+unfolding ticket_bytes
+ticket_spells name parent child boot number h n p c b k =
+    let second = number_there 4 4 child name c in
+    let third = number_there 8 8 boot name b in
+    let last = number_there 8 16 number name k in
+    (λ i. big_bytes 4 (p i) ++ (big_bytes 4 (second i) ++ (big_bytes 8 (third i) ++ big_bytes 8 (last i))))
+    ∙ ticket_spelled name h n

@@ -1,6 +1,6 @@
 //! The XID of a case, and the case of an XID.
 
-ghost use Rattle.std.specs.Prelude.{◌≡◌, ◌≢◌, ◌↔◌, Option, IfOk, OnErr, IfSome, IfNone, IsTrue, length};
+ghost use Rattle.std.specs.Prelude.{◌≡◌, ◌≢◌, Option, IfOk, OnErr, IfSome, IfNone, length};
 ghost use Rattle.tree_model.specs.Branches.{
   branch_format,
   branch_parts,
@@ -91,7 +91,8 @@ pub(crate) fn ticket_name(parent: ProcessId, ticket: Ticket) -> [u8; 24]
 
 /// The transaction that a name reads as, if it has a transaction's 20 bytes.
 fn txn_read(presumption: Presumption, name: &[u8]) -> Option<Txn>
-    ensures { (x : AnyTxn) → FitsTxn x → x.presumption ≡ presumption → txn_bytes x
+    ensures spelled { IfSome result (λ txn. (txn_bytes txn ≡ name.now) × (txn.presumption ≡ presumption)) }
+    ensures all { (x : AnyTxn) → FitsTxn x → x.presumption ≡ presumption → txn_bytes x
         ≡ name.now → result ≡ Some x }
 {
     if name.len() != 20 {
@@ -108,7 +109,8 @@ fn txn_read(presumption: Presumption, name: &[u8]) -> Option<Txn>
 /// The parent and the ticket that a name of 24 bytes reads as.
 fn ticket_read(name: &[u8]) -> (ProcessId, Ticket)
     requires { length name.now ≡ 24 }
-    ensures { (b : AnyProcess × AnyTicket) → FitsTicket b → ticket_bytes b ≡ name.now → result ≡ b }
+    ensures spelled { ticket_bytes result ≡ name.now }
+    ensures all { (b : AnyProcess × AnyTicket) → FitsTicket b → ticket_bytes b ≡ name.now → result ≡ b }
 {
     let ticket = Ticket {
         child: ProcessId(BigEndian::read_u32(&name[4..])),
@@ -121,7 +123,8 @@ fn ticket_read(name: &[u8]) -> (ProcessId, Ticket)
 /// What a branch's name reads as, if it has the 24 bytes of a ticket below a parent, or none.
 #[tactic(auto, using(crate::proofs::xids::BranchLaws::no_ticket))]
 fn below_read(name: &[u8]) -> Option<Option<(ProcessId, Ticket)>>
-    ensures { (b : Option (AnyProcess × AnyTicket)) → FitsBelow b → below_bytes b
+    ensures spelled { IfSome result (λ below. below_bytes below ≡ name.now) }
+    ensures all { (b : Option (AnyProcess × AnyTicket)) → FitsBelow b → below_bytes b
         ≡ name.now → result ≡ Some b }
 {
     if name.is_empty() {
@@ -133,9 +136,10 @@ fn below_read(name: &[u8]) -> Option<Option<(ProcessId, Ticket)>>
     }
 }
 
-/// The case that an XID can be of, if any.
+/// The case of an XID, if it is of one: what it reads as spells the XID again.
 fn case_read(xid: &Xid) -> Option<(Txn, Option<(ProcessId, Ticket)>)>
-    ensures { (x : AnyTxn) (b : Option (AnyProcess × AnyTicket)) → FitsTxn x → FitsBelow b
+    ensures spelled { IfSome result (λ named. branch_parts named.0 named.1 ≡ xid.now) }
+    ensures all { (x : AnyTxn) (b : Option (AnyProcess × AnyTicket)) → FitsTxn x → FitsBelow b
         → branch_parts x b ≡ xid.now → result ≡ Some (x, b) }
 {
     let (format, gtrid, bqual) = xid.parts();
@@ -143,12 +147,6 @@ fn case_read(xid: &Xid) -> Option<(Txn, Option<(ProcessId, Ticket)>)>
     let txn = txn_read(presumption, gtrid)?;
     let below = below_read(bqual)?;
     Some((txn, below))
-}
-
-fn is_same(a: &Xid, b: &Xid) -> bool
-    ensures { IsTrue result ↔ (a.now ≡ b.now) }
-{
-    a == b
 }
 
 /// The transaction of a case's XID, and below the root the parent and the ticket. `ForeignXid` comes exactly
@@ -159,12 +157,8 @@ pub fn read_branch(xid: &Xid) -> Result<(Txn, Option<(ProcessId, Ticket)>), Fore
         (b : Option (AnyProcess × AnyTicket)) → FitsTxn x → FitsBelow b
         → branch_parts x b ≢ xid.now) }
 {
-    let Some((txn, below)) = case_read(xid) else {
-        return Err(ForeignXid);
-    };
-    if is_same(&branch_xid(txn, below), xid) {
-        Ok((txn, below))
-    } else {
-        Err(ForeignXid)
+    match case_read(xid) {
+        Some(named) => Ok(named),
+        None => Err(ForeignXid),
     }
 }

@@ -4,7 +4,7 @@ use Rattle.std.specs.List.{AllByRecursion}
 use Rattle.std.proofs.Math.Facts.{Fits-lt-pow}
 use Rattle.std.proofs.lemmas.List.Elements.{All-from_recursion}
 use Rattle.log_text.specs.declared.form.LogForm.{LogForm}
-use Rattle.log_text.specs.Forms.{header, old_form}
+use Rattle.log_text.specs.Forms.{old_form}
 use Rattle.log_text.specs.Payloads.{FitsFrame, records_text}
 use Rattle.log_rules.specs.sound.Sound.{IsSound}
 use Rattle.log_rules.proofs.sound.Cuts.{bytes_behind}

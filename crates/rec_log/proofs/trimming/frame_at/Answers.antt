@@ -1,10 +1,11 @@
 use Rattle.std.proofs.Common.{refl, sym}
-use Rattle.rec_log.proofs.Trims.{fronts_cut, no_fronts}
+use Rattle.rec_log.proofs.Frames.{no_frame}
+use Rattle.rec_log.proofs.Trims.{begins_with}
 use Rattle.rec_log.proofs.trimming.frame_at.Goals as goal
 
-pub returns-in-Some : goal.returns-in-Some
-returns-in-Some c = fronts_cut _ _ _ _ _ _ (sym c.in-Some.ensures) refl c.split_at.ensures.front
-    c.split_at.ensures.back
+pub returns-in-Some-clause-some : goal.returns-in-Some-clause-some
+returns-in-Some-clause-some c = begins_with _ _ _ _ _ _ c.requires (sym c.in-Some.ensures) refl
+    c.split_at.ensures.front c.in_frame.ensures
 
-pub returns-in-None : goal.returns-in-None
-returns-in-None c = no_fronts _ _ _ _ (sym c.in-None.ensures)
+pub returns-in-None-clause-none : goal.returns-in-None-clause-none
+returns-in-None-clause-none c = no_frame _ _ (sym c.in-None.ensures)

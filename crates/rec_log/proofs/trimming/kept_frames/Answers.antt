@@ -1,18 +1,21 @@
-use Rattle.std.proofs.Common.{arith, ap, length}
-use Rattle.rec_log.proofs.Trims.{behind_first, keeps_all, keeps_none, keeps_on}
+use Rattle.std.proofs.Common.{arith}
+use Rattle.rec_log.proofs.Trims.{counts_all, keeps_all, keeps_none, keeps_on, one_more}
 use Rattle.rec_log.proofs.trimming.kept_frames.Goals as goal
 
-pub loop-left-init : goal.loop-left-init
-loop-left-init c = (omega arith, keeps_none _ _ _ _ _ _ c.requires c.new-frames.ensures.items c.new-kept.ensures.items)
+pub loop-frame-init : goal.loop-frame-init
+loop-frame-init c = (omega arith, omega arith, keeps_none _ _ _ _ c.requires c.new-frames.ensures.items)
 
-pub loop-left-preserved : goal.loop-left-preserved
-loop-left-preserved c =
-    let e = behind_first c.loop-left.left.now c.mark-item.result c.in-len1-up.len_at_least c.mark-item.is in (
-      omega (arith, c.loop-left.invariant.0, ap length e),
-      keeps_on _ _ _ _ _ _ _ c.mark-item.result _ _ _ _ _ _ _ _ c.loop-left.invariant.1 e
-          (omega arith) c.frame_at.ensures c.keeps-keeps.ensures
-          c.in_ok-keep_frame.ensures c.in_ok-keep_mark.ensures,
+pub loop-frame-preserved : goal.loop-frame-preserved
+loop-frame-preserved c =
+    let b = c.in-Some.ensures.some in (
+      omega (arith, c.loop-frame.invariant.0, b.shorter),
+      one_more _ _ _ _ c.loop-frame.invariant.1 c.one_if-count.ensures,
+      keeps_on _ _ _ _ _ _ _ _ _ _ _ _ _ c.keeps-keeps.result c.loop-frame.invariant.2 b (omega arith)
+          c.keeps-keeps.ensures c.in_ok-keep_frame.ensures (omega (arith, c.one_if-count.ensures)),
     )
 
-pub returns : goal.returns
-returns c = keeps_all _ _ _ _ _ _ _ _ c.loop-left.invariant.1 c.in_default.len_below
+pub returns-clause-held : goal.returns-clause-held
+returns-clause-held c = keeps_all _ _ _ _ _ _ _ c.loop-frame.invariant.2 c.in_default.ensures.none
+
+pub returns-clause-count : goal.returns-clause-count
+returns-clause-count c = counts_all _ _ _ _ _ _ _ c.loop-frame.invariant.2 c.in_default.ensures.none

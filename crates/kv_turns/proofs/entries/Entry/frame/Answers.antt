@@ -1,24 +1,34 @@
-use Rattle.std.proofs.Common.{rules, ◌≡◌, subst}
+use Rattle.std.proofs.Common.{◌≡◌, ◌∙◌, ap, subst, sym}
+use Rattle.std.proofs.lemmas.Result.{IfOk-weaker}
 use Rattle.tree_model.specs.declared.names.Kind.TheVariants.{Manager}
+use Rattle.xa_xid.specs.Xids.{XidParts}
+use Rattle.tree_model.specs.declared.records.LogRecord.{LogRecord}
+use Rattle.tree_model.specs.declared.records.Record.{Record}
+use Rattle.log_text.specs.Branches.{branch_record}
 use Rattle.log_text.specs.Payloads.{FitsFrame}
-use Rattle.log_text.specs.Parts.{Name, name_in}
-use Rattle.log_rules.specs.sound.Sound.{IsSoundName}
+use Rattle.log_text.specs.Parts.{name_in}
 use Rattle.log_rules.proofs.sound.Sizes.{sound_fits}
 use Rattle.kv_turns.specs.Turns.{entry_record}
 use Rattle.kv_turns.proofs.Sound.{sound_entry}
 use Rattle.kv_turns.proofs.entries.Entry.frame.Goals as goal
 
-pub of-requires : goal.of-requires
-of-requires c =
-    let name : IsSoundName (name_in c.args.xid.now).0 (name_in c.args.xid.now).1 =
-    subst (λ (n : Name). IsSoundName n.0 n.1) c.name_of-parent.ensures.name c.name_of-parent.ensures.sound in
-    let is : entry_record c.args.self c.args.xid.now c.args.writes.now
-    ≡ record { entry = c.in_ok-entry.entry; parent = c.name_of-parent.result.0 } = search rules in
-    subst FitsFrame is (sound_fits Manager (entry_record c.args.self c.args.xid.now c.args.writes.now)
-    (sound_entry c.args.self c.args.xid.now c.args.writes.now name c.requires))
+abbrev named : Record → XidParts → LogRecord
+named r x = record { entry = r; parent = (name_in x).0 }
+
+pub of_branch-requires : goal.of_branch-requires
+of_branch-requires c =
+    let is : branch_record c.with_writes-entry.result c.args.xid.now
+    ≡ entry_record c.args.self c.args.xid.now c.args.writes.now =
+    ap (λ (r : Record). named r c.args.xid.now) (c.with_writes-entry.ensures (name_in c.args.xid.now).1) in
+    subst FitsFrame (sym is) (sound_fits Manager (entry_record c.args.self c.args.xid.now c.args.writes.now)
+    (sound_entry c.args.self c.args.xid.now c.args.writes.now c.is_whole_name.ensures c.requires))
+
+pub returns-clause-frame : goal.returns-clause-frame
+returns-clause-frame c =
+    let is : branch_record c.with_writes-entry.result c.args.xid.now
+    ≡ entry_record c.args.self c.args.xid.now c.args.writes.now =
+    ap (λ (r : Record). named r c.args.xid.now) (c.with_writes-entry.ensures (name_in c.args.xid.now).1) in
+    IfOk-weaker c.of_branch.result _ _ (λ frame e. e ∙ is) c.of_branch.ensures
 
 pub returns-clause-sound : goal.returns-clause-sound
-returns-clause-sound c =
-    let name : IsSoundName (name_in c.args.xid.now).0 (name_in c.args.xid.now).1 =
-    subst (λ (n : Name). IsSoundName n.0 n.1) c.name_of-parent.ensures.name c.name_of-parent.ensures.sound in
-    sound_entry c.args.self c.args.xid.now c.args.writes.now name c.requires
+returns-clause-sound c = sound_entry c.args.self c.args.xid.now c.args.writes.now c.is_whole_name.ensures c.requires

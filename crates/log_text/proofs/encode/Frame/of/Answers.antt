@@ -1,11 +1,7 @@
 use Rattle.std.proofs.Common.{ap, sym, ◌∙◌}
-use Rattle.log_text.specs.Marks.{mark_of}
+use Rattle.tree_model.specs.declared.records.LogRecord.{LogRecord}
 use Rattle.log_text.specs.Payloads.{boot_in}
 use Rattle.log_text.proofs.encode.Frame.of.Goals as goal
 
 pub invariant_of-result-clause-boots : goal.invariant_of-result-clause-boots
-invariant_of-result-clause-boots c = c.boot_of.ensures ∙ ap boot_in (sym c.of.ensures)
-
-pub invariant_of-result-clause-marks : goal.invariant_of-result-clause-marks
-invariant_of-result-clause-marks c = c.of-3.ensures
-    ∙ sym (λ i. mark_of (record { entry = c.of.ensures i; parent = c.of-2.ensures i }))
+invariant_of-result-clause-boots c = c.boot_of.ensures ∙ ap (λ (l : LogRecord). boot_in l.entry) (sym c.of.ensures)

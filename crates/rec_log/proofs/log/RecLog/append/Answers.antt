@@ -1,8 +1,7 @@
-use Rattle.std.proofs.Common.{◌≡◌, ◌∙◌, false, length, refl, sym, ap, subst, arith}
+use Rattle.std.proofs.Common.{◌≡◌, ◌∙◌, false, refl, sym, ap, subst, arith}
 use Rattle.log_text.specs.Made.{frame_record}
 use Rattle.rec_log.specs.Sights.{IsRecord, Stands}
-use Rattle.rec_log.specs.declared.index.Reach.{Reach}
-use Rattle.rec_log.proofs.Indexes.{indexed_follows}
+use Rattle.rec_log.proofs.Known.{known_more}
 use Rattle.rec_log.proofs.Turns.{append_breaks, appended, appended_of, breaks_of, by_device, record_long, text_goes_on}
 use Rattle.rec_log.proofs.Within.{frame_size}
 use Rattle.rec_log.proofs.log.RecLog.append.Goals as goal
@@ -31,8 +30,8 @@ returns-in-Err-clause-err g c =
           b.text b.forced_stays b.cause),
     )
 
-pub invariant_of-self-2 : goal.invariant_of-self-2
-invariant_of-self-2 g c =
+pub invariant_of-self-in_default : goal.invariant_of-self-in_default
+invariant_of-self-in_default g c =
     let works : c.self.inside.failed ≡ false = ap (λ s. s.sight.failed) c.self.view_is ∙ c.requires.works in
     let a = c.in_default.ensures.ok in
     let text = a.text in
@@ -42,10 +41,7 @@ invariant_of-self-2 g c =
     let within = g.met.L.LogStore.front c.self.inside.store in (
       text_goes_on _ _ _ _ _ _ _ works is_record c.self.invariant.0 within text
           a.forced_stays,
-      indexed_follows _ _ _ _ _ _ _ _ _ _ _ _ c.self.invariant.1 is_record text
-          (ap length c.bytes-from.ensures) (ap length c.bytes-to.ensures) c.follow.ensures.follows
-          c.follow.ensures.forced,
-      omega (arith, c.self.invariant.2, a.forced_stays, ap (λ (r : Reach). r.size) c.follow.ensures.forced),
+      known_more _ _ _ _ _ _ _ c.self.invariant.1 within text (omega (arith, a.forced_stays)),
     )
 
 pub returns-clause-ok : goal.returns-clause-ok

@@ -1,8 +1,7 @@
-use Rattle.std.proofs.Common.{◌∙◌, ap, false, length, subst, sym}
-use Rattle.rec_log.specs.Openings.{Opens, marks_read}
+use Rattle.std.proofs.Common.{◌≡◌, ◌≤◌, ◌⊎◌, ap, false, length, subst}
+use Rattle.rec_log.specs.Openings.{Opens}
 use Rattle.rec_log.specs.Sights.{IsLogText, log_state}
-use Rattle.rec_log.specs.Trimming.{Reaches}
-use Rattle.rec_log.proofs.Indexes.{index_all, indexed_reach, log_is_long, reach_within}
+use Rattle.rec_log.proofs.Known.{known_either, log_is_long}
 use Rattle.rec_log.proofs.Settling.{opens}
 use Rattle.rec_log.proofs.log.RecLog.open.Goals as goal
 
@@ -19,16 +18,13 @@ invariant_of-result g c =
       header_forced = s.header_forced;
       whole = λ _. s.whole;
     } in
-    let marks = c.new-index.ensures.marks in
-    let reaches : Reaches c.new-index.result.size (length c.new-index.result.marks.items) forced
-    c.new-index.result.forced =
-    rw (c.new-index.ensures.size, marks, sym c.forced.ensures) c.new-index.ensures.forced in (
+    let known = c.known_of-known.result in
+    let size = length c.bytes-2.result.now in
+    let either : ((size ≤ forced) × (known ≡ size)) ⊎ (known ≡ 5) =
+    subst (λ n. ((size ≤ n) × (known ≡ size)) ⊎ (known ≡ 5)) c.forced.ensures c.known_of-known.ensures in (
       log,
-      indexed_reach form bytes _ forced _ _
-          (index_all form bytes _ _ (log_is_long _ _ _ _ log) s.whole
-          (c.new-index.ensures.size ∙ ap length c.bytes-2.ensures)
-          (sym (marks ∙ c.in_ok-store.ensures.marks ∙ ap marks_read s.read))) reaches,
-      reach_within _ _ forced _ s.header_forced reaches,
+      known_either form bytes forced size known (log_is_long _ _ _ _ log) s.header_forced s.whole
+          (ap length c.bytes-2.ensures) either,
     )
 
 pub returns-clause-ok : goal.returns-clause-ok

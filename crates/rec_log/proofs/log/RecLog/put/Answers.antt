@@ -1,11 +1,8 @@
-use Rattle.std.proofs.Common.{◌∙◌, ap, arith, length, map, sym}
-use Rattle.log_text.specs.Marks.{mark_of}
+use Rattle.std.proofs.Common.{◌∙◌, ap, arith, length, refl, sym}
 use Rattle.rec_log.specs.Sights.{body}
-use Rattle.rec_log.specs.Texts.{is_whole, records_in}
-use Rattle.rec_log.specs.Trimming.{Reaches}
+use Rattle.rec_log.specs.Texts.{is_whole}
 use Rattle.rec_log.proofs.Turns.{by_device}
-use Rattle.rec_log.specs.declared.index.Reach.{Reach}
-use Rattle.rec_log.proofs.Indexes.{index_all, indexed_header, indexed_reach, log_is_long, reach_within}
+use Rattle.rec_log.proofs.Known.{known_all, known_header, log_is_long}
 use Rattle.rec_log.proofs.Rewriting.{came_of, rewrite_breaks, rewritten, spells_inside, text_alone, text_either}
 use Rattle.rec_log.proofs.log.RecLog.put.Goals as goal
 
@@ -31,9 +28,7 @@ invariant_of-self-in-Err-replace g c =
     (g.L.LogStore.forced c.self.inside.store) _ _ b.either stays.bytes_stay stays.forced_stays in
     let text = text_either _ _ _ c.args.text.now _ _ _ _ c.self.invariant.0 spells came in (
       text,
-      indexed_header _ _ _ _ _ (log_is_long _ _ _ _ text) c.clear.ensures.size c.clear.ensures.marks
-          c.clear.ensures.forced,
-      omega (arith, text.header_forced, ap (λ (r : Reach). r.size) c.clear.ensures.forced),
+      known_header _ _ _ _ text.header_forced refl,
     )
 
 pub invariant_of-self-2 : goal.invariant_of-self-2
@@ -41,20 +36,11 @@ invariant_of-self-2 g c =
     let spells = spells_inside _ _ c.args.text.now _ _ _ _ _ c.self.view_is c.requires.sound in
     let works = ap (λ s. s.sight.failed) c.self.view_is ∙ c.requires.works in
     let ok = c.in_default-replace.ensures.ok in
-    let log = text_alone _ _ _ _ _ _ c.self.invariant.0.second spells ok.text_stands ok.all in
-    let long = log_is_long _ _ _ _ log in
-    let marks = c.new.ensures.marks in
-    let reaches : Reaches c.new.result.size (length c.new.result.marks.items)
-    (g.L.LogStore.forced c.replace.new.self) c.new.result.forced =
-    rw (c.new.ensures.size, marks, ok.all) c.new.ensures.forced in (
+    let log = text_alone _ _ _ _ _ _ c.self.invariant.0.second spells ok.text_stands ok.all in (
       log,
-      indexed_reach _ _ _ _ _ _
-          (index_all _ _ _ _ long (ap (λ t. is_whole c.self.inside.form 0 (body t)) ok.text_stands ∙ spells.holds.whole)
-          (c.new.ensures.size ∙ ap length (sym ok.text_stands))
-          (ap (λ t. map mark_of (records_in c.self.inside.form 0 (body t))) ok.text_stands
-          ∙ ap (λ s. map mark_of (records_in s.sight.form 0 (body c.args.text.now))) c.self.view_is
-          ∙ c.requires.marks ∙ sym marks)) reaches,
-      reach_within _ _ _ _ log.header_forced reaches,
+      known_all _ _ _ _ (log_is_long _ _ _ _ log)
+          (ap (λ t. is_whole c.self.inside.form 0 (body t)) ok.text_stands ∙ spells.holds.whole)
+          (ap length (sym ok.text_stands)) (omega (arith, ok.all, ap length ok.text_stands)),
     )
 
 pub returns-clause-ok : goal.returns-clause-ok
