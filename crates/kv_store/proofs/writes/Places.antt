@@ -43,7 +43,8 @@ put_place : (es : Lists) (x : Xid) (v : Vec Write)
 put_place [] x v = grind (arith, common_steps, same_itself x)
 put_place (e ∷ es) x v = grind (arith, common_steps, put_place es x v)
 
-stands_is : (es : Lists) (x : Xid) (o : Option ℕ) → position (same x) (keys_of es) ≡ o
+-- the list of a branch stands in the table where it stands in the map
+pub stands_is : (es : Lists) (x : Xid) (o : Option ℕ) → position (same x) (keys_of es) ≡ o
     → position (same x) (keys_of (table_of es)) ≡ o
 stands_is es x o at = ap (position (same x)) (keys_are es) ∙ at
 
@@ -151,10 +152,6 @@ not_listed es x none = writes_are es x None
 pub listed : (es : Lists) (x : Xid) (o : Option ℕ) → position (same x) (keys_of (table_of es)) ≡ o
     → position (same x) (keys_of es) ≡ o
 listed es x o stands = ap (position (same x)) (sym (keys_are es)) ∙ stands
-
-pub listed_so : (es : Lists) (x : Xid) (o : Option ℕ) → position (same x) (keys_of es) ≡ o
-    → position (same x) (keys_of (table_of es)) ≡ o
-listed_so = stands_is
 
 -- A list is taken out.
 
