@@ -6,7 +6,7 @@ ghost use Rattle.key_tables.specs.declared.holders.Mode.TheVariants as mode;
 ghost use Rattle.key_tables.specs.Holders.{blocked_by};
 ghost use Rattle.kv_locks.specs.Locks.{holders_of};
 ghost use Rattle.kv_store.specs.Pairs.{ArePairsOf};
-ghost use Rattle.kv_store.specs.writes.Writes.{AreWrites, writes_of};
+ghost use Rattle.kv_store.specs.writes.Writes.{AreWrites, ListedAt, writes_of};
 ghost use Rattle.xa_assoc.specs.Answers.{Answers, BeginsIdle, Closes, Opens, Recovers, Takes, Wanted, map_ok};
 ghost use Rattle.xa_assoc.specs.Ready.{is_closed, is_work_verb, leaves};
 ghost use Rattle.xa_tables.specs.Calls.{legal};
@@ -173,7 +173,7 @@ impl KeyStore {
         ensures few { length self.now.tables.branches.branches ≤ 1024 }
     {
         let _ = &self.alloc;
-        let _ = self.writes.of(xid);
+        self.writes.are_kept();
         self.states.branches_are_few();
     }
 
@@ -243,12 +243,21 @@ impl KeyStore {
         }
     }
 
-    /// What a branch at work has written.
-    pub fn writes(&self, xid: &Xid) -> &[Write]
-        ensures writes { result.now ≡ writes_of self.now.writes xid.now }
+    /// Where the list of what a branch has written stands, if it has one.
+    pub fn writes_place(&self, xid: &Xid) -> Option<usize>
+        ensures { ListedAt self.now.writes xid.now result }
+    {
+        self.writes.place(xid)
+    }
+
+    /// What the branch has written whose list stands here.
+    pub fn writes_at(&self, place: Option<usize>) -> &[Write]
+        requires { (x : Xid) × ListedAt self.now.writes x place }
+        ensures writes { (x : Xid) → ListedAt self.now.writes x place
+            → result.now ≡ writes_of self.now.writes x }
         ensures limits { AreWrites result.now }
     {
-        self.writes.of(xid)
+        self.writes.at(place)
     }
 
     /// The branch that a thread is active in, which is at work. NotAssociated, RollbackOnly.
@@ -415,39 +424,48 @@ impl KeyStore {
     }
 
     /// What a prepare, commit, rollback or forget makes of a branch in this state.
-    fn turn(&self, from: BranchState, call: Call, xid: &Xid) -> Turn
-        requires { from ≡ state_of self.now xid.now }
+    fn turn(&self, from: BranchState, call: Call, xid: &Xid, written: Option<usize>) -> Turn
+        requires from { from ≡ state_of self.now xid.now }
+        requires written { ListedAt self.now.writes xid.now written }
         ensures { result ≡ turn_for self.now xid.now call }
     {
         match call {
-            Call::Prepare => Turn::prepare(wrote_some(self.writes.of(xid))),
+            Call::Prepare => Turn::prepare(wrote_some(self.writes.at(written))),
             Call::Commit => Turn::commit(from, branch_of(xid), self.heuristics.known(xid)),
-            Call::CommitOnePhase => Turn::direct(wrote_some(self.writes.of(xid))),
+            Call::CommitOnePhase => Turn::direct(wrote_some(self.writes.at(written))),
             Call::Rollback => Turn::rollback(from, branch_of(xid), self.heuristics.known(xid)),
             _ => Turn::forget(),
         }
     }
 
-    /// The place of a branch and its turn, where no check refuses a prepare, commit, rollback or forget; or
-    /// the refusal.
-    pub fn due(&self, verb: Verb, xid: &Xid, flags: Flags) -> Result<(usize, Turn), Code>
+    /// The place of a branch, where what it has written stands, and its turn, if no check refuses a prepare,
+    /// commit, rollback or forget; or the refusal.
+    pub fn due(
+        &self,
+        verb: Verb,
+        xid: &Xid,
+        flags: Flags,
+    ) -> Result<(usize, Option<usize>, Turn), Code>
         requires { is_work_verb verb ≡ false }
-        ensures ok { IfOk result (λ due. (c : AnyCall) × IsDue self.now verb xid.now flags.0 (c, due.1)
-            × StandsAt self.now.tables.branches.branches xid.now due.0) }
+        ensures ok { IfOk result (λ due. (c : AnyCall) × IsDue self.now verb xid.now flags.0 (c, due.2)
+            × StandsAt self.now.tables.branches.branches xid.now due.0
+            × ListedAt self.now.writes xid.now due.1) }
         ensures err { IfErr result (λ code. IsOff self.now verb xid.now flags.0 code) }
     {
         let (call, place, from) = self.states.ready(verb, xid, flags)?;
-        Ok((place, self.turn(from, call, xid)))
+        let written = self.writes.place(xid);
+        Ok((place, written, self.turn(from, call, xid, written)))
     }
 
     /// Stages what a branch has written, which nobody sees before it is published. Memory: nothing changed.
-    pub fn stage(&mut self, xid: &Xid) -> Result<(), AllocError>
+    pub fn stage(&mut self, xid: &Xid, written: Option<usize>) -> Result<(), AllocError>
+        requires written { ListedAt self.old.writes xid.now written }
         requires unstaged { self.old.versions.is_staged ≡ false }
         requires fits { self.old.versions.count + 1 < 2 ^ 63 }
         ensures ok { OnOk result (StagesWrites self.old self.new xid.now) }
         ensures err { OnErr result (SameButData self.old self.new) }
     {
-        self.versions.stage(self.writes.of(xid))
+        self.versions.stage(self.writes.at(written))
     }
 
     /// Makes the staged writes data. It takes no memory.
@@ -468,8 +486,10 @@ impl KeyStore {
     }
 
     /// The branch that stands at this place takes its turn: that of a call, or of an operator's decision,
-    /// which leads from S3 to S5. In S0 and S5 it lets its writes and its locks go. It takes no memory.
-    pub fn finish(&mut self, xid: &Xid, place: usize, turn: Turn)
+    /// which leads from S3 to S5. In S0 and S5 it lets its writes, whose place is given, and its locks go. It takes
+    /// no memory.
+    pub fn finish(&mut self, xid: &Xid, place: usize, written: Option<usize>, turn: Turn)
+        requires written { ListedAt self.old.writes xid.now written }
         requires stands { StandsAt self.old.tables.branches.branches xid.now place }
         requires turn { (c : AnyCall) × IsTurn self.old xid.now c turn }
         ensures { TakesTurn self.old self.new xid.now turn }
@@ -477,7 +497,7 @@ impl KeyStore {
         self.states.finish(place, turn.to);
         note(&mut self.heuristics, xid, turn.entry);
         if is_let_go(turn.to) {
-            self.writes.remove(xid);
+            self.writes.remove_at(written);
             self.locks.release(xid);
         }
     }
