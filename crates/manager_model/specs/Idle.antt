@@ -1,6 +1,6 @@
 -- Whole pieces of work at a manager, between which no thread is at work: a branch begins and is left idle, or an idle
 -- branch does an operation.
-use Rattle.std.specs.Prelude.{◌≡◌, ℕ, Bool, true, false, is_none, is_ok, if◌then◌else◌, List, []}
+use Rattle.std.specs.Prelude.{◌≡◌, Bool, true, false, is_none, is_ok, if◌then◌else◌, []}
 use Rattle.xa_tables.specs.declared.states.InitState.TheVariants.{R1}
 use Rattle.xa_tables.specs.declared.states.BranchState.{BranchState}
 use Rattle.xa_tables.specs.declared.states.BranchState.TheVariants.{S2, S4}
