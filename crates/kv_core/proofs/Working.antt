@@ -1,11 +1,10 @@
 -- What is known of a branch that may do its work.
-use Rattle.std.proofs.Common.{◌≡◌, ℕ, Bool, true, false, cond, Option, Some, None, Result, Ok, Err, List, refl, sym, ap, subst, ◌∙◌}
-use Rattle.std.specs.Prelude.{IfOk, IfErr, OnOk, is_some, unwrap_or}
+use Rattle.std.proofs.Common.{◌≡◌, ℕ, Bool, false, cond, Option, Some, None, Result, Ok, Err, List, refl, sym, ap, subst, ◌∙◌}
+use Rattle.std.specs.Prelude.{IfOk, IfErr}
 use Rattle.xa_tables.specs.declared.states.BranchState.{BranchState}
 use Rattle.xa_tables.specs.declared.states.BranchState.TheVariants.{S0, S1, S2, S3, S4, S5}
 use Rattle.xa_xid.specs.declared.xid.Xid.{Xid}
-use Rattle.xa_branch.specs.Branches.{is_known, placed, state_in}
-use Rattle.xa_branch.specs.Names.{same}
+use Rattle.xa_branch.specs.Branches.{placed, state_in}
 use Rattle.xa_assoc.specs.declared.states.States.{States}
 use Rattle.xa_assoc.specs.Answers.{Same, Takes as TakesRow}
 use Rattle.xa_assoc.specs.Associations.{active_of}
@@ -15,7 +14,6 @@ use Rattle.key_tables.specs.declared.holders.Mode.{Mode}
 use Rattle.key_tables.specs.Holders.{blocked_by}
 use Rattle.kv_locks.specs.Locks.{holders_of}
 use Rattle.xa_heur.specs.Cases.{decision_in}
-use Rattle.std.specs.Map.{lookup}
 use Rattle.tree_model.specs.declared.messages.Op.{Op}
 use Rattle.kv_store.specs.writes.Writes.{writes_of}
 use Rattle.kv_core.specs.Stores.{KeySight, MovesTables, SameStore, state_of}
@@ -157,11 +155,3 @@ spoils old mid new x op e other refused moves =
       versions = moves.versions ∙ why.1.versions;
       decisions = λ y. ap (λ d. decision_in d y) moves.decisions ∙ why.1.decisions y;
     }
-
-unlisted : (o : Option BranchState) → unwrap_or o S0 ≡ S2 → is_some o ≡ false → ⊥
-unlisted None at none = absurd cc
-unlisted (Some s) at none = absurd cc
-
--- an idle branch is known
-pub idle_known : (s : KeySight) (x : Xid) → state_of s x ≡ S2 → is_known s.tables.branches.branches x ≡ false → ⊥
-idle_known s x at none = unlisted (lookup (same x) s.tables.branches.branches) at none

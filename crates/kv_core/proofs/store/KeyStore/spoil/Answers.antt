@@ -4,7 +4,6 @@ use Rattle.xa_assoc.specs.Answers.{Takes}
 use Rattle.kv_core.specs.Stores.{KeySight, is_decided, is_let_go}
 use Rattle.kv_core.proofs.Moves.{moves_keep}
 use Rattle.kv_core.proofs.Tidy.{tidy_called}
-use Rattle.kv_core.proofs.Working.{idle_known}
 use Rattle.kv_core.proofs.store.KeyStore.spoil.Goals as goal
 
 pub invariant_of-self : goal.invariant_of-self
