@@ -18,7 +18,7 @@ use Rattle.xa_branch.proofs.Names.{same_is, same_refl}
 use Rattle.xa_branch.specs.Branches.{Moves as BranchMoves, Scans, scan_refusal, state_in}
 use Rattle.xa_branch.specs.Names.{same}
 use Rattle.xa_assoc.specs.declared.states.States.{States}
-use Rattle.xa_assoc.specs.Answers.{Answers, ByState, Checked, Does, Reacts, Recovers, Refuses, Same, Scanned, Wanted, left_state, state_at}
+use Rattle.xa_assoc.specs.Answers.{Answers, BeginsIdle, ByState, Checked, Does, Reacts, Recovers, Refuses, Same, Scanned, Wanted, left_state, state_at}
 use Rattle.xa_assoc.specs.Reacting.{left_by, resumed}
 use Rattle.xa_assoc.specs.Ready.{is_work, is_work_verb}
 use Rattle.xa_assoc.proofs.Finishing.{works_as}
@@ -129,6 +129,12 @@ works_keep q wanted old new v t x flags answer apart w answers = by_legal (legal
         (λ refusal. Refuses old new answer refusal) → Keeps q old new
     by_legal (Ok c) e h = checked_keep q wanted old new c t x answer apart (works_as v flags c e ∙ w) h
     by_legal (Err refusal) e h = same_keeps q old new h.1
+
+-- a branch that begins, and that no thread is in
+pub begins_keep : (q : BranchState → Bool) (old new : States) (x : Xid) (begun : Bool) → q S2 ≡ false
+    → BeginsIdle old new x begun → Keeps q old new
+begins_keep q old new x true apart made = moves_keep q old new x S2 apart made.1.branch
+begins_keep q old new x false apart made = same_keeps q old new made.1
 
 -- a result, both ways
 pub either_way : {A E : Type 0} (P : A → Type 0) (Q X : Type 0) (r : Result A E) → IfOk r P → OnErr r Q

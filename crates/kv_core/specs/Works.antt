@@ -1,12 +1,16 @@
 -- Reads and writes of a thread in the branch that it is active in.
-use Rattle.std.specs.Prelude.{◌≡◌, ℕ, Bool, false, ◌==◌, ◌||◌, nat_lt, if◌then◌else◌, find, List, length, Option, Some, None}
+use Rattle.std.specs.Prelude.{◌≡◌, ℕ, Bool, true, false, ◌==◌, ◌||◌, nat_lt, if◌then◌else◌, find, List, length, Option, Some, None}
 use Rattle.xa_tables.specs.declared.states.BranchState.{BranchState}
 use Rattle.xa_tables.specs.declared.states.BranchState.TheVariants.{S1, S4}
 use Rattle.xa_tables.specs.Tables.{is_spoiled}
 use Rattle.xa_xid.specs.declared.xid.Xid.{Xid}
 use Rattle.xa_assoc.specs.Associations.{active_of}
+use Rattle.xa_assoc.specs.Answers.{Takes as TakesRow}
 use Rattle.xa_assoc.specs.declared.errors.WorkError.{WorkError}
 use Rattle.xa_assoc.specs.declared.errors.WorkError.TheVariants.{Memory, NotAssociated, Locked, TooLong, TooManyWrites, RollbackOnly}
+use Rattle.xa_heur.specs.Cases.{SameDecisions}
+use Rattle.tree_model.specs.declared.messages.Op.{Op}
+use Rattle.tree_model.specs.declared.messages.Op.TheVariants.{Put, Get, Delete}
 use Rattle.tree_model.specs.declared.records.Write.{Write}
 use Rattle.tree_model.specs.Plays.{with_write}
 use Rattle.key_tables.specs.declared.holders.Mode.{Mode}
@@ -14,7 +18,7 @@ use Rattle.key_tables.specs.declared.holders.Mode.TheVariants.{Exclusive, Shared
 use Rattle.key_tables.specs.Holders.{blocked_by}
 use Rattle.kv_locks.specs.Locks.{Takes, holders_of}
 use Rattle.kv_store.specs.Versions.{value_at}
-use Rattle.kv_store.specs.writes.Writes.{Leaves, is_of, is_within_limit, writes_of}
+use Rattle.kv_store.specs.writes.Writes.{Leaves, SameWrites, is_of, is_within_limit, writes_of}
 use Rattle.kv_core.specs.Stores.{KeySight, SameStore, state_of}
 
 -- a branch that a thread is active in is at work (in S1), or its work failed (in S4)
@@ -113,3 +117,50 @@ pub record Writes (old new : KeySight) (t : ℕ) (k : List ℕ) (v : Option (Lis
   pub tables : new.tables ≡ old.tables
   pub versions : new.versions ≡ old.versions
   pub decisions : new.decisions ≡ old.decisions
+
+-- Work of a branch that no thread is in.
+
+-- a branch read a key, which it holds now, at least shared
+pub record ReadsFor (old new : KeySight) (x : Xid) (k : List ℕ) (found : Option (List ℕ)) : Type 0 where
+  pub allowed : branch_refusal old k None Shared x ≡ None
+  pub value : found ≡ value_for old x k
+  pub locks : Takes old.locks new.locks x k Shared
+  pub tables : new.tables ≡ old.tables
+  pub writes : new.writes ≡ old.writes
+  pub versions : new.versions ≡ old.versions
+  pub decisions : new.decisions ≡ old.decisions
+
+-- a branch wrote a key, which it holds exclusively now
+pub record WritesFor (old new : KeySight) (x : Xid) (k : List ℕ) (v : Option (List ℕ)) : Type 0 where
+  pub allowed : branch_refusal old k v Exclusive x ≡ None
+  pub locks : Takes old.locks new.locks x k Exclusive
+  pub writes : Leaves old.writes new.writes x (with_write (writes_of old.writes x) k v)
+  pub tables : new.tables ≡ old.tables
+  pub versions : new.versions ≡ old.versions
+  pub decisions : new.decisions ≡ old.decisions
+
+-- why an operation of a branch is refused: the first check that fails
+abbrev pub op_refusal : KeySight → Xid → Op → Option WorkError
+op_refusal s x (Put k v) = branch_refusal s k (Some v) Exclusive x
+op_refusal s x (Get k) = branch_refusal s k None Shared x
+op_refusal s x (Delete k) = branch_refusal s k None Exclusive x
+
+-- a branch did an operation; a value that it read is not kept
+abbrev pub Does : KeySight → KeySight → Xid → Op → Type 0
+Does old new x (Put k v) = WritesFor old new x k (Some v)
+Does old new x (Get k) = (found : Option (List ℕ)) × ReadsFor old new x k found
+Does old new x (Delete k) = WritesFor old new x k None
+
+-- a branch was refused an operation, and can only be rolled back
+pub record Spoils (old new : KeySight) (x : Xid) (op : Op) : Type 0 where
+  pub refused : op_refusal old x op ≡ None → ⊥
+  pub tables : TakesRow old.tables new.tables x S4
+  pub writes : SameWrites old.writes new.writes
+  pub locks : new.locks ≡ old.locks
+  pub versions : new.versions ≡ old.versions
+  pub decisions : SameDecisions old.decisions new.decisions
+
+-- whether an idle branch did an operation, and what that leaves
+abbrev pub WorksIdle : KeySight → KeySight → Xid → Op → Bool → Type 0
+WorksIdle old new x op true = Does old new x op
+WorksIdle old new x op false = Spoils old new x op

@@ -5,6 +5,8 @@
 //!
 //! ```text
 //! get, put, delete   a thread's work in the branch that it is active in
+//! begin_idle         a branch that no thread is in begins
+//! work_idle          it does an operation
 //! due                a prepare, commit, rollback or forget: the first refusal, or the turn that it takes
 //! stage              the branch's writes, unseen; it takes all memory. Behind it the log is written
 //! reserve_decision   room for an operator's decision, before the log is written

@@ -6,8 +6,8 @@ ghost use Rattle.key_tables.specs.declared.holders.Mode.TheVariants as mode;
 ghost use Rattle.key_tables.specs.Holders.{blocked_by};
 ghost use Rattle.kv_locks.specs.Locks.{holders_of};
 ghost use Rattle.kv_store.specs.Pairs.{ArePairsOf};
-ghost use Rattle.kv_store.specs.writes.Writes.{AreWrites, writes_of};
-ghost use Rattle.xa_assoc.specs.Answers.{Answers, Closes, Opens, Recovers, Wanted, map_ok};
+ghost use Rattle.kv_store.specs.writes.Writes.{AreWrites, ListedAt, writes_of};
+ghost use Rattle.xa_assoc.specs.Answers.{Answers, BeginsIdle, Closes, Opens, Recovers, Takes, Wanted, map_ok};
 ghost use Rattle.xa_assoc.specs.Ready.{is_closed, is_work_verb, leaves};
 ghost use Rattle.xa_tables.specs.Calls.{legal};
 ghost use Rattle.xa_tables.specs.Tables.{is_spoiled};
@@ -18,7 +18,7 @@ ghost use Rattle.xa_assoc.specs.Restored.{Restored, restore_refusal};
 ghost use Rattle.kv_core.specs.Stores.{IsTidy, MovesTables, Rebuilt, SameStore, has_numbers, is_let_go, state_of};
 ghost use Rattle.xa_heur.specs.Cases.{Notes, decision_in};
 ghost use Rattle.xa_heur.specs.Decisions.{decision_at};
-ghost use Rattle.kv_core.specs.Works.{IsRefused, IsRefusedIfFree, Reads, Writes, at_work, is_too_long, unless_locked, value_for, work_refusal};
+ghost use Rattle.kv_core.specs.Works.{Does, IsRefused, IsRefusedIfFree, Reads, ReadsFor, Spoils, Writes, WritesFor, WorksIdle, at_work, branch_refusal, is_too_long, op_refusal, unless_locked, value_for, work_refusal};
 ghost use Rattle.kv_core.specs.Ends.{CanNote, IsDue, IsOff, IsTurn, PublishesWrites, Reserves, SameButData, StagesWrites, TakesTurn, known_behind, known_of, turn_for, wrote_some};
 
 use key_tables::Mode;
@@ -28,7 +28,7 @@ use kv_store::writes::BranchWrites;
 use kv_turns::{Entry, Turn, branch_of};
 use std::alloc::{AllocError, Global};
 use std::marker::Model;
-use tree_model::{Bytes, Outcome, Write};
+use tree_model::{Bytes, Op, Outcome, Write};
 use xa_assoc::{States, WorkError};
 use xa_codes::{Code, Flags};
 use xa_heur::{Decision, Heuristics};
@@ -173,7 +173,7 @@ impl KeyStore {
         ensures few { length self.now.tables.branches.branches ≤ 1024 }
     {
         let _ = &self.alloc;
-        let _ = self.writes.of(xid);
+        self.writes.are_kept();
         self.states.branches_are_few();
     }
 
@@ -243,12 +243,21 @@ impl KeyStore {
         }
     }
 
-    /// What a branch at work has written.
-    pub fn writes(&self, xid: &Xid) -> &[Write]
-        ensures writes { result.now ≡ writes_of self.now.writes xid.now }
+    /// Where the list of what a branch has written stands, if it has one.
+    pub fn writes_place(&self, xid: &Xid) -> Option<usize>
+        ensures { ListedAt self.now.writes xid.now result }
+    {
+        self.writes.place(xid)
+    }
+
+    /// What the branch has written whose list stands here.
+    pub fn writes_at(&self, place: Option<usize>) -> &[Write]
+        requires { (x : Xid) × ListedAt self.now.writes x place }
+        ensures writes { (x : Xid) → ListedAt self.now.writes x place
+            → result.now ≡ writes_of self.now.writes x }
         ensures limits { AreWrites result.now }
     {
-        self.writes.of(xid)
+        self.writes.at(place)
     }
 
     /// The branch that a thread is active in, which is at work. NotAssociated, RollbackOnly.
@@ -294,20 +303,37 @@ impl KeyStore {
         }
     }
 
-    /// Reads a key for a branch at work, which holds it from then on, at least shared. Memory: nothing
-    /// changed; it comes where another branch's lock is in the way too.
-    fn read_for(&mut self, xid: &Xid, key: &[u8]) -> Result<Option<Bytes>, WorkError>
+    /// Reads a key for a branch at work, where no other branch's lock is in the way. Memory: nothing changed; it
+    /// comes where one is in the way too.
+    fn try_read(&mut self, xid: &Xid, key: &[u8]) -> Result<Option<Bytes>, WorkError>
         requires works { (is_let_go (state_of self.old xid.now) ≡ false)
             × (is_spoiled (state_of self.old xid.now) ≡ false) }
         requires short { is_too_long key.now None ≡ false }
-        ensures ok { IfOk result (λ found. (thread : ℕ) → at_work self.old thread ≡ Some xid.now
-            → Reads self.old self.new thread key.now found) }
+        ensures ok { IfOk result (ReadsFor self.old self.new xid.now key.now) }
         ensures err { IfErr result (λ e. IsRefusedIfFree self.old self.new xid.now key.now mode.Shared e) }
     {
         let found = copied(self.value(xid, key), self.alloc)?;
         match self.locks.shared(xid, key) {
             Ok(()) => Ok(found),
             Err(_) => Err(WorkError::Memory),
+        }
+    }
+
+    /// Reads a key for a branch at work, which holds it from then on, at least shared. TooLong, Locked, in this
+    /// order. A refusal changes nothing.
+    fn read_for(&mut self, xid: &Xid, key: &[u8]) -> Result<Option<Bytes>, WorkError>
+        requires works { (is_let_go (state_of self.old xid.now) ≡ false)
+            × (is_spoiled (state_of self.old xid.now) ≡ false) }
+        ensures ok { IfOk result (ReadsFor self.old self.new xid.now key.now) }
+        ensures err { IfErr result (λ e. IsRefused self.old self.new
+            (branch_refusal self.old key.now None mode.Shared xid.now) e) }
+    {
+        if is_too_long(key, None) {
+            return Err(WorkError::TooLong);
+        }
+        match self.try_read(xid, key) {
+            Ok(found) => Ok(found),
+            Err(refusal) => Err(self.unless_locked(xid, key, Mode::Shared, refusal)),
         }
     }
 
@@ -319,23 +345,17 @@ impl KeyStore {
             (work_refusal self.old thread key.now None mode.Shared) e) }
     {
         let xid = self.at_work(thread)?;
-        if is_too_long(key, None) {
-            return Err(WorkError::TooLong);
-        }
-        match self.read_for(&xid, key) {
-            Ok(found) => Ok(found),
-            Err(refusal) => Err(self.unless_locked(&xid, key, Mode::Shared, refusal)),
-        }
+        self.read_for(&xid, key)
     }
 
-    /// Writes a key for a branch at work, or deletes it, which holds it exclusively from then on.
-    /// TooManyWrites, Memory: nothing changed; they come where another branch's lock is in the way too.
-    fn write_for(&mut self, xid: &Xid, key: &[u8], value: Option<&[u8]>) -> Result<(), WorkError>
+    /// Writes a key for a branch at work, or deletes it, where no other branch's lock is in the way.
+    /// TooManyWrites, Memory: nothing changed; they come where one is in the way too.
+    fn try_write(&mut self, xid: &Xid, key: &[u8], value: Option<&[u8]>) -> Result<(), WorkError>
         requires works { (is_let_go (state_of self.old xid.now) ≡ false)
             × (is_spoiled (state_of self.old xid.now) ≡ false) }
         requires short { is_too_long key.now (option_map (λ v. v.now) value) ≡ false }
-        ensures ok { OnOk result ((thread : ℕ) → at_work self.old thread ≡ Some xid.now
-            → Writes self.old self.new thread key.now (option_map (λ v. v.now) value.entry)) }
+        ensures ok { OnOk result (WritesFor self.old self.new xid.now key.now
+            (option_map (λ v. v.now) value.entry)) }
         ensures err { IfErr result (λ e. IsRefusedIfFree self.old self.new xid.now key.now mode.Exclusive e) }
     {
         let Some(place) = self.writes.room_for(xid, key)? else {
@@ -354,6 +374,25 @@ impl KeyStore {
         }
     }
 
+    /// Writes a key for a branch at work, or deletes it, which holds it exclusively from then on. TooLong,
+    /// Locked, TooManyWrites, in this order. A refusal changes nothing.
+    fn write_for(&mut self, xid: &Xid, key: &[u8], value: Option<&[u8]>) -> Result<(), WorkError>
+        requires works { (is_let_go (state_of self.old xid.now) ≡ false)
+            × (is_spoiled (state_of self.old xid.now) ≡ false) }
+        ensures ok { OnOk result (WritesFor self.old self.new xid.now key.now
+            (option_map (λ v. v.now) value.entry)) }
+        ensures err { IfErr result (λ e. IsRefused self.old self.new (branch_refusal self.old key.now
+            (option_map (λ v. v.now) value.entry) mode.Exclusive xid.now) e) }
+    {
+        if is_too_long(key, value) {
+            return Err(WorkError::TooLong);
+        }
+        match self.try_write(xid, key, value) {
+            Ok(()) => Ok(()),
+            Err(refusal) => Err(self.unless_locked(xid, key, Mode::Exclusive, refusal)),
+        }
+    }
+
     /// Writes a key for a thread's branch, or deletes it, which holds it exclusively from then on.
     fn write(&mut self, thread: u32, key: &[u8], value: Option<&[u8]>) -> Result<(), WorkError>
         ensures ok { OnOk result (Writes self.old self.new thread key.now
@@ -362,13 +401,7 @@ impl KeyStore {
             (work_refusal self.old thread key.now (option_map (λ v. v.now) value.entry) mode.Exclusive) e) }
     {
         let xid = self.at_work(thread)?;
-        if is_too_long(key, value) {
-            return Err(WorkError::TooLong);
-        }
-        match self.write_for(&xid, key, value) {
-            Ok(()) => Ok(()),
-            Err(refusal) => Err(self.unless_locked(&xid, key, Mode::Exclusive, refusal)),
-        }
+        self.write_for(&xid, key, value)
     }
 
     /// Writes a value at a key for a thread's branch. NotAssociated, RollbackOnly, TooLong, Locked,
@@ -391,39 +424,48 @@ impl KeyStore {
     }
 
     /// What a prepare, commit, rollback or forget makes of a branch in this state.
-    fn turn(&self, from: BranchState, call: Call, xid: &Xid) -> Turn
-        requires { from ≡ state_of self.now xid.now }
+    fn turn(&self, from: BranchState, call: Call, xid: &Xid, written: Option<usize>) -> Turn
+        requires from { from ≡ state_of self.now xid.now }
+        requires written { ListedAt self.now.writes xid.now written }
         ensures { result ≡ turn_for self.now xid.now call }
     {
         match call {
-            Call::Prepare => Turn::prepare(wrote_some(self.writes.of(xid))),
+            Call::Prepare => Turn::prepare(wrote_some(self.writes.at(written))),
             Call::Commit => Turn::commit(from, branch_of(xid), self.heuristics.known(xid)),
-            Call::CommitOnePhase => Turn::direct(wrote_some(self.writes.of(xid))),
+            Call::CommitOnePhase => Turn::direct(wrote_some(self.writes.at(written))),
             Call::Rollback => Turn::rollback(from, branch_of(xid), self.heuristics.known(xid)),
             _ => Turn::forget(),
         }
     }
 
-    /// The place of a branch and its turn, where no check refuses a prepare, commit, rollback or forget; or
-    /// the refusal.
-    pub fn due(&self, verb: Verb, xid: &Xid, flags: Flags) -> Result<(usize, Turn), Code>
+    /// The place of a branch, where what it has written stands, and its turn, if no check refuses a prepare,
+    /// commit, rollback or forget; or the refusal.
+    pub fn due(
+        &self,
+        verb: Verb,
+        xid: &Xid,
+        flags: Flags,
+    ) -> Result<(usize, Option<usize>, Turn), Code>
         requires { is_work_verb verb ≡ false }
-        ensures ok { IfOk result (λ due. (c : AnyCall) × IsDue self.now verb xid.now flags.0 (c, due.1)
-            × StandsAt self.now.tables.branches.branches xid.now due.0) }
+        ensures ok { IfOk result (λ due. (c : AnyCall) × IsDue self.now verb xid.now flags.0 (c, due.2)
+            × StandsAt self.now.tables.branches.branches xid.now due.0
+            × ListedAt self.now.writes xid.now due.1) }
         ensures err { IfErr result (λ code. IsOff self.now verb xid.now flags.0 code) }
     {
         let (call, place, from) = self.states.ready(verb, xid, flags)?;
-        Ok((place, self.turn(from, call, xid)))
+        let written = self.writes.place(xid);
+        Ok((place, written, self.turn(from, call, xid, written)))
     }
 
     /// Stages what a branch has written, which nobody sees before it is published. Memory: nothing changed.
-    pub fn stage(&mut self, xid: &Xid) -> Result<(), AllocError>
+    pub fn stage(&mut self, xid: &Xid, written: Option<usize>) -> Result<(), AllocError>
+        requires written { ListedAt self.old.writes xid.now written }
         requires unstaged { self.old.versions.is_staged ≡ false }
         requires fits { self.old.versions.count + 1 < 2 ^ 63 }
         ensures ok { OnOk result (StagesWrites self.old self.new xid.now) }
         ensures err { OnErr result (SameButData self.old self.new) }
     {
-        self.versions.stage(self.writes.of(xid))
+        self.versions.stage(self.writes.at(written))
     }
 
     /// Makes the staged writes data. It takes no memory.
@@ -444,8 +486,10 @@ impl KeyStore {
     }
 
     /// The branch that stands at this place takes its turn: that of a call, or of an operator's decision,
-    /// which leads from S3 to S5. In S0 and S5 it lets its writes and its locks go. It takes no memory.
-    pub fn finish(&mut self, xid: &Xid, place: usize, turn: Turn)
+    /// which leads from S3 to S5. In S0 and S5 it lets its writes, whose place is given, and its locks go. It takes
+    /// no memory.
+    pub fn finish(&mut self, xid: &Xid, place: usize, written: Option<usize>, turn: Turn)
+        requires written { ListedAt self.old.writes xid.now written }
         requires stands { StandsAt self.old.tables.branches.branches xid.now place }
         requires turn { (c : AnyCall) × IsTurn self.old xid.now c turn }
         ensures { TakesTurn self.old self.new xid.now turn }
@@ -453,7 +497,7 @@ impl KeyStore {
         self.states.finish(place, turn.to);
         note(&mut self.heuristics, xid, turn.entry);
         if is_let_go(turn.to) {
-            self.writes.remove(xid);
+            self.writes.remove_at(written);
             self.locks.release(xid);
         }
     }
@@ -472,6 +516,62 @@ impl KeyStore {
         ensures err { OnErr result ((leaves (legal verb flags.0) ≡ false) × SameStore self.old self.new) }
     {
         self.states.work_call(verb, thread, xid, flags)
+    }
+
+    /// A new branch begins that no thread is in. False: it is known, or 1,024 are; nothing changed, nor does want
+    /// of memory.
+    pub fn begin_idle(&mut self, xid: &Xid) -> Result<bool, AllocError>
+        ensures begun { IfOk result (λ begun. MovesTables self.old self.new
+            (λ old new. BeginsIdle old new xid.now begun)) }
+        ensures err { OnErr result (SameStore self.old self.new) }
+    {
+        self.states.begin_idle(xid)
+    }
+
+    /// Does an operation for a branch at work; a value that was read is let go. TooLong, Locked, TooManyWrites, in
+    /// this order. A refusal changes nothing.
+    fn work_for(&mut self, xid: &Xid, op: &Op) -> Result<(), WorkError>
+        requires works { (is_let_go (state_of self.old xid.now) ≡ false)
+            × (is_spoiled (state_of self.old xid.now) ≡ false) }
+        ensures ok { OnOk result (Does self.old self.new xid.now op.now) }
+        ensures err { IfErr result (λ e. IsRefused self.old self.new
+            (op_refusal self.old xid.now op.now) e) }
+    {
+        match op {
+            Op::Put(key, value) => self.write_for(xid, key.as_slice(), Some(value.as_slice())),
+            Op::Delete(key) => self.write_for(xid, key.as_slice(), None),
+            Op::Get(key) => {
+                let _value = self.read_for(xid, key.as_slice())?;
+                Ok(())
+            }
+        }
+    }
+
+    /// An idle branch can only be rolled back from now on.
+    fn spoil(&mut self, xid: &Xid)
+        requires { state_of self.old xid.now ≡ BranchState.S2 }
+        ensures { MovesTables self.old self.new (λ old new. Takes old new xid.now BranchState.S4) }
+    {
+        if let Some((place, _)) = self.states.find(xid) {
+            self.states.finish(place, BranchState::S4);
+        }
+    }
+
+    /// An idle branch does an operation, and no thread is in it. False: it was refused, and the branch can only be
+    /// rolled back. Memory: nothing changed.
+    pub fn work_idle(&mut self, xid: &Xid, op: &Op) -> Result<bool, AllocError>
+        requires { state_of self.old xid.now ≡ BranchState.S2 }
+        ensures ok { IfOk result (WorksIdle self.old self.new xid.now op.now) }
+        ensures err { OnErr result (SameStore self.old self.new) }
+    {
+        match self.work_for(xid, op) {
+            Ok(()) => Ok(true),
+            Err(WorkError::Memory) => Err(AllocError),
+            Err(_) => {
+                self.spoil(xid);
+                Ok(false)
+            }
+        }
     }
 
     /// Opens the manager, which migrates associations or not.

@@ -1,9 +1,12 @@
 -- The table of holders and the lists of keys, as the maps hold them.
-use Rattle.std.proofs.Common.{◌≡◌, ℕ, Bool, true, false, cond, Option, None, Some, unwrap_or, List, [], ◌∷◌, ◌++◌, subst, refl, sym, ap, ◌∙◌, arith, rules, inl, inr}
+use Rattle.std.proofs.Common.{◌≡◌, ℕ, Bool, true, false, cond, Option, None, Some, unwrap_or, List, [], ◌∷◌, ◌++◌, subst, refl, sym, ap, ◌∙◌, arith, rules, inl, inr, position, slice_get, option_map}
 use Rattle.std.proofs.lemmas.Grind.{common_steps}
 use Rattle.std.proofs.lemmas.List.Folds.{list_any-append}
 use Rattle.std.specs.Global.{Vec}
-use Rattle.std.specs.Map.{lookup}
+use Rattle.std.specs.Map.{keys_of as map_keys, lookup}
+use Rattle.std.proofs.lemmas.Option.{slice_get-map}
+use Rattle.indexmap.specs.IndexMap.{IndexMap, Updates}
+use Rattle.indexmap.proofs.MapLemmas.{Found-position, Missing-position}
 use Rattle.xa_xid.specs.declared.xid.Xid.{Xid}
 use Rattle.key_tables.specs.declared.holders.Holder.{Holder}
 use Rattle.key_tables.specs.declared.holders.Mode.{Mode}
@@ -156,6 +159,23 @@ releasing_ends t u x so_far = record {
     idle : (k : List ℕ) (b : Bool) → holds (holders_of u k) x ≡ b → holds (holders_of u k) x ≡ false
     idle k true e = absurd (let never : false ≡ true = so_far.left k e in cc)
     idle k false e = e
+
+-- nothing is listed for a branch that has no place
+pub no_keys : (held : List (Xid × Vec (Vec ℕ))) (x : Xid) → position (same x) (map_keys held) ≡ None
+    → keys_of held x ≡ []
+no_keys held x none = ap keys_in (Missing-position (same x) held none).value
+
+-- the keys of a branch are those at its place
+pub keys_at : (held : List (Xid × Vec (Vec ℕ))) (x : Xid) (i : ℕ) (e : Xid × Vec (Vec ℕ))
+    → position (same x) (map_keys held) ≡ Some i → slice_get held i ≡ Some e → keys_of held x ≡ e.1.items
+keys_at held x i e at is = ap keys_in ((Found-position (same x) held i at).value
+    ∙ slice_get-map (λ (q : Xid × Vec (Vec ℕ)). q.1) held i
+    ∙ ap (option_map (λ (q : Xid × Vec (Vec ℕ)). q.1)) is)
+
+-- the list of a branch is taken out, and no other
+pub other_keys : {S : Type 0} (m n : IndexMap Xid (Vec (Vec ℕ)) S) (x : Xid) → Updates same m n x None
+    → (y : Xid) → same x y ≡ false → keys_of n.entries y ≡ keys_of m.entries y
+other_keys m n x out y apart = ap keys_in (out.2 y apart)
 
 -- nothing is listed for the branch, so it holds nothing
 pub released_nothing : (t : LockTable) (held : List (Xid × Vec (Vec ℕ))) (x : Xid) → IsKept t held

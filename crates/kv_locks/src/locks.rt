@@ -147,7 +147,10 @@ impl Locks {
     pub fn release(&mut self, xid: &Xid)
         ensures { Releases self.old self.new xid.now }
     {
-        if let Some(keys) = self.keys.swap_remove(xid) {
+        let Some(place) = few_keys::place_of(&self.keys, xid) else {
+            return;
+        };
+        if let Some((_, keys)) = self.keys.swap_remove_index(place) {
             release_each(&mut self.holders, keys.as_slice(), xid);
         }
     }

@@ -1,14 +1,16 @@
 -- What keeps the data those of the log.
-use Rattle.std.proofs.Common.{◌≡◌, ℕ, Bool, true, false, List, Option, Result, Ok, Err, refl, sym, ap, subst, ◌∙◌}
-use Rattle.std.specs.Prelude.{◌==◌, IfOk, IfErr, IsErrAnd, MatchResult, length}
+use Rattle.std.proofs.Common.{◌≡◌, ℕ, Bool, true, false, List, Option, Some, None, Result, Ok, Err, refl, sym, ap, subst, ◌∙◌, if◌then◌else◌}
+use Rattle.std.specs.Prelude.{◌==◌, IfOk, IfErr, IsErrAnd, MatchResult, is_some, length, nat_lt, unwrap_or}
+use Rattle.std.specs.Map.{lookup}
 use Rattle.std.proofs.lemmas.Bool.{eqb-true}
 use Rattle.xa_codes.specs.declared.code.Code.{Code}
+use Rattle.xa_codes.specs.declared.code.Code.TheVariants as code
 use Rattle.xa_tables.specs.Calls.{legal}
 use Rattle.xa_tables.specs.declared.call.Call.{Call}
 use Rattle.xa_tables.specs.declared.call.Verb.TheVariants as verb
 use Rattle.xa_assoc.specs.Associations.{IsBare}
 use Rattle.xa_branch.specs.Branches.{BranchList, state_in}
-use Rattle.xa_assoc.specs.Answers.{Closed, Closes, Opened, Opens, state_at}
+use Rattle.xa_assoc.specs.Answers.{BeginsIdle, Closed, Closes, Opened, Opens, state_at}
 use Rattle.xa_tables.specs.declared.states.BranchState.{BranchState}
 use Rattle.xa_tables.specs.declared.states.BranchState.TheVariants.{S0, S1, S2, S3, S4, S5}
 use Rattle.xa_xid.specs.declared.xid.Xid.{Xid}
@@ -18,19 +20,21 @@ use Rattle.xa_branch.specs.Names.{same}
 use Rattle.xa_assoc.specs.declared.errors.WorkError.{WorkError}
 use Rattle.xa_assoc.specs.declared.errors.WorkError.TheVariants.{Memory, NotAssociated, Locked, TooLong, TooManyWrites, RmFail, RollbackOnly}
 use Rattle.tree_model.specs.Store.{Data}
+use Rattle.tree_model.specs.declared.messages.Op.{Op}
+use Rattle.tree_model.specs.declared.messages.Op.TheVariants.{Put, Get, Delete}
 use Rattle.kv_store.specs.Versions.{SameData, VersionTable, value_at}
 use Rattle.kv_core.specs.Folds.{AreData}
 use Rattle.kv_store.specs.writes.Writes.{writes_of}
 use Rattle.xa_heur.specs.Cases.{decision_in, decision_or}
-use Rattle.kv_core.specs.Stores.{KeySight, SameStore, is_decided, state_of}
+use Rattle.kv_core.specs.Stores.{KeySight, MovesTables, SameStore, is_decided, state_of}
 use Rattle.kv_core.specs.Ends.{Reserves, SameButData, known_of}
-use Rattle.kv_core.specs.Works.{IsRefused, Writes}
-use Rattle.kv_core.proofs.Moves.{Keeps, same_keeps}
+use Rattle.kv_core.specs.Works.{Does, IsRefused, Writes, WritesFor, WorksIdle}
+use Rattle.kv_core.proofs.Moves.{Keeps, moves_keep, same_keeps}
 use Rattle.kv_core.proofs.Working.{works_apart}
 use Rattle.xa_heur.specs.declared.decision.Decision.{Decision}
 use Rattle.rec_log.specs.Sights.{records_of}
 use Rattle.kv_manager.specs.Sights.{IsKept, KvSight, SaysDecided, doubt_of, logged}
-use Rattle.kv_manager.proofs.Staying.{SameDoubts, same_doubts}
+use Rattle.kv_manager.proofs.Staying.{SameDoubts, moves_doubts, same_doubts}
 
 -- a branch is prepared
 abbrev pub is_prepared : BranchState → Bool
@@ -149,26 +153,37 @@ refused_same old new refusal TooManyWrites h = h.1
 refused_same old new refusal RmFail h = h.1
 refused_same old new refusal RollbackOnly h = h.1
 
-pub wrote_promises : (old new : KeySight) (t : ℕ) (k : List ℕ) (v : Option (List ℕ))
-    → Writes old new t k v → KeepsPromises old new
-wrote_promises old new t k v wrote = record {
+-- a branch that is not prepared wrote a key
+kept_writes : (old new : KeySight) (w : Xid) (k : List ℕ) (v : Option (List ℕ))
+    → is_prepared (state_of old w) ≡ false → WritesFor old new w k v → KeepsPromises old new
+kept_writes old new w k v apart wrote = record {
   doubts = one_doubts old.tables new.tables wrote.tables;
   versions = one_data old.versions new.versions wrote.versions;
   prepared = λ x is. ap (λ s. state_of (record old { tables = s }) x) (sym wrote.tables) ∙ is;
   writes = λ x is. writes x (ap (λ s. state_of (record old { tables = s }) x) (sym wrote.tables)
-      ∙ is) (same wrote.branch x) refl;
+      ∙ is) (same w x) refl;
   decided = λ x is. ap (λ s. state_of (record old { tables = s }) x) (sym wrote.tables) ∙ is;
   known = λ x is. ap (λ d. decision_or (decision_in d x)) wrote.decisions;
 }
   where
-    writes : (x : Xid) → state_of old x ≡ S3 → (b : Bool) → same wrote.branch x ≡ b
+    writes : (x : Xid) → state_of old x ≡ S3 → (b : Bool) → same w x ≡ b
         → writes_of new.writes x ≡ writes_of old.writes x
-    writes x is true e =
-        let apart : is_prepared (state_of old wrote.branch) ≡ false =
-        works_apart is_prepared old t wrote.branch refl refl wrote.works in
-        absurd (let never : true ≡ false = sym (ap is_prepared is)
-        ∙ ap (λ z. is_prepared (state_of old z)) (sym (same_is wrote.branch x e)) ∙ apart in cc)
+    writes x is true e = absurd (let never : true ≡ false = sym (ap is_prepared is)
+        ∙ ap (λ z. is_prepared (state_of old z)) (sym (same_is w x e)) ∙ apart in cc)
     writes x is false e = wrote.writes.others x e
+
+pub wrote_promises : (old new : KeySight) (t : ℕ) (k : List ℕ) (v : Option (List ℕ))
+    → Writes old new t k v → KeepsPromises old new
+wrote_promises old new t k v wrote =
+    kept_writes old new wrote.branch k v (works_apart is_prepared old t wrote.branch refl refl wrote.works)
+    (record {
+      allowed = wrote.allowed;
+      locks = wrote.locks;
+      writes = wrote.writes;
+      tables = wrote.tables;
+      versions = wrote.versions;
+      decisions = wrote.decisions;
+    })
 
 -- results, both ways
 pub either_way : {A E : Type 0} (P : A → Type 0) (Q : E → Type 0) (X : Type 0)
@@ -259,3 +274,49 @@ called_promises old new one writes versions decisions =
   where
     keeps : (q : BranchState → Bool) → Keeps q old.tables new.tables
     keeps q x h = ap (λ (b : BranchList). q (state_in b.branches x)) (sym one) ∙ h
+
+-- Work of a branch that no thread is in.
+
+not_known : (o : Option BranchState) (below : Bool)
+    → (if is_some o then code.DupId else if below then code.Ok else code.RmErr) ≡ code.Ok → unwrap_or o S0 ≡ S0
+not_known None below e = refl
+not_known (Some s) below e = absurd cc
+
+-- one begins
+pub begins_promises : (old new : KeySight) (x : Xid) (begun : Bool)
+    → MovesTables old new (λ t u. BeginsIdle t u x begun) → KeepsPromises old new
+begins_promises old new x true made =
+    let was : state_of old x ≡ S0 = not_known (lookup (same x) old.tables.branches.branches)
+    (nat_lt (length old.tables.branches.branches) 1024) made.tables.0 in
+    moved_promises old new
+    (moves_doubts old.tables new.tables x S2 (sym (ap doubt_of was)) made.tables.1.branch)
+    (moves_keep is_prepared old.tables new.tables x S2 refl made.tables.1.branch)
+    (moves_keep is_decided old.tables new.tables x S2 refl made.tables.1.branch)
+    made.writes made.versions made.decisions
+begins_promises old new x false made =
+    moved_promises old new (same_doubts old.tables new.tables made.tables.1)
+    (same_keeps is_prepared old.tables new.tables made.tables.1)
+    (same_keeps is_decided old.tables new.tables made.tables.1) made.writes made.versions made.decisions
+
+did_promises : (old new : KeySight) (x : Xid) (op : Op) → state_of old x ≡ S2 → Does old new x op
+    → KeepsPromises old new
+did_promises old new x (Put k v) at wrote = kept_writes old new x k (Some v) (ap is_prepared at) wrote
+did_promises old new x (Get k) at reads =
+    called_promises old new (ap (λ (m : States). m.branches) reads.1.tables) reads.1.writes reads.1.versions
+    reads.1.decisions
+did_promises old new x (Delete k) at wrote = kept_writes old new x k None (ap is_prepared at) wrote
+
+-- an idle one does an operation, or is refused it
+pub works_promises : (old new : KeySight) (x : Xid) (op : Op) (done : Bool) → state_of old x ≡ S2
+    → WorksIdle old new x op done → KeepsPromises old new
+works_promises old new x op true at did = did_promises old new x op at did
+works_promises old new x op false at spoils = record {
+  doubts = moves_doubts old.tables new.tables x S4 (sym (ap doubt_of at)) spoils.tables.branch;
+  versions = one_data old.versions new.versions spoils.versions;
+  prepared = prepared_by old.tables new.tables
+      (moves_keep is_prepared old.tables new.tables x S4 refl spoils.tables.branch) old new refl refl;
+  writes = λ y is. spoils.writes y;
+  decided = decided_by old.tables new.tables
+      (moves_keep is_decided old.tables new.tables x S4 refl spoils.tables.branch) old new refl refl;
+  known = λ y is. ap decision_or (spoils.decisions y);
+}

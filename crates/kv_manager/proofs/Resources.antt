@@ -1,7 +1,7 @@
 -- A key store with a log does what a resource manager does.
 use Rattle.std.proofs.Common.{◌≡◌, ◌-◌, ◌^◌, ℕ, Bool, true, false, not, if◌then◌else◌, List, [], ◌∷◌, Option, Some, None, refl, sym, ap, subst, ◌∙◌}
 use Rattle.std.proofs.lemmas.List.{append-nil}
-use Rattle.std.specs.Prelude.{◌||◌, Contains, nat_lt}
+use Rattle.std.specs.Prelude.{◌||◌, Contains, is_none, nat_lt}
 use Rattle.xa_codes.specs.declared.code.Code.{Code}
 use Rattle.xa_codes.specs.declared.code.Code.TheVariants as code
 use Rattle.xa_tables.specs.Tables.{branch_rows, is_spoiled}
@@ -13,9 +13,9 @@ use Rattle.xa_tables.specs.declared.states.BranchState.TheVariants.{S0, S1, S2, 
 use Rattle.xa_xid.specs.declared.xid.Xid.{Xid}
 use Rattle.xa_branch.specs.Names.{same}
 use Rattle.xa_branch.specs.Branches.{off_row}
-use Rattle.xa_assoc.specs.Associations.{active_of}
+use Rattle.xa_assoc.specs.Associations.{AssocList, active_of}
 use Rattle.xa_assoc.specs.declared.states.States.{States}
-use Rattle.xa_assoc.specs.Answers.{Same, Takes as TakesRow}
+use Rattle.xa_assoc.specs.Answers.{BeginsIdle, Same, Takes as TakesRow, state_at}
 use Rattle.xa_assoc.specs.Ready.{has_rows, is_work, is_work_verb}
 use Rattle.xa_assoc.proofs.Finishing.{passed, works_as}
 use Rattle.xa_assoc.proofs.Reactions.{stays}
@@ -32,13 +32,15 @@ use Rattle.tree_model.specs.declared.messages.Op.TheVariants.{Put, Get, Delete}
 use Rattle.tree_model.specs.Nodes.{Written}
 use Rattle.tree_model.specs.Plays.{op_writes}
 use Rattle.log_text.specs.Parts.{name_in}
-use Rattle.rec_log.specs.Sights.{Breaks}
+use Rattle.rec_log.specs.Sights.{Breaks, LogSight}
 use Rattle.core_model.specs.States.{wrote}
 use Rattle.xa_assoc.specs.declared.errors.WorkError.{WorkError}
 use Rattle.xa_assoc.specs.declared.errors.WorkError.TheVariants.{Locked, Memory, NotAssociated, RmFail, RollbackOnly, TooLong, TooManyWrites}
 use Rattle.manager_model.specs.Sights.{Calls, SameManager, obstacle}
 use Rattle.manager_model.specs.Data as model_data
-use Rattle.manager_model.specs.Data.{Locks, held_with}
+use Rattle.manager_model.specs.Data.{Locks, held_with, is_begun}
+use Rattle.manager_model.specs.Idle.{Comes, HasBegun, IsIdle, IsQuiet, WorksIdle}
+use Rattle.manager_model.proofs.Idle.{has_begun, stays_known}
 use Rattle.manager_model.specs.Works.{WorkRefused, Works, work_refusal}
 use Rattle.manager_model.specs.Works as model
 use Rattle.manager_model.specs.Ends.{Broke, Fails, Failed, Finishes, Limited, Made, Makes, Refused, Unlisted, decided_behind, left_with, logged_under, outcome_row, row_for, row_of, state_of as state_of_log, tells, written_by, written_for}
@@ -321,6 +323,115 @@ did_delete old new t k made = by_failed old.log.sight.failed refl
         (ap (refusal_by old.store k None Exclusive) wrote.works ∙ wrote.allowed)
         wrote.writes.own wrote.writes.others
         (record { own = wrote.locks.own; others = wrote.locks.others }) wrote.tables wrote.decisions made.log made.boot
+
+-- Work of a branch that no thread is in.
+
+pub begun_idle : (old new : KvSight) (x : Xid) (begun : Bool) → IsIdle (sight_of old)
+    → old.log.sight.failed ≡ false
+    → KvCalls old new ⊥ (λ before behind. MovesTables before behind (λ t u. BeginsIdle t u x begun))
+    → HasBegun (sight_of old) (sight_of new) x begun
+begun_idle old new x begun idle up made =
+    let calls = called old new ⊥ (λ t u. BeginsIdle t u x begun) made in
+    has_begun (sight_of old) (sight_of new) x begun idle (calls.works up) calls.log calls.boot calls.spent
+    calls.rest
+
+op_free : (s : KeySight) (x : Xid) (op : Op) → state_of s x ≡ S2 → core.op_refusal s x op ≡ obstacle_of s x op
+op_free s x (Put k v) at =
+    ap (λ t. if is_spoiled t then Some RollbackOnly else data_refusal s k (Some v) Exclusive x) at
+op_free s x (Get k) at = ap (λ t. if is_spoiled t then Some RollbackOnly else data_refusal s k None Shared x) at
+op_free s x (Delete k) at =
+    ap (λ t. if is_spoiled t then Some RollbackOnly else data_refusal s k None Exclusive x) at
+
+-- the data alone are in the way of an idle branch
+in_way : (s : KvSight) (x : Xid) (op : Op) → state_of s.store x ≡ S2
+    → obstacle (sight_of s) x op ≡ core.op_refusal s.store x op
+in_way s x op at = obstacle_is s x op ∙ sym (op_free s.store x op at)
+
+did_idle : (old new : KvSight) (x : Xid) (op : Op) → IsIdle (sight_of old) → state_of old.store x ≡ S2
+    → core.op_refusal old.store x op ≡ None
+    → writes_of new.store.writes x ≡ op_writes (writes_of old.store.writes x) op
+    → ((y : Xid) → same x y ≡ false → writes_of new.store.writes y ≡ writes_of old.store.writes y)
+    → Locks (sight_of old).holders (sight_of new).holders x op
+    → new.store.tables ≡ old.store.tables → new.store.decisions ≡ old.store.decisions
+    → new.log.sight ≡ old.log.sight → new.boot ≡ old.boot
+    → WorksIdle (sight_of old) (sight_of new) x op true
+did_idle old new x op idle at allowed own others locks tables decisions log boot = record {
+  allowed = ap is_none (in_way old x op at ∙ allowed);
+  comes = record {
+    own = ap (λ (m : States). state_at m x) tables ∙ at;
+    others = λ y apart. ap (λ (m : States). state_at m y) tables;
+    others_decided = λ y apart. ap (λ d. decision_or (decision_in d y)) decisions;
+    idle = record {
+      opened = ap (λ (m : States). m.init) tables ∙ idle.opened;
+      quiet = subst (λ (m : States). IsQuiet m.associations) (sym tables) idle.quiet;
+    };
+    boot = boot;
+    form = ap (λ (l : LogSight). l.form) log;
+  };
+  log = log;
+  operates = record {
+    wrote = record { own = own; others = others };
+    locks = locks;
+    known = λ y. ap (λ (m : States). is_begun (state_at m y)) tables;
+  };
+}
+
+done_idle : (old new : KvSight) (x : Xid) (op : Op) → IsIdle (sight_of old) → state_of old.store x ≡ S2
+    → core.Does old.store new.store x op → new.log.sight ≡ old.log.sight → new.boot ≡ old.boot
+    → WorksIdle (sight_of old) (sight_of new) x op true
+done_idle old new x (Put k v) idle at did log boot =
+    did_idle old new x (Put k v) idle at did.allowed did.writes.own did.writes.others
+    (record { own = did.locks.own; others = did.locks.others }) did.tables did.decisions log boot
+done_idle old new x (Get k) idle at did log boot =
+    did_idle old new x (Get k) idle at did.1.allowed (ap (λ w. writes_of w x) did.1.writes)
+    (λ y apart. ap (λ w. writes_of w y) did.1.writes)
+    (record { own = did.1.locks.own; others = did.1.locks.others }) did.1.tables did.1.decisions log boot
+done_idle old new x (Delete k) idle at did log boot =
+    did_idle old new x (Delete k) idle at did.allowed did.writes.own did.writes.others
+    (record { own = did.locks.own; others = did.locks.others }) did.tables did.decisions log boot
+
+some_is : (o : Option WorkError) → (o ≡ None → ⊥) → is_none o ≡ false
+some_is None n = absurd (n refl)
+some_is (Some e) n = refl
+
+spoiled_idle : (old new : KvSight) (x : Xid) (op : Op) → IsIdle (sight_of old) → state_of old.store x ≡ S2
+    → core.Spoils old.store new.store x op → new.log.sight ≡ old.log.sight → new.boot ≡ old.boot
+    → WorksIdle (sight_of old) (sight_of new) x op false
+spoiled_idle old new x op idle at spoils log boot = record {
+  allowed = some_is (obstacle (sight_of old) x op) (λ e. spoils.refused (sym (in_way old x op at) ∙ e));
+  comes = comes;
+  log = log;
+  operates = record {
+    keeps = record { writes = spoils.writes; holders = λ k. ap (λ t. holders_of t k) spoils.locks };
+    known = stays_known (sight_of old) (sight_of new) x S4 comes (ap is_begun at);
+  };
+}
+  where
+    comes : Comes (sight_of old) (sight_of new) x S4
+    comes = record {
+      own = spoils.tables.branch.own;
+      others = spoils.tables.branch.others;
+      others_decided = λ y apart. ap decision_or (spoils.decisions y);
+      idle = record {
+        opened = spoils.tables.init ∙ idle.opened;
+        quiet = subst (λ (a : AssocList). IsQuiet a) (sym spoils.tables.associations) idle.quiet;
+      };
+      boot = boot;
+      form = ap (λ (l : LogSight). l.form) log;
+    }
+
+works_by : (old new : KvSight) (x : Xid) (op : Op) (done : Bool) → IsIdle (sight_of old)
+    → state_of old.store x ≡ S2 → core.WorksIdle old.store new.store x op done
+    → new.log.sight ≡ old.log.sight → new.boot ≡ old.boot → WorksIdle (sight_of old) (sight_of new) x op done
+works_by old new x op true = done_idle old new x op
+works_by old new x op false = spoiled_idle old new x op
+
+pub works_idle : (old new : KvSight) (x : Xid) (op : Op) (done : Bool) → IsIdle (sight_of old)
+    → old.log.sight.failed ≡ false → state_of old.store x ≡ S2
+    → KvCalls old new ⊥ (λ before behind. core.WorksIdle before behind x op done)
+    → WorksIdle (sight_of old) (sight_of new) x op done
+works_idle old new x op done idle up at made =
+    works_by old new x op done idle at (made.works up) made.log made.boot
 
 -- The calls that finish a branch: a turn is its row, and its record the row's.
 

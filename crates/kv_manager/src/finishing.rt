@@ -10,7 +10,7 @@ ghost use Rattle.log_text.specs.Made.{frame_record};
 ghost use Rattle.log_text.specs.Payloads.{record_size};
 ghost use Rattle.rec_log.specs.Sights.{IsRecord};
 ghost use Rattle.tree_model.specs.declared.names.Kind.TheVariants as kind;
-ghost use Rattle.kv_store.specs.writes.Writes.{writes_of};
+ghost use Rattle.kv_store.specs.writes.Writes.{ListedAt, writes_of};
 ghost use Rattle.kv_turns.specs.Turns.{IsEntry, applies, decide_turn, entry_record};
 ghost use Rattle.xa_branch.specs.Branches.{StandsAt};
 ghost use Rattle.xa_tables.specs.declared.call.Call.{Call as AnyCall};
@@ -42,29 +42,36 @@ fn decided(answer: Code) -> Result<(), DecideError>
 
 impl<L: LogStore> KvManager<L> {
     /// What a record has of what its branch has written.
-    fn writes_in(&self, xid: &Xid, entry: Entry) -> &[Write]
-        requires { HasWrites entry (writes_of self.now.store.writes xid.now) }
+    fn writes_in(&self, xid: &Xid, written: Option<usize>, entry: Entry) -> &[Write]
+        requires written { ListedAt self.now.store.writes xid.now written }
+        requires some { HasWrites entry (writes_of self.now.store.writes xid.now) }
         ensures record { entry_record entry xid.now result.now
             ≡ entry_record entry xid.now (writes_of self.now.store.writes xid.now) }
         ensures fits { IsEntry entry result.now }
     {
         if entry.has_writes() {
-            self.store.writes(xid)
+            self.store.writes_at(written)
         } else {
             &[]
         }
     }
 
     /// The record of a branch, with room for it in the log: all the memory that the log needs.
-    fn frame(&mut self, xid: &Xid, entry: Entry) -> Result<Frame, AllocError>
-        requires { HasWrites entry (writes_of self.old.store.writes xid.now) }
+    fn frame(
+        &mut self,
+        xid: &Xid,
+        written: Option<usize>,
+        entry: Entry,
+    ) -> Result<Frame, AllocError>
+        requires written { ListedAt self.old.store.writes xid.now written }
+        requires some { HasWrites entry (writes_of self.old.store.writes xid.now) }
         ensures record { IfOk result (λ frame. frame_record frame ≡ entry_record entry xid.now
             (writes_of self.old.store.writes xid.now)) }
         ensures room { IfOk result (λ frame. record_size (frame_record frame) ≤ self.new.log.room) }
         ensures sound { IfOk result (λ frame. IsRecord kind.Manager (frame_record frame)) }
         ensures stays { OnlyRoom self.old self.new }
     {
-        let frame = entry.frame(xid, self.writes_in(xid, entry), self.alloc)?;
+        let frame = entry.frame(xid, self.writes_in(xid, written, entry), self.alloc)?;
         self.log.reserve(frame.size())?;
         Ok(frame)
     }
@@ -74,21 +81,23 @@ impl<L: LogStore> KvManager<L> {
         &mut self,
         xid: &Xid,
         place: usize,
+        written: Option<usize>,
         turn: Turn,
         entry: Entry,
     ) -> Result<Code, AllocError>
         requires due { (c : AnyCall) × IsDueTurn self.old xid.now c turn }
         requires stands { StandsAt self.old.store.tables.branches.branches xid.now place }
+        requires written { ListedAt self.old.store.writes xid.now written }
         requires entry { turn.entry ≡ Some entry }
         requires data { applies entry ≡ false }
         ensures answer { IfOk result (Takes self.old self.new xid.now turn) }
         ensures err { OnErr result (SameManager self.old self.new) }
     {
-        let frame = self.frame(xid, entry)?;
+        let frame = self.frame(xid, written, entry)?;
         self.store.is_tidy(xid);
         match write(&mut self.log, &frame, turn.is_forced) {
             Ok(()) => {
-                self.store.finish(xid, place, turn);
+                self.store.finish(xid, place, written, turn);
                 Ok(turn.code)
             }
             Err(_) => Ok(Code::RmFail),
@@ -101,24 +110,26 @@ impl<L: LogStore> KvManager<L> {
         &mut self,
         xid: &Xid,
         place: usize,
+        written: Option<usize>,
         turn: Turn,
         entry: Entry,
     ) -> Result<Code, AllocError>
         requires due { (c : AnyCall) × IsDueTurn self.old xid.now c turn }
         requires stands { StandsAt self.old.store.tables.branches.branches xid.now place }
+        requires written { ListedAt self.old.store.writes xid.now written }
         requires entry { turn.entry ≡ Some entry }
         requires data { applies entry ≡ true }
         requires fits { self.old.store.versions.count + 1 < 2 ^ 63 }
         ensures answer { IfOk result (Takes self.old self.new xid.now turn) }
         ensures err { OnErr result (SameManager self.old self.new) }
     {
-        let frame = self.frame(xid, entry)?;
+        let frame = self.frame(xid, written, entry)?;
         self.store.is_tidy(xid);
-        self.store.stage(xid)?;
+        self.store.stage(xid, written)?;
         match write(&mut self.log, &frame, turn.is_forced) {
             Ok(()) => {
                 self.store.publish();
-                self.store.finish(xid, place, turn);
+                self.store.finish(xid, place, written, turn);
                 Ok(turn.code)
             }
             Err(_) => Ok(Code::RmFail),
@@ -126,20 +137,27 @@ impl<L: LogStore> KvManager<L> {
     }
 
     /// A branch takes the turn of a call that no check refuses, or of an operator's decision.
-    fn take(&mut self, xid: &Xid, place: usize, turn: Turn) -> Result<Code, AllocError>
+    fn take(
+        &mut self,
+        xid: &Xid,
+        place: usize,
+        written: Option<usize>,
+        turn: Turn,
+    ) -> Result<Code, AllocError>
         requires due { (c : AnyCall) × IsDueTurn self.old xid.now c turn }
         requires stands { StandsAt self.old.store.tables.branches.branches xid.now place }
+        requires written { ListedAt self.old.store.writes xid.now written }
         ensures answer { IfOk result (Takes self.old self.new xid.now turn) }
         ensures err { OnErr result (SameManager self.old self.new) }
     {
         match turn.entry {
             None => {
-                self.store.finish(xid, place, turn);
+                self.store.finish(xid, place, written, turn);
                 Ok(turn.code)
             }
-            Some(entry) if !entry.applies() => self.take_noted(xid, place, turn, entry),
+            Some(entry) if !entry.applies() => self.take_noted(xid, place, written, turn, entry),
             Some(_) if !self.store.has_numbers() => Ok(Code::RmErr),
-            Some(entry) => self.take_committed(xid, place, turn, entry),
+            Some(entry) => self.take_committed(xid, place, written, turn, entry),
         }
     }
 
@@ -153,7 +171,7 @@ impl<L: LogStore> KvManager<L> {
             return Ok(Code::RmFail);
         }
         match self.store.due(verb, xid, flags) {
-            Ok((place, turn)) => self.take(xid, place, turn),
+            Ok((place, written, turn)) => self.take(xid, place, written, turn),
             Err(refusal) => Ok(refusal),
         }
     }
@@ -214,7 +232,8 @@ impl<L: LogStore> KvManager<L> {
             return Err(DecideError::NotInDoubt);
         }
         self.store.reserve_decision()?;
-        let answer = self.take(xid, place, Turn::decide(outcome))?;
+        let written = self.store.writes_place(xid);
+        let answer = self.take(xid, place, written, Turn::decide(outcome))?;
         decided(answer)
     }
 }

@@ -4,11 +4,11 @@ ghost use Rattle.log_text.specs.Forms.{log_form};
 ghost use Rattle.std.specs.Prelude.{◌≡◌, ◌<◌, ◌+◌, [], length, false, true, IfOk, IfErr, OnOk, OnErr, Err, Some, None};
 ghost use Rattle.key_tables.specs.declared.holders.Mode.TheVariants as mode;
 ghost use Rattle.kv_core.specs.Stores.{MovesTables, state_of};
-ghost use Rattle.kv_core.specs.Works.{Reads, Writes, work_refusal};
+ghost use Rattle.kv_core.specs.Works.{Reads, Writes, WorksIdle, work_refusal};
 ghost use Rattle.kv_core.specs.Ends.{known_of};
 ghost use Rattle.xa_branch.specs.Branches.{AreListedOnce};
 ghost use Rattle.xa_heur.specs.Decisions.{decision_at};
-ghost use Rattle.xa_assoc.specs.Answers.{Answers, Closes, Opens, Recovers, Wanted, map_ok};
+ghost use Rattle.xa_assoc.specs.Answers.{Answers, BeginsIdle, Closes, Opens, Recovers, Wanted, map_ok};
 ghost use Rattle.xa_assoc.specs.Ready.{is_work_verb, leaves};
 ghost use Rattle.xa_tables.specs.Calls.{legal};
 ghost use Rattle.kv_manager.specs.Resources.{sight_of};
@@ -30,7 +30,7 @@ use std::alloc::{AllocError, Global};
 use std::marker::Model;
 use std::mem;
 use thiserror::Error;
-use tree_model::{Bytes, Kind, LogRecord, ProcessId};
+use tree_model::{Bytes, Kind, LogRecord, Op, ProcessId};
 use xa_assoc::WorkError;
 use xa_codes::{Code, Flags};
 use xa_heur::Decision;
@@ -289,6 +289,29 @@ impl<L: LogStore> KvManager<L> {
             × SameManager self.old self.new) }
     {
         self.work_call(Verb::End, thread, xid, flags)
+    }
+
+    /// A new branch begins that no thread is in. False: it is known, or 1,024 are; nothing changed, nor does want
+    /// of memory.
+    pub(crate) fn begin_idle(&mut self, xid: &Xid) -> Result<bool, AllocError>
+        requires up { self.old.log.sight.failed ≡ false }
+        ensures begun { IfOk result (λ begun. Calls self.old self.new ⊥ (λ before behind. MovesTables before behind
+            (λ old new. BeginsIdle old new xid.now begun))) }
+        ensures err { OnErr result (SameManager self.old self.new) }
+    {
+        self.store.begin_idle(xid)
+    }
+
+    /// An idle branch does an operation, and no thread is in it. False: it was refused, and the branch can only be
+    /// rolled back. Memory: nothing changed.
+    pub(crate) fn work_idle(&mut self, xid: &Xid, op: &Op) -> Result<bool, AllocError>
+        requires up { self.old.log.sight.failed ≡ false }
+        requires state { state_of self.old.store xid.now ≡ BranchState.S2 }
+        ensures ok { IfOk result (λ done. Calls self.old self.new ⊥
+            (λ before behind. WorksIdle before behind xid.now op.now done)) }
+        ensures err { OnErr result (SameManager self.old self.new) }
+    {
+        self.store.work_idle(xid, op)
     }
 
     /// What the manager restarts as behind a crash that keeps so many of the log's unforced bytes. Memory.

@@ -48,6 +48,14 @@ impl<L: LogStore> ResourceManager for KvManager<L> {
         KvManager::end(self, thread, xid, flags)
     }
 
+    fn begin_idle(&mut self, xid: &Xid) -> Result<bool, AllocError> {
+        KvManager::begin_idle(self, xid)
+    }
+
+    fn work_idle(&mut self, xid: &Xid, op: &Op) -> Result<bool, AllocError> {
+        KvManager::work_idle(self, xid, op)
+    }
+
     fn prepare(&mut self, thread: u32, xid: &Xid, flags: Flags) -> Result<Code, AllocError> {
         KvManager::prepare(self, thread, xid, flags)
     }

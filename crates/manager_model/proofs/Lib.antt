@@ -1,1 +1,2 @@
 pub mod Lefts
+pub mod Idle

@@ -2,6 +2,7 @@ pub mod Data
 pub mod Sights
 pub mod Turns
 pub mod Works
+pub mod Idle
 pub mod Ends
 pub mod Opening
 pub mod Orders

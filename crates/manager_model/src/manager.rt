@@ -1,12 +1,14 @@
 //! The calls of a resource manager.
 
-ghost use Rattle.std.specs.Prelude.{◌≡◌, false, Err, IfErr, IfOk, OnErr, OnOk};
+ghost use Rattle.std.specs.Prelude.{◌≡◌, ◌≢◌, false, Err, IfErr, IfOk, OnErr, OnOk};
 ghost use Rattle.std.specs.List.{AllByRecursion};
 ghost use Rattle.xa_branch.specs.Branches.{AreListedOnce};
 ghost use Rattle.xa_heur.specs.Decisions.{decision_at};
+ghost use Rattle.xa_xid.specs.Xids.{null_xid};
 ghost use Rattle.xa_assoc.specs.Answers.{Answers, Closes, Opens, Recovers, Wanted, map_ok, state_at};
 ghost use Rattle.manager_model.specs.Sights.{Calls, ManagerSight, SameManager};
 ghost use Rattle.manager_model.specs.Works.{WorkRefused, Works};
+ghost use Rattle.manager_model.specs.Idle.{HasBegun, Idles, IsIdle, WorksIdle};
 ghost use Rattle.manager_model.specs.Ends.{Finishes, is_left};
 ghost use Rattle.manager_model.specs.Deciding.{Decides, NotDecided};
 ghost use Rattle.manager_model.specs.Restarting.{NotRestarted, Restarts};
@@ -80,6 +82,26 @@ pub trait ResourceManager {
             (λ old new. Answers wanted old new Verb.End thread xid.now flags.0 answer)) }
         ensures err { OnErr result ((is_left flags.0 ≡ false)
             × SameManager (sight self.old) (sight self.new)) };
+
+    /// While no thread has an association, a new branch begins and is left idle, as by a start and an end with
+    /// TMSUCCESS. False: the start would be refused; nothing changed, nor does want of memory.
+    fn begin_idle(&mut self, xid: &Xid) -> Result<bool, AllocError>
+        requires idle { IsIdle (sight self.old) }
+        requires up { (sight self.old).log.failed ≡ false }
+        requires named { xid.now ≢ null_xid }
+        ensures ok { IfOk result (HasBegun (sight self.old) (sight self.new) xid.now) }
+        ensures err { OnErr result (SameManager (sight self.old) (sight self.new)) };
+
+    /// While no thread has an association, an idle branch does an operation, as by a start with TMJOIN, the work
+    /// and an end. False: it was refused, and the branch can only be rolled back. Memory: the branch is idle as
+    /// before.
+    fn work_idle(&mut self, xid: &Xid, op: &Op) -> Result<bool, AllocError>
+        requires idle { IsIdle (sight self.old) }
+        requires up { (sight self.old).log.failed ≡ false }
+        requires named { xid.now ≢ null_xid }
+        requires state { state_at (sight self.old).tables xid.now ≡ BranchState.S2 }
+        ensures ok { IfOk result (WorksIdle (sight self.old) (sight self.new) xid.now op.now) }
+        ensures err { OnErr result (Idles (sight self.old) (sight self.new) xid.now) };
 
     /// A branch promises, with what it has written; one that wrote nothing is ended (C193, xa_prepare).
     /// RmFail: the device had failed, or fails now. Inval, Async: the flags. Proto: the manager is not open.

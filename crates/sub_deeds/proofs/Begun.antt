@@ -1,25 +1,21 @@
 -- Whether a branch can begin: it is not known, and fewer than 1,024 are.
-use Rattle.std.proofs.Common.{◌≡◌, ◌≢◌, ◌≤◌, ◌+◌, ◌∙◌, Bool, true, false, List, [], ◌∷◌, Option, Some, Result, Err, inl, inr, refl, sym, ap, arith, length}
-use Rattle.std.specs.Prelude.{◌||◌, is_some, is_ok, nat_le, unwrap_or, if◌then◌else◌}
+use Rattle.std.proofs.Common.{◌≡◌, ◌≢◌, ◌≤◌, ◌+◌, ◌∙◌, Bool, true, false, List, [], ◌∷◌, Option, Some, inl, inr, refl, sym, ap, arith, length}
+use Rattle.std.specs.Prelude.{is_some, is_ok, nat_le, unwrap_or, if◌then◌else◌}
 use Rattle.std.specs.List.{AllByRecursion, IsDistinct}
 use Rattle.std.specs.Map.{keys_of, lookup, remove_entry}
 use Rattle.std.proofs.lemmas.Bool.Decides.{nat_tests}
 use Rattle.std.proofs.lemmas.Map.Entries.{length-keys_of}
 use Rattle.std.proofs.lemmas.Map.Keys.{IsDistinct-head, IsDistinct-tail}
-use Rattle.xa_codes.specs.declared.code.Code.{Code}
-use Rattle.xa_codes.specs.declared.code.Code.TheVariants as code
-use Rattle.xa_tables.specs.declared.states.AssocState.TheVariants.{T0, T1}
 use Rattle.xa_tables.specs.declared.states.BranchState.{BranchState}
 use Rattle.xa_tables.specs.declared.states.BranchState.TheVariants.{S0, S1, S2, S3, S4, S5}
 use Rattle.xa_xid.specs.declared.xid.Xid.{Xid}
-use Rattle.xa_assoc.specs.Associations.{Row, has_room, has_seat, row}
 use Rattle.xa_branch.specs.Branches.{AreListedOnce, is_known, state_in}
 use Rattle.xa_branch.specs.Names.{same}
 use Rattle.xa_branch.proofs.Names.{same_flips, same_is, same_refl}
 use Rattle.manager_model.specs.Data.{CanBegin, IsFull, is_begun}
 use Rattle.manager_model.specs.Sights.{ManagerSight, manager_data}
 use Rattle.sub_deeds.specs.Deeds.{IsIdle, starts}
-use Rattle.sub_deeds.proofs.Turning.{no_seat, not_busy, with_room}
+use Rattle.manager_model.proofs.Idle.{start_by, starts_is}
 
 -- Known branches.
 
@@ -103,24 +99,6 @@ each_listed bs [] begun h = tt
 each_listed bs (x ∷ xs) begun h = (sym (known_is bs x begun) ∙ h.0, each_listed bs xs begun h.1)
 
 -- A start.
-
-abbrev start_by : Bool → Bool → Bool → Bool → Bool → Result Row Code
-start_by known busy full taken room =
-    if known then Err code.DupId else if busy then Err code.Proto else if full then Err code.RmErr
-    else if taken then Err code.Proto else if room then row T0 code.Ok T1 else Err code.RmErr
-
--- where no thread is at work, it looks at the branches alone
-starts_is : (m : ManagerSight) (x : Xid) → IsIdle m → starts m x
-    ≡ is_ok (start_by (is_known m.tables.branches.branches x) false
-    (nat_le 1024 (length m.tables.branches.branches)) false true)
-starts_is m x idle =
-    let a = m.tables.associations in
-    let k = is_known m.tables.branches.branches x in
-    let full = nat_le 1024 (length m.tables.branches.branches) in
-    ap (λ b. is_ok (start_by k (b || has_seat a 0 x) full (b || has_seat a 0 x) (has_room a 0)))
-    (not_busy a 0 idle.quiet)
-    ∙ ap (λ b. is_ok (start_by k b full b (has_room a 0))) (no_seat a 0 x idle.quiet)
-    ∙ ap (λ b. is_ok (start_by k false full false b)) (with_room a 0 idle.quiet)
 
 module _ (m : ManagerSight) (x : Xid) (idle : IsIdle m) (once : AreListedOnce m.tables.branches.branches) where
   abbrev bs : List (Xid × BranchState)

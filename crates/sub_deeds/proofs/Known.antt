@@ -1,30 +1,18 @@
 -- Which branches a manager knows behind a piece of work.
-use Rattle.std.proofs.Common.{◌≡◌, ◌∙◌, Bool, true, false, List, refl, sym, ap, subst}
+use Rattle.std.proofs.Common.{◌≡◌, List, ap}
 use Rattle.xa_tables.specs.declared.states.BranchState.{BranchState}
 use Rattle.xa_xid.specs.declared.xid.Xid.{Xid}
 use Rattle.xa_branch.specs.Branches.{state_in}
-use Rattle.xa_branch.specs.Names.{same}
-use Rattle.xa_branch.proofs.Names.{same_is}
-use Rattle.xa_assoc.specs.Answers.{Same, state_at}
+use Rattle.xa_assoc.specs.Answers.{Same}
 use Rattle.manager_model.specs.Data.{Knows, StayKnown, is_begun}
 use Rattle.manager_model.specs.Sights.{ManagerSight, manager_data}
+pub use Rattle.manager_model.proofs.Idle.{stays_known}
 use Rattle.sub_deeds.specs.Deeds.{Comes, KeepsManager}
 
 -- the branch that came to a state is known by that
 pub comes_known : (old new : ManagerSight) (x : Xid) (s : BranchState) → Comes old new x s
     → Knows (manager_data old) (manager_data new) x (is_begun s)
 comes_known old new x s c = record { own = ap is_begun c.own; others = λ y apart. ap is_begun (c.others y apart) }
-
--- and where it was known so before, nothing is otherwise
-pub stays_known : (old new : ManagerSight) (x : Xid) (s : BranchState) → Comes old new x s
-    → is_begun (state_at old.tables x) ≡ is_begun s → StayKnown (manager_data old) (manager_data new)
-stays_known old new x s c was y = by_name (same x y) refl
-  where
-    by_name : (b : Bool) → same x y ≡ b → is_begun (state_at new.tables y) ≡ is_begun (state_at old.tables y)
-    by_name true e =
-        subst (λ (z : Xid). is_begun (state_at new.tables z) ≡ is_begun (state_at old.tables z)) (same_is x y e)
-        (ap is_begun c.own ∙ sym was)
-    by_name false e = ap is_begun (c.others y e)
 
 listed_known : (old new : List (Xid × BranchState)) (y : Xid) → new ≡ old
     → is_begun (state_in new y) ≡ is_begun (state_in old y)

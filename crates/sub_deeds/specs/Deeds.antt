@@ -1,15 +1,13 @@
 -- What a subordinate does with its manager in one event: whole pieces of work, between which no thread is at
 -- work.
-use Rattle.std.specs.Prelude.{◌≡◌, ℕ, Bool, true, false, is_none, is_ok, if◌then◌else◌, List, [], ◌∷◌}
+use Rattle.std.specs.Prelude.{◌≡◌, ℕ, Bool, true, false, List, [], ◌∷◌}
 use Rattle.xa_tables.specs.declared.call.Call.{Call}
-use Rattle.xa_tables.specs.declared.states.InitState.TheVariants.{R1}
 use Rattle.xa_tables.specs.declared.states.BranchState.{BranchState}
 use Rattle.xa_tables.specs.declared.call.Call.TheVariants.{Commit, Rollback}
 use Rattle.xa_tables.specs.declared.states.BranchState.TheVariants.{S2, S3, S4, S5}
 use Rattle.xa_xid.specs.declared.xid.Xid.{Xid}
-use Rattle.xa_assoc.specs.Associations.{AssocList, moved_of}
 use Rattle.xa_branch.specs.Names.{same}
-use Rattle.xa_assoc.specs.Answers.{start_reaction, state_at}
+use Rattle.xa_assoc.specs.Answers.{state_at}
 use Rattle.xa_heur.specs.Decisions.{decided_as}
 use Rattle.tree_model.specs.declared.names.Outcome.{Outcome}
 use Rattle.tree_model.specs.declared.names.Outcome.TheVariants.{Committed, Aborted}
@@ -20,77 +18,17 @@ use Rattle.tree_model.specs.declared.events.StepError.{StepError}
 use Rattle.tree_model.specs.declared.events.StepError.TheVariants.{Device, Exhausted, Memory}
 use Rattle.rec_log.specs.Sights.{Breaks}
 use Rattle.core_model.specs.States.{wrote}
-use Rattle.manager_model.specs.Sights.{ManagerSight, SameData, SameManager, manager_data, obstacle}
-use Rattle.manager_model.specs.Data.{ManagerData, Operates, Releases, Rests, held_with}
+use Rattle.manager_model.specs.Sights.{ManagerSight, SameManager, manager_data}
+use Rattle.manager_model.specs.Data.{Releases, held_with}
 use Rattle.manager_model.specs.Deciding.{decision_writes}
-use Rattle.manager_model.specs.Ends.{OthersStayDecided, decided_behind, left_with, logged_under, row_for, state_of, written_for}
+use Rattle.manager_model.specs.Ends.{decided_behind, left_with, logged_under, row_for, state_of, written_for}
+pub use Rattle.manager_model.specs.Idle.{Begins, Comes, HasBegun, Idles, IsIdle, IsQuiet, KeepsManager, OperatesIf, WorksIdle, starts}
 use Rattle.tree_model.specs.declared.standings.Vote.{Vote}
 use Rattle.tree_model.specs.declared.standings.Vote.TheVariants.{Yes, Read}
 
--- no thread is associated with a branch
-pub record IsQuiet (a : AssocList) : Type 0 where
-  pub holders : a.holders ≡ []
-  pub seats : a.seats ≡ []
-  pub moved : (x : Xid) → moved_of a x ≡ 0
-
--- a manager between two pieces of work: it is open, and no thread is at work
-pub record IsIdle (m : ManagerSight) : Type 0 where
-  pub opened : m.tables.init ≡ R1
-  pub quiet : IsQuiet m.tables.associations
-
--- one branch came to a state, and no other moved, nor what an operator decided of another
-pub record Comes (old new : ManagerSight) (x : Xid) (s : BranchState) : Type 0 where
-  pub own : state_at new.tables x ≡ s
-  pub others : (y : Xid) → same x y ≡ false → state_at new.tables y ≡ state_at old.tables y
-  pub others_decided : OthersStayDecided old new x
-  pub idle : IsIdle new
-  pub boot : new.boot ≡ old.boot
-  pub form : new.log.form ≡ old.log.form
-
--- but for its log, a manager between two pieces of work is as it was: which branches it knows and their states,
--- what each has written, who holds which key, what operators decided, and whether a limit of its
--- own is met
-pub record KeepsManager (old new : ManagerSight) : Type 0 where
-  pub branches : new.tables.branches.branches ≡ old.tables.branches.branches
-  pub spent : new.spent ≡ old.spent
-  pub rest : SameData old new
-
--- Work.
-
--- a start of a branch, which is then left idle, is answered by XA_OK
-abbrev pub starts : ManagerSight → Xid → Bool
-starts m x = is_ok (start_reaction m.tables 0 x)
-
--- a branch began, and wrote nothing
-pub record Begins (old new : ManagerSight) (x : Xid) : Type 0 where
-  pub comes : Comes old new x S2
-  pub log : new.log ≡ old.log
-  pub rest : SameData old new
-
--- whether a branch began; one that did not changed nothing
-abbrev pub HasBegun : ManagerSight → ManagerSight → Xid → Bool → Type 0
-HasBegun old new x true = (starts old x ≡ true) × Begins old new x
-HasBegun old new x false = (starts old x ≡ false) × SameManager old new
-
--- what an operation leaves that was done, or that was refused
-abbrev pub OperatesIf : Bool → ManagerData → ManagerData → Xid → Op → Type 0
-OperatesIf true old new x op = Operates old new x op
-OperatesIf false old new x op = Rests old new
-
 -- a branch did an operation, or was refused it and can only be rolled back
-pub record Works (old new : ManagerSight) (x : Xid) (op : Op) (done : Bool) : Type 0 where
-  pub allowed : is_none (obstacle old x op) ≡ done
-  pub comes : Comes old new x (if done then S2 else S4)
-  pub log : new.log ≡ old.log
-  pub operates : OperatesIf done (manager_data old) (manager_data new) x op
-
--- an operation that wanted memory: the branch is idle as before, and the manager as it was
-pub record Idles (old new : ManagerSight) (x : Xid) : Type 0 where
-  pub comes : Comes old new x S2
-  pub log : new.log ≡ old.log
-  pub kept : KeepsManager old new
-
--- Ends.
+abbrev pub Works : ManagerSight → ManagerSight → Xid → Op → Bool → Type 0
+Works old new x op done = WorksIdle old new x op done
 
 -- a call made its row of a branch, and its record stands in the log; of a branch that an operator decided the
 -- first outcome is noted

@@ -1,4 +1,4 @@
-//! Whole pieces of work at a manager, all by its thread 0: behind each no thread is at work.
+//! Whole pieces of work at a manager: no thread is at work before one, nor after it.
 
 ghost use Rattle.std.specs.Prelude.{◌≡◌, ◌≢◌, false, true, IfErr, IfOk, OnErr, OnOk};
 ghost use Rattle.xa_tables.specs.declared.call.Call.TheVariants as call;
@@ -9,7 +9,7 @@ ghost use Rattle.manager_model.specs.Sights.{SameManager};
 ghost use Rattle.sub_deeds.specs.Deeds.{Decides, Finishes, HasBegun, Idles, IsIdle, NotDecided, NotFinished, Works, can_roll_back, outcome_call, vote_of};
 ghost use Rattle.xa_tables.specs.Tables.{is_in_doubt};
 
-use manager_model::{DecideError, ResourceManager, WorkError};
+use manager_model::{DecideError, ResourceManager};
 use std::alloc::AllocError;
 use tree_model::{Op, Outcome, StepError, Vote};
 use xa_codes::{Code, Flags};
@@ -26,11 +26,7 @@ pub fn begin<M: ResourceManager>(manager: &mut M, xid: &Xid) -> Result<bool, All
     ensures ok { IfOk result (HasBegun (M.sight manager.old) (M.sight manager.new) xid.now) }
     ensures err { OnErr result (SameManager (M.sight manager.old) (M.sight manager.new)) }
 {
-    if manager.start(THREAD, xid, Flags::TMNOFLAGS)? != Code::Ok {
-        return Ok(false);
-    }
-    let _ = manager.end(THREAD, xid, Flags::TMSUCCESS)?;
-    Ok(true)
+    manager.begin_idle(xid)
 }
 
 /// An idle branch does an operation. False: it was refused, and the branch can only be rolled back. Memory:
@@ -43,21 +39,7 @@ pub fn work<M: ResourceManager>(manager: &mut M, xid: &Xid, op: &Op) -> Result<b
     ensures ok { IfOk result (Works (M.sight manager.old) (M.sight manager.new) xid.now op.now) }
     ensures err { OnErr result (Idles (M.sight manager.old) (M.sight manager.new) xid.now) }
 {
-    let _ = manager.start(THREAD, xid, Flags::TMJOIN)?;
-    match manager.work(THREAD, op) {
-        Ok(()) => {
-            let _ = manager.end(THREAD, xid, Flags::TMSUCCESS)?;
-            Ok(true)
-        }
-        Err(WorkError::Memory) => {
-            let _ = manager.end(THREAD, xid, Flags::TMSUCCESS)?;
-            Err(AllocError)
-        }
-        Err(_) => {
-            let _ = manager.end(THREAD, xid, Flags::TMFAIL)?;
-            Ok(false)
-        }
-    }
+    manager.work_idle(xid, op)
 }
 
 /// An idle branch promises, with what it has written; one that wrote nothing is ended. Memory; Exhausted,

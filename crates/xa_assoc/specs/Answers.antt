@@ -15,7 +15,7 @@ use Rattle.xa_tables.specs.declared.states.BranchState.TheVariants.{S0, S1, S2, 
 use Rattle.xa_xid.specs.declared.xid.Xid.{Xid}
 use Rattle.xa_xid.specs.Xids.{null_xid}
 use Rattle.xa_assoc.specs.Associations.{AssocList, IsBare, Row, Moves as AssocMoves, active_of, has_seat, has_active, has_suspended, moved_of, start_plan, resume_plan, suspend_plan, end_plan}
-use Rattle.xa_branch.specs.Branches.{Moves as BranchMoves, Stays, Scans, scan_refusal, is_known, state_in, off_row}
+use Rattle.xa_branch.specs.Branches.{Moves as BranchMoves, Stays, Scans, begin_answer, scan_refusal, is_known, state_in, off_row}
 use Rattle.xa_assoc.specs.declared.states.States.{States}
 use Rattle.xa_assoc.specs.Reacting.{by_state, left_by, resumed, suspend_call, end_call}
 
@@ -107,6 +107,11 @@ pub record Takes (old new : States) (x : Xid) (to : BranchState) : Type 0 where
   pub branch : BranchMoves old.branches new.branches x to
   pub associations : new.associations ≡ old.associations
   pub init : new.init ≡ old.init
+
+-- whether a branch began that no thread is in; one that did not, as it is known or 1,024 are, changed nothing
+abbrev pub BeginsIdle : States → States → Xid → Bool → Type 0
+BeginsIdle old new x true = (begin_answer old.branches.branches x ≡ code.Ok) × Takes old new x S2
+BeginsIdle old new x false = (begin_answer old.branches.branches x ≡ code.Ok → ⊥) × Same old new
 
 -- the row that a manager takes for each call that finishes a branch: what it answers, and the state behind it
 abbrev pub Wanted : Type 0

@@ -27,7 +27,7 @@ impl States {
     ghost use Rattle.xa_branch.specs.Branches.{AreListedOnce, Finds, StandsAt, in_doubt};
     ghost use Rattle.xa_xid.specs.declared.xid.Xid.{Xid as AnyXid};
     ghost use Rattle.xa_assoc.specs.Reacting.{IsAt, resumed, suspend_call, end_call};
-    ghost use Rattle.xa_assoc.specs.Answers.{Same, IsNew, Opens, Closes, Wanted, Answers, Recovers, Takes, map_ok, Reacts, Resumes, Suspends, Ends, left_state, is_held, start_reaction, join_reaction, state_at};
+    ghost use Rattle.xa_assoc.specs.Answers.{BeginsIdle, Same, IsNew, Opens, Closes, Wanted, Answers, Recovers, Takes, map_ok, Reacts, Resumes, Suspends, Ends, left_state, is_held, start_reaction, join_reaction, state_at};
     ghost use Rattle.xa_assoc.specs.Ready.{IsReady, is_work_verb, is_closed, leaves, ready};
     ghost use Rattle.xa_tables.specs.Calls.{legal};
     ghost use Rattle.xa_assoc.specs.Restored.{Restored, restore_refusal};
@@ -73,6 +73,18 @@ impl States {
         ensures { result ≡ not (is_closed self.now.init) }
     {
         self.init == InitState::R1
+    }
+
+    /// A new branch begins that no thread is in. False: it is known, or 1,024 are; nothing changed, nor does want
+    /// of memory.
+    pub fn begin_idle(&mut self, xid: &Xid) -> Result<bool, AllocError>
+        ensures begun { IfOk result (BeginsIdle self.old self.new xid.now) }
+        ensures err { OnErr result (Same self.old self.new) }
+    {
+        match self.branches.begin_idle(xid)? {
+            Code::Ok => Ok(true),
+            _ => Ok(false),
+        }
     }
 
     /// The state of a branch: S0 where it is not known.

@@ -1,11 +1,7 @@
 -- A known branch moves by its index: its state is written there, or it is taken out.
-use Rattle.std.proofs.Common.{◌≡◌, ◌≢◌, ℕ, Option, false, List, [], ◌∷◌, Some, None, refl, ap, sym, subst, ◌∙◌, arith, position, length, ◌<◌, get_or, slice_get, remove}
+use Rattle.std.proofs.Common.{◌≡◌, ◌≢◌, ℕ, Option, false, List, [], ◌∷◌, Some, None, refl, ap, sym, ◌∙◌, arith, position, slice_get, remove}
 use Rattle.std.specs.Prelude.{unwrap_or, IfSome}
 use Rattle.std.specs.Map.{keys_of, lookup, remove_entry}
-use Rattle.std.proofs.Math.ListN.{get_or-map}
-use Rattle.std.proofs.lemmas.List.Quantifiers.{position-Some}
-use Rattle.std.proofs.lemmas.Map.Entries.{length-keys_of}
-use Rattle.std.proofs.lemmas.Option.{slice_get-get_or}
 use Rattle.indexmap.specs.IndexMap.{IndexMap, Updates, insert_entry, set_value_at}
 use Rattle.indexmap.proofs.MapLemmas.{Found-position, insert_entry-first, remove_entry-first}
 use Rattle.xa_tables.specs.declared.states.BranchState.{BranchState}
@@ -13,6 +9,7 @@ use Rattle.xa_tables.specs.declared.states.BranchState.TheVariants.{S0, S1, S2, 
 use Rattle.xa_xid.specs.declared.xid.Xid.{Xid}
 use Rattle.xa_branch.specs.Branches.{BranchList, Moves, placed}
 use Rattle.xa_branch.specs.Names.{same}
+use Rattle.few_keys.proofs.Places.{taken_at}
 use Rattle.xa_branch.proofs.Names.{same_is, same_refl, same_flips}
 
 placed_kept : (bs : List (Xid × BranchState)) (x : Xid) (s : BranchState) → s ≢ S0
@@ -50,27 +47,6 @@ moves_at old new x i s stays at written scans =
       scans = scans;
     }
 
--- the entry at the index of a branch is the branch's own
-entry_at : (bs : List (Xid × BranchState)) (x : Xid) (i : ℕ) → position (same x) (keys_of bs) ≡ Some i
-    → (e : Xid × BranchState) × (slice_get bs i ≡ Some e) × (x ≡ e.0)
-entry_at [] x i at = absurd cc
-entry_at (e ∷ bs) x i at =
-    let found = position-Some (same x) (keys_of (e ∷ bs)) i e.0 at in
-    let within : i < length (e ∷ bs) = omega (arith, found.0, length-keys_of (e ∷ bs)) in (
-      get_or (e ∷ bs) i e,
-      slice_get-get_or (e ∷ bs) i e within,
-      same_is x _ (ap (same x) (sym (get_or-map (λ (q : Xid × BranchState). q.0) (e ∷ bs) i e)) ∙ found.1),
-    )
-
--- what a map says that took out the entry at the index of a branch
-taken_out : {H : Type 0} (m n : IndexMap Xid BranchState H) (x : Xid) (i : ℕ) (r : Option (Xid × BranchState))
-    → position (same x) (keys_of m.entries) ≡ Some i → r ≡ slice_get m.entries i
-    → IfSome r (λ e. Updates same m n e.0 None) → Updates same m n x None
-taken_out m n x i r at is out =
-    let entry = entry_at m.entries x i at in
-    subst (λ k. Updates same m n k None) (sym entry.2)
-    (subst (λ o. IfSome o (λ e. Updates same m n e.0 None)) (is ∙ entry.1) out)
-
 -- the entry at the index of a branch is taken out: the branch is no longer known
 pub goes_at : {H : Type 0} (m n : IndexMap Xid BranchState H) (old new : BranchList) (x : Xid) (i : ℕ)
     (r : Option (Xid × BranchState)) → old.branches ≡ m.entries → new.branches ≡ n.entries
@@ -79,7 +55,7 @@ pub goes_at : {H : Type 0} (m n : IndexMap Xid BranchState H) (old new : BranchL
     → Moves old new x S0
 goes_at m n old new x i r before behind at is removed out scans =
     let place : position (same x) (keys_of m.entries) ≡ Some i = rw (← before) at in
-    let gone = taken_out m n x i r place is out in
+    let gone = taken_at same same_is m n x i r place is out in
     record {
       order = behind ∙ removed
           ∙ sym (remove_entry-first (same x) m.entries i (Found-position (same x) m.entries i place).first)

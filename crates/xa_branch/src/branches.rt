@@ -6,6 +6,7 @@ ghost use Rattle.xa_branch.specs.Names.{same};
 ghost use Rattle.xa_branch.specs.Branches.{AreListedOnce, BranchList, Finds, Moves, Begins, Scans as Scanned, is_known, state_in, Stays, in_doubt, starts_scan, ends_scan, scan_refusal};
 
 use crate::scans::Scans;
+use few_keys::place_of;
 use indexmap::IndexMap;
 use std::alloc::{AllocError, Global};
 use std::marker::Model;
@@ -102,10 +103,8 @@ impl Branches {
     pub fn find(&self, xid: &Xid) -> Option<(usize, BranchState)>
         ensures { Finds self.now.branches xid.now result }
     {
-        match self.states.get_full(xid) {
-            None => None,
-            Some((place, _, state)) => Some((place, *state)),
-        }
+        let place = place_of(&self.states, xid)?;
+        Some((place, self.states[place]))
     }
 
     /// The state of a branch, where it is known.
@@ -126,7 +125,7 @@ impl Branches {
     pub fn is_known(&self, xid: &Xid) -> bool
         ensures { result ≡ is_known self.now.branches xid.now }
     {
-        self.states.contains_key(xid)
+        place_of(&self.states, xid).is_some()
     }
 
     /// Whether 1,024 branches are known, so that no other can begin.
@@ -143,6 +142,14 @@ impl Branches {
         ensures succeeds { 0 < self.old.room → IsOk result }
     {
         self.enter(xid, BranchState::S1)
+    }
+
+    /// Begins a branch that no thread is in, in S2. The refusals are those of `begin`.
+    pub fn begin_idle(&mut self, xid: &Xid) -> Result<Code, AllocError>
+        ensures begun { IfOk result (Begins self.old self.new xid.now BranchState.S2) }
+        ensures err { OnErr result (Stays self.old self.new) }
+    {
+        self.enter(xid, BranchState::S2)
     }
 
     /// Enters a branch that a log left, in S3 or S5. DupId: it is known. RmErr: 1,024 branches are known.

@@ -5,14 +5,16 @@ use Rattle.std.specs.Global.{Vec}
 use Rattle.std.specs.List.{position_or_len}
 use Rattle.std.specs.Map.{keys_of, lookup, values_of}
 use Rattle.std.specs.Vec.{vec_capacity, vec_len}
-use Rattle.indexmap.specs.IndexMap.{insert_entry, set_value_at}
-use Rattle.indexmap.proofs.MapLemmas.{Found-position, insert_entry-first}
+use Rattle.std.specs.Prelude.{IfNone, IfSome}
+use Rattle.indexmap.specs.IndexMap.{IndexMap, Updates, insert_entry, set_value_at}
+use Rattle.indexmap.proofs.MapLemmas.{Found-position, Missing-position, insert_entry-first}
 use Rattle.xa_xid.specs.declared.xid.Xid.{Xid}
 use Rattle.tree_model.specs.declared.records.Write.{Write}
 use Rattle.tree_model.specs.Plays.{with_write}
 use Rattle.log_rules.specs.order.Orders.{names_key}
-use Rattle.kv_store.specs.writes.Writes.{HasRoomAt, Leaves, SameWrites, is_within_limit, room_of, same, table_of, workspace_of, writes_in, writes_of}
-use Rattle.kv_store.proofs.writes.Tables.{Lists, leaves, leaves_same, room_is, same_is, writes_are}
+use Rattle.kv_store.specs.writes.Writes.{AreKept, HasRoomAt, Leaves, SameWrites, is_within_limit, room_of, same, table_of, workspace_of, writes_in, writes_of}
+use Rattle.kv_store.proofs.writes.Lists.{none_kept}
+use Rattle.kv_store.proofs.writes.Tables.{Lists, kept_left, leaves, leaves_same, room_is, same_is, writes_are}
 
 same_itself : (a : Xid) → same a a ≡ true
 same_itself a = search rules
@@ -41,7 +43,8 @@ put_place : (es : Lists) (x : Xid) (v : Vec Write)
 put_place [] x v = grind (arith, common_steps, same_itself x)
 put_place (e ∷ es) x v = grind (arith, common_steps, put_place es x v)
 
-stands_is : (es : Lists) (x : Xid) (o : Option ℕ) → position (same x) (keys_of es) ≡ o
+-- the list of a branch stands in the table where it stands in the map
+pub stands_is : (es : Lists) (x : Xid) (o : Option ℕ) → position (same x) (keys_of es) ≡ o
     → position (same x) (keys_of (table_of es)) ≡ o
 stands_is es x o at = ap (position (same x)) (keys_are es) ∙ at
 
@@ -138,3 +141,33 @@ pub none_within : (es : Lists) (x : Xid) (k : List ℕ) → lookup (same x) es �
     → is_within_limit (writes_of (table_of es) x) k ≡ true
 unfolding names_key
 none_within es x k none = ap (λ ws. is_within_limit ws k) (writes_are es x None none)
+
+-- a branch has no list in the table where it has none in the map
+pub not_listed : (es : Lists) (x : Xid) → position (same x) (keys_of (table_of es)) ≡ None
+    → writes_of (table_of es) x ≡ []
+not_listed es x none = writes_are es x None
+    (Missing-position (same x) es (ap (position (same x)) (sym (keys_are es)) ∙ none)).value
+
+-- where the table has the list of a branch, the map has it
+pub listed : (es : Lists) (x : Xid) (o : Option ℕ) → position (same x) (keys_of (table_of es)) ≡ o
+    → position (same x) (keys_of es) ≡ o
+listed es x o stands = ap (position (same x)) (sym (keys_are es)) ∙ stands
+
+-- A list is taken out.
+
+-- the map has lost the list of a branch
+pub taken_out : {H : Type 0} (m n : IndexMap Xid (Vec Write) H) (x : Xid) → Updates same m n x None
+    → Leaves (table_of m.entries) (table_of n.entries) x []
+taken_out m n x out = leaves m.entries n.entries x None [] out.0 out.1 refl
+
+-- what each branch has is what a branch can have written, whichever entry is taken out
+pub kept_taken : {H : Type 0} (m n : IndexMap Xid (Vec Write) H) (r : Option (Xid × Vec Write))
+    → AreKept (table_of m.entries) → IfSome r (λ e. Updates same m n e.0 None)
+    → IfNone r (n.entries ≡ m.entries) → AreKept (table_of n.entries)
+kept_taken m n None kept out stays = subst (λ es. AreKept (table_of es)) (sym stays) kept
+kept_taken m n (Some e) kept out stays = kept_left _ _ e.0 [] kept (taken_out m n e.0 out) none_kept
+
+-- a branch without a list stays without writes
+pub not_taken : (es : Lists) (x : Xid) → position (same x) (keys_of (table_of es)) ≡ None
+    → Leaves (table_of es) (table_of es) x []
+not_taken es x none = record { own = not_listed es x none; others = λ y apart. refl }

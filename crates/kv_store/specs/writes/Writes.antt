@@ -51,6 +51,10 @@ is_of k w = same_bytes w.key k
 abbrev pub is_within_limit : List Write → List ℕ → Bool
 is_within_limit ws k = names_key ws k || nat_lt (length ws) 64
 
+-- where the list of a branch stands, if it has one
+abbrev pub ListedAt : WriteTable → Xid → Option ℕ → Type 0
+ListedAt t x place = position (same x) (keys_of t) ≡ place
+
 -- the list of a branch stands at this place, and one write more of it fits
 pub record HasRoomAt (t : WriteTable) (x : Xid) (place : ℕ) : Type 0 where
   pub stands : position (same x) (keys_of t) ≡ Some place

@@ -5,9 +5,10 @@ ghost use Rattle.std.specs.Map.{keys_of, lookup};
 ghost use Rattle.std.specs.Option.{option_copied};
 ghost use Rattle.log_rules.specs.sound.Sound.{IsSoundWrite};
 ghost use Rattle.tree_model.specs.Plays.{with_write};
-ghost use Rattle.kv_store.specs.writes.Writes.{AreWrites, HasRoomAt, HasRoomFor, Leaves, SameWrites, is_of, is_within_limit, same, table_of, writes_of};
+ghost use Rattle.kv_store.specs.writes.Writes.{AreKept, AreWrites, HasRoomAt, HasRoomFor, Leaves, ListedAt, SameWrites, is_of, is_within_limit, same, table_of, writes_of};
 
 use crate::writes::list::{copied, find, is_within_limit, put};
+use few_keys::place_of;
 use indexmap::IndexMap;
 use std::alloc::{AllocError, Global};
 use std::marker::Model;
@@ -45,15 +46,38 @@ impl BranchWrites {
         }
     }
 
+    /// Each branch has written what a branch can write.
+    pub fn are_kept(&self)
+        ensures { AreKept self.now }
+    {
+        let _ = &self.alloc;
+    }
+
+    /// Where the list of a branch stands, if it has one.
+    pub fn place(&self, xid: &Xid) -> Option<usize>
+        ensures { ListedAt self.now xid.now result }
+    {
+        place_of(&self.lists, xid)
+    }
+
+    /// What the branch has written whose list stands here: nothing if it has none.
+    pub fn at(&self, place: Option<usize>) -> &[Write]
+        requires { (x : Xid) × ListedAt self.now x place }
+        ensures writes { (x : Xid) → ListedAt self.now x place → result.now ≡ writes_of self.now x }
+        ensures limits { AreWrites result.now }
+    {
+        match place {
+            None => &[],
+            Some(place) => self.lists[place].as_slice(),
+        }
+    }
+
     /// What a branch has written: nothing where it is not known here.
     pub fn of(&self, xid: &Xid) -> &[Write]
         ensures writes { result.now ≡ writes_of self.now xid.now }
         ensures limits { AreWrites result.now }
     {
-        match self.lists.get(xid) {
-            None => &[],
-            Some(list) => list.as_slice(),
-        }
+        self.at(self.place(xid))
     }
 
     /// What a branch left at a key, if it wrote it.
@@ -70,7 +94,7 @@ impl BranchWrites {
         ensures ok { IfOk result (λ found. HasRoomFor self.new xid.now key.now found) }
         ensures err { OnErr result (is_within_limit (writes_of self.old xid.now) key.now ≡ true) }
     {
-        match self.lists.get_index_of(xid) {
+        match place_of(&self.lists, xid) {
             None => Ok(Some(begin(self.alloc, &mut self.lists, xid)?)),
             Some(place) => {
                 if !is_within_limit(self.lists[place].as_slice(), key) {
@@ -104,11 +128,13 @@ impl BranchWrites {
         Ok(())
     }
 
-    /// The branch is gone, with its writes. It takes no memory.
-    pub fn remove(&mut self, xid: &Xid)
-        ensures { Leaves self.old self.new xid.now [] }
+    /// The branch is gone whose list stands here, if it has one, with its writes. It takes no memory.
+    pub fn remove_at(&mut self, place: Option<usize>)
+        ensures { (x : Xid) → ListedAt self.old x place → Leaves self.old self.new x [] }
     {
-        let _ = self.lists.swap_remove(xid);
+        if let Some(place) = place {
+            let _ = self.lists.swap_remove_index(place);
+        }
     }
 }
 

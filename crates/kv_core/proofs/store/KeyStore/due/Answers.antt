@@ -1,5 +1,6 @@
 use Rattle.std.proofs.Common.{subst}
 use Rattle.xa_assoc.specs.Ready.{IsReady}
+use Rattle.kv_store.specs.writes.Writes.{ListedAt}
 use Rattle.kv_core.specs.Stores.{KeySight}
 use Rattle.kv_core.proofs.Turning.{is_due}
 use Rattle.kv_core.proofs.store.KeyStore.due.Goals as goal
@@ -8,6 +9,8 @@ pub returns-clause-ok : goal.returns-clause-ok
 returns-clause-ok c =
     let given = subst (λ (s : KeySight). IsReady s.tables c.args.verb c.args.xid.now c.args.flags.0
     c.in_ok-call.call c.in_ok-call.place c.in_ok-call.from) c.self.view_is c.in_ok-call.ensures.ok in
+    let listed = subst (λ (s : KeySight). ListedAt s.writes c.args.xid.now c.place-written.result) c.self.view_is
+    c.place-written.ensures in
     let due = is_due c.args.self.now c.args.verb c.args.xid.now c.args.flags.0 c.in_ok-call.call c.turn.result
     c.requires given.checked c.turn.ensures in
-    (c.in_ok-call.call, due, given.stands)
+    (c.in_ok-call.call, due, given.stands, listed)

@@ -1,7 +1,7 @@
 use Rattle.std.proofs.Common.{rules, ◌≡◌, ◌∙◌, sym, subst, true, false, refl, []}
 use Rattle.std.specs.Prelude.{MatchBool}
 use Rattle.kv_locks.specs.Locks.{Releases}
-use Rattle.kv_store.specs.writes.Writes.{Leaves}
+use Rattle.kv_store.specs.writes.Writes.{Leaves, ListedAt}
 use Rattle.xa_branch.specs.Branches.{StandsAt}
 use Rattle.kv_core.specs.Stores.{KeySight, is_let_go}
 use Rattle.kv_core.specs.Ends.{IsTurn, TakesTurn}
@@ -35,7 +35,7 @@ invariant_of-self c =
     } in
     let after : KeySight = record {
       tables = c.finish.new.self;
-      writes = c.remove.new.self;
+      writes = c.remove_at.new.self;
       locks = c.release.new.self;
       versions = c.self.inside.versions;
       decisions = c.note.new.heuristics;
@@ -44,12 +44,13 @@ invariant_of-self c =
     let turned : IsTurn s c.args.xid.now c.requires.turn.0 c.args.turn =
     subst (λ v. IsTurn v c.args.xid.now c.requires.turn.0 c.args.turn) (sym c.self.view_is)
     c.requires.turn.1 in
+    let listed : ListedAt s.writes c.args.xid.now c.args.written = search rules in
     let gone : is_let_go c.args.turn.to ≡ true = sym c.is_let_go.ensures ∙ c.if-is_let_go.true in
     let takes : TakesTurn s after c.args.xid.now c.args.turn = record {
       tables = c.finish.ensures.taken c.args.xid.now stands;
       keeps = subst (λ b. MatchBool b (Leaves s.writes after.writes c.args.xid.now [] × Releases s.locks
           after.locks c.args.xid.now) ((after.writes ≡ s.writes) × (after.locks ≡ s.locks)))
-          (sym gone) (c.remove.ensures, c.release.ensures);
+          (sym gone) (c.remove_at.ensures c.args.xid.now listed, c.release.ensures);
       versions = refl;
       decisions = c.note.ensures;
     } in
@@ -99,18 +100,19 @@ returns-then-is_let_go c =
     } in
     let after : KeySight = record {
       tables = c.finish.new.self;
-      writes = c.remove.new.self;
+      writes = c.remove_at.new.self;
       locks = c.release.new.self;
       versions = c.self.inside.versions;
       decisions = c.note.new.heuristics;
     } in
     let stands : StandsAt s.tables.branches.branches c.args.xid.now c.args.place = search rules in
+    let listed : ListedAt s.writes c.args.xid.now c.args.written = search rules in
     let gone : is_let_go c.args.turn.to ≡ true = sym c.is_let_go.ensures ∙ c.if-is_let_go.true in
     subst (λ v. TakesTurn v after c.args.xid.now c.args.turn) c.self.view_is (record {
       tables = c.finish.ensures.taken c.args.xid.now stands;
       keeps = subst (λ b. MatchBool b (Leaves s.writes after.writes c.args.xid.now [] × Releases s.locks
           after.locks c.args.xid.now) ((after.writes ≡ s.writes) × (after.locks ≡ s.locks)))
-          (sym gone) (c.remove.ensures, c.release.ensures);
+          (sym gone) (c.remove_at.ensures c.args.xid.now listed, c.release.ensures);
       versions = refl;
       decisions = c.note.ensures;
     })

@@ -1,9 +1,25 @@
-use Rattle.std.proofs.Common.{rules, None}
+use Rattle.std.proofs.Common.{rules, ◌≡◌, None, Some}
 use Rattle.key_tables.specs.declared.holders.Mode.TheVariants.{Shared}
-use Rattle.kv_core.proofs.Working.{refused_at}
+use Rattle.kv_core.specs.Works.{IsRefused, Reads, ReadsFor, at_work, branch_refusal, work_refusal}
+use Rattle.kv_core.proofs.Working.{each_err, each_ok, reads_by, refused_by}
 use Rattle.kv_core.proofs.store.KeyStore.get.Goals as goal
 
-pub returns-in-Err-clause-err : goal.returns-in-Err-clause-err
-returns-in-Err-clause-err c = refused_at c.args.self.now c.read_for.new.self c.args.thread c.in_ok-xid.xid
-    c.args.key.now None Shared c.in-Err.refusal c.unless_locked.result
-    (search rules) (search rules) (search rules) (search rules) c.unless_locked.ensures
+pub returns-clause-ok : goal.returns-clause-ok
+returns-clause-ok c =
+    let at : at_work c.args.self.now c.args.thread ≡ Some c.in_ok-xid.xid = search rules in
+    each_ok (ReadsFor c.args.self.now c.read_for.new.self c.in_ok-xid.xid c.args.key.now)
+    (Reads c.args.self.now c.read_for.new.self c.args.thread c.args.key.now)
+    c.read_for.result c.read_for.ensures.ok
+    (λ found reads. reads_by c.args.self.now c.read_for.new.self c.args.thread c.in_ok-xid.xid c.args.key.now
+    found at reads)
+
+pub returns-clause-err : goal.returns-clause-err
+returns-clause-err c =
+    let at : at_work c.args.self.now c.args.thread ≡ Some c.in_ok-xid.xid = search rules in
+    each_err (IsRefused c.args.self.now c.read_for.new.self
+    (branch_refusal c.args.self.now c.args.key.now None Shared c.in_ok-xid.xid))
+    (IsRefused c.args.self.now c.read_for.new.self
+    (work_refusal c.args.self.now c.args.thread c.args.key.now None Shared))
+    c.read_for.result c.read_for.ensures.err
+    (λ e why. refused_by c.args.self.now c.read_for.new.self c.args.thread c.in_ok-xid.xid c.args.key.now None
+    Shared e at why)

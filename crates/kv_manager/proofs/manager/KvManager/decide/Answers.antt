@@ -38,6 +38,7 @@ take-requires g c =
             ∙ ap (λ (v : KvSight). state_of v.store c.args.xid.now) c.self.view_is ∙ here) room),
       );
       stands = search rules;
+      written = search rules;
     }
 
 pub returns-clause-ok : goal.returns-clause-ok

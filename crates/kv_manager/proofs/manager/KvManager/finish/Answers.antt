@@ -20,6 +20,7 @@ take-requires g c =
             works due,
       );
       stands = search rules;
+      written = search rules;
     }
 
 pub returns-in-Ok-clause-answer : goal.returns-in-Ok-clause-answer

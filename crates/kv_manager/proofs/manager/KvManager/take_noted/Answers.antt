@@ -10,8 +10,8 @@ use Rattle.kv_manager.proofs.Ordered.{record_follows}
 use Rattle.kv_manager.proofs.Turns.{due_has, due_same, fails_by, kept_broken, kept_noted}
 use Rattle.kv_manager.proofs.manager.KvManager.take_noted.Goals as goal
 
-pub frame-requires : goal.frame-requires
-frame-requires g c = due_has c.args.self.now c.args.xid.now c.requires.due.0 c.args.turn c.args.entry
+pub frame-requires-clause-some : goal.frame-requires-clause-some
+frame-requires-clause-some g c = due_has c.args.self.now c.args.xid.now c.requires.due.0 c.args.turn c.args.entry
     c.requires.due.1 c.requires.entry
 
 pub finish-requires-clause-turn : goal.finish-requires-clause-turn

@@ -7,14 +7,14 @@ use Rattle.kv_manager.proofs.manager.KvManager.writes_in.Goals as goal
 
 pub returns-then-has_writes-clause-record : goal.returns-then-has_writes-clause-record
 returns-then-has_writes-clause-record g c =
-    let is : c.writes.result.now ≡ writes_of c.args.self.now.store.writes c.args.xid.now = search rules in
+    let is : c.writes_at.result.now ≡ writes_of c.args.self.now.store.writes c.args.xid.now = search rules in
     ap (entry_record c.args.entry c.args.xid.now) is
 
 pub returns-then-has_writes-clause-fits : goal.returns-then-has_writes-clause-fits
 returns-then-has_writes-clause-fits g c =
-    let is : c.writes.result.now ≡ writes_of c.args.self.now.store.writes c.args.xid.now = search rules in
-    is_entry c.args.entry c.writes.result.now (subst (HasWrites c.args.entry) (sym is) c.requires)
-    c.writes.ensures.limits
+    let is : c.writes_at.result.now ≡ writes_of c.args.self.now.store.writes c.args.xid.now = search rules in
+    is_entry c.args.entry c.writes_at.result.now (subst (HasWrites c.args.entry) (sym is) c.requires.some)
+    c.writes_at.ensures.limits
 
 pub returns-else-has_writes-clause-record : goal.returns-else-has_writes-clause-record
 returns-else-has_writes-clause-record g c =
