@@ -1,5 +1,5 @@
 -- What becomes of cases and tickets where one key changes.
-use Rattle.std.proofs.Common.{◌≡◌, ℕ, Bool, true, false, Option, None, Some, is_some, refl, subst, sym, ap, ◌∙◌, ◌⊎◌, inl, inr}
+use Rattle.std.proofs.Common.{◌≡◌, ◌+◌, if◌then◌else◌, arith, ℕ, Bool, true, false, Option, None, Some, is_some, refl, subst, sym, ap, ◌∙◌, ◌⊎◌, inl, inr}
 use Rattle.std.proofs.lemmas.Bool.{cases_eq}
 use Rattle.tree_model.specs.declared.names.Case.{Case}
 use Rattle.tree_model.specs.declared.names.Ticket.{Ticket}
@@ -8,8 +8,8 @@ use Rattle.tree_model.specs.Names.{child_case, root_case, same_case, same_txn}
 use Rattle.tree_model.specs.Standings.{CoordinatorView}
 use Rattle.tree_model.specs.SameViews.{open_view}
 use Rattle.tree_model.proofs.NameTests.{case_tells, txn_tells}
-use Rattle.live_table.specs.Tables.{AreApart, Inserts, Moves as MovesValue, Removes, Updates, entry_at, live_value}
-use Rattle.live_table.proofs.Writes.{Moves-changed, Updates-set, live_at, live_found, same_case-itself}
+use Rattle.live_table.specs.Tables.{AreApart, Inserts, Moves as MovesValue, Removes, Updates, entry_at, live_count, live_value}
+use Rattle.live_table.proofs.Writes.{Moves-changed, Updates-set, live_at, live_count-changed, live_found, same_case-itself}
 use Rattle.coord_table.specs.declared.held.Held.{Held}
 use Rattle.coord_table.specs.Cases.{Begins, Ends, FitsGiven, Gives, IsFresh, IsUngiven, Moves, Puts, Relives, Restores, Retires, Slots, WasHeld, entry_ticket, held_view, is_for, is_given, ticket_in, view_in}
 use Rattle.coord_table.specs.Lends.{relived, with_live}
@@ -46,6 +46,14 @@ fits_with old new key slot fits updates its has one =
       one = one;
     }
 
+nothing_more : (n : ℕ) (o : Option Held) → is_some o ≡ true → n + (if is_some o then 0 else 1) ≡ n
+nothing_more n None is = absurd (cc)
+nothing_more n (Some h) is = omega arith
+
+one_more : (n : ℕ) (o : Option Held) → is_some o ≡ false → n + (if is_some o then 0 else 1) ≡ n + 1
+one_more n None is = refl
+one_more n (Some h) is = absurd (cc)
+
 -- a case is held in place of what was held of it
 pub puts_again : (old new : Slots) (c : Case) (before h : Held) (key : ℕ) → AreApart old
     → entry_at old key ≡ Some (c, before) → Updates old new key (Some (c, h)) → Puts old new c h
@@ -56,7 +64,21 @@ puts_again old new c before h key apart was updates =
       was = inr (before, was, live);
       updates = updates;
       moves = Moves-changed old new key c before h was updates apart;
-      counts = λ none. let clash : Some before ≡ None = sym live ∙ none in absurd (cc);
+      counts =
+          live_count-changed old new key c before h was updates
+          ∙ sym (nothing_more (live_count old) (live_value old c) (ap is_some live));
+    }
+
+-- a case that was not live is held
+pub puts_first : (old new : Slots) (c : Case) (h : Held) (key : ℕ) → live_value old c ≡ None
+    → Inserts old new c h key → Puts old new c h
+puts_first old new c h key none inserts =
+    record {
+      key = key;
+      was = inl inserts.vacant;
+      updates = inserts.updates;
+      moves = inserts.moves;
+      counts = inserts.counts ∙ sym (one_more (live_count old) (live_value old c) (ap is_some none));
     }
 
 -- what was held under the key of a case of which nothing was given for anybody, was given for nobody

@@ -1,5 +1,5 @@
 -- A row that is not taken.
-use Rattle.std.proofs.Common.{◌≡◌, ◌+◌, Result, Ok, Err, IfErr, arith, subst}
+use Rattle.std.proofs.Common.{◌+◌, Result, Ok, Err, IfErr, arith}
 use Rattle.tree_model.specs.declared.events.StepError.{StepError}
 use Rattle.tree_model.specs.declared.events.StepError.TheVariants as steps
 use Rattle.tree_model.specs.declared.messages.Op.{Op}

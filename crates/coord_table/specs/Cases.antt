@@ -113,13 +113,17 @@ WasHeld slots c key =
     (entry_at slots key ≡ None)
     ⊎ ((h : Held) × (entry_at slots key ≡ Some (c, h)) × (live_value slots c ≡ Some h))
 
+-- one case more is live where this one was not; else as many are as before
+abbrev pub Counts : Slots → Slots → Case → Type 0
+Counts old new c = live_count new ≡ live_count old + (if is_some (live_value old c) then 0 else 1)
+
 -- this is held of a case, in place of what was held of it, if anything was
 pub record Puts (old new : Slots) (c : Case) (h : Held) : Type 0 where
   pub key : ℕ
   pub was : WasHeld old c key
   pub updates : Updates old new key (Some (c, h))
   pub moves : MovesValue old new c (Some h)
-  pub counts : live_value old c ≡ None → live_count new ≡ live_count old + 1
+  pub counts : Counts old new c
 
 -- a case begins, in place of one of its name, if one was live; and no active ticket moves
 pub record Begins (old new : Slots) (c : Case) : Type 0 where
@@ -127,7 +131,7 @@ pub record Begins (old new : Slots) (c : Case) : Type 0 where
   pub tickets : (d : Case) → ticket_in new d ≡ ticket_in old d
   pub key : ℕ
   pub updates : Updates old new key (Some (c, record { given_for = None; live = open_view }))
-  pub counts : live_value old c ≡ None → live_count new ≡ live_count old + 1
+  pub counts : Counts old new c
 
 -- a case is live again as it stands, and no active ticket moves
 pub record Restores (old new : Slots) (c : Case) (view : CoordinatorView) : Type 0 where
@@ -146,7 +150,7 @@ pub record Gives (old new : Slots) (parent : Case) (t : Ticket) : Type 0 where
   pub key : ℕ
   pub updates : Updates old new key
       (Some (child_case parent.txn t, record { given_for = Some parent; live = open_view }))
-  pub counts : live_value old (child_case parent.txn t) ≡ None → live_count new ≡ live_count old + 1
+  pub counts : Counts old new (child_case parent.txn t)
 
 -- the key's case stands so in place of how it stood, and no other moves, nor does an active ticket
 pub record Relives (old new : Slots) (key : ℕ) (before behind : CoordinatorView) : Type 0 where

@@ -3,4 +3,3 @@ pub mod CaseTables
 pub mod Readings
 pub mod Inquiries
 pub mod Progress
-pub mod Numbered

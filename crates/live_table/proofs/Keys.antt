@@ -52,13 +52,6 @@ written_at t x es fs ls k writes = by_test (same_txn t x) (txn_equality t x)
     by_test true e = rw (writes x, e) refl
     by_test false e = rw (writes x, e) refl
 
--- the keys of this transaction are those of the list ls
-pub listed-written : (t : Txn) (es fs : List (Txn × SmallVec ℕ)) (ls : SmallVec ℕ) (k : ℕ)
-    → Writes t es fs ls → listed_for t fs k ≡ is_key ls.items k
-listed-written t es fs ls k writes =
-    written_at t t es fs ls k writes
-    ∙ ap (λ b. cond b (is_key ls.items k) (listed_for t es k)) ((txn_tells t t).1 refl)
-
 -- a list of no keys
 pub is_key-empty : (ks : List ℕ) (k : ℕ) → length ks ≡ 0 → is_key ks k ≡ false
 unfolding is_key

@@ -1,3 +1,4 @@
 pub mod Kept
 pub mod Keys
+pub mod Places
 pub mod Writes

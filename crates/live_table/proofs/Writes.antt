@@ -1,11 +1,12 @@
 -- A write to one key.
-use Rattle.std.proofs.Common.{◌≡◌, ◌≢◌, ℕ, zero, suc, ◌<◌, Bool, true, false, Option, None, Some, IsSome, List, [], ◌∷◌, length, set, refl, subst, sym, ap, ◌∙◌, arith, inl, inr}
+use Rattle.std.proofs.Common.{◌≡◌, ◌≢◌, ◌+◌, ℕ, zero, suc, ◌<◌, cond, Bool, true, false, Option, None, Some, IsSome, is_some, List, [], ◌∷◌, length, set, refl, subst, sym, ap, ◌∙◌, arith, inl, inr}
 use Rattle.std.proofs.lemmas.Bool.{cases_eq}
+use Rattle.std.proofs.lemmas.List.Sums.{sum_by-cons}
 use Rattle.std.proofs.lemmas.List.{get_or-set_same, get_or-set_other, get_or_past}
 use Rattle.tree_model.specs.declared.names.Case.{Case}
 use Rattle.tree_model.specs.Names.{same_case}
 use Rattle.tree_model.proofs.NameTests.{case_tells}
-use Rattle.live_table.specs.Tables.{AreApart, Changes, Moves, Updates, entry_at, if_of_case, is_of_case, live_value, value_at, value_of}
+use Rattle.live_table.specs.Tables.{AreApart, Changes, Moves, Updates, entry_at, if_of_case, is_of_case, live_count, live_value, value_at, value_of}
 use Rattle.live_table.specs.Lends.{rewritten, with_value}
 
 -- two cases that are one are of the same values
@@ -157,6 +158,44 @@ module _ {V : Type 0} where
         others = λ d differs. live_elsewhere old new key (Some (c, behind)) d apart apart' updates
             (ap (is_of_case d) was ∙ differs) differs;
       }
+
+  -- 1 for an entry, as it is counted
+  abbrev one_for : Option (Case × V) → ℕ
+  one_for slot = cond (is_some slot) 1 0
+
+  counted : (slot : Option (Case × V)) (slots : List (Option (Case × V)))
+      → live_count (slot ∷ slots) ≡ one_for slot + live_count slots
+  counted slot slots = sum_by-cons one_for slot slots
+
+  -- where values stand at the same keys, as many cases are live
+  count_same : (old new : List (Option (Case × V)))
+      → ((k : ℕ) → is_some (entry_at new k) ≡ is_some (entry_at old k)) → live_count new ≡ live_count old
+  count_same [] [] same = refl
+  count_same [] (b ∷ new) same =
+      let here : one_for b ≡ 0 = ap (λ t. cond t 1 0) (same 0) in
+      let rest : live_count new ≡ 0 = count_same [] new (λ k. same (suc k)) in
+      omega (arith, counted b new, here, rest)
+  count_same (a ∷ old) [] same =
+      let here : one_for a ≡ 0 = sym (ap (λ t. cond t 1 0) (same 0)) in
+      let rest : live_count old ≡ 0 = sym (count_same old [] (λ k. same (suc k))) in
+      omega (arith, counted a old, here, rest)
+  count_same (a ∷ old) (b ∷ new) same =
+      let here : one_for b ≡ one_for a = ap (λ t. cond t 1 0) (same 0) in
+      let rest : live_count new ≡ live_count old = count_same old new (λ k. same (suc k)) in
+      omega (arith, counted a old, counted b new, here, rest)
+
+  -- with a new value of the same case as many cases are live
+  pub live_count-changed : (old new : List (Option (Case × V))) (key : ℕ) (c : Case) (before behind : V)
+      → entry_at old key ≡ Some (c, before)
+      → Updates old new key (Some (c, behind)) → live_count new ≡ live_count old
+  live_count-changed old new key c before behind was updates = count_same old new (λ k.
+      elim (cases_eq k key) [
+        | inl same ↦
+            ap (λ j. is_some (entry_at new j)) same ∙ ap is_some updates.changed
+            ∙ sym (ap is_some was)
+            ∙ sym (ap (λ j. is_some (entry_at old j)) same)
+        | inr differs ↦ ap is_some (updates.others k differs)
+      ])
 
   -- a value that goes moves its case alone
   pub apart_removed : (old new : List (Option (Case × V))) (key : ℕ) → Updates old new key None

@@ -1,7 +1,7 @@
 -- What a table of live values holds: at each key nothing, or a value and its case.
-use Rattle.std.specs.Prelude.{◌≡◌, ◌≢◌, ◌+◌, ◌==◌, ◌&&◌, ◌||◌, not, ℕ, Bool, true, false, if◌then◌else◌, Option, Some, None, is_some, List, [], ◌∷◌, count_by, slice_index_or}
-use Rattle.std.specs.List.{list_any}
-use Rattle.std.specs.Map.{lookup}
+use Rattle.std.specs.Prelude.{◌≡◌, ◌≢◌, ◌+◌, ◌==◌, ◌&&◌, ◌||◌, not, ℕ, Bool, true, false, if◌then◌else◌, Option, Some, None, is_some, List, [], ◌∷◌, count_by, position, slice_index_or}
+use Rattle.std.specs.List.{IsDistinct, list_any}
+use Rattle.std.specs.Map.{keys_of, lookup}
 use Rattle.smallvec.specs.SmallVec.{SmallVec}
 use Rattle.tree_model.specs.declared.names.Case.{Case}
 use Rattle.tree_model.specs.declared.names.Txn.{Txn}
@@ -119,6 +119,14 @@ listed (Some ks) k = is_key ks.items k
 -- the key is listed for the transaction
 abbrev pub listed_for : Txn → List (Txn × SmallVec ℕ) → ℕ → Bool
 listed_for x keys k = listed (lookup (txns.ghosts.eq x) keys) k
+
+-- the place of the transaction's list
+abbrev pub place_in : List (Txn × SmallVec ℕ) → Txn → Option ℕ
+place_in keys x = position (txns.ghosts.eq x) (keys_of keys)
+
+-- each transaction has one list at most
+abbrev pub AreListedOnce : List (Txn × SmallVec ℕ) → Type 0
+AreListedOnce keys = IsDistinct txns.ghosts.eq (keys_of keys)
 
 -- the key is listed for the transaction, and nothing else moves
 abbrev pub Lists : List (Txn × SmallVec ℕ) → List (Txn × SmallVec ℕ) → Txn → ℕ → Type 0

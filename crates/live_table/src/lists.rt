@@ -1,7 +1,8 @@
 //! The keys of each transaction.
 
-ghost use Rattle.std.specs.Prelude.{◌≡◌, ℕ, ◌==◌, ◌&&◌, not, false, IsTrue, OnOk, OnErr};
-ghost use Rattle.live_table.specs.Tables.{Drops, Lists, SameLists, is_key, listed_for};
+ghost use Rattle.std.specs.Prelude.{◌≡◌, ◌<◌, ℕ, ◌==◌, ◌&&◌, not, IfSome, OnOk, OnErr};
+ghost use Rattle.indexmap.specs.IndexMap.{index_map_len};
+ghost use Rattle.live_table.specs.Tables.{AreListedOnce, Drops, Lists, SameLists, is_key, place_in};
 
 use indexmap::IndexMap;
 use smallvec::SmallVec;
@@ -10,6 +11,21 @@ use tree_model::Txn;
 
 /// The keys of one transaction's cases: mostly one.
 pub(crate) type Keys = SmallVec<usize, 1>;
+
+/// Up to this many transactions are gone through, which takes less time than the hash of a name.
+const FEW: usize = 3;
+
+/// The place of the transaction's list, if it has one.
+pub(crate) fn place_of(keys: &IndexMap<Txn, Keys>, txn: &Txn) -> Option<usize>
+    ensures place { result ≡ place_in keys.now.entries txn.now }
+    ensures within { IfSome result (λ place. place < index_map_len keys.now) }
+    ensures once { AreListedOnce keys.now.entries }
+{
+    if keys.len() > FEW {
+        return keys.get_index_of(txn);
+    }
+    keys.keys().as_slice().iter().position(|other| txn == other)
+}
 
 /// The transaction gets one key more. Memory: nothing changed.
 #[tactic(auto, using(crate::proofs::Keys::keys_and_names), unfolding(crate::specs::Tables::is_key))]
@@ -22,8 +38,8 @@ pub(crate) fn add_key(
     ensures ok { OnOk result (Lists keys.old.entries keys.new.entries txn key) }
     ensures err { OnErr result (SameLists keys.old.entries keys.new.entries) }
 {
-    match keys.get_mut(&txn) {
-        Some(list) => list.push(key)?,
+    match place_of(keys, &txn) {
+        Some(place) => keys[place].push(key)?,
         None => {
             let mut list = SmallVec::new(alloc);
             list.push(key)?;
@@ -46,35 +62,15 @@ fn without(list: &mut Keys, key: usize)
 }
 
 /// The key leaves the transaction's list, and a list of no key goes.
-#[tactic(auto, using(crate::proofs::Keys::keys_and_names))]
 pub(crate) fn drop_key(keys: &mut IndexMap<Txn, Keys>, txn: &Txn, key: usize)
     ensures { Drops keys.old.entries keys.new.entries txn.now key }
 {
-    let idle = take_key(keys, txn, key);
-    let_go(keys, txn, idle);
-}
-
-/// The key leaves the transaction's list. Tells whether the list has no key any more.
-fn take_key(keys: &mut IndexMap<Txn, Keys>, txn: &Txn, key: usize) -> bool
-    ensures drops { Drops keys.old.entries keys.new.entries txn.now key }
-    ensures idle { IsTrue result → (k : ℕ) → listed_for txn.now keys.new.entries k ≡ false }
-{
-    match keys.get_mut(txn) {
-        Some(list) => {
-            without(list, key);
-            list.is_empty()
-        }
-        None => false,
-    }
-}
-
-/// The transaction's list goes, if it has no key.
-#[tactic(auto, using(crate::proofs::Keys::keys_and_names))]
-fn let_go(keys: &mut IndexMap<Txn, Keys>, txn: &Txn, idle: bool)
-    requires { IsTrue idle → (k : ℕ) → listed_for txn.now keys.old.entries k ≡ false }
-    ensures { SameLists keys.old.entries keys.new.entries }
-{
-    if idle {
-        let _ = keys.swap_remove(txn);
+    let Some(place) = place_of(keys, txn) else {
+        return;
+    };
+    let list = &mut keys[place];
+    without(list, key);
+    if list.is_empty() {
+        let _ = keys.swap_remove_index(place);
     }
 }

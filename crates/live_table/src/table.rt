@@ -20,7 +20,7 @@ ghost use Rattle.live_table.specs.Tables.{
   value_at,
 };
 
-use crate::lists::{Keys, add_key, drop_key};
+use crate::lists::{Keys, add_key, drop_key, place_of};
 use indexmap::IndexMap;
 use slab::Slab;
 use std::alloc::{AllocError, Global};
@@ -111,9 +111,9 @@ impl<V: Drop> LiveTable<V> {
     pub fn keys(&self, txn: &Txn) -> &[usize]
         ensures { (k : ℕ) → is_key result.now k ≡ is_of_txn txn.now (entry_at self.now k) }
     {
-        match self.keys.get(txn) {
+        match place_of(&self.keys, txn) {
             None => &[],
-            Some(keys) => keys.as_slice(),
+            Some(place) => self.keys[place].as_slice(),
         }
     }
 
