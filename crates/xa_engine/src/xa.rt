@@ -1,18 +1,21 @@
 //! The engine of XA scripts.
 
-ghost use Rattle.std.specs.Prelude.{◌≡◌, ◌++◌, ℕ, List, OnOk, IfOk, IfErr};
+ghost use Rattle.std.specs.Prelude.{◌≡◌, ◌++◌, ℕ, List, MatchResult, OnOk, IfOk, IfErr, map};
 ghost use Rattle.std.specs.Io.KnownBytes.{Appends, Keeps};
 ghost use Rattle.report_io.specs.Streams.{IsInput, WritesFront};
 ghost use Rattle.report_io.specs.declared.status.Status.{Status as AnyStatus};
+ghost use Rattle.xa_engine.specs.declared.script.request.Request.{Request as AnyRequest};
+ghost use Rattle.xa_engine.specs.script.Scripts.{IsFirstBadLine, SpellEach, call_lines};
 ghost use Rattle.xa_engine.specs.Runs.{IsFresh, IsReport, Reports, Runs, Steps, fault_text};
 
 use crate::answer::push_answer;
 use crate::calls::{Manager, make};
-use crate::script::{Request, ScriptError, requests_of};
+use crate::script::{Request, ScriptError, asking_lines, request_of};
 use kv_manager::{KvManager, RecordsError, RestoreError};
 use log_store::MemoryStore;
 use rec_log::OpenError;
 use report_io::{Failure, Status, read_all, write_all};
+use script_words::says_nothing;
 use std::alloc::{AllocError, Global};
 use std::io::{Read, Write};
 use trace_lines::{push, push_number};
@@ -50,9 +53,13 @@ pub fn run_xa<R: Read, W: Write>(
 fn report(alloc: Global, input: &[u8]) -> Result<(Vec<u8>, Status), AllocError>
     ensures { IfOk result (λ r. IsReport r.1 input.now r.0.items) }
 {
-    match requests_of(alloc, input)? {
-        Ok(requests) => Ok((answers(alloc, &requests)?, Status::Ended)),
-        Err(error) => Ok((refusal(alloc, error)?, Status::Refused)),
+    let lines = match asking_lines(alloc, input)? {
+        Ok(lines) => lines,
+        Err(error) => return Ok((refusal(alloc, error)?, Status::Refused)),
+    };
+    match answers(alloc, &lines)? {
+        Ok(text) => Ok((text, Status::Ended)),
+        Err(number) => Ok((refusal(alloc, ScriptError::Line(number))?, Status::Refused)),
     }
 }
 
@@ -95,24 +102,42 @@ pub fn first_manager(alloc: Global) -> Result<Manager, AllocError>
     }
 }
 
-/// The answers to a script's requests, one a line, and the last line.
-fn answers(alloc: Global, requests: &[Request]) -> Result<Vec<u8>, AllocError>
-    ensures { IfOk result (λ text. Reports requests.now text.items) }
+/// The answers to the requests of a script's lines, one a line, and the last line, of a new manager; or the number
+/// of the first line that spells no request, counted from 1.
+fn answers(alloc: Global, lines: &[&str]) -> Result<Result<Vec<u8>, usize>, AllocError>
+    ensures { IfOk result (λ read. MatchResult read
+        (λ text. (requests : List AnyRequest) × SpellEach (call_lines (map (λ s. s.now) lines.now)) requests
+            × Reports requests text.items)
+        (λ number. IsFirstBadLine (map (λ s. s.now) lines.now) number)) }
 {
     let mut manager = first_manager(alloc)?;
-    run(alloc, &mut manager, requests)
+    run(alloc, &mut manager, lines)
 }
 
-/// Makes requests of a manager. Gives their answers, one a line, and the last line.
-fn run(alloc: Global, manager: &mut Manager, requests: &[Request]) -> Result<Vec<u8>, AllocError>
-    ensures { IfOk result (λ text. Runs manager.old manager.new requests.now text.items) }
+/// Makes the requests of a script's lines of a manager, each as its line is read. Gives their answers, one a line,
+/// and the last line; or the number of the first line that spells no request, counted from 1.
+fn run(
+    alloc: Global,
+    manager: &mut Manager,
+    lines: &[&str],
+) -> Result<Result<Vec<u8>, usize>, AllocError>
+    ensures { IfOk result (λ read. MatchResult read
+        (λ text. (requests : List AnyRequest) × SpellEach (call_lines (map (λ s. s.now) lines.now)) requests
+            × Runs manager.old manager.new requests text.items)
+        (λ number. IsFirstBadLine (map (λ s. s.now) lines.now) number)) }
 {
     let mut out = Vec::new(alloc);
-    for request in requests {
-        step(alloc, manager, &mut out, request)?;
+    for (i, line) in lines.iter().enumerate() {
+        if says_nothing(line) {
+            continue;
+        }
+        match request_of(alloc, line)? {
+            Some(request) => step(alloc, manager, &mut out, &request)?,
+            None => return Ok(Err(i + 1)),
+        }
     }
     push(&mut out, "end\n")?;
-    Ok(out)
+    Ok(Ok(out))
 }
 
 /// Makes a request, and adds the line of its answer.

@@ -18,6 +18,12 @@ SpellEach [] [] = Unit {0}
 SpellEach (line ∷ ls) (request ∷ requests) = Spells line request × SpellEach ls requests
 SpellEach _ _ = ⊥
 
+-- an input is text of these lines, of which at most 100,000 are not skipped
+pub record HasLines (input : List ℕ) (ls : List (List ℕ)) : Type 0 where
+  pub text : IsUtf8 input
+  pub short : asked_in (lines input) ≤ 100000
+  pub whole : ls ≡ lines input
+
 -- an input is a script of these requests: text, of which at most 100,000 lines are not skipped, and these
 -- spell them
 pub record IsScript (input : List ℕ) (requests : List Request) : Type 0 where

@@ -1,7 +1,7 @@
 //! A whole script.
 
 ghost use Rattle.std.specs.Prelude.{IfOk, MatchResult, map};
-ghost use Rattle.xa_engine.specs.script.Scripts.{IsFirstBadLine, IsScript, IsScriptFault, SpellEach, call_lines};
+ghost use Rattle.xa_engine.specs.script.Scripts.{HasLines, IsFirstBadLine, IsScript, IsScriptFault, SpellEach, call_lines};
 
 use crate::script::request::{Request, request_of};
 use script_words::{count_asked, lines_of, says_nothing};
@@ -34,6 +34,25 @@ pub fn requests_of(
     ensures { IfOk result (λ read. MatchResult read
         (λ v. IsScript input.now v.items) (λ error. IsScriptFault input.now error)) }
 {
+    let lines = match asking_lines(alloc, input)? {
+        Ok(lines) => lines,
+        Err(error) => return Ok(Err(error)),
+    };
+    match requests_in(alloc, &lines)? {
+        Ok(requests) => Ok(Ok(requests)),
+        Err(number) => Ok(Err(ScriptError::Line(number))),
+    }
+}
+
+/// The lines of a script, none of them read yet; or why it is refused before any is read: Utf8, TooLong, the first
+/// that applies.
+pub fn asking_lines<'a>(
+    alloc: Global,
+    input: &'a [u8],
+) -> Result<Result<Vec<&'a str>, ScriptError>, AllocError>
+    ensures { IfOk result (λ read. MatchResult read
+        (λ v. HasLines input.now (map (λ s. s.now) v.items)) (λ error. IsScriptFault input.now error)) }
+{
     let Ok(text) = str::from_utf8(input) else {
         return Ok(Err(ScriptError::Utf8));
     };
@@ -41,10 +60,7 @@ pub fn requests_of(
     if count_asked(&lines) > LINES {
         return Ok(Err(ScriptError::TooLong));
     }
-    match requests_in(alloc, &lines)? {
-        Ok(requests) => Ok(Ok(requests)),
-        Err(number) => Ok(Err(ScriptError::Line(number))),
-    }
+    Ok(Ok(lines))
 }
 
 /// The requests of these lines, or the number of the first that spells none, counted from 1.

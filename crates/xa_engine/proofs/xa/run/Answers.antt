@@ -1,40 +1,61 @@
-use Rattle.std.proofs.Common.{◌≡◌, ◌∙◌, ◌+◌, ◌≤◌, ◌<◌, ◌++◌, ◌∷◌, [], take, length, ap, sym, arith, append_assoc, subst, List}
+use Rattle.std.proofs.Common.{◌≡◌, ◌∙◌, ◌++◌, ◌∷◌, [], ap, sym, arith, append_assoc, refl}
 use Rattle.std.specs.Prelude.{codes}
 use Rattle.std.specs.List.{flat_map}
-use Rattle.std.proofs.lemmas.List.{take_all, take_more}
-use Rattle.xa_engine.specs.declared.script.request.Request.{Request}
+use Rattle.script_words.specs.Lines.{is_skipped}
+use Rattle.script_words.proofs.Texts.{texts, text_at, long}
 use Rattle.xa_engine.specs.Answers.{answer_text}
-use Rattle.xa_engine.specs.Runs.{Leads}
 use Rattle.xa_engine.proofs.Runs.{leads_more, text_more}
+use Rattle.xa_engine.proofs.script.Lines.{skips, goes_on, ends, spelled, unspelled}
 use Rattle.xa_engine.proofs.xa.run.Goals as goal
 
-pub loop-request-preserved : goal.loop-request-preserved
-loop-request-preserved c =
-    let given = c.loop-request.invariant.0 in
-    let rs = c.args.requests.now in
-    let i = c.loop-request.request-index in
-    let r = c.request-item.result in
-    let made = c.in_ok-step.ensures in
-    let within : i < length rs = omega arith in
-    let front : take (i + 1) rs ≡ take i rs ++ r ∷ [] = take_more rs i r within
-    ∙ ap (λ q. take i rs ++ q ∷ []) (sym c.request-item.is) in
-    let leads = leads_more c.args.manager.now c.loop-request.manager c.step.new.manager (take i rs) r given
-    made.answer c.loop-request.invariant.1 made.makes in (
-      given ++ made.answer ∷ [],
-      subst (λ (l : List Request). Leads c.args.manager.now l (given ++ made.answer ∷ [])
-          c.step.new.manager) (sym front) leads,
-      made.line ∙ ap (λ t. t ++ answer_text made.answer) c.loop-request.invariant.2
-          ∙ sym (text_more given made.answer),
+pub loop-i-preserved-then-says_nothing : goal.loop-i-preserved-then-says_nothing
+loop-i-preserved-then-says_nothing c =
+    let inv = c.loop-i.invariant in (
+      inv.0,
+      inv.1,
+      skips (texts c.args.lines.now) c.loop-i.i inv.0 (omega (arith, long c.args.lines.now))
+      (ap is_skipped (text_at c.args.lines.now c.loop-i.i) ∙ sym c.if-says_nothing.ensures) inv.2,
+      inv.3,
+      inv.4,
     )
+
+pub loop-i-preserved : goal.loop-i-preserved
+loop-i-preserved c =
+    let inv = c.loop-i.invariant in
+    let made = c.in_ok-step-in-Some.ensures in (
+      inv.0 ++ c.in-Some.request ∷ [],
+      inv.1 ++ made.answer ∷ [],
+      goes_on (texts c.args.lines.now) c.loop-i.i inv.0 c.in-Some.request (omega (arith, long c.args.lines.now))
+      (ap is_skipped (text_at c.args.lines.now c.loop-i.i) ∙ sym c.if-says_nothing.ensures)
+      (spelled c.args.lines.now c.loop-i.i _ c.in-Some.request c.in-Some.is
+      c.in_ok-request.ensures.found) inv.2,
+      leads_more c.args.manager.now c.loop-i.manager c.step-in-Some.new.manager inv.0 c.in-Some.request inv.1
+      made.answer inv.3 made.makes,
+      made.line ∙ ap (λ t. t ++ answer_text made.answer) inv.4 ∙ sym (text_more inv.1 made.answer),
+    )
+
+pub returns-in-None : goal.returns-in-None
+returns-in-None c =
+    let inv = c.loop-i.invariant in record {
+      index = c.loop-i.i;
+      counted = refl;
+      within = omega (arith, long c.args.lines.now);
+      front = inv.0;
+      before = inv.2;
+      kept = ap is_skipped (text_at c.args.lines.now c.loop-i.i) ∙ sym c.if-says_nothing.ensures;
+      bad = unspelled c.args.lines.now c.loop-i.i _ c.in-None.is c.in_ok-request.ensures.none;
+    }
 
 pub returns : goal.returns
 returns c =
-    let given = c.loop-request.invariant.0 in
-    let rs = c.args.requests.now in
-    let i = c.loop-request.request-index in
-    let past : length rs ≤ i = omega arith in record {
-      answers = given;
-      leads = subst (λ (l : List Request). Leads c.args.manager.now l given c.loop-request.manager)
-          (take_all i rs past) c.loop-request.invariant.1;
-      lines = c.in_ok-push.ensures ∙ ap (λ t. t ++ (codes "end" ++ 10 ∷ [])) c.loop-request.invariant.2 ∙ sym (append_assoc (flat_map answer_text given) (codes "end") (10 ∷ []));
-    }
+    let inv = c.loop-i.invariant in (
+      inv.0,
+      ends (texts c.args.lines.now) c.loop-i.i inv.0
+      (omega (arith, long c.args.lines.now, c.loop-i-test.false)) inv.2,
+      record {
+        answers = inv.1;
+        leads = inv.3;
+        lines = c.in_ok-push.ensures ∙ ap (λ t. t ++ (codes "end" ++ 10 ∷ [])) inv.4
+            ∙ sym (append_assoc (flat_map answer_text inv.1) (codes "end") (10 ∷ []));
+      },
+    )

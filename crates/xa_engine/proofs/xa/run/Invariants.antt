@@ -1,10 +1,13 @@
-use Rattle.std.proofs.Common.{◌≡◌, List, take}
+use Rattle.std.proofs.Common.{◌≡◌, List, take, map}
 use Rattle.std.specs.List.{flat_map}
 use Rattle.xa_engine.specs.declared.answer.Answer.{Answer}
+use Rattle.xa_engine.specs.declared.script.request.Request.{Request}
 use Rattle.xa_engine.specs.Answers.{answer_text}
 use Rattle.xa_engine.specs.Runs.{Leads}
+use Rattle.xa_engine.specs.script.Scripts.{call_lines, SpellEach}
 use Rattle.xa_engine.proofs.xa.run.Given as goal
 
-abbrev pub invariant-loop-request : goal.invariant-loop-request
-invariant-loop-request l = (given : List Answer) × Leads l.initial.manager (take l.request-index l.requests)
-    given l.manager × (l.out.items ≡ flat_map answer_text given)
+abbrev pub invariant-loop-i : goal.invariant-loop-i
+invariant-loop-i l = (requests : List Request) × (given : List Answer)
+    × SpellEach (call_lines (take l.i (map (λ s. s.now) l.lines))) requests
+    × Leads l.initial.manager requests given l.manager × (l.out.items ≡ flat_map answer_text given)
