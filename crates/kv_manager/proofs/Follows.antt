@@ -14,7 +14,7 @@ use Rattle.log_rules.specs.declared.order.seen.Mark.{Mark}
 use Rattle.log_rules.specs.declared.order.seen.Mark.TheVariants.{Open, Decided, Told as ToldMark}
 use Rattle.log_rules.specs.declared.order.seen.Promise.{Promise}
 use Rattle.log_rules.specs.order.Orders.{SeenLog, after, decided, direct, followed, forgot, found, is_heuristic, is_open, is_untold, key_open, keys_free, keys_once, names_key, opens, prepared, promised, promises, same, settled, told}
-use Rattle.log_rules.proofs.sound.CutNames.{name_again}
+use Rattle.log_text.proofs.NameReading.{name_again}
 use Rattle.key_tables.specs.declared.holders.Holder.{Holder}
 use Rattle.key_tables.specs.declared.holders.Mode.TheVariants.{Exclusive}
 use Rattle.kv_store.specs.writes.Writes.{AreWrites, writes_of}

@@ -31,7 +31,7 @@ use Rattle.tree_model.specs.ManagerRows.{is_acknowledged, presumption_of}
 use Rattle.tree_model.specs.Standings.{Decided, Finished, Mark, Promised, ToldOf, Unmarked, mark_after, mark_of, mark_at}
 use Rattle.tree_model.specs.Store.{Data, commits, stored, stored_after, writes_of as promised_of, data_of}
 use Rattle.log_text.proofs.NameReading.{same_xid_is, same_xid_refl}
-use Rattle.log_rules.proofs.sound.CutNames.{name_again}
+use Rattle.log_text.proofs.NameReading.{name_again}
 use Rattle.rec_log.specs.Sights.{Breaks, LogSight, left_by, longer, records_of}
 use Rattle.kv_store.specs.Pairs.{found_in, keys_rise}
 use Rattle.kv_store.specs.Versions.{Applies, VersionTable, written}
