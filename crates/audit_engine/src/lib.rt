@@ -26,7 +26,10 @@ mod logs;
 mod namings;
 mod steps;
 
+pub use chains::{all_namings, steps_of};
 pub use detail::Detail;
 pub use ending::Ending;
 pub use engine::run_audit;
 pub use logs::run_log;
+pub use namings::{Namings, TreeNamings};
+pub use steps::{Deed, Found, Stands, Step};

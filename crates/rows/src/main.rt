@@ -12,6 +12,7 @@ mod fakes;
 mod floods;
 mod migrations;
 mod reopenings;
+mod resolves;
 mod scripts;
 mod stops;
 mod streams;
@@ -20,6 +21,7 @@ mod worlds;
 use crate::damages::{run_cuts, run_damages};
 use crate::edges::holds;
 use crate::migrations::run_migrations;
+use crate::resolves::resolved;
 use crate::stops::run_stops;
 use audit_engine::{Detail, run_audit, run_log};
 use crash_engine::run_crash;
@@ -61,6 +63,8 @@ enum Program {
     Audit,
     /// Likewise, and what decided those that are in doubt or show a mismatch.
     Explain,
+    /// Names of branches and the logs of a tree, for what is to be done with them.
+    Resolve,
     /// An input that a program refuses, or an event of it, for what is told of it.
     Why(Script),
 }
@@ -96,6 +100,7 @@ impl Program {
             "migrations" => Some(Program::Migrations),
             "audit" => Some(Program::Audit),
             "explain" => Some(Program::Explain),
+            "resolve" => Some(Program::Resolve),
             "why_tree" => Some(Program::Why(Script::Tree)),
             "why_xa" => Some(Program::Why(Script::Xa)),
             "why_log" => Some(Program::Why(Script::Logs)),
@@ -117,6 +122,7 @@ impl Program {
             Program::Xa => ("xa", "out"),
             Program::Migrations => ("logs", "migrations"),
             Program::Log | Program::Migrate | Program::Audit | Program::Explain => ("logs", "out"),
+            Program::Resolve => ("names", "out"),
             Program::Why(Script::Tree) => ("tree", "why"),
             Program::Why(Script::Xa) => ("xa", "why"),
             Program::Why(Script::Logs) => ("logs", "why"),
@@ -156,6 +162,7 @@ impl Program {
             Program::Migrate => run_migrate(alloc, &mut input, out),
             Program::Audit => return audited(alloc, Detail::Lines, input, out),
             Program::Explain => return audited(alloc, Detail::Explained, input, out),
+            Program::Resolve => return resolved(alloc, input, out),
             Program::Why(script) => return told(alloc, script, input, out),
         };
         Some(ended.ok()?.number())

@@ -79,25 +79,51 @@ fn logs_of(rt: &HostRuntime, tree: &Tree, words: &[&str]) -> Result<Vec<ProcessL
     if let Some(me) = process {
         return Err(refused(format!(in alloc; "process {me} is given without a log")));
     }
+    Ok(logs)
+}
+
+/// Refuses logs of which one of a process of the tree is missing.
+fn all_given(alloc: Global, tree: &Tree, logs: &[ProcessLog]) -> Result<(), End> {
     for entry in tree.entries() {
-        if !is_listed(&logs, entry.id) {
+        if !is_listed(logs, entry.id) {
             let ProcessId(number) = entry.id;
             return Err(refused(format!(in alloc; "process {number} is given no log")));
         }
     }
-    Ok(logs)
+    Ok(())
+}
+
+/// The text of a tree and logs of it.
+fn text_of(alloc: Global, path: &str, tree: &Tree, logs: &[ProcessLog]) -> Result<Vec<u8>, End> {
+    match logs_text(alloc, tree.entries(), logs) {
+        Ok(text) => Ok(text),
+        Err(_) => Err(no_memory(alloc, path)),
+    }
+}
+
+/// The file of the tree among these words, and the rest of them.
+fn cut_tree<'a, 'b>(alloc: Global, words: &'b [&'a str]) -> Result<(&'a str, &'b [&'a str]), End> {
+    match words.split_first() {
+        Some((path, rest)) => Ok((path, rest)),
+        None => Err(refused(format!(in alloc; "no tree is given"))),
+    }
 }
 
 /// The text of the tree and the logs of these words, as `rstar tree --logs` writes it and `rstar log` reads it.
 pub(crate) fn input_of(rt: &HostRuntime, words: &[&str]) -> Result<Vec<u8>, End> {
     let alloc = rt.alloc();
-    let Some((path, rest)) = words.split_first() else {
-        return Err(refused(format!(in alloc; "no tree is given")));
-    };
+    let (path, rest) = cut_tree(alloc, words)?;
     let tree = tree_in(rt, path)?;
     let logs = logs_of(rt, &tree, rest)?;
-    match logs_text(alloc, tree.entries(), &logs) {
-        Ok(text) => Ok(text),
-        Err(_) => Err(no_memory(alloc, path)),
-    }
+    all_given(alloc, &tree, &logs)?;
+    text_of(alloc, path, &tree, &logs)
+}
+
+/// The text of the tree and the logs of these words, of which those of some processes may be missing.
+pub(crate) fn some_input_of(rt: &HostRuntime, words: &[&str]) -> Result<Vec<u8>, End> {
+    let alloc = rt.alloc();
+    let (path, rest) = cut_tree(alloc, words)?;
+    let tree = tree_in(rt, path)?;
+    let logs = logs_of(rt, &tree, rest)?;
+    text_of(alloc, path, &tree, &logs)
 }

@@ -10,6 +10,7 @@ mod law;
 mod logs;
 mod migration;
 mod node;
+mod resolving;
 mod running;
 mod source;
 
@@ -23,6 +24,7 @@ use migrate_engine::run_migrate;
 use migration::FileWords;
 use node::NodeWords;
 use report_io::{read_all, write_all};
+use resolving::ResolveWords;
 use source::{Source, bytes_in, source_of, tell_refused, tell_waiting};
 use std::alloc::{AllocError, Global};
 use std::io;
@@ -67,6 +69,8 @@ enum Asked<'a> {
     Node(NodeWords<'a>),
     /// The log of a process in a file, by the second format.
     MigrateFile(FileWords<'a>),
+    /// What is to be done with prepared branches.
+    Resolve(ResolveWords<'a>),
     /// What a request for logs asks of those in files, and whether only their text is written.
     Files(Request, Told, Vec<&'a str>, bool),
     Memory,
@@ -86,6 +90,7 @@ Examples:
   rstar audit < examples/commit.logs
   rstar migrate < examples/commit.logs
   rstar crash < examples/commit.tree
+  rstar resolve --logs examples/commit.logs < names
   rstar node tree.toml 1 1.log --new
 
 Exit status: 0 the script was run to its end, 1 it was refused, 2 an event was refused,
@@ -411,6 +416,7 @@ fn grammar<'a>(alloc: Global) -> Result<Command<'a>, AllocError> {
     .subcommand(log(alloc)?)?
     .subcommand(audit(alloc)?)?
     .subcommand(migration::words(alloc)?)?
+    .subcommand(resolving::words(alloc)?)?
     .subcommand(explaining(
         alloc,
         "crash",
@@ -504,6 +510,7 @@ fn read_words<'a>(alloc: Global, words: &'a [String]) -> Result<Asked<'a>, Error
                 Some(words) => Asked::MigrateFile(words),
                 None => Asked::Request(Request::Migrate, told_of(found), Source::Standard),
             },
+            "resolve" => Asked::Resolve(resolving::asked(alloc, found)?),
             "crash" => Asked::Request(Request::Crash, told_of(found), source_of(found)),
             "node" => match node_of(found) {
                 Some(words) => Asked::Node(words),
@@ -716,6 +723,7 @@ fn status_of<T: Threads + Wait + Sync>(rt: &HostRuntime, threads: &T) -> u8 {
         Ok(Asked::Request(request, told, source)) => perform(rt, threads, request, told, source),
         Ok(Asked::Node(words)) => node::run(rt, words),
         Ok(Asked::MigrateFile(words)) => migration::run(rt, words),
+        Ok(Asked::Resolve(words)) => resolving::run(rt, words),
         Ok(Asked::Files(request, told, words, is_text)) => {
             perform_files(rt, threads, request, told, &words, is_text)
         }

@@ -1,0 +1,6 @@
+pub mod Answers
+pub mod Finders
+pub mod Texts
+pub mod Sql
+pub mod Inputs
+pub mod Reports

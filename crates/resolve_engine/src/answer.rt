@@ -1,0 +1,66 @@
+//! What is answered of a name, and why.
+
+ghost use Rattle.std.specs.Prelude.{◌≡◌};
+ghost use Rattle.resolve_engine.specs.Answers.{word_by};
+
+use audit_engine::Stands;
+use tree_model::{Case, Outcome, Presumption, ProcessId};
+
+/// What is to be done with a branch.
+#[derive(Clone, Copy, PartialEq, Eq)]
+pub enum Word {
+    /// Its transaction committed.
+    Commit,
+    /// Its transaction aborted.
+    Rollback,
+    /// An operator committed it.
+    HeuristicCommit,
+    /// An operator rolled it back.
+    HeuristicRollback,
+    /// The logs do not say it yet.
+    Wait,
+    /// The log of this process is wanted, or does not know it.
+    Unknown(ProcessId),
+    /// It is none of this tree.
+    Foreign,
+}
+
+/// Why.
+#[derive(Clone, Copy, PartialEq, Eq)]
+pub enum Reason {
+    /// The log of its own process says so.
+    Own,
+    /// An operator decided it there.
+    Operator,
+    /// The log of this process has a case that names its ticket, and this stands of it.
+    Kept(ProcessId, Case, Stands),
+    /// No case in the log of this process names its ticket, so it is presumed.
+    Presumed(ProcessId, Presumption),
+    /// It is the root's own case, which is not decided.
+    Root(ProcessId),
+    /// The log of this process is not here.
+    Missing(ProcessId),
+    /// The log of its own process has no promise of it.
+    NoPromise(ProcessId),
+    /// The name is of a tree of another name.
+    OtherTree,
+    /// The name is none that this product gives in this tree.
+    NoName,
+}
+
+/// What is answered of a name, and why.
+#[derive(Clone, Copy, PartialEq, Eq)]
+pub struct Answer {
+    pub word: Word,
+    pub reason: Reason,
+}
+
+/// What is to be done with a branch whose transaction ended so.
+pub fn by_outcome(outcome: Outcome) -> Word
+    ensures { result ≡ word_by outcome }
+{
+    match outcome {
+        Outcome::Committed => Word::Commit,
+        Outcome::Aborted => Word::Rollback,
+    }
+}

@@ -1,0 +1,241 @@
+//! The engine of `rstar resolve`.
+
+ghost use Rattle.std.specs.Prelude.{◌≡◌, ◌++◌, ℕ, List, IfOk, IfErr, OnOk, option_map};
+ghost use Rattle.std.specs.Io.KnownBytes.{Appends, Keeps};
+ghost use Rattle.report_io.specs.Streams.{IsInput, WritesFront};
+ghost use Rattle.tree_headline.specs.auditor.Audits.{Logs};
+ghost use Rattle.tree_model.specs.Trees.{IsTree};
+ghost use Rattle.logs_script.specs.Faults.{fault_text};
+ghost use Rattle.link_script.specs.declared.script.ScriptFault.TheVariants.{Utf8};
+ghost use Rattle.resolve_engine.specs.Answers.{answer_of};
+ghost use Rattle.branch_names.specs.Cases.{IsPlaced};
+ghost use Rattle.resolve_engine.specs.Finders.{Finds, Looks};
+ghost use Rattle.resolve_engine.specs.Reports.{GivesAll, GivesOne, IsResolveReport, IsResolved, Tells, ending_by, ending_number, naming_answer, waits as waits_by};
+ghost use Rattle.resolve_engine.specs.declared.engine.Ending.{Ending as AnyEnding};
+
+use crate::answer::{Answer, Reason, Word};
+use crate::asked::{Asked, Form};
+use crate::finding::Finder;
+use crate::lines::{push_explained, push_line};
+use crate::reading::read_some_logs;
+use crate::sql::push_sql;
+use branch_names::{Naming, case_named};
+use link_script::{ScriptError, ScriptFault};
+use logs_script::{ProcessLog, damaged, refusal};
+use report_io::{Failure, read_all, write_all};
+use script_words::lines_of;
+use std::alloc::{AllocError, Global};
+use std::io::{Read, Write};
+use std::str;
+use tree_audit::{AuditError, all_notes};
+use tree_model::Tree;
+
+/// How a run ended.
+#[derive(Clone, Copy, PartialEq, Eq)]
+pub enum Ending {
+    /// Each name has its answer.
+    Answered,
+    /// A log is damaged, or an input was refused.
+    Refused,
+    /// A name has to wait, or a log is wanted for it.
+    Waits,
+}
+
+impl Ending {
+    /// The exit status.
+    pub fn number(self) -> u8
+        ensures { result ≡ ending_number self }
+    {
+        match self {
+            Ending::Answered => 0,
+            Ending::Refused => 1,
+            Ending::Waits => 3,
+        }
+    }
+}
+
+/// Reads names, one a line, and writes for each what is to be done with its branch by these logs, which are a text as
+/// `rstar tree --logs` writes it; those of some processes may be missing. Empty lines are skipped. Or one line that says
+/// which log is damaged where, or why the logs or the names are refused. After a failed read, or where memory is refused,
+/// nothing was written; after a failed write, a beginning of the text.
+pub fn run_resolve<R: Read, W: Write>(
+    alloc: Global,
+    asked: &Asked,
+    logs: &[u8],
+    reader: &mut R,
+    writer: &mut W,
+) -> Result<Ending, Failure>
+    ensures written { IfOk result (λ ending. (input : List ℕ) × (text : List ℕ)
+        × IsInput (R.remaining reader.old) input
+        × IsResolveReport ending asked.now.form asked.now.trust (option_map (λ s. s.now) asked.now.name) logs.now input text
+        × Appends (W.contents writer.old) (W.contents writer.new) text) }
+    ensures cut { IfErr result (λ e. e ≡ Failure.Write → (input : List ℕ)
+        × (text : List ℕ) × (ending : AnyEnding)
+        × IsInput (R.remaining reader.old) input
+        × IsResolveReport ending asked.now.form asked.now.trust (option_map (λ s. s.now) asked.now.name) logs.now input text
+        × WritesFront (W.contents writer.old) (W.contents writer.new) text) }
+    ensures unread { IfErr result (λ e. e ≡ Failure.Read
+        → Keeps (W.contents writer.old) (W.contents writer.new)) }
+    ensures memory { IfErr result (λ e. e ≡ Failure.Memory
+        → Keeps (W.contents writer.old) (W.contents writer.new)) }
+{
+    let input = read_all(alloc, reader)?;
+    let (text, ending) = answers(alloc, asked, logs, &input)?;
+    match write_all(writer, &text) {
+        Ok(()) => Ok(ending),
+        Err(failure) => Err(failure),
+    }
+}
+
+/// What is written of these logs and names.
+fn answers(
+    alloc: Global,
+    asked: &Asked,
+    logs: &[u8],
+    input: &[u8],
+) -> Result<(Vec<u8>, Ending), AllocError>
+    ensures { IfOk result (λ r. IsResolveReport r.1 asked.now.form asked.now.trust
+        (option_map (λ s. s.now) asked.now.name) logs.now input.now r.0.items) }
+{
+    match read_some_logs(alloc, logs) {
+        Ok((tree, logs)) => resolved(alloc, asked, &tree, logs.as_slice(), input),
+        Err(ScriptError::Fault(fault)) => Ok((refusal(alloc, fault)?, Ending::Refused)),
+        Err(ScriptError::Memory) => Err(AllocError),
+    }
+}
+
+/// What is written of these names, by the logs of this tree.
+fn resolved(
+    alloc: Global,
+    asked: &Asked,
+    tree: &Tree,
+    logs: &[ProcessLog],
+    input: &[u8],
+) -> Result<(Vec<u8>, Ending), AllocError>
+    requires { IsTree tree.now }
+    ensures { IfOk result (λ r. IsResolved r.1 asked.now.form asked.now.trust
+        (option_map (λ s. s.now) asked.now.name) tree.now logs.now input.now r.0.items) }
+{
+    match all_notes(alloc, tree, logs) {
+        Ok(notes) => {
+            let finder = Finder::new(alloc, tree, logs, &notes, asked.trust)?;
+            match str::from_utf8(input) {
+                Ok(text) => told(alloc, asked, tree, &finder, text),
+                Err(_) => Ok((no_text(alloc)?, Ending::Refused)),
+            }
+        }
+        Err(AuditError::Damaged(process, place)) => {
+            Ok((damaged(alloc, process, place)?, Ending::Refused))
+        }
+        Err(AuditError::Memory) => Err(AllocError),
+    }
+}
+
+/// The line for names that are not UTF-8.
+fn no_text(alloc: Global) -> Result<Vec<u8>, AllocError>
+    ensures { IfOk result (λ text. text.items ≡ fault_text Utf8) }
+{
+    refusal(alloc, ScriptFault::Utf8)
+}
+
+/// The answer to what a name is of.
+fn answer_to(alloc: Global, finder: &Finder, naming: Naming) -> Result<Answer, AllocError>
+    requires tree { IsTree finder.now.tree.now }
+    requires placed { IsPlaced finder.now.tree.now naming }
+    ensures { IfOk result (λ answer. (kept : Logs) → Finds kept finder.now → answer ≡ naming_answer
+        (answer_of finder.now.trust finder.now.tree.now finder.now.logs.now kept) naming) }
+{
+    match naming {
+        Naming::Case(case) => finder.answer(alloc, &case),
+        Naming::OtherTree => Ok(Answer {
+            word: Word::Foreign,
+            reason: Reason::OtherTree,
+        }),
+        Naming::Foreign => Ok(Answer {
+            word: Word::Foreign,
+            reason: Reason::NoName,
+        }),
+    }
+}
+
+/// Whether a name has to wait, or a log is wanted for it.
+fn waits(word: Word) -> bool
+    ensures { result ≡ waits_by word }
+{
+    matches!(word, Word::Wait | Word::Unknown(_))
+}
+
+/// What is written of an answer.
+fn push_told(
+    alloc: Global,
+    out: &mut Vec<u8>,
+    form: Form,
+    name: &str,
+    answer: &Answer,
+) -> Result<(), AllocError>
+    ensures { OnOk result ((text : List ℕ) × Tells form name.now answer.now text
+        × (out.new.items ≡ out.old.items ++ text)) }
+{
+    match form {
+        Form::Lines => push_line(out, name, answer),
+        Form::Explained => push_explained(out, name, answer),
+        Form::Sql(database) => push_sql(alloc, out, database, name, answer),
+    }
+}
+
+/// Adds what is answered of a name, and says whether it has to wait.
+fn push_name(
+    alloc: Global,
+    asked: &Asked,
+    tree: &Tree,
+    finder: &Finder,
+    out: &mut Vec<u8>,
+    name: &str,
+) -> Result<bool, AllocError>
+    requires tree { IsTree tree.now }
+    requires looks { Looks asked.now.trust tree.now finder.now.logs.now finder.now }
+    ensures { IfOk result (λ w. (kept : Logs) → Finds kept finder.now → GivesOne asked.now.form asked.now.trust
+        (option_map (λ s. s.now) asked.now.name) tree.now finder.now.logs.now kept name.now w out.old.items
+        out.new.items) }
+{
+    let naming = case_named(alloc, tree, asked.name, name)?;
+    let answer = answer_to(alloc, finder, naming)?;
+    push_told(alloc, out, asked.form, name, &answer)?;
+    Ok(waits(answer.word))
+}
+
+/// The answers to the names of a text, and whether one has to wait.
+fn told(
+    alloc: Global,
+    asked: &Asked,
+    tree: &Tree,
+    finder: &Finder,
+    text: &str,
+) -> Result<(Vec<u8>, Ending), AllocError>
+    requires tree { IsTree tree.now }
+    requires looks { Looks asked.now.trust tree.now finder.now.logs.now finder.now }
+    ensures { IfOk result (λ r. (kept : Logs) → Finds kept finder.now → GivesAll asked.now.form asked.now.trust
+        (option_map (λ s. s.now) asked.now.name) tree.now finder.now.logs.now kept text.now r.1 r.0.items) }
+{
+    let names = lines_of(alloc, text)?;
+    let mut out = Vec::new(alloc);
+    let mut waiting = false;
+    for name in &names {
+        if name.is_empty() {
+            continue;
+        }
+        waiting |= push_name(alloc, asked, tree, finder, &mut out, name)?;
+    }
+    Ok((out, ending_of(waiting)))
+}
+
+/// How a run ends, by whether a name has to wait.
+fn ending_of(waiting: bool) -> Ending
+    ensures { result ≡ ending_by waiting }
+{
+    if waiting {
+        Ending::Waits
+    } else {
+        Ending::Answered
+    }
+}

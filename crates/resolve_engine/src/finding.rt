@@ -1,0 +1,217 @@
+//! The answer to a case.
+
+ghost use Rattle.std.specs.Prelude.{◌≡◌, IfOk, true};
+ghost use Rattle.tree_headline.specs.auditor.Audits.{Logs};
+ghost use Rattle.tree_model.specs.Names.{process_of};
+ghost use Rattle.tree_model.specs.Nodes.{is_listed};
+ghost use Rattle.tree_model.specs.Trees.{IsTree};
+ghost use Rattle.tree_audit.specs.Tables.{AreNotes};
+ghost use Rattle.logs_script.specs.Logs.{has_log as has_log_in};
+ghost use Rattle.resolve_engine.specs.Answers.{above_answer, answer_of, decided_in, if_complete as if_complete_by, is_unpromised as is_unpromised_by, kept_answer, not_kept as not_kept_by, step_answer, own_answer as own_answer_by, own_kinds};
+ghost use Rattle.resolve_engine.specs.Finders.{Finds, Looks};
+
+use crate::answer::{Answer, Reason, Word, by_outcome};
+use crate::asked::Trust;
+use audit_cases::Kinds;
+use audit_engine::{Found, Stands, Step, TreeNamings, all_namings, steps_of};
+use inquire_core::presumed;
+use logs_script::ProcessLog;
+use std::alloc::{AllocError, Global};
+use tree_audit::TreeNotes;
+use tree_model::{Case, Outcome, ProcessId, Tree};
+
+/// What the logs of a tree say, where cases are looked up.
+#[derive(Drop)]
+pub struct Finder<'a> {
+    tree: &'a Tree,
+    logs: &'a [ProcessLog],
+    notes: &'a TreeNotes,
+    namings: TreeNamings,
+    trust: Trust,
+}
+
+/// Whether a process has a log among these.
+#[tactic(auto, unfolding(logs_script::specs::Logs::has_log, tree_model::specs::Names::same_process))]
+pub(crate) fn has_log(logs: &[ProcessLog], process: ProcessId) -> bool
+    ensures { result ≡ has_log_in logs.now process }
+{
+    logs.iter().any(|log| log.process == process)
+}
+
+/// The decision that records of these kinds say, if they say one.
+fn decided(kinds: Kinds) -> Option<Outcome>
+    ensures { result ≡ decided_in kinds }
+{
+    if kinds.committed || kinds.commit || kinds.told_commit {
+        Some(Outcome::Committed)
+    } else if kinds.rolled_back || kinds.told_abort || kinds.abort {
+        Some(Outcome::Aborted)
+    } else {
+        None
+    }
+}
+
+/// What its own log says of a case, if it says what to do.
+fn own_answer(kinds: Kinds) -> Option<Answer>
+    ensures { result ≡ own_answer_by kinds }
+{
+    if kinds.heur_commit {
+        Some(Answer {
+            word: Word::HeuristicCommit,
+            reason: Reason::Operator,
+        })
+    } else if kinds.heur_rollback {
+        Some(Answer {
+            word: Word::HeuristicRollback,
+            reason: Reason::Operator,
+        })
+    } else {
+        let outcome = decided(kinds)?;
+        Some(Answer {
+            word: by_outcome(outcome),
+            reason: Reason::Own,
+        })
+    }
+}
+
+impl<'a> Finder<'a> {
+    /// Looks cases up in these logs, of which this is noted.
+    pub fn new(
+        alloc: Global,
+        tree: &'a Tree,
+        logs: &'a [ProcessLog],
+        notes: &'a TreeNotes,
+        trust: Trust,
+    ) -> Result<Self, AllocError>
+        requires { IsTree tree.now }
+        ensures { IfOk result (λ finder. Looks trust tree.now logs.now finder
+            × ((kept : Logs) → AreNotes tree.now kept notes.now.entries → Finds kept finder)) }
+    {
+        let namings = all_namings(alloc, tree, notes)?;
+        Ok(Finder {
+            tree,
+            logs,
+            notes,
+            namings,
+            trust,
+        })
+    }
+
+    /// What is noted of a case in its own process's log.
+    fn kinds_of(&self, case: &Case) -> Kinds
+        ensures { (kept : Logs) → Finds kept self.now → is_listed self.now.tree.now (process_of case.now) ≡ true
+            → result ≡ own_kinds kept case.now }
+    {
+        match self.notes.get(&case.process()) {
+            None => Kinds::none(),
+            Some(own) => match own.of(case) {
+                None => Kinds::none(),
+                Some(note) => note.kinds(),
+            },
+        }
+    }
+
+    /// This word, if the logs are complete; else it has to wait.
+    fn if_complete(&self, word: Word) -> Word
+        ensures { result ≡ if_complete_by self.now.trust word }
+    {
+        match self.trust {
+            Trust::Complete => word,
+            Trust::Parts => Word::Wait,
+        }
+    }
+
+    /// What a coordinator's case says of the ticket that it names.
+    fn kept(&self, process: ProcessId, case: Case, stands: Stands) -> Answer
+        ensures { result ≡ kept_answer self.now.trust process case stands }
+    {
+        let word = match stands {
+            Stands::Commit => Word::Commit,
+            Stands::Abort => Word::Rollback,
+            Stands::Collecting | Stands::Prepare | Stands::Ended => {
+                self.if_complete(Word::Rollback)
+            }
+        };
+        Answer {
+            word,
+            reason: Reason::Kept(process, case, stands),
+        }
+    }
+
+    /// What follows where no case of this process names the ticket.
+    fn not_kept(&self, process: ProcessId, case: &Case) -> Answer
+        ensures { result ≡ not_kept_by self.now.trust (has_log_in self.now.logs.now process) process case.now }
+    {
+        if !has_log(self.logs, process) {
+            return Answer {
+                word: Word::Unknown(process),
+                reason: Reason::Missing(process),
+            };
+        }
+        let presumption = case.txn.presumption;
+        Answer {
+            word: self.if_complete(by_outcome(presumed(presumption))),
+            reason: Reason::Presumed(process, presumption),
+        }
+    }
+
+    /// What a step upward from a case says.
+    fn found(&self, case: &Case, step: &Step) -> Answer
+        ensures { result ≡ step_answer self.now.trust self.now.logs.now case.now step.now }
+    {
+        match step.found {
+            Found::Kept(next, stands) => self.kept(step.process, next, stands),
+            Found::Nothing => self.not_kept(step.process, case),
+        }
+    }
+
+    /// What the last step upward from a case says; where there is none, the case is the root's.
+    fn above(&self, case: &Case, steps: &[Step]) -> Answer
+        ensures { result ≡ above_answer self.now.trust self.now.logs.now case.now steps.now }
+    {
+        let mut answer = Answer {
+            word: self.if_complete(Word::Rollback),
+            reason: Reason::Root(case.process()),
+        };
+        for step in steps {
+            answer = self.found(case, step);
+        }
+        answer
+    }
+
+    /// Whether nothing is known above, and the case's own log, which is here, has no promise of it.
+    fn is_unpromised(&self, case: &Case, kinds: Kinds, found: Answer) -> bool
+        ensures { result ≡ is_unpromised_by self.now.logs.now case.now kinds found }
+    {
+        let is_promised = kinds.prepared || kinds.prepare || kinds.ended;
+        let is_known = match found.reason {
+            Reason::Kept(_, _, Stands::Commit | Stands::Abort) | Reason::Missing(_) => true,
+            _ => false,
+        };
+        !is_promised && !is_known && case.ticket.is_some() && has_log(self.logs, case.process())
+    }
+
+    /// What is answered of a case of this tree.
+    #[tactic(auto, unfolding(crate::specs::Answers::answer_of))]
+    pub fn answer(&self, alloc: Global, case: &Case) -> Result<Answer, AllocError>
+        requires tree { IsTree self.now.tree.now }
+        requires listed { is_listed self.now.tree.now (process_of case.now) ≡ true }
+        ensures { IfOk result (λ answer. (kept : Logs) → Finds kept self.now
+            → answer ≡ answer_of self.now.trust self.now.tree.now self.now.logs.now kept case.now) }
+    {
+        let kinds = self.kinds_of(case);
+        if let Some(answer) = own_answer(kinds) {
+            return Ok(answer);
+        }
+        let steps = steps_of(alloc, self.tree, &self.namings, case)?;
+        let found = self.above(case, &steps);
+        if self.is_unpromised(case, kinds, found) {
+            let process = case.process();
+            return Ok(Answer {
+                word: Word::Unknown(process),
+                reason: Reason::NoPromise(process),
+            });
+        }
+        Ok(found)
+    }
+}

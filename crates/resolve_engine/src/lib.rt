@@ -1,0 +1,28 @@
+//! Floor: engines and program.
+//!
+//! The engine of `rstar resolve`: what is to be done with a prepared branch that was left behind, by the logs of its tree.
+//!
+//! ```text
+//! engine     the engine
+//! asked      what is asked for beside the names
+//! reading    the logs, each process's or only some
+//! answer     what is answered of a name, and why
+//! finding    the answer to a case
+//! lines      the text of an answer, and why it is so
+//! sql        the statement that does it
+//! ```
+#![tactic(auto)]
+
+mod answer;
+mod asked;
+mod engine;
+mod finding;
+mod lines;
+mod reading;
+mod sql;
+
+pub use answer::{Answer, Reason, Word};
+pub use asked::{Asked, Database, Form, Trust};
+pub use engine::{Ending, run_resolve};
+pub use finding::Finder;
+pub use reading::read_some_logs;
