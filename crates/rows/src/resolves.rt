@@ -39,7 +39,6 @@ pub fn resolved(alloc: Global, input: &[u8], out: &mut Vec<u8>) -> Option<u8> {
     let (names, logs) = rest.split_once("\n\n")?;
     let asked = asked_by(first)?;
     let mut names = names.as_bytes();
-    let ended: Result<_, Failure> =
-        run_resolve(alloc, &asked, logs.as_bytes(), &mut names, out);
+    let ended: Result<_, Failure> = run_resolve(alloc, &asked, logs.as_bytes(), &mut names, out);
     Some(ended.ok()?.number())
 }

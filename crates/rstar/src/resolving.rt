@@ -64,9 +64,7 @@ pub(crate) fn words<'a>(alloc: Global) -> Result<Command<'a>, AllocError> {
         "Tells of prepared branches that were left behind how to end them, by the logs of their tree",
         HELP,
     )
-    .arg(
-        option(alloc, "logs", "FILE", "The file of a tree and its logs").conflicts_with("file")?,
-    )?
+    .arg(option(alloc, "logs", "FILE", "The file of a tree and its logs").conflicts_with("file")?)?
     .arg(logs::file(alloc))?
     .arg(option(
         alloc,
@@ -80,15 +78,13 @@ pub(crate) fn words<'a>(alloc: Global) -> Result<Command<'a>, AllocError> {
         "These are the logs as they stand, and their processes do not run",
     ))?
     .arg(flag(alloc, "explain", "Tells of each answer which log says so"))?
-    .arg(
-        option(
-            alloc,
-            "sql",
-            "DATABASE",
-            "Writes statements, of postgresql or mariadb, in place of answers",
-        )
-        .conflicts_with("explain")?,
+    .arg(option(
+        alloc,
+        "sql",
+        "DATABASE",
+        "Writes statements, of postgresql or mariadb, in place of answers",
     )
+    .conflicts_with("explain")?)
 }
 
 /// What these words ask for.
@@ -113,9 +109,9 @@ fn form_of(alloc: Global, words: &ResolveWords<'_>) -> Result<Form, End> {
         None => Ok(Form::Lines),
         Some("postgresql") => Ok(Form::Sql(Database::PostgreSql)),
         Some("mariadb") => Ok(Form::Sql(Database::MariaDb)),
-        Some(other) => Err(refused(
-            format!(in alloc; "{other} is no database that it knows: postgresql or mariadb"),
-        )),
+        Some(other) => Err(refused(format!(in alloc;
+            "{other} is no database that it knows: postgresql or mariadb"
+        ))),
     }
 }
 
@@ -126,9 +122,9 @@ fn logs_in(rt: &HostRuntime, words: &ResolveWords<'_>) -> Result<Vec<u8>, End> {
         return logs::some_input_of(rt, files);
     }
     let Some(path) = words.logs else {
-        return Err(refused(
-            format!(in alloc; "no logs are given: --logs FILE, or --file TREE P LOG .."),
-        ));
+        return Err(refused(format!(in alloc;
+            "no logs are given: --logs FILE, or --file TREE P LOG .."
+        )));
     };
     match fs::read(rt, path) {
         Ok(text) => Ok(text),
@@ -150,13 +146,7 @@ fn resolved(rt: &HostRuntime, words: &ResolveWords<'_>) -> Result<u8, End> {
         },
         form,
     };
-    match run_resolve(
-        alloc,
-        &asked,
-        &text,
-        &mut rt.reader(),
-        &mut io::writer(rt),
-    ) {
+    match run_resolve(alloc, &asked, &text, &mut rt.reader(), &mut io::writer(rt)) {
         Ok(ending) => Ok(ending.number()),
         Err(failure) => Err(failed(told(alloc, failure))),
     }

@@ -107,7 +107,7 @@ pub fn first_manager(alloc: Global) -> Result<Manager, AllocError>
 fn answers(alloc: Global, lines: &[&str]) -> Result<Result<Vec<u8>, usize>, AllocError>
     ensures { IfOk result (λ read. MatchResult read
         (λ text. (requests : List AnyRequest) × SpellEach (call_lines (map (λ s. s.now) lines.now)) requests
-            × Reports requests text.items)
+        × Reports requests text.items)
         (λ number. IsFirstBadLine (map (λ s. s.now) lines.now) number)) }
 {
     let mut manager = first_manager(alloc)?;
@@ -123,7 +123,7 @@ fn run(
 ) -> Result<Result<Vec<u8>, usize>, AllocError>
     ensures { IfOk result (λ read. MatchResult read
         (λ text. (requests : List AnyRequest) × SpellEach (call_lines (map (λ s. s.now) lines.now)) requests
-            × Runs manager.old manager.new requests text.items)
+        × Runs manager.old manager.new requests text.items)
         (λ number. IsFirstBadLine (map (λ s. s.now) lines.now) number)) }
 {
     let mut out = Vec::new(alloc);

@@ -14,7 +14,7 @@ loop-i-preserved-then-says_nothing c =
       inv.0,
       inv.1,
       skips (texts c.args.lines.now) c.loop-i.i inv.0 (omega (arith, long c.args.lines.now))
-      (ap is_skipped (text_at c.args.lines.now c.loop-i.i) ∙ sym c.if-says_nothing.ensures) inv.2,
+          (ap is_skipped (text_at c.args.lines.now c.loop-i.i) ∙ sym c.if-says_nothing.ensures) inv.2,
       inv.3,
       inv.4,
     )
@@ -26,11 +26,11 @@ loop-i-preserved c =
       inv.0 ++ c.in-Some.request ∷ [],
       inv.1 ++ made.answer ∷ [],
       goes_on (texts c.args.lines.now) c.loop-i.i inv.0 c.in-Some.request (omega (arith, long c.args.lines.now))
-      (ap is_skipped (text_at c.args.lines.now c.loop-i.i) ∙ sym c.if-says_nothing.ensures)
-      (spelled c.args.lines.now c.loop-i.i _ c.in-Some.request c.in-Some.is
-      c.in_ok-request.ensures.found) inv.2,
+          (ap is_skipped (text_at c.args.lines.now c.loop-i.i) ∙ sym c.if-says_nothing.ensures)
+          (spelled c.args.lines.now c.loop-i.i _ c.in-Some.request c.in-Some.is
+          c.in_ok-request.ensures.found) inv.2,
       leads_more c.args.manager.now c.loop-i.manager c.step-in-Some.new.manager inv.0 c.in-Some.request inv.1
-      made.answer inv.3 made.makes,
+          made.answer inv.3 made.makes,
       made.line ∙ ap (λ t. t ++ answer_text made.answer) inv.4 ∙ sym (text_more inv.1 made.answer),
     )
 
@@ -51,7 +51,7 @@ returns c =
     let inv = c.loop-i.invariant in (
       inv.0,
       ends (texts c.args.lines.now) c.loop-i.i inv.0
-      (omega (arith, long c.args.lines.now, c.loop-i-test.false)) inv.2,
+          (omega (arith, long c.args.lines.now, c.loop-i-test.false)) inv.2,
       record {
         answers = inv.1;
         leads = inv.3;
