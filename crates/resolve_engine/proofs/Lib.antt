@@ -1,1 +1,6 @@
+mod Standings
+mod Namings
+mod Words
+mod Climbs
+mod TrueAnswers
 mod Giving

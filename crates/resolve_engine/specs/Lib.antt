@@ -4,3 +4,4 @@ pub mod Texts
 pub mod Sql
 pub mod Inputs
 pub mod Reports
+pub mod Truths

@@ -8,6 +8,7 @@
 //! reading    the logs, each process's or only some
 //! answer     what is answered of a name, and why
 //! finding    the answer to a case
+//! law        that it is how the case's transaction ends
 //! lines      the text of an answer, and why it is so
 //! sql        the statement that does it
 //! ```
@@ -17,6 +18,7 @@ mod answer;
 mod asked;
 mod engine;
 mod finding;
+pub mod law;
 mod lines;
 mod reading;
 mod sql;

@@ -1,6 +1,6 @@
 -- One request more.
 use Rattle.std.proofs.Common.{◌≡◌, ℕ, List, [], ◌∷◌, ◌++◌, Result, Ok, Err, refl, ap, sym, ◌∙◌, subst, append_assoc}
-use Rattle.std.specs.Prelude.{IfOk}
+use Rattle.std.specs.Prelude.{IfOk, MatchResult}
 use Rattle.std.specs.List.{flat_map}
 use Rattle.std.proofs.lemmas.List.{append-nil}
 use Rattle.xa_codes.specs.declared.code.Code.{Code}
@@ -14,6 +14,7 @@ use Rattle.xa_engine.specs.declared.answer.Answer.{Answer}
 use Rattle.xa_engine.specs.Answers.{answer_text}
 use Rattle.xa_engine.specs.Makes.{CallsBranch, Joins, Makes}
 use Rattle.xa_engine.specs.Runs.{IsFresh, Leads, Reports, Runs}
+use Rattle.xa_engine.specs.script.Scripts.{IsFirstBadLine, SpellEach, call_lines}
 
 pub leads_more : (m k n : KvSight) (rs : List Request) (r : Request) (given : List Answer) (a : Answer)
     → Leads m rs given k → Makes k n r a → Leads m (rs ++ r ∷ []) (given ++ a ∷ []) n
@@ -29,10 +30,18 @@ text_more (b ∷ given) a = ap (λ t. answer_text b ++ t) (text_more given a)
     ∙ sym (append_assoc (answer_text b) (flat_map answer_text given) (answer_text a))
 
 -- a run from a new manager on is a report
-pub reports : {A E : Type 0} (m n : KvSight) (rs : List Request) (text : A → List ℕ) (r : Result A E)
-    → IsFresh m → IfOk r (λ a. Runs m n rs (text a)) → IfOk r (λ a. Reports rs (text a))
-reports m n rs text (Ok a) fresh h = record { old = m; new = n; fresh = fresh; runs = h }
-reports m n rs text (Err e) fresh h = tt
+pub reports : {A E : Type 0} (m n : KvSight) (ls : List (List ℕ)) (text : A → List ℕ) (r : Result (Result A ℕ) E)
+    → IsFresh m
+    → IfOk r (λ read. MatchResult read
+    (λ a. (rs : List Request) × SpellEach (call_lines ls) rs × Runs m n rs (text a))
+    (λ k. IsFirstBadLine ls k))
+    → IfOk r (λ read. MatchResult read
+    (λ a. (rs : List Request) × SpellEach (call_lines ls) rs × Reports rs (text a))
+    (λ k. IsFirstBadLine ls k))
+reports m n ls text (Ok (Ok a)) fresh h =
+    (h.0, h.1, record { old = m; new = n; fresh = fresh; runs = h.2 })
+reports m n ls text (Ok (Err k)) fresh h = h
+reports m n ls text (Err e) fresh h = tt
 
 -- a start and an end are calls on a branch
 pub calls_start : {E : Type 0} (f : BranchCall) (old new : KvSight) (t : ℕ)

@@ -1,13 +1,14 @@
 -- One more line of a script.
-use Rattle.std.proofs.Common.{◌≡◌, ℕ, ◌+◌, ◌≤◌, ◌<◌, true, false, not, List, [], ◌∷◌, ◌++◌, length, get_or, take, Bor, Option, Some, None, refl, ap, sym, subst, ◌∙◌}
-use Rattle.std.specs.Prelude.{IfNone, IfSome}
+use Rattle.std.proofs.Common.{◌≡◌, ℕ, ◌+◌, ◌≤◌, ◌<◌, true, false, not, List, [], ◌∷◌, ◌++◌, length, get_or, take, Bor, Option, Some, None, Result, Ok, Err, refl, ap, sym, subst, ◌∙◌}
+use Rattle.std.specs.Prelude.{IfNone, IfSome, MatchResult}
 use Rattle.std.proofs.lemmas.List.{append-nil, take_all, take_more}
 use Rattle.std.proofs.lemmas.List.Elements.{filter-append}
 use Rattle.script_words.specs.Lines.{is_skipped}
 use Rattle.script_words.proofs.Texts.{blank, text_at, texts}
 use Rattle.xa_engine.specs.declared.script.request.Request.{Request}
 use Rattle.xa_engine.specs.script.Requests.{Spells}
-use Rattle.xa_engine.specs.script.Scripts.{call_lines, SpellEach}
+use Rattle.xa_engine.specs.declared.script.reading.ScriptError.{ScriptError}
+use Rattle.xa_engine.specs.script.Scripts.{HasLines, IsFirstBadLine, IsScriptFault, call_lines, SpellEach}
 
 -- what was read of a line is spelled there, and where nothing was read nothing is
 pub spelled : (lines : List (Bor (List ℕ))) (i : ℕ) (o : Option Request) (r : Request) → o ≡ Some r
@@ -63,3 +64,14 @@ goes_on ls i rs r lt kept s h =
 pub ends : (ls : List (List ℕ)) (i : ℕ) (rs : List Request) → length ls ≤ i
     → SpellEach (call_lines (take i ls)) rs → SpellEach (call_lines ls) rs
 ends ls i rs past h = subst (λ (q : List (List ℕ)). SpellEach (call_lines q) rs) (take_all i ls past) h
+
+-- the lines that were read are those of the input
+pub lines_of : {A : Type 0} (input : List ℕ) (read : A → List (List ℕ)) (r : Result A ScriptError) (a : A)
+    → r ≡ Ok a → MatchResult r (λ v. HasLines input (read v)) (λ e. IsScriptFault input e) → HasLines input (read a)
+lines_of input read r a is h =
+    subst (λ (q : Result _ ScriptError). MatchResult q (λ v. HasLines input (read v)) (λ e. IsScriptFault input e)) is h
+
+-- the line that was told is the first that spells no request
+pub bad_of : {A : Type 0} (ls : List (List ℕ)) (P : A → Type 0) (r : Result A ℕ) (n : ℕ) → r ≡ Err n
+    → MatchResult r P (λ k. IsFirstBadLine ls k) → IsFirstBadLine ls n
+bad_of ls P r n is h = subst (λ (q : Result _ ℕ). MatchResult q P (λ k. IsFirstBadLine ls k)) is h

@@ -8,6 +8,9 @@ use Rattle.xa_engine.proofs.Runs.{leads_more, text_more}
 use Rattle.xa_engine.proofs.script.Lines.{skips, goes_on, ends, spelled, unspelled}
 use Rattle.xa_engine.proofs.xa.run.Goals as goal
 
+pub loop-i-init : goal.loop-i-init
+loop-i-init c = ([], [], tt, refl, c.new-out.ensures.items)
+
 pub loop-i-preserved-then-says_nothing : goal.loop-i-preserved-then-says_nothing
 loop-i-preserved-then-says_nothing c =
     let inv = c.loop-i.invariant in (
@@ -29,7 +32,7 @@ loop-i-preserved c =
           (ap is_skipped (text_at c.args.lines.now c.loop-i.i) ∙ sym c.if-says_nothing.ensures)
           (spelled c.args.lines.now c.loop-i.i _ c.in-Some.request c.in-Some.is
           c.in_ok-request.ensures.found) inv.2,
-      leads_more c.args.manager.now c.loop-i.manager c.step-in-Some.new.manager inv.0 c.in-Some.request inv.1
+      leads_more c.args.manager.now c.loop-i.manager c.step.new.manager inv.0 c.in-Some.request inv.1
           made.answer inv.3 made.makes,
       made.line ∙ ap (λ t. t ++ answer_text made.answer) inv.4 ∙ sym (text_more inv.1 made.answer),
     )
