@@ -11,6 +11,8 @@ use Rattle.judge_rules.specs.declared.calls.Answer.TheVariants as answer
 use Rattle.judge_rules.specs.declared.calls.BranchVerb.{BranchVerb}
 use Rattle.judge_rules.specs.declared.calls.Call.{Call}
 use Rattle.judge_rules.specs.declared.calls.Call.TheVariants as call
+use Rattle.judge_rules.specs.declared.calls.Function.{Function}
+use Rattle.judge_rules.specs.declared.calls.Function.TheVariants as function
 use Rattle.judge_rules.specs.declared.calls.On.{On}
 use Rattle.judge_rules.specs.declared.defects.Refusals.{Refusals}
 use Rattle.judge_rules.specs.declared.replies.Reply.{Reply}
@@ -125,12 +127,16 @@ disconnect_next t s a = if is_answered a then after_cut t s else one (hung s)
 abbrev pub trim_next : Sight → Answer → List Sight
 trim_next s a = if is_answered a then one s else one (hung s)
 
+-- a function of the interface, by its answer
+abbrev pub function_next : Rules → Sight → Function → Answer → List Sight
+function_next r s (function.Open f) a = open_next r (open_defects f.0) true s a
+function_next r s (function.Close f) a = open_next r (close_defects s f.0) false s a
+function_next r s (function.Branch v o) a = branch_next r v s o a
+function_next r s (function.Recover t count f) a = recover_next r s t count f.0 a
+
 -- the states that may follow, of those that no call has hung in
 abbrev pub next_by : Rules → Sight → Call → Answer → List Sight
-next_by r s (call.Open f) a = open_next r (open_defects f.0) true s a
-next_by r s (call.Close f) a = open_next r (close_defects s f.0) false s a
-next_by r s (call.Branch v o) a = branch_next r v s o a
-next_by r s (call.Recover t count f) a = recover_next r s t count f.0 a
+next_by r s (call.Function f) a = function_next r s f a
 next_by r s (call.Get t k) a = get_next r s t k a
 next_by r s (call.Put t k v) a = put_next s t k v a
 next_by r s (call.Decide x commits) a = decide_next s x commits a

@@ -38,9 +38,9 @@ pub struct On {
     pub flags: Flags,
 }
 
-/// A call.
+/// A function of the interface that is called.
 #[derive(Clone, Copy, PartialEq, Eq)]
-pub enum Call {
+pub enum Function {
     Open(Flags),
     Close(Flags),
     Branch(BranchVerb, On),
@@ -49,29 +49,21 @@ pub enum Call {
         count: u32,
         flags: Flags,
     },
-    Get {
-        thread: u32,
-        key: u32,
-    },
+}
+
+/// What a line of a transcript asks for.
+#[derive(Clone, Copy, PartialEq, Eq)]
+pub enum Call {
+    Function(Function),
+    Get { thread: u32, key: u32 },
     /// The value 0 is none: a deletion.
-    Put {
-        thread: u32,
-        key: u32,
-        value: u32,
-    },
+    Put { thread: u32, key: u32, value: u32 },
     /// An operator decides a branch.
-    Decide {
-        branch: u32,
-        commits: bool,
-    },
+    Decide { branch: u32, commits: bool },
     /// The manager falls and comes back. What it had not forced may be cut off.
-    Restart {
-        cut: bool,
-    },
+    Restart { cut: bool },
     /// The connection of a thread is gone.
-    Disconnect {
-        thread: u32,
-    },
+    Disconnect { thread: u32 },
     Trim,
 }
 

@@ -6,6 +6,7 @@ ghost use Rattle.judge_rules.specs.Falls.{after_cut, after_restart, done_failing
 
 use crate::branch::{both, one, two};
 use crate::calls::{BranchVerb, On};
+use crate::errors::{MOST_STATES, StepError};
 use crate::passes::stand_in;
 use crate::replies::Reply;
 use crate::words::Rules;
@@ -184,16 +185,19 @@ pub(crate) fn after_restart(
     rules: Rules,
     cut: bool,
     state: &State,
-) -> Result<Vec<State>, AllocError>
+) -> Result<Vec<State>, StepError>
     ensures { IfOk result (λ v. v.items ≡ after_restart rules cut state.now) }
 {
     let restarted = state.copied(alloc)?.restarted(alloc)?;
     if !(cut && rules.lacks.forced) {
-        return one(alloc, restarted);
+        return Ok(one(alloc, restarted)?);
     }
     let lost = may_return(alloc, &restarted, state.lost())?;
     let mut states = one(alloc, restarted)?;
     for branch in &lost {
+        if states.len() > MOST_STATES {
+            return Err(StepError::TooMany);
+        }
         states = maybe_back(alloc, state.lost_works(), states, *branch)?;
     }
     Ok(states)
@@ -250,12 +254,15 @@ fn maybe_gone(alloc: Global, states: Vec<State>, branch: Branch) -> Result<Vec<S
 }
 
 /// The states after the connection of a thread is gone.
-pub(crate) fn after_cut(alloc: Global, thread: u32, state: &State) -> Result<Vec<State>, AllocError>
+pub(crate) fn after_cut(alloc: Global, thread: u32, state: &State) -> Result<Vec<State>, StepError>
     ensures { IfOk result (λ v. v.items ≡ after_cut thread state.now) }
 {
     let hanging = all_hanging(alloc, thread, state)?;
     let mut states = one(alloc, state.copied(alloc)?.cut_off(alloc, thread)?)?;
     for branch in &hanging {
+        if states.len() > MOST_STATES {
+            return Err(StepError::TooMany);
+        }
         states = maybe_gone(alloc, states, *branch)?;
     }
     Ok(states)

@@ -17,6 +17,7 @@ mod branch;
 mod calls;
 mod data;
 mod defects;
+mod errors;
 mod falls;
 mod flags;
 mod opening;
@@ -28,7 +29,8 @@ mod starts;
 mod step;
 mod words;
 
-pub use calls::{Answer, BranchVerb, Call, Event, On, XidName, XidSort};
+pub use calls::{Answer, BranchVerb, Call, Event, Function, On, XidName, XidSort};
+pub use errors::{MOST_STATES, StepError};
 pub use replies::{ALL, Reply, reply_of};
 pub use step::next;
 pub use words::{Lacks, Never, Rules};

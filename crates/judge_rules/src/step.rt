@@ -3,12 +3,13 @@
 ghost use Rattle.std.specs.Prelude.{◌≡◌, IfOk};
 ghost use Rattle.judge_state.specs.Moves.{hung};
 ghost use Rattle.judge_rules.specs.Passes.{one};
-ghost use Rattle.judge_rules.specs.Steps.{branch_next, branch_rows, by_defects, decide_next, disconnect_next, get_next, is_answered, next, open_next, outcome, put_next, recover_next, recover_rows, restart_next, trim_next, waits};
+ghost use Rattle.judge_rules.specs.Steps.{branch_next, branch_rows, by_defects, decide_next, disconnect_next, function_next, get_next, is_answered, next, open_next, outcome, put_next, recover_next, recover_rows, restart_next, trim_next, waits};
 
 use crate::branch::{both, one, same_if};
-use crate::calls::{Answer, BranchVerb, Call, On};
+use crate::calls::{Answer, BranchVerb, Call, Function, On};
 use crate::data::{read_rows, write_row};
 use crate::defects::{Refusals, is_among, is_defective};
+use crate::errors::StepError;
 use crate::falls::{after_cut, after_restart, effects, failed};
 use crate::opening::open_rows;
 use crate::passes::branch_passes;
@@ -261,13 +262,13 @@ fn restart_next(
     cut: bool,
     state: &State,
     answer: &Answer,
-) -> Result<Vec<State>, AllocError>
+) -> Result<Vec<State>, StepError>
     ensures { IfOk result (λ v. v.items ≡ restart_next rules cut state.now answer.now) }
 {
     if is_answered(answer) {
         after_restart(alloc, rules, cut, state)
     } else {
-        hangs(alloc, state)
+        Ok(hangs(alloc, state)?)
     }
 }
 
@@ -277,13 +278,13 @@ fn disconnect_next(
     thread: u32,
     state: &State,
     answer: &Answer,
-) -> Result<Vec<State>, AllocError>
+) -> Result<Vec<State>, StepError>
     ensures { IfOk result (λ v. v.items ≡ disconnect_next thread state.now answer.now) }
 {
     if is_answered(answer) {
         after_cut(alloc, thread, state)
     } else {
-        hangs(alloc, state)
+        Ok(hangs(alloc, state)?)
     }
 }
 
@@ -298,6 +299,33 @@ fn trim_next(alloc: Global, state: &State, answer: &Answer) -> Result<Vec<State>
     }
 }
 
+/// An open, a close or a call on a branch, by its answer.
+fn function_next(
+    alloc: Global,
+    rules: Rules,
+    state: &State,
+    function: Function,
+    answer: &Answer,
+) -> Result<Vec<State>, AllocError>
+    ensures { IfOk result (λ v. v.items ≡ function_next rules state.now function answer.now) }
+{
+    match function {
+        Function::Open(flags) => {
+            open_next(alloc, rules, open_defects(flags), true, state, answer)
+        }
+        Function::Close(flags) => {
+            let defects = close_defects(state, flags);
+            open_next(alloc, rules, defects, false, state, answer)
+        }
+        Function::Branch(verb, on) => branch_next(alloc, rules, verb, state, on, answer),
+        Function::Recover {
+            thread,
+            count,
+            flags,
+        } => recover_next(alloc, rules, state, thread, count, flags, answer),
+    }
+}
+
 /// The states that may follow a state, by a call and its answer: none, where the answer is not admitted.
 pub fn next(
     alloc: Global,
@@ -305,35 +333,23 @@ pub fn next(
     state: &State,
     call: Call,
     answer: &Answer,
-) -> Result<Vec<State>, AllocError>
+) -> Result<Vec<State>, StepError>
     ensures { IfOk result (λ v. v.items ≡ next rules state.now call answer.now) }
 {
     if state.is_hung() {
-        return one(alloc, state.copied(alloc)?);
+        return Ok(one(alloc, state.copied(alloc)?)?);
     }
     match call {
-        Call::Open(flags) => open_next(alloc, rules, open_defects(flags), true, state, answer),
-        Call::Close(flags) => {
-            open_next(
-                alloc,
-                rules,
-                close_defects(state, flags),
-                false,
-                state,
-                answer,
-            )
+        Call::Function(function) => Ok(function_next(alloc, rules, state, function, answer)?),
+        Call::Get { thread, key } => Ok(get_next(alloc, rules, state, thread, key, answer)?),
+        Call::Put { thread, key, value } => {
+            Ok(put_next(alloc, state, thread, key, value, answer)?)
         }
-        Call::Branch(verb, on) => branch_next(alloc, rules, verb, state, on, answer),
-        Call::Recover {
-            thread,
-            count,
-            flags,
-        } => recover_next(alloc, rules, state, thread, count, flags, answer),
-        Call::Get { thread, key } => get_next(alloc, rules, state, thread, key, answer),
-        Call::Put { thread, key, value } => put_next(alloc, state, thread, key, value, answer),
-        Call::Decide { branch, commits } => decide_next(alloc, state, branch, commits, answer),
+        Call::Decide { branch, commits } => {
+            Ok(decide_next(alloc, state, branch, commits, answer)?)
+        }
         Call::Restart { cut } => restart_next(alloc, rules, cut, state, answer),
         Call::Disconnect { thread } => disconnect_next(alloc, thread, state, answer),
-        Call::Trim => trim_next(alloc, state, answer),
+        Call::Trim => Ok(trim_next(alloc, state, answer)?),
     }
 }

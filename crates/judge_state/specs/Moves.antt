@@ -12,6 +12,7 @@ use Rattle.judge_state.specs.declared.parts.Work.{Work}
 use Rattle.judge_state.specs.declared.parts.Write.{Write}
 use Rattle.judge_state.specs.Parts.{is_in_doubt}
 use Rattle.judge_state.specs.Sights.{Sight}
+use Rattle.judge_state.specs.Questions.{is_active_link}
 
 -- a branch stands prepared
 abbrev pub is_prepared : Stand → Bool
@@ -118,6 +119,17 @@ linked t x suspended s = record s {
 -- the association of a thread with a branch is gone
 abbrev pub unlinked : ℕ → ℕ → Sight → Sight
 unlinked t x s = record s { links = links_without t x s.links }
+
+-- a thread is active in no branch
+abbrev pub inactive : ℕ → Sight → Sight
+inactive t s = record s { links = filter (λ l. not (is_active_link t l)) s.links }
+
+-- a branch has no association
+abbrev pub dissociated : ℕ → Sight → Sight
+dissociated x s = record s {
+  links = filter (λ l. not (l.branch == x)) s.links;
+  migrated = filter (λ u. not (u == x)) s.migrated;
+}
 
 -- one more association is suspended for migration
 abbrev pub migrating : ℕ → Sight → Sight

@@ -26,6 +26,10 @@ active_of t s = option_map (λ l. l.branch) (find (is_active_link t) s.links)
 abbrev pub has_active : ℕ → ℕ → Sight → Bool
 has_active t x s = list_any (λ l. l.thread == t && l.branch == x && not l.suspended) s.links
 
+-- some thread is active in a branch
+abbrev pub is_entered : ℕ → Sight → Bool
+is_entered x s = list_any (λ l. l.branch == x && not l.suspended) s.links
+
 -- T2: a thread has suspended a branch
 abbrev pub has_suspended : ℕ → ℕ → Sight → Bool
 has_suspended t x s = list_any (λ l. l.thread == t && l.branch == x && l.suspended) s.links

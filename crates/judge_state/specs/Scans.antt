@@ -53,6 +53,10 @@ scan_given t xs s = record s {
 abbrev pub may_give : ℕ → Sight → ℕ → Bool
 may_give t s x = list_any (λ l. l.thread == t && l.branch == x && not l.given) s.listed
 
+-- the scan of a thread may not end without a branch
+abbrev pub owes : ℕ → ℕ → Sight → Bool
+owes t x s = list_any (λ l. l.thread == t && l.branch == x && l.due && not l.given) s.listed
+
 -- what the scan of a thread owes is among these branches
 abbrev pub owes_only : ℕ → List ℕ → Sight → Bool
 owes_only t xs s = list_all (λ l. not (l.thread == t && l.due && not l.given) || has xs l.branch) s.listed

@@ -2,6 +2,7 @@
 
 ghost use Rattle.std.specs.Prelude.{◌≡◌, ◌&&◌, ◌==◌, ◌++◌, ◌∷◌, [], not, Bool, Some, IfOk, IfSome, ◌<◌, length, filter, map, if◌then◌else◌};
 ghost use Rattle.judge_state.specs.Parts.{is_in_doubt};
+ghost use Rattle.judge_state.specs.Questions.{is_active_link};
 ghost use Rattle.judge_state.specs.Moves.{committed_works, doubted, is_of, is_prepared, keeps_name, links_without, lists, new_lines, not_due, others, scans_without, standing, first_place, was_prepared, with_stand, without_due, without_surety, works_of, works_without};
 
 use crate::parts::{Branch, Link, Listed, Stand, Work, Write};
@@ -207,6 +208,36 @@ pub(crate) fn links_without(
     links
         .iter()
         .filter(|l| !(l.thread == thread && l.branch == x))
+        .copied()
+        .collect(alloc)
+}
+
+/// The associations, without the active one of a thread.
+pub(crate) fn links_not_active(
+    alloc: Global,
+    thread: u32,
+    links: &[Link],
+) -> Result<Vec<Link>, AllocError>
+    ensures { IfOk result (λ v. v.items ≡ filter (λ l. not (is_active_link thread l)) links.now) }
+{
+    links
+        .iter()
+        .filter(|l| !(l.thread == thread && !l.suspended))
+        .copied()
+        .collect(alloc)
+}
+
+/// The associations with other branches.
+pub(crate) fn links_elsewhere(
+    alloc: Global,
+    x: u32,
+    links: &[Link],
+) -> Result<Vec<Link>, AllocError>
+    ensures { IfOk result (λ v. v.items ≡ filter (λ l. not (l.branch == x)) links.now) }
+{
+    links
+        .iter()
+        .filter(|l| l.branch != x)
         .copied()
         .collect(alloc)
 }

@@ -1,12 +1,12 @@
 //! How a state changes. A refusal for memory gives no state.
 
 ghost use Rattle.std.specs.Prelude.{◌≡◌, IfOk};
-ghost use Rattle.judge_state.specs.Moves.{begun, brought_back, committed, cut_off, decided, enlisted, fallen, forgotten, gone, hung, linked, marked, migrating, opened, outside, picked, prepared, published, remembered, restarted, rolled, settled, stands, stored, unlinked, unworked, worked, written};
+ghost use Rattle.judge_state.specs.Moves.{begun, brought_back, committed, cut_off, decided, dissociated, enlisted, fallen, forgotten, gone, hung, inactive, linked, marked, migrating, opened, outside, picked, prepared, published, remembered, restarted, rolled, settled, stands, stored, unlinked, unworked, worked, written};
 
 use crate::lists::{
-    committed_works, doubted, first_place, in_doubt, links_of_others, links_without,
-    listed_of_others, new_lines, not_due, numbers_without, others, scans_without, standing,
-    was_prepared, works_but, works_in_doubt, works_of, works_without,
+    committed_works, doubted, first_place, in_doubt, links_elsewhere, links_not_active,
+    links_of_others, links_without, listed_of_others, new_lines, not_due, numbers_without, others,
+    scans_without, standing, was_prepared, works_but, works_in_doubt, works_of, works_without,
 };
 use crate::parts::{Branch, Decision, Link, Stand, Work, Write};
 use crate::state::State;
@@ -61,6 +61,23 @@ impl State {
         ensures { IfOk result (λ state. state ≡ unlinked thread x self) }
     {
         self.links = links_without(alloc, thread, x, &self.links)?;
+        Ok(self)
+    }
+
+    /// A thread is active in no branch.
+    pub fn inactive(mut self, alloc: Global, thread: u32) -> Result<State, AllocError>
+        ensures { IfOk result (λ state. state ≡ inactive thread self) }
+    {
+        self.links = links_not_active(alloc, thread, &self.links)?;
+        Ok(self)
+    }
+
+    /// A branch has no association.
+    pub fn dissociated(mut self, alloc: Global, x: u32) -> Result<State, AllocError>
+        ensures { IfOk result (λ state. state ≡ dissociated x self) }
+    {
+        self.links = links_elsewhere(alloc, x, &self.links)?;
+        self.migrated = numbers_without(alloc, x, &self.migrated)?;
         Ok(self)
     }
 

@@ -3,7 +3,7 @@
 ghost use Rattle.std.specs.Prelude.{◌≡◌, ◌==◌, find, length};
 ghost use Rattle.std.specs.List.{list_any};
 ghost use Rattle.judge_state.specs.Parts.{is_named};
-ghost use Rattle.judge_state.specs.Questions.{active_of, is_active_link, branch_at, has_active, has_link, has_suspended, is_active, is_associated, is_bare, is_busy, is_busy_elsewhere, is_migrated, is_outside, is_scanning};
+ghost use Rattle.judge_state.specs.Questions.{active_of, is_active_link, branch_at, has_active, has_link, has_suspended, is_active, is_associated, is_bare, is_busy, is_busy_elsewhere, is_entered, is_migrated, is_outside, is_scanning};
 ghost use Rattle.judge_state.specs.Moves.{is_prepared_at};
 
 use crate::lists::is_prepared;
@@ -103,6 +103,13 @@ impl State {
         self.links
             .iter()
             .any(|l| l.thread == thread && l.branch == x && !l.suspended)
+    }
+
+    /// Whether some thread is active in a branch: S1, where it is at work.
+    pub fn is_entered(&self, x: u32) -> bool
+        ensures { result ≡ is_entered x self.now }
+    {
+        self.links.iter().any(|l| l.branch == x && !l.suspended)
     }
 
     /// Whether a thread has suspended a branch: T2.

@@ -2,7 +2,7 @@
 
 ghost use Rattle.std.specs.Prelude.{◌≡◌, ◌==◌, ◌&&◌, ◌||◌, not, IfOk, filter, map, fold, drop, take, if◌then◌else◌};
 ghost use Rattle.judge_state.specs.Parts.{is_in_doubt};
-ghost use Rattle.judge_state.specs.Scans.{are_distinct, due_lines, given_lines, has, has_value, has_worked, held_after, is_worked, is_written, may_give, may_hold, may_read, may_read_in, owes_only, scan_closed, scan_given, scan_opened, with_given};
+ghost use Rattle.judge_state.specs.Scans.{are_distinct, due_lines, given_lines, has, has_value, has_worked, held_after, is_worked, is_written, may_give, may_hold, may_read, may_read_in, owes, owes_only, scan_closed, scan_given, scan_opened, with_given};
 
 use crate::lists::{listed_of_others, numbers_without};
 use crate::parts::{Branch, Listed, Write};
@@ -155,6 +155,13 @@ impl State {
         self.listed
             .iter()
             .any(|l| l.thread == thread && l.branch == x && !l.given)
+    }
+
+    /// Whether the scan of a thread may not end without a branch.
+    pub fn owes(&self, thread: u32, x: u32) -> bool
+        ensures { result ≡ owes thread x self.now }
+    {
+        self.listed.iter().any(|l| l.thread == thread && l.branch == x && l.due && !l.given)
     }
 
     /// Whether what the scan of a thread owes is among these branches.

@@ -1,0 +1,111 @@
+//! The engine of `rstar judge`.
+
+use crate::judging::{Extent, faults};
+use crate::report::report_of;
+use judge_rules::StepError;
+use judge_script::{Transcript, TranscriptError, transcript_of};
+use report_io::{Failure, read_all, write_all};
+use script_words::lines_of;
+use std::alloc::{AllocError, Global};
+use std::io::{Read, Write};
+use std::str;
+use trace_lines::{push, push_number};
+
+/// How a run of the judge ended.
+#[derive(Clone, Copy, PartialEq, Eq)]
+pub enum Ending {
+    /// The transcript is that of a legal history.
+    Conforms,
+    /// It was refused.
+    Refused,
+    /// It has a fault.
+    Faulty,
+}
+
+impl Ending {
+    /// The exit status.
+    pub fn number(self) -> u8 {
+        match self {
+            Ending::Conforms => 0,
+            Ending::Refused => 1,
+            Ending::Faulty => 3,
+        }
+    }
+}
+
+/// Why a transcript is refused.
+#[derive(Clone, Copy, PartialEq, Eq)]
+enum Refusal {
+    /// A line of nothing.
+    Line(usize),
+    /// It is no UTF-8.
+    Utf8,
+    /// More states are possible than can be gone through.
+    TooMany,
+}
+
+/// The line of a refused transcript.
+fn refused(alloc: Global, refusal: Refusal) -> Result<(Vec<u8>, Ending), AllocError> {
+    let mut out = Vec::new(alloc);
+    match refusal {
+        Refusal::Utf8 => push(&mut out, "error 4\n")?,
+        Refusal::TooMany => push(&mut out, "error 5\n")?,
+        Refusal::Line(number) => {
+            push(&mut out, "error 3 ")?;
+            push_number(&mut out, number as u64)?;
+            push(&mut out, "\n")?;
+        }
+    }
+    Ok((out, Ending::Refused))
+}
+
+/// The verdict of a transcript.
+fn verdict(
+    alloc: Global,
+    extent: Extent,
+    transcript: &Transcript,
+    text: &str,
+) -> Result<(Vec<u8>, Ending), AllocError> {
+    let lines = lines_of(alloc, text)?;
+    match faults(alloc, extent, transcript) {
+        Err(StepError::Memory) => Err(AllocError),
+        Err(StepError::TooMany) => refused(alloc, Refusal::TooMany),
+        Ok(found) => {
+            let out = report_of(alloc, transcript, &lines, &found, extent == Extent::All)?;
+            if found.is_empty() {
+                Ok((out, Ending::Conforms))
+            } else {
+                Ok((out, Ending::Faulty))
+            }
+        }
+    }
+}
+
+/// The answer to an input.
+fn report(alloc: Global, extent: Extent, input: &[u8]) -> Result<(Vec<u8>, Ending), AllocError> {
+    let Ok(text) = str::from_utf8(input) else {
+        return refused(alloc, Refusal::Utf8);
+    };
+    match transcript_of(alloc, text)? {
+        Ok(transcript) => verdict(alloc, extent, &transcript, text),
+        Err(TranscriptError::Line(number)) => refused(alloc, Refusal::Line(number)),
+        Err(TranscriptError::Utf8) => refused(alloc, Refusal::Utf8),
+    }
+}
+
+/// Reads a transcript, judges it, and writes the verdict; or one line that says why the transcript is refused.
+/// After a failed read, or where memory is refused, nothing was written; after a failed write, a beginning of the
+/// text.
+pub fn run_judge<R: Read, W: Write>(
+    alloc: Global,
+    extent: Extent,
+    reader: &mut R,
+    writer: &mut W,
+) -> Result<Ending, Failure> {
+    let input = read_all(alloc, reader)?;
+    let (text, ending) = report(alloc, extent, &input)?;
+    match write_all(writer, &text) {
+        Ok(()) => Ok(ending),
+        Err(failure) => Err(failure),
+    }
+}
