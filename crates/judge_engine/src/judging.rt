@@ -1,11 +1,15 @@
 //! A transcript, judged.
 
+ghost use Rattle.std.specs.Prelude.{◌≡◌, IfOk, OnOk};
+ghost use Rattle.judge_engine.specs.Reports.{first_index};
+ghost use Rattle.judge_set.specs.Sets.{IsVerdict};
+
 use crate::admitted::explain;
-use judge_rules::{Answer, Event, Rules, StepError};
-use judge_script::{Names, Transcript};
-use judge_set::{follow, resumed, start};
+use judge_rules::{Answer, Event, StepError};
+use judge_script::Transcript;
+use judge_set::{Walk, judge, resumed, walk};
 use judge_state::State;
-use std::alloc::{AllocError, Global};
+use std::alloc::Global;
 
 /// Whether the judge stops at the first fault.
 #[derive(Clone, Copy, PartialEq, Eq)]
@@ -33,13 +37,16 @@ fn is_hung(event: &Event) -> bool {
 /// The fault of an event that none of these states admits.
 fn fault_at(
     alloc: Global,
-    rules: Rules,
-    names: &Names,
+    transcript: &Transcript,
     states: &[State],
     index: usize,
-    event: &Event,
-) -> Result<Fault, StepError> {
-    let (standing, admitted) = explain(alloc, rules, names, states, event)?;
+) -> Result<Fault, StepError>
+    ensures { IfOk result (λ fault. fault.index ≡ index) }
+{
+    let (standing, admitted) = match transcript.events.get(index) {
+        None => (Vec::new(alloc), Vec::new(alloc)),
+        Some(event) => explain(alloc, transcript.rules, &transcript.names, states, event)?,
+    };
     Ok(Fault {
         index,
         standing,
@@ -47,26 +54,68 @@ fn fault_at(
     })
 }
 
-/// The faults of a transcript: the first alone, or all. After a fault the judge goes on as if the answer had been
-/// admitted.
+/// The next walk, after a fault: the judge goes on as if the answer had been admitted. None, where it does not go on.
+fn next_walk(
+    alloc: Global,
+    transcript: &Transcript,
+    states: &[State],
+    index: usize,
+) -> Result<Option<Walk>, StepError> {
+    let Some(event) = transcript.events.get(index) else {
+        return Ok(None);
+    };
+    if is_hung(event) {
+        return Ok(None);
+    }
+    let states = resumed(alloc, states, event)?;
+    if states.is_empty() {
+        return Ok(None);
+    }
+    let rest = &transcript.events[index + 1..];
+    Ok(Some(walk(alloc, transcript.rules, states, rest)?))
+}
+
+/// Adds the faults after a first one.
+fn add_more(
+    alloc: Global,
+    transcript: &Transcript,
+    found: &mut Vec<Fault>,
+    states: Vec<State>,
+    index: usize,
+) -> Result<(), StepError>
+    ensures { OnOk result (first_index found.new.items ≡ first_index found.old.items) }
+{
+    let mut at = index;
+    let mut before = states;
+    for _ in 0..transcript.events.len() {
+        let Some(walk) = next_walk(alloc, transcript, &before, at)? else {
+            return Ok(());
+        };
+        let Some(more) = walk.fault else {
+            return Ok(());
+        };
+        at = at.saturating_add(1).saturating_add(more);
+        before = walk.states;
+        found.push(fault_at(alloc, transcript, &before, at)?)?;
+    }
+    Ok(())
+}
+
+/// The faults of a transcript: the first alone, or all.
 pub(crate) fn faults(
     alloc: Global,
     extent: Extent,
     transcript: &Transcript,
-) -> Result<Vec<Fault>, StepError> {
-    let rules = transcript.rules;
+) -> Result<Vec<Fault>, StepError>
+    ensures { IfOk result (λ found.
+        IsVerdict transcript.now.rules transcript.now.events.items (first_index found.items)) }
+{
     let mut found = Vec::new(alloc);
-    let mut states = start(alloc)?;
-    for (i, event) in transcript.events.iter().enumerate() {
-        let after = follow(alloc, rules, &states, event)?;
-        if after.is_empty() {
-            found.push(fault_at(alloc, rules, &transcript.names, &states, i, event)?)?;
-            if extent == Extent::First || is_hung(event) {
-                return Ok(found);
-            }
-            states = resumed(alloc, &states, event)?;
-        } else {
-            states = after;
+    let walk = judge(alloc, transcript.rules, &transcript.events)?;
+    if let Some(index) = walk.fault {
+        found.push(fault_at(alloc, transcript, &walk.states, index)?)?;
+        if extent == Extent::All {
+            add_more(alloc, transcript, &mut found, walk.states, index)?;
         }
     }
     Ok(found)

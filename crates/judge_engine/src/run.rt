@@ -1,9 +1,17 @@
 //! The engine of `rstar judge`.
 
+ghost use Rattle.std.specs.Prelude.{◌≡◌, ℕ, List, IfOk, IfErr};
+ghost use Rattle.std.specs.Io.KnownBytes.{Appends, Keeps};
+ghost use Rattle.std.specs.Str.{IsUtf8};
+ghost use Rattle.report_io.specs.Streams.{IsInput, WritesFront};
+ghost use Rattle.judge_script.specs.Transcripts.{IsTranscript};
+ghost use Rattle.judge_engine.specs.declared.run.Ending.{Ending as AnyEnding};
+ghost use Rattle.judge_engine.specs.Reports.{IsRefusal, IsReport, ending_number, refusal_text};
+
 use crate::judging::{Extent, faults};
 use crate::report::report_of;
 use judge_rules::StepError;
-use judge_script::{Transcript, TranscriptError, transcript_of};
+use judge_script::{Transcript, transcript_of};
 use report_io::{Failure, read_all, write_all};
 use script_words::lines_of;
 use std::alloc::{AllocError, Global};
@@ -24,7 +32,9 @@ pub enum Ending {
 
 impl Ending {
     /// The exit status.
-    pub fn number(self) -> u8 {
+    pub fn number(self) -> u8
+        ensures { result ≡ ending_number self }
+    {
         match self {
             Ending::Conforms => 0,
             Ending::Refused => 1,
@@ -45,7 +55,10 @@ enum Refusal {
 }
 
 /// The line of a refused transcript.
-fn refused(alloc: Global, refusal: Refusal) -> Result<(Vec<u8>, Ending), AllocError> {
+fn refused(alloc: Global, refusal: Refusal) -> Result<(Vec<u8>, Ending), AllocError>
+    ensures text { IfOk result (λ r. r.0.items ≡ refusal_text refusal) }
+    ensures ending { IfOk result (λ r. r.1 ≡ Ending.Refused) }
+{
     let mut out = Vec::new(alloc);
     match refusal {
         Refusal::Utf8 => push(&mut out, "error 4\n")?,
@@ -65,7 +78,11 @@ fn verdict(
     extent: Extent,
     transcript: &Transcript,
     text: &str,
-) -> Result<(Vec<u8>, Ending), AllocError> {
+) -> Result<(Vec<u8>, Ending), AllocError>
+    requires text { IsUtf8 text.now }
+    requires read { IsTranscript text.now transcript.now }
+    ensures { IfOk result (λ r. IsReport r.1 text.now r.0.items) }
+{
     let lines = lines_of(alloc, text)?;
     match faults(alloc, extent, transcript) {
         Err(StepError::Memory) => Err(AllocError),
@@ -82,14 +99,15 @@ fn verdict(
 }
 
 /// The answer to an input.
-fn report(alloc: Global, extent: Extent, input: &[u8]) -> Result<(Vec<u8>, Ending), AllocError> {
+fn report(alloc: Global, extent: Extent, input: &[u8]) -> Result<(Vec<u8>, Ending), AllocError>
+    ensures { IfOk result (λ r. IsReport r.1 input.now r.0.items) }
+{
     let Ok(text) = str::from_utf8(input) else {
         return refused(alloc, Refusal::Utf8);
     };
     match transcript_of(alloc, text)? {
         Ok(transcript) => verdict(alloc, extent, &transcript, text),
-        Err(TranscriptError::Line(number)) => refused(alloc, Refusal::Line(number)),
-        Err(TranscriptError::Utf8) => refused(alloc, Refusal::Utf8),
+        Err(number) => refused(alloc, Refusal::Line(number)),
     }
 }
 
@@ -101,7 +119,19 @@ pub fn run_judge<R: Read, W: Write>(
     extent: Extent,
     reader: &mut R,
     writer: &mut W,
-) -> Result<Ending, Failure> {
+) -> Result<Ending, Failure>
+    ensures written { IfOk result (λ ending. (input : List ℕ) × (text : List ℕ)
+        × IsInput (R.remaining reader.old) input × IsReport ending input text
+        × Appends (W.contents writer.old) (W.contents writer.new) text) }
+    ensures cut { IfErr result (λ e. e ≡ Failure.Write → (input : List ℕ)
+        × (text : List ℕ) × (ending : AnyEnding)
+        × IsInput (R.remaining reader.old) input × IsReport ending input text
+        × WritesFront (W.contents writer.old) (W.contents writer.new) text) }
+    ensures unread { IfErr result (λ e. e ≡ Failure.Read
+        → Keeps (W.contents writer.old) (W.contents writer.new)) }
+    ensures memory { IfErr result (λ e. e ≡ Failure.Memory
+        → Keeps (W.contents writer.old) (W.contents writer.new)) }
+{
     let input = read_all(alloc, reader)?;
     let (text, ending) = report(alloc, extent, &input)?;
     match write_all(writer, &text) {

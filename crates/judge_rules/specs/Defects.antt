@@ -44,16 +44,16 @@ is_closed r s = not s.opened && not r.lacks.opening
 abbrev pub is_plain : ℕ → Bool
 is_plain f = not (has f join) && not (has f resume)
 
--- a branch stands, and can only be rolled back
-abbrev pub is_spoiled : Branch → Bool
-is_spoiled b = stands_spoiled b.stand
-
--- it stands so
+-- a branch that stands so can only be rolled back
 abbrev pub stands_spoiled : Stand → Bool
 stands_spoiled Active = false
 stands_spoiled RollbackOnly = true
 stands_spoiled Prepared = false
 stands_spoiled (Heuristic d) = false
+
+-- a branch can only be rolled back
+abbrev pub is_spoiled : Branch → Bool
+is_spoiled b = stands_spoiled b.stand
 
 -- the branch of a call, where it is known, can only be rolled back
 abbrev pub is_spoiled_at : Option Branch → Bool

@@ -1,6 +1,6 @@
 //! What a call that nothing refuses may be answered, and what it does.
 
-ghost use Rattle.std.specs.Prelude.{◌≡◌, IfOk, Option};
+ghost use Rattle.std.specs.Prelude.{◌≡◌, IfOk, Option, true};
 ghost use Rattle.judge_state.specs.Moves.{decided, gone, linked, marked, stands};
 ghost use Rattle.judge_state.specs.declared.parts.Stand.TheVariants.{Heuristic};
 ghost use Rattle.judge_rules.specs.Replies.{agrees, decision_in, is_heuristic};

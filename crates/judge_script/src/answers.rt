@@ -1,5 +1,10 @@
 //! The answer of a line.
 
+ghost use Rattle.std.specs.Prelude.{◌≡◌, IfOk, IfSome, map, []};
+ghost use Rattle.xa_codes.specs.Codes.{code_name};
+ghost use Rattle.judge_script.specs.Words.{Is};
+ghost use Rattle.judge_script.specs.Answers.{AreNames, Says, SaysBy, is_refusal, is_told};
+
 use crate::asking::xid_of;
 use crate::words::number_of;
 use std::alloc::{AllocError, Global};
@@ -19,7 +24,9 @@ pub(crate) enum Said<'a> {
 }
 
 /// The code that a word names.
-fn code_of(word: &str) -> Option<Code> {
+fn code_of(word: &str) -> Option<Code>
+    ensures { IfSome result (λ code. Is word.now (code_name code)) }
+{
     match word {
         "XA_RBROLLBACK" => Some(Code::RbRollback),
         "XA_RBCOMMFAIL" => Some(Code::RbCommFail),
@@ -50,7 +57,9 @@ fn code_of(word: &str) -> Option<Code> {
 }
 
 /// The XIDs that words spell: None, where one of them spells none.
-fn xids_of(alloc: Global, words: &[&str]) -> Result<Option<Vec<Xid>>, AllocError> {
+fn xids_of(alloc: Global, words: &[&str]) -> Result<Option<Vec<Xid>>, AllocError>
+    ensures { IfOk result (λ read. IfSome read (λ xids. AreNames (map (λ s. s.now) words.now) xids.items)) }
+{
     let mut xids = Vec::new(alloc);
     for word in words {
         match xid_of(word) {
@@ -62,7 +71,9 @@ fn xids_of(alloc: Global, words: &[&str]) -> Result<Option<Vec<Xid>>, AllocError
 }
 
 /// A number of branches, and so many names.
-fn given_of<'a>(alloc: Global, first: &str, rest: &[&str]) -> Result<Option<Said<'a>>, AllocError> {
+fn given_of<'a>(alloc: Global, first: &str, rest: &[&str]) -> Result<Option<Said<'a>>, AllocError>
+    ensures { IfOk result (λ read. IfSome read (λ said. SaysBy first.now (map (λ s. s.now) rest.now) said)) }
+{
     match number_of(first) {
         Some(number) if number as usize == rest.len() => match xids_of(alloc, rest)? {
             Some(xids) => Ok(Some(Said::Given(xids))),
@@ -73,7 +84,9 @@ fn given_of<'a>(alloc: Global, first: &str, rest: &[&str]) -> Result<Option<Said
 }
 
 /// An answer of one word, but for a number.
-fn said_alone<'a>(word: &str) -> Option<Said<'a>> {
+fn said_alone<'a>(word: &str) -> Option<Said<'a>>
+    ensures { IfSome result (λ said. SaysBy word.now [] said) }
+{
     match word {
         "done" => Some(Said::Done),
         "hung" => Some(Said::Hung),
@@ -82,17 +95,23 @@ fn said_alone<'a>(word: &str) -> Option<Said<'a>> {
 }
 
 /// Whether a word begins a refusal without a code of XA.
-fn refuses(word: &str) -> bool {
+fn refuses(word: &str) -> bool
+    ensures { result ≡ is_refusal word.now }
+{
     matches!(word, "refused" | "threw" | "XA")
 }
 
 /// Whether a word begins the answer of a restart or a trim.
-fn tells(word: &str) -> bool {
+fn tells(word: &str) -> bool
+    ensures { result ≡ is_told word.now }
+{
     matches!(word, "boot" | "trim")
 }
 
 /// An answer of a word that is no number and what is behind it.
-fn said_by<'a>(first: &str, rest: &[&'a str]) -> Option<Said<'a>> {
+fn said_by<'a>(first: &str, rest: &[&'a str]) -> Option<Said<'a>>
+    ensures { IfSome result (λ said. SaysBy first.now (map (λ s. s.now) rest.now) said) }
+{
     if refuses(first) {
         return Some(Said::Refused);
     }
@@ -112,10 +131,9 @@ fn said_by<'a>(first: &str, rest: &[&'a str]) -> Option<Said<'a>> {
 }
 
 /// The answer that words spell: None, where they spell none.
-pub(crate) fn said_in<'a>(
-    alloc: Global,
-    words: &[&'a str],
-) -> Result<Option<Said<'a>>, AllocError> {
+pub(crate) fn said_in<'a>(alloc: Global, words: &[&'a str]) -> Result<Option<Said<'a>>, AllocError>
+    ensures { IfOk result (λ read. IfSome read (λ said. Says (map (λ s. s.now) words.now) said)) }
+{
     match words {
         [] => Ok(None),
         [first, rest @ ..] => match said_by(first, rest) {

@@ -1,5 +1,9 @@
 //! The call of a line.
 
+ghost use Rattle.std.specs.Prelude.{IfSome, map};
+ghost use Rattle.judge_script.specs.Words.{Is, IsName};
+ghost use Rattle.judge_script.specs.Askings.{Asks, IsAlone, IsWithOne, IsWithThree, IsWithTwo, outcome_name, verb_name};
+
 use crate::words::number_of;
 use judge_rules::BranchVerb;
 use spellings::numeral;
@@ -25,7 +29,9 @@ pub(crate) enum Asked<'a> {
 pub(crate) const NONE: &str = "none";
 
 /// The function on a branch that a word names.
-fn verb_of(word: &str) -> Option<BranchVerb> {
+fn verb_of(word: &str) -> Option<BranchVerb>
+    ensures { IfSome result (λ verb. Is word.now (verb_name verb)) }
+{
     match word {
         "start" => Some(BranchVerb::Start),
         "end" => Some(BranchVerb::End),
@@ -38,7 +44,9 @@ fn verb_of(word: &str) -> Option<BranchVerb> {
 }
 
 /// Whether a word names the outcome commit: None, where it names none.
-fn commits(word: &str) -> Option<bool> {
+fn commits(word: &str) -> Option<bool>
+    ensures { IfSome result (λ commits. Is word.now (outcome_name commits)) }
+{
     match word {
         "commit" => Some(true),
         "rollback" => Some(false),
@@ -47,7 +55,9 @@ fn commits(word: &str) -> Option<bool> {
 }
 
 /// The XID that a word spells.
-pub(crate) fn xid_of(word: &str) -> Option<Xid> {
+pub(crate) fn xid_of(word: &str) -> Option<Xid>
+    ensures { IfSome result (λ xid. IsName word.now xid) }
+{
     match Xid::parse(word) {
         Ok(xid) => Some(xid),
         Err(_) => None,
@@ -55,7 +65,9 @@ pub(crate) fn xid_of(word: &str) -> Option<Xid> {
 }
 
 /// The call of one word.
-fn alone<'a>(word: &str) -> Option<Asked<'a>> {
+fn alone<'a>(word: &str) -> Option<Asked<'a>>
+    ensures { IfSome result (λ asked. IsAlone word.now asked) }
+{
     match word {
         "restart" => Some(Asked::Restart(false)),
         "trim" => Some(Asked::Trim),
@@ -64,7 +76,9 @@ fn alone<'a>(word: &str) -> Option<Asked<'a>> {
 }
 
 /// The call of two words.
-fn with_one<'a>(word: &str, first: &str) -> Option<Asked<'a>> {
+fn with_one<'a>(word: &str, first: &str) -> Option<Asked<'a>>
+    ensures { IfSome result (λ asked. IsWithOne word.now first.now asked) }
+{
     match word {
         "open" => Some(Asked::Open(Flags::parse(first)?)),
         "close" => Some(Asked::Close(Flags::parse(first)?)),
@@ -78,7 +92,9 @@ fn with_one<'a>(word: &str, first: &str) -> Option<Asked<'a>> {
 }
 
 /// The call of three words. The information text of an open is passed over.
-fn with_two<'a>(word: &str, first: &str, second: &'a str) -> Option<Asked<'a>> {
+fn with_two<'a>(word: &str, first: &str, second: &'a str) -> Option<Asked<'a>>
+    ensures { IfSome result (λ asked. IsWithTwo word.now first.now second.now asked) }
+{
     match word {
         "open" => Some(Asked::Open(Flags::parse(first)?)),
         "get" => Some(Asked::Get(number_of(first)?, second)),
@@ -92,7 +108,9 @@ fn with_two<'a>(word: &str, first: &str, second: &'a str) -> Option<Asked<'a>> {
 }
 
 /// The call of four words.
-fn with_three<'a>(word: &str, first: &str, second: &'a str, third: &'a str) -> Option<Asked<'a>> {
+fn with_three<'a>(word: &str, first: &str, second: &'a str, third: &'a str) -> Option<Asked<'a>>
+    ensures { IfSome result (λ asked. IsWithThree word.now first.now second.now third.now asked) }
+{
     let thread = number_of(first)?;
     match word {
         "put" => Some(Asked::Put(thread, second, third)),
@@ -109,7 +127,9 @@ fn with_three<'a>(word: &str, first: &str, second: &'a str, third: &'a str) -> O
 }
 
 /// The call that words spell: None, where they spell none.
-pub(crate) fn asked_in<'a>(words: &[&'a str]) -> Option<Asked<'a>> {
+pub(crate) fn asked_in<'a>(words: &[&'a str]) -> Option<Asked<'a>>
+    ensures { IfSome result (λ asked. Asks (map (λ s. s.now) words.now) asked) }
+{
     match words {
         [word] => alone(word),
         [word, first] => with_one(word, first),

@@ -1,5 +1,8 @@
 //! What the first lines say of a manager.
 
+ghost use Rattle.std.specs.Prelude.{◌≡◌, map};
+ghost use Rattle.judge_script.specs.Headers.{excused, excuses, no_rules, promised, promises, ruled};
+
 use judge_rules::{Lacks, Never, Rules};
 
 /// By what a manager is judged of which nothing is said.
@@ -24,64 +27,111 @@ pub(crate) const PLAIN: Rules = Rules {
 };
 
 /// What is promised, with one more promise.
-fn promise(mut never: Never, word: &str) -> Option<Never> {
+fn promised(never: Never, word: &str) -> Option<Never>
+    ensures { result ≡ promised never word.now }
+{
     match word {
-        "heuristics" => never.heuristics = true,
-        "failures" => never.failures = true,
-        "rollback" => never.rollback = true,
-        _ => return None,
+        "heuristics" => Some(Never {
+            heuristics: true,
+            ..never
+        }),
+        "failures" => Some(Never {
+            failures: true,
+            ..never
+        }),
+        "rollback" => Some(Never {
+            rollback: true,
+            ..never
+        }),
+        _ => None,
     }
-    Some(never)
 }
 
 /// What is lacking, with one more excuse.
-fn excuse(mut lacks: Lacks, word: &str) -> Option<Lacks> {
+fn excused(lacks: Lacks, word: &str) -> Option<Lacks>
+    ensures { result ≡ excused lacks word.now }
+{
     match word {
-        "join" => lacks.join = true,
-        "suspend" => lacks.suspend = true,
-        "migrate" => lacks.migrate = true,
-        "threads" => lacks.threads = true,
-        "scan" => lacks.scan = true,
-        "count" => lacks.count = true,
-        "open" => lacks.opening = true,
-        "forced" => lacks.forced = true,
-        "isolation" => lacks.isolation = true,
-        "emptybqual" => lacks.empty_bqual = true,
-        _ => return None,
+        "join" => Some(Lacks {
+            join: true,
+            ..lacks
+        }),
+        "suspend" => Some(Lacks {
+            suspend: true,
+            ..lacks
+        }),
+        "migrate" => Some(Lacks {
+            migrate: true,
+            ..lacks
+        }),
+        "threads" => Some(Lacks {
+            threads: true,
+            ..lacks
+        }),
+        "scan" => Some(Lacks {
+            scan: true,
+            ..lacks
+        }),
+        "count" => Some(Lacks {
+            count: true,
+            ..lacks
+        }),
+        "open" => Some(Lacks {
+            opening: true,
+            ..lacks
+        }),
+        "forced" => Some(Lacks {
+            forced: true,
+            ..lacks
+        }),
+        "isolation" => Some(Lacks {
+            isolation: true,
+            ..lacks
+        }),
+        "emptybqual" => Some(Lacks {
+            empty_bqual: true,
+            ..lacks
+        }),
+        _ => None,
     }
-    Some(lacks)
 }
 
 /// What is promised after these words.
-fn promises(mut never: Never, words: &[&str]) -> Option<Never> {
-    for word in words {
-        never = promise(never, word)?;
+fn promises(never: Never, words: &[&str]) -> Option<Never>
+    ensures { result ≡ promises never (map (λ s. s.now) words.now) }
+{
+    match words {
+        [] => Some(never),
+        [word, rest @ ..] => promises(promised(never, word)?, rest),
     }
-    Some(never)
 }
 
 /// What is lacking after these words.
-fn excuses(mut lacks: Lacks, words: &[&str]) -> Option<Lacks> {
-    for word in words {
-        lacks = excuse(lacks, word)?;
+fn excuses(lacks: Lacks, words: &[&str]) -> Option<Lacks>
+    ensures { result ≡ excuses lacks (map (λ s. s.now) words.now) }
+{
+    match words {
+        [] => Some(lacks),
+        [word, rest @ ..] => excuses(excused(lacks, word)?, rest),
     }
-    Some(lacks)
 }
 
 /// By what a manager is judged after one more of the first lines: None, where the words make none.
-pub(crate) fn ruled(rules: Rules, words: &[&str]) -> Option<Rules> {
+pub(crate) fn ruled(rules: Rules, words: &[&str]) -> Option<Rules>
+    ensures { result ≡ ruled rules (map (λ s. s.now) words.now) }
+{
     match words {
-        [first, rest @ ..] => {
-            if *first == "never" {
+        [] => None,
+        [first, rest @ ..] => match *first {
+            "never" => {
                 let never = promises(rules.never, rest)?;
                 Some(Rules { never, ..rules })
-            } else if *first == "lacks" {
+            }
+            "lacks" => {
                 let lacks = excuses(rules.lacks, rest)?;
                 Some(Rules { lacks, ..rules })
-            } else {
-                None
             }
-        }
-        [] => None,
+            _ => None,
+        },
     }
 }

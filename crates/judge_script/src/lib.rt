@@ -13,8 +13,9 @@ mod answers;
 mod asking;
 mod header;
 mod names;
+mod numbering;
 mod reading;
 mod words;
 
 pub use names::Names;
-pub use reading::{Transcript, TranscriptError, transcript_of};
+pub use reading::{Transcript, transcript_of};

@@ -1,8 +1,10 @@
 //! The numbers of names.
 
-use crate::answers::Said;
-use crate::asking::{Asked, NONE};
-use judge_rules::{Answer, Call, Event, Function, On, XidName, XidSort};
+ghost use Rattle.std.specs.Prelude.{◌≡◌, IfOk, OnOk, IfNone, IfSome, map, ℕ};
+ghost use Rattle.judge_script.specs.Numbers.{AreApart, ArePlaces, HasMore, IsPlace, IsSort};
+
+use crate::asking::NONE;
+use judge_rules::XidSort;
 use std::alloc::{AllocError, Global};
 use xa_xid::Xid;
 
@@ -14,17 +16,35 @@ pub struct Names<'a> {
 }
 
 /// Where an XID is among these.
-fn place_of_xid(xids: &[Xid], xid: &Xid) -> Option<usize> {
-    xids.iter().position(|other| other == xid)
+fn place_of_xid(xids: &[Xid], xid: &Xid) -> Option<usize>
+    ensures found { IfSome result (λ i. IsPlace xids.now i xid.now) }
+    ensures none { IfNone result ((i : ℕ) → IsPlace xids.now i xid.now → ⊥) }
+{
+    for (i, other) in xids.iter().enumerate() {
+        if other == xid {
+            return Some(i);
+        }
+    }
+    None
 }
 
 /// Where a word is among these.
-fn place_of_word(words: &[&str], word: &str) -> Option<usize> {
-    words.iter().position(|other| *other == word)
+fn place_of_word(words: &[&str], word: &str) -> Option<usize>
+    ensures found { IfSome result (λ i. IsPlace (map (λ s. s.now) words.now) i word.now) }
+    ensures none { IfNone result ((i : ℕ) → IsPlace (map (λ s. s.now) words.now) i word.now → ⊥) }
+{
+    for (i, other) in words.iter().enumerate() {
+        if *other == word {
+            return Some(i);
+        }
+    }
+    None
 }
 
 /// What an XID is, apart from which.
-fn sort_of(xid: &Xid) -> XidSort {
+pub(crate) fn sort_of(xid: &Xid) -> XidSort
+    ensures { IsSort xid.now result }
+{
     if xid.is_null() {
         return XidSort::Null;
     }
@@ -36,115 +56,82 @@ fn sort_of(xid: &Xid) -> XidSort {
     }
 }
 
+/// The number of an XID, which is new where it is not known. More than 2^32 are refused like memory.
+pub(crate) fn number_xid(xids: &mut Vec<Xid>, xid: Xid) -> Result<u32, AllocError>
+    ensures placed { IfOk result (λ k. IsPlace xids.new.items k xid) }
+    ensures more { OnOk result (HasMore xids.old.items xids.new.items) }
+    ensures apart { OnOk result (AreApart xids.old.items → AreApart xids.new.items) }
+{
+    match place_of_xid(xids, &xid) {
+        Some(place) => number_at(place),
+        None => {
+            let number = number_at(xids.len())?;
+            xids.push(xid)?;
+            Ok(number)
+        }
+    }
+}
+
+/// A place as a number.
+fn number_at(place: usize) -> Result<u32, AllocError>
+    ensures { IfOk result (λ number. number ≡ place) }
+{
+    if place < 1 << 32 {
+        Ok(place as u32)
+    } else {
+        Err(AllocError)
+    }
+}
+
+/// The number of a key or a value, which is new where it is not known. More than 2^32 are refused like memory.
+pub(crate) fn number_word<'a>(words: &mut Vec<&'a str>, word: &'a str) -> Result<u32, AllocError>
+    ensures placed { IfOk result (λ k. IsPlace (map (λ s. s.now) words.new.items) k word.now) }
+    ensures more { OnOk result (HasMore (map (λ s. s.now) words.old.items) (map (λ s. s.now) words.new.items)) }
+    ensures apart { OnOk result (AreApart (map (λ s. s.now) words.old.items)
+        → AreApart (map (λ s. s.now) words.new.items)) }
+{
+    match place_of_word(words, word) {
+        Some(place) => number_at(place),
+        None => {
+            let number = number_at(words.len())?;
+            words.push(word)?;
+            Ok(number)
+        }
+    }
+}
+
+/// The numbers of XIDs.
+pub(crate) fn number_xids(
+    alloc: Global,
+    xids: &mut Vec<Xid>,
+    named: &[Xid],
+) -> Result<Vec<u32>, AllocError>
+    ensures placed { IfOk result (λ v. ArePlaces xids.new.items v.items named.now) }
+    ensures more { OnOk result (HasMore xids.old.items xids.new.items) }
+    ensures apart { OnOk result (AreApart xids.old.items → AreApart xids.new.items) }
+{
+    let mut numbers = Vec::new(alloc);
+    for xid in named {
+        numbers.push(number_xid(xids, *xid)?)?;
+    }
+    Ok(numbers)
+}
+
 impl<'a> Names<'a> {
+    ghost use Rattle.std.specs.Prelude.{codes};
+    ghost use Rattle.judge_script.specs.Numbers.{AreApart, IsPlace, table_of};
+
     /// No names but that of no value, whose number is 0.
-    pub(crate) fn new(alloc: Global) -> Result<Names<'a>, AllocError> {
+    pub(crate) fn new(alloc: Global) -> Result<Names<'a>, AllocError>
+        ensures zero { IfOk result (λ names. IsPlace (table_of names).words 0 (codes "none")) }
+        ensures xids { IfOk result (λ names. AreApart (table_of names).xids) }
+        ensures words { IfOk result (λ names. AreApart (table_of names).words) }
+    {
         let mut words = Vec::new(alloc);
         words.push(NONE)?;
         Ok(Names {
             xids: Vec::new(alloc),
             words,
         })
-    }
-
-    /// The number of an XID, which is new where it is not known. More than 2^32 are refused like memory.
-    pub(crate) fn number_xid(&mut self, xid: Xid) -> Result<u32, AllocError> {
-        match place_of_xid(&self.xids, &xid) {
-            Some(place) => Ok(place as u32),
-            None => {
-                let place = self.xids.len();
-                if place >= 1 << 32 {
-                    return Err(AllocError);
-                }
-                self.xids.push(xid)?;
-                Ok(place as u32)
-            }
-        }
-    }
-
-    /// The number of a key or a value, which is new where it is not known.
-    pub(crate) fn number_word(&mut self, word: &'a str) -> Result<u32, AllocError> {
-        match place_of_word(&self.words, word) {
-            Some(place) => Ok(place as u32),
-            None => {
-                let place = self.words.len();
-                if place >= 1 << 32 {
-                    return Err(AllocError);
-                }
-                self.words.push(word)?;
-                Ok(place as u32)
-            }
-        }
-    }
-
-    /// The numbers of XIDs.
-    fn number_xids(&mut self, alloc: Global, xids: &[Xid]) -> Result<Vec<u32>, AllocError> {
-        let mut numbers = Vec::new(alloc);
-        for xid in xids {
-            numbers.push(self.number_xid(*xid)?)?;
-        }
-        Ok(numbers)
-    }
-
-    /// A call, its names numbered.
-    pub(crate) fn call(&mut self, asked: Asked<'a>) -> Result<Call, AllocError> {
-        match asked {
-            Asked::Open(flags) => Ok(Call::Function(Function::Open(flags))),
-            Asked::Close(flags) => Ok(Call::Function(Function::Close(flags))),
-            Asked::Branch(verb, thread, xid, flags) => {
-                let number = self.number_xid(xid)?;
-                let xid = XidName {
-                    number,
-                    sort: sort_of(&xid),
-                };
-                Ok(Call::Function(Function::Branch(verb, On { thread, xid, flags })))
-            }
-            Asked::Recover(thread, count, flags) => Ok(Call::Function(Function::Recover {
-                thread,
-                count,
-                flags,
-            })),
-            Asked::Get(thread, key) => {
-                let key = self.number_word(key)?;
-                Ok(Call::Get { thread, key })
-            }
-            Asked::Put(thread, key, value) => {
-                let key = self.number_word(key)?;
-                let value = self.number_word(value)?;
-                Ok(Call::Put { thread, key, value })
-            }
-            Asked::Decide(xid, commits) => {
-                let branch = self.number_xid(xid)?;
-                Ok(Call::Decide { branch, commits })
-            }
-            Asked::Restart(cut) => Ok(Call::Restart { cut }),
-            Asked::Disconnect(thread) => Ok(Call::Disconnect { thread }),
-            Asked::Trim => Ok(Call::Trim),
-        }
-    }
-
-    /// An answer, its names numbered.
-    pub(crate) fn answer(&mut self, alloc: Global, said: &Said<'a>) -> Result<Answer, AllocError> {
-        match said {
-            Said::Code(code) => Ok(Answer::Code(*code)),
-            Said::Given(xids) => Ok(Answer::Given(self.number_xids(alloc, xids)?)),
-            Said::Found(value) => Ok(Answer::Found(self.number_word(value)?)),
-            Said::Done => Ok(Answer::Done),
-            Said::Refused => Ok(Answer::Refused),
-            Said::Told => Ok(Answer::Told),
-            Said::Hung => Ok(Answer::Hung),
-        }
-    }
-
-    /// A call and its answer, their names numbered.
-    pub(crate) fn event(
-        &mut self,
-        alloc: Global,
-        asked: Asked<'a>,
-        said: &Said<'a>,
-    ) -> Result<Event, AllocError> {
-        let call = self.call(asked)?;
-        let answer = self.answer(alloc, said)?;
-        Ok(Event { call, answer })
     }
 }

@@ -1,14 +1,17 @@
 //! A whole transcript.
 
+ghost use Rattle.std.specs.Prelude.{◌≡◌, ◌++◌, ◌∷◌, ◌<◌, IfOk, IfSome, MatchResult, OnOk, codes, length, map, slice_index_or, take, drop};
+ghost use Rattle.judge_script.specs.Numbers.{Grows, IsEvent, table_of};
+
 use crate::answers::said_in;
 use crate::asking::asked_in;
 use crate::header::{PLAIN, ruled};
 use crate::names::Names;
+use crate::numbering::number_event;
 use crate::words::{is_blank, words_of};
 use judge_rules::{Event, Rules};
 use script_words::lines_of;
 use std::alloc::{AllocError, Global};
-use thiserror::Error;
 
 /// A transcript: by what the manager is judged, its calls and answers, the number of each one's line, and the names.
 #[derive(Drop)]
@@ -19,21 +22,17 @@ pub struct Transcript<'a> {
     pub names: Names<'a>,
 }
 
-/// Why a transcript is refused.
-#[derive(Clone, Copy, Debug, PartialEq, Eq, Error)]
-pub enum TranscriptError {
-    /// A line that is neither one of the first nor a call with its answer, by its number from 1. The first of them
-    /// is named.
-    #[error("line {0} is the line of nothing")]
-    Line(usize),
-    /// The input is no UTF-8.
-    #[error("the transcript is not UTF-8")]
-    Utf8,
-}
-
-/// The place of the word that parts a call from its answer.
-fn arrow_in(words: &[&str]) -> Option<usize> {
-    words.iter().position(|word| *word == "->")
+/// The words before and after the one that parts a call from its answer.
+fn parts_of<'b, 'a>(words: &'b [&'a str]) -> Option<(&'b [&'a str], &'b [&'a str])>
+    ensures { IfSome result (λ p. map (λ s. s.now) words.now
+        ≡ map (λ s. s.now) p.0.now ++ codes "->" ∷ map (λ s. s.now) p.1.now) }
+{
+    for (i, word) in words.iter().enumerate() {
+        if *word == "->" {
+            return Some((&words[..i], &words[i + 1..]));
+        }
+    }
+    None
 }
 
 /// Reads the line of a call and its answer: None, where it is none.
@@ -41,17 +40,20 @@ fn event_of<'a>(
     alloc: Global,
     names: &mut Names<'a>,
     words: &[&'a str],
-) -> Result<Option<Event>, AllocError> {
-    let Some(at) = arrow_in(words) else {
+) -> Result<Option<Event>, AllocError>
+    ensures event { IfOk result (λ read. IfSome read (λ event.
+        IsEvent (table_of names.new) (map (λ s. s.now) words.now) event)) }
+    ensures grows { OnOk result (Grows (table_of names.old) (table_of names.new)) }
+{
+    let Some((call, answer)) = parts_of(words) else {
         return Ok(None);
     };
-    let (call, answer) = words.split_at(at);
     let Some(asked) = asked_in(call) else {
         return Ok(None);
     };
-    match said_in(alloc, &answer[1..])? {
+    match said_in(alloc, answer)? {
         None => Ok(None),
-        Some(said) => Ok(Some(names.event(alloc, asked, &said)?)),
+        Some(said) => Ok(Some(number_event(alloc, names, &asked, &said)?)),
     }
 }
 
@@ -86,11 +88,11 @@ impl<'a> Transcript<'a> {
     }
 }
 
-/// The transcript of a text, or the number of the first line of nothing.
+/// The transcript of a text, or the number of the first line of nothing, counted from 1.
 pub fn transcript_of(
     alloc: Global,
     text: &str,
-) -> Result<Result<Transcript<'_>, TranscriptError>, AllocError> {
+) -> Result<Result<Transcript<'_>, usize>, AllocError> {
     let lines = lines_of(alloc, text)?;
     let mut transcript = Transcript::new(alloc)?;
     for (i, line) in lines.iter().enumerate() {
@@ -98,7 +100,7 @@ pub fn transcript_of(
             continue;
         }
         if !transcript.add(alloc, line, i + 1)? {
-            return Ok(Err(TranscriptError::Line(i + 1)));
+            return Ok(Err(i + 1));
         }
     }
     Ok(Ok(transcript))

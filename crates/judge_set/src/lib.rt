@@ -9,4 +9,4 @@ mod verdict;
 
 pub use resumed::resumed;
 pub use set::{follow, start};
-pub use verdict::first_fault;
+pub use verdict::{Walk, judge, walk};
