@@ -24,6 +24,10 @@ ending_number Conforms = 0
 ending_number Refused = 1
 ending_number Faulty = 3
 
+-- a text begins with another
+abbrev pub BeginsWith : List ℕ → List ℕ → Type 0
+BeginsWith front text = (rest : List ℕ) × (text ≡ front ++ rest)
+
 -- the line of a refused transcript
 abbrev pub refusal_text : Refusal → List ℕ
 refusal_text refusal.Utf8 = codes "error 4" ++ 10 ∷ []
@@ -53,8 +57,7 @@ line_of t i = slice_index_or t.lines.items i 0
 -- faults
 pub record ReportsFault (input : List ℕ) (t : Transcript) (i : ℕ) (text : List ℕ) : Type 0 where
   pub fault : IsFirstFault t.rules t.events.items i
-  pub rest : List ℕ
-  pub begins : text ≡ fault_text (lines input) (line_of t i) ++ rest
+  pub begins : BeginsWith (fault_text (lines input) (line_of t i)) text
 
 -- what is written of an input, by how the run ends: of a transcript, that its history is legal, or its first fault; or
 -- the line of the fault for which the input is refused

@@ -1,5 +1,7 @@
 //! What is admitted where an answer is not.
 
+ghost use Rattle.std.specs.Prelude.{◌≡◌, ◌++◌, OnOk};
+
 use crate::standing::push_standing;
 use judge_rules::{ALL, Answer, Call, Event, Function, Reply, Rules, StepError, next};
 use judge_script::Names;
@@ -12,7 +14,9 @@ use xa_xid::Xid;
 const MOST_TOLD: usize = 4;
 
 /// Adds a text.
-pub(crate) fn push(out: &mut Vec<u8>, text: &str) -> Result<(), AllocError> {
+pub(crate) fn push(out: &mut Vec<u8>, text: &str) -> Result<(), AllocError>
+    ensures { OnOk result (out.new.items ≡ out.old.items ++ text.now) }
+{
     out.extend_from_slice(text.as_bytes())
 }
 

@@ -8,8 +8,8 @@ ghost use Rattle.judge_script.specs.Transcripts.{IsTranscript};
 ghost use Rattle.judge_engine.specs.declared.run.Ending.{Ending as AnyEnding};
 ghost use Rattle.judge_engine.specs.Reports.{IsRefusal, IsReport, ending_number, refusal_text};
 
-use crate::judging::{Extent, faults};
-use crate::report::report_of;
+use crate::judging::{Extent, Fault, faults};
+use crate::report::{conforms, faulty};
 use judge_rules::StepError;
 use judge_script::{Transcript, transcript_of};
 use report_io::{Failure, read_all, write_all};
@@ -87,14 +87,17 @@ fn verdict(
     match faults(alloc, extent, transcript) {
         Err(StepError::Memory) => Err(AllocError),
         Err(StepError::TooMany) => refused(alloc, Refusal::TooMany),
-        Ok(found) => {
-            let out = report_of(alloc, transcript, &lines, &found, extent == Extent::All)?;
-            if found.is_empty() {
-                Ok((out, Ending::Conforms))
-            } else {
+        Ok(found) => match found.as_slice() {
+            [] => Ok((conforms(alloc, transcript)?, Ending::Conforms)),
+            [first, more @ ..] => {
+                let counted: &[Fault] = match extent {
+                    Extent::First => &[],
+                    Extent::All => &found,
+                };
+                let out = faulty(alloc, transcript, &lines, first, more, counted)?;
                 Ok((out, Ending::Faulty))
             }
-        }
+        },
     }
 }
 

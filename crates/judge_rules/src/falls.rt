@@ -1,6 +1,6 @@
 //! Failures, restarts and lost connections.
 
-ghost use Rattle.std.specs.Prelude.{◌≡◌, ◌++◌, IfOk, map, filter, Option};
+ghost use Rattle.std.specs.Prelude.{◌≡◌, ◌++◌, IfOk, map, filter, fold, Option};
 ghost use Rattle.judge_state.specs.Moves.{brought_back, gone, marked};
 ghost use Rattle.judge_rules.specs.Falls.{after_cut, after_restart, done_failing, effects, effects_rows, failed, failed_rows, half_done, hangs_on, is_decided, may_return, maybe_back, maybe_gone};
 
@@ -179,6 +179,25 @@ fn may_return(alloc: Global, state: &State, lost: &[Branch]) -> Result<Vec<Branc
         .collect(alloc)
 }
 
+/// These states, with any of the branches that were lost back.
+fn all_maybe_back(
+    alloc: Global,
+    works: &[Work],
+    states: Vec<State>,
+    lost: &[Branch],
+) -> Result<Vec<State>, StepError>
+    ensures { IfOk result (λ v. v.items ≡ fold (maybe_back works.now) states.items lost.now) }
+{
+    let mut back = states;
+    for branch in lost {
+        if back.len() > MOST_STATES {
+            return Err(StepError::TooMany);
+        }
+        back = maybe_back(alloc, works, back, *branch)?;
+    }
+    Ok(back)
+}
+
 /// The states after a restart.
 pub(crate) fn after_restart(
     alloc: Global,
@@ -189,18 +208,13 @@ pub(crate) fn after_restart(
     ensures { IfOk result (λ v. v.items ≡ after_restart rules cut state.now) }
 {
     let restarted = state.copied(alloc)?.restarted(alloc)?;
-    if !(cut && rules.lacks.forced) {
-        return Ok(one(alloc, restarted)?);
+    if cut && rules.lacks.forced {
+        let lost = may_return(alloc, &restarted, state.lost())?;
+        let states = one(alloc, restarted)?;
+        all_maybe_back(alloc, state.lost_works(), states, &lost)
+    } else {
+        Ok(one(alloc, restarted)?)
     }
-    let lost = may_return(alloc, &restarted, state.lost())?;
-    let mut states = one(alloc, restarted)?;
-    for branch in &lost {
-        if states.len() > MOST_STATES {
-            return Err(StepError::TooMany);
-        }
-        states = maybe_back(alloc, state.lost_works(), states, *branch)?;
-    }
-    Ok(states)
 }
 
 /// Whether a branch at work hangs on a thread.
@@ -253,17 +267,29 @@ fn maybe_gone(alloc: Global, states: Vec<State>, branch: Branch) -> Result<Vec<S
     both(both(states, gone)?, marked)
 }
 
+/// These states, where each of these branches may stay, be gone, or be one that can only be rolled back.
+fn all_maybe_gone(
+    alloc: Global,
+    states: Vec<State>,
+    branches: &[Branch],
+) -> Result<Vec<State>, StepError>
+    ensures { IfOk result (λ v. v.items ≡ fold maybe_gone states.items branches.now) }
+{
+    let mut left = states;
+    for branch in branches {
+        if left.len() > MOST_STATES {
+            return Err(StepError::TooMany);
+        }
+        left = maybe_gone(alloc, left, *branch)?;
+    }
+    Ok(left)
+}
+
 /// The states after the connection of a thread is gone.
 pub(crate) fn after_cut(alloc: Global, thread: u32, state: &State) -> Result<Vec<State>, StepError>
     ensures { IfOk result (λ v. v.items ≡ after_cut thread state.now) }
 {
     let hanging = all_hanging(alloc, thread, state)?;
-    let mut states = one(alloc, state.copied(alloc)?.cut_off(alloc, thread)?)?;
-    for branch in &hanging {
-        if states.len() > MOST_STATES {
-            return Err(StepError::TooMany);
-        }
-        states = maybe_gone(alloc, states, *branch)?;
-    }
-    Ok(states)
+    let states = one(alloc, state.copied(alloc)?.cut_off(alloc, thread)?)?;
+    all_maybe_gone(alloc, states, &hanging)
 }
