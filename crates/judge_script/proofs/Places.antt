@@ -65,8 +65,11 @@ apart_push old x new apart i j d lt in_new =
       | inr past ↦ (
           let j_last : length old ≡ j = omega (arith, length-append old (x ∷ [])) in
           let i_in : i < length old = omega arith in
-          λ e. new i (i_in, get_or_default old i x d i_in ∙ sym (get_or_append_left old (x ∷ []) d i i_in) ∙ e
-          ∙ get_or_push old x d j j_last))
+          λ e. new i (
+            i_in,
+            get_or_default old i x d i_in ∙ sym (get_or_append_left old (x ∷ []) d i i_in) ∙ e
+                ∙ get_or_push old x d j j_last,
+          ))
     ]
 
 pub grows_same : (n : NameTable) → Grows n n

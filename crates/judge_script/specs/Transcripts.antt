@@ -38,6 +38,7 @@ pub record AreTranscript (ls : List (List ℕ)) (t : Transcript) : Type 0 where
   pub parts : kept_lines ls ≡ first ++ others
   pub places : kept_numbers 1 ls ≡ numbers ++ t.lines.items
   pub long : length numbers ≡ length first
+  pub each : length t.lines.items ≡ length t.events.items
   pub rules : ruled_by no_rules first ≡ Some t.rules
   pub events : AreEvents (table_of t.names) others t.events.items
   pub apart_xids : AreApart (table_of t.names).xids

@@ -1,7 +1,8 @@
 //! A whole transcript.
 
-ghost use Rattle.std.specs.Prelude.{◌≡◌, ◌++◌, ◌∷◌, ◌<◌, IfOk, IfSome, MatchResult, OnOk, codes, length, map, slice_index_or, take, drop};
+ghost use Rattle.std.specs.Prelude.{◌≡◌, ◌++◌, ◌∷◌, IfOk, IfSome, MatchResult, OnOk, codes, length, map};
 ghost use Rattle.judge_script.specs.Numbers.{Grows, IsEvent, table_of};
+ghost use Rattle.judge_script.specs.Transcripts.{IsLine, IsTranscript};
 
 use crate::answers::said_in;
 use crate::asking::asked_in;
@@ -58,8 +59,14 @@ fn event_of<'a>(
 }
 
 impl<'a> Transcript<'a> {
+    ghost use Rattle.std.specs.Prelude.{◌+◌, List, ℕ, [], true, false};
+    ghost use Rattle.judge_script.specs.Words.{is_blank};
+    ghost use Rattle.judge_script.specs.Transcripts.{AreTranscript};
+
     /// A transcript of no line.
-    fn new(alloc: Global) -> Result<Transcript<'a>, AllocError> {
+    fn new(alloc: Global) -> Result<Transcript<'a>, AllocError>
+        ensures { IfOk result (λ transcript. AreTranscript [] transcript) }
+    {
         Ok(Transcript {
             rules: PLAIN,
             events: Vec::new(alloc),
@@ -69,7 +76,10 @@ impl<'a> Transcript<'a> {
     }
 
     /// Adds a line of this number: false, where it is the line of nothing.
-    fn add(&mut self, alloc: Global, line: &'a str, number: usize) -> Result<bool, AllocError> {
+    fn add(&mut self, alloc: Global, line: &'a str, number: usize) -> Result<bool, AllocError>
+        ensures { IfOk result (λ added. added ≡ true → (ls : List (List ℕ)) → is_blank line.now ≡ false
+            → number ≡ length ls + 1 → AreTranscript ls self.old → AreTranscript (ls ++ line.now ∷ []) self.new) }
+    {
         let words = words_of(alloc, line)?;
         if self.events.is_empty() {
             if let Some(rules) = ruled(self.rules, &words) {
@@ -89,10 +99,9 @@ impl<'a> Transcript<'a> {
 }
 
 /// The transcript of a text, or the number of the first line of nothing, counted from 1.
-pub fn transcript_of(
-    alloc: Global,
-    text: &str,
-) -> Result<Result<Transcript<'_>, usize>, AllocError> {
+pub fn transcript_of(alloc: Global, text: &str) -> Result<Result<Transcript<'_>, usize>, AllocError>
+    ensures { IfOk result (λ read. MatchResult read (IsTranscript text.now) (IsLine text.now)) }
+{
     let lines = lines_of(alloc, text)?;
     let mut transcript = Transcript::new(alloc)?;
     for (i, line) in lines.iter().enumerate() {
