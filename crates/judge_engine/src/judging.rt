@@ -7,7 +7,7 @@ ghost use Rattle.judge_set.specs.Sets.{IsVerdict};
 use crate::admitted::explain;
 use judge_rules::{Answer, Event, StepError};
 use judge_script::Transcript;
-use judge_set::{Walk, judge, resumed, walk};
+use judge_set::{Walk, follow_all, judge, resumed};
 use judge_state::State;
 use std::alloc::Global;
 
@@ -72,7 +72,7 @@ fn next_walk(
         return Ok(None);
     }
     let rest = &transcript.events[index + 1..];
-    Ok(Some(walk(alloc, transcript.rules, states, rest)?))
+    Ok(Some(follow_all(alloc, transcript.rules, states, rest)?))
 }
 
 /// Adds the faults after a first one.

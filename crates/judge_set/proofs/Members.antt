@@ -1,12 +1,14 @@
 -- Sets of states as lists, and the histories that lead to them.
 use Rattle.std.proofs.Common.{◌≡◌, ℕ, ◌+◌, ◌<◌, ◌↔◌, ◌⊎◌, zero, suc, Option, Some, None, List, [], ◌∷◌, ◌++◌, length, get_or, take, refl, sym, subst, ◌∙◌, inl, inr, arith}
-use Rattle.std.specs.Prelude.{Contains}
+use Rattle.std.specs.Prelude.{Contains, IfOk, Result, Ok, Err}
 use Rattle.std.proofs.lemmas.List.Elements.{Contains-get_or, Contains-append_left, Contains-append_right, Contains-push, Contains-push_cases, Contains-append_cases}
 use Rattle.judge_state.specs.Sights.{Sight, first_sight}
 use Rattle.judge_rules.specs.declared.calls.Event.{Event}
 use Rattle.judge_rules.specs.declared.words.Rules.{Rules}
 use Rattle.judge_rules.specs.Histories.{IsLegal, Leads, Step}
 use Rattle.judge_rules.specs.Steps.{next}
+use Rattle.judge_rules.specs.declared.errors.StepError.{StepError}
+use Rattle.judge_set.specs.declared.verdict.Walk.{Walk}
 use Rattle.judge_set.specs.Sets.{Adds, AreLeft, Follows, IsVerdict, IsWalk, LeadsOn}
 
 -- an element that is found is among them
@@ -136,3 +138,8 @@ verdict r es (Some i) w = record {
   fault = λ l. w.stops (on_legal r (take (i + 1) es) l);
   illegal = λ (t, l). w.stops (on_legal r (take (i + 1) es) (leads_front r (i + 1) es first_sight t l));
 }
+
+pub verdicts : (r : Rules) (es : List Event) (w : Result Walk StepError)
+    → IfOk w (λ walk. IsWalk r (first_sight ∷ []) es walk.fault) → IfOk w (λ walk. IsVerdict r es walk.fault)
+verdicts r es (Ok walk) h = verdict r es walk.fault h
+verdicts r es (Err e) h = tt

@@ -3,10 +3,10 @@
 //! The judge: the set of all states that are possible, and the first answer that no history admits.
 #![tactic(auto)]
 
-mod resumed;
+mod resuming;
 mod set;
 mod verdict;
 
-pub use resumed::resumed;
+pub use resuming::resumed;
 pub use set::{follow, start};
-pub use verdict::{Walk, judge, walk};
+pub use verdict::{Walk, follow_all, judge};

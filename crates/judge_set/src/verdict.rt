@@ -18,7 +18,7 @@ pub struct Walk {
 }
 
 /// Goes from these states along events. It is refused where memory is, and where too many states are possible.
-pub fn walk(
+pub fn follow_all(
     alloc: Global,
     rules: Rules,
     starts: Vec<State>,
@@ -48,5 +48,5 @@ pub fn walk(
 pub fn judge(alloc: Global, rules: Rules, events: &[Event]) -> Result<Walk, StepError>
     ensures { IfOk result (λ walk. IsVerdict rules events.now walk.fault) }
 {
-    walk(alloc, rules, start(alloc)?, events)
+    follow_all(alloc, rules, start(alloc)?, events)
 }

@@ -1,6 +1,6 @@
 use Rattle.std.proofs.Common.{take, ◌<◌, length}
 use Rattle.judge_set.specs.Sets.{AreLeft}
-use Rattle.judge_set.proofs.verdict.walk.Given as goal
+use Rattle.judge_set.proofs.verdict.follow_all.Given as goal
 
 abbrev pub invariant-loop-i : goal.invariant-loop-i
 invariant-loop-i l = record {
