@@ -131,7 +131,7 @@ struct Plan {
 
 /// One of some flags.
 fn choice(random: &mut Random, flags: &[Flags]) -> Flags {
-    let place = random.below(flags.len() as u32) as usize;
+    let place = random.place(flags.len());
     match flags.get(place) {
         None => Flags::TMNOFLAGS,
         Some(flags) => *flags,
@@ -140,7 +140,7 @@ fn choice(random: &mut Random, flags: &[Flags]) -> Flags {
 
 /// A function on a branch.
 fn verb(random: &mut Random) -> BranchVerb {
-    let place = random.below(VERBS.len() as u32) as usize;
+    let place = random.place(VERBS.len());
     match VERBS.get(place) {
         None => BranchVerb::Start,
         Some(verb) => *verb,
@@ -157,6 +157,14 @@ fn flags_of(random: &mut Random, verb: BranchVerb) -> Flags {
     }
 }
 
+/// The name of a branch.
+fn full_name(number: u32) -> XidName {
+    XidName {
+        number,
+        sort: XidSort::Full,
+    }
+}
+
 impl Plan {
     /// A thread.
     fn thread(&mut self) -> u32 {
@@ -165,10 +173,6 @@ impl Plan {
 
     /// A branch: one of the last, a known one, seldom the null XID, or the next.
     fn xid(&mut self, fresh: bool) -> XidName {
-        let full = |number: u32| XidName {
-            number,
-            sort: XidSort::Full,
-        };
         if self.random.below(60) == 0 {
             return XidName {
                 number: 0,
@@ -176,17 +180,16 @@ impl Plan {
             };
         }
         if fresh || self.named == 0 {
-            return full(self.named.saturating_add(1));
+            return full_name(self.named.saturating_add(1));
         }
-        let known = self.state.branches().len() as u32;
-        if known > 0 && self.random.below(3) > 0 {
-            let place = self.random.below(known) as usize;
+        if self.random.below(3) > 0 {
+            let place = self.random.place(self.state.branches().len());
             if let Some(branch) = self.state.branches().get(place) {
-                return full(branch.name);
+                return full_name(branch.name);
             }
         }
         let back = self.random.below(4);
-        full(self.named.saturating_sub(back).max(1))
+        full_name(self.named.saturating_sub(back).max(1))
     }
 
     /// A call on a branch.

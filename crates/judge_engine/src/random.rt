@@ -1,5 +1,7 @@
 //! Numbers that look like chance, the same for the same seed.
 
+ghost use Rattle.std.specs.Prelude.{◌<◌};
+
 /// A generator: Steele, Lea and Flood's SplitMix64.
 #[derive(Clone, Copy)]
 pub(crate) struct Random {
@@ -22,12 +24,24 @@ impl Random {
     }
 
     /// A number below this one; 0, where that is 0.
-    pub(crate) fn below(&mut self, limit: u32) -> u32 {
+    pub(crate) fn below(&mut self, limit: u32) -> u32
+        ensures { 0 < limit → result < limit }
+    {
         let number = self.next();
         if limit == 0 {
             0
         } else {
             (number % u64::from(limit)) as u32
+        }
+    }
+
+    /// A place in a list that is so long; 0, where it is empty.
+    pub(crate) fn place(&mut self, length: usize) -> usize {
+        let number = self.next();
+        if length == 0 {
+            0
+        } else {
+            (number % (length as u64)) as usize
         }
     }
 }
