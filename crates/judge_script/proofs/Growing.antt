@@ -98,9 +98,19 @@ ruled_more (k ∷ ls) l r q p e f = ruled_on (ruled r (words_in k)) ls l q p e (
 -- a line is passed over
 pub passes : (ls : List (List ℕ)) (l : List ℕ) (t : Transcript) → is_blank l ≡ true → AreTranscript ls t
     → AreTranscript (ls ++ l ∷ []) t
-passes ls l t blank h = record h {
+passes ls l t blank h = record {
+  first = h.first;
+  others = h.others;
+  numbers = h.numbers;
   parts = kept_same ls l blank ∙ h.parts;
   places = numbers_same ls l blank ∙ h.places;
+  long = h.long;
+  each = h.each;
+  rules = h.rules;
+  events = h.events;
+  apart_xids = h.apart_xids;
+  apart_words = h.apart_words;
+  no_value = h.no_value;
 }
 
 -- a line is one of the first

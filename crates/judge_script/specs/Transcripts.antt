@@ -50,6 +50,9 @@ abbrev pub IsTranscript : List ℕ → Transcript → Type 0
 IsTranscript text t = AreTranscript (lines text) t
 
 -- a line of this number, counted from 1, is not passed over
+abbrev pub IsLineOf : List (List ℕ) → ℕ → Type 0
+IsLineOf ls number = (i : ℕ) × (number ≡ i + 1) × (i < length ls) × (is_blank (slice_index_or ls i []) ≡ false)
+
+-- the same of the lines of a text
 abbrev pub IsLine : List ℕ → ℕ → Type 0
-IsLine text number = (i : ℕ) × (number ≡ i + 1) × (i < length (lines text))
-    × (is_blank (slice_index_or (lines text) i []) ≡ false)
+IsLine text number = IsLineOf (lines text) number

@@ -2,7 +2,7 @@
 
 ghost use Rattle.std.specs.Prelude.{◌≡◌, ◌++◌, ◌∷◌, IfOk, IfSome, MatchResult, OnOk, codes, length, map};
 ghost use Rattle.judge_script.specs.Numbers.{Grows, IsEvent, table_of};
-ghost use Rattle.judge_script.specs.Transcripts.{IsLine, IsTranscript};
+ghost use Rattle.judge_script.specs.Transcripts.{AreTranscript, IsLine, IsLineOf, IsTranscript};
 
 use crate::answers::said_in;
 use crate::asking::asked_in;
@@ -61,7 +61,6 @@ fn event_of<'a>(
 impl<'a> Transcript<'a> {
     ghost use Rattle.std.specs.Prelude.{◌+◌, List, ℕ, [], true, false};
     ghost use Rattle.judge_script.specs.Words.{is_blank};
-    ghost use Rattle.judge_script.specs.Transcripts.{AreTranscript};
 
     /// A transcript of no line.
     fn new(alloc: Global) -> Result<Transcript<'a>, AllocError>
@@ -98,11 +97,14 @@ impl<'a> Transcript<'a> {
     }
 }
 
-/// The transcript of a text, or the number of the first line of nothing, counted from 1.
-pub fn transcript_of(alloc: Global, text: &str) -> Result<Result<Transcript<'_>, usize>, AllocError>
-    ensures { IfOk result (λ read. MatchResult read (IsTranscript text.now) (IsLine text.now)) }
+/// The transcript of these lines, or the number of the first line of nothing, counted from 1.
+fn transcript_in<'a>(
+    alloc: Global,
+    lines: &[&'a str],
+) -> Result<Result<Transcript<'a>, usize>, AllocError>
+    ensures { IfOk result (λ read. MatchResult read (AreTranscript (map (λ s. s.now) lines.now))
+        (IsLineOf (map (λ s. s.now) lines.now))) }
 {
-    let lines = lines_of(alloc, text)?;
     let mut transcript = Transcript::new(alloc)?;
     for (i, line) in lines.iter().enumerate() {
         if is_blank(line) {
@@ -113,4 +115,12 @@ pub fn transcript_of(alloc: Global, text: &str) -> Result<Result<Transcript<'_>,
         }
     }
     Ok(Ok(transcript))
+}
+
+/// The transcript of a text, or the number of the first line of nothing, counted from 1.
+pub fn transcript_of(alloc: Global, text: &str) -> Result<Result<Transcript<'_>, usize>, AllocError>
+    ensures { IfOk result (λ read. MatchResult read (IsTranscript text.now) (IsLine text.now)) }
+{
+    let lines = lines_of(alloc, text)?;
+    transcript_in(alloc, &lines)
 }
