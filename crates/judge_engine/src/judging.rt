@@ -1,6 +1,6 @@
 //! A transcript, judged.
 
-ghost use Rattle.std.specs.Prelude.{◌≡◌, IfOk, OnOk};
+ghost use Rattle.std.specs.Prelude.{◌≡◌, ◌<◌, IfOk, OnOk, length};
 ghost use Rattle.judge_engine.specs.Reports.{first_index};
 ghost use Rattle.judge_set.specs.Sets.{IsVerdict};
 
@@ -83,11 +83,12 @@ fn add_more(
     states: Vec<State>,
     index: usize,
 ) -> Result<(), StepError>
+    requires { 0 < length found.old.items }
     ensures { OnOk result (first_index found.new.items ≡ first_index found.old.items) }
 {
     let mut at = index;
     let mut before = states;
-    for _ in 0..transcript.events.len() {
+    for _turn in 0..transcript.events.len() {
         let Some(walk) = next_walk(alloc, transcript, &before, at)? else {
             return Ok(());
         };
