@@ -1,0 +1,4 @@
+use Rattle.judge_engine.proofs.run.report.Goals as goal
+
+pub returns : goal.returns
+returns c = ?
