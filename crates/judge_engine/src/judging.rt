@@ -1,6 +1,6 @@
 //! A transcript, judged.
 
-ghost use Rattle.std.specs.Prelude.{◌≡◌, ◌<◌, IfOk, OnOk, length};
+ghost use Rattle.std.specs.Prelude.{◌≡◌, ◌<◌, IfOk, OnOk, Some, length};
 ghost use Rattle.judge_engine.specs.Reports.{first_index};
 ghost use Rattle.judge_set.specs.Sets.{IsVerdict};
 
@@ -102,6 +102,27 @@ fn add_more(
     Ok(())
 }
 
+/// The faults from a first one on: that alone, or all.
+fn faults_from(
+    alloc: Global,
+    extent: Extent,
+    transcript: &Transcript,
+    states: Vec<State>,
+    index: usize,
+) -> Result<Vec<Fault>, StepError>
+    ensures { IfOk result (λ found. first_index found.items ≡ Some index) }
+{
+    let mut found = Vec::new(alloc);
+    found.push(fault_at(alloc, transcript, &states, index)?)?;
+    match extent {
+        Extent::First => Ok(found),
+        Extent::All => {
+            add_more(alloc, transcript, &mut found, states, index)?;
+            Ok(found)
+        }
+    }
+}
+
 /// The faults of a transcript: the first alone, or all.
 pub(crate) fn faults(
     alloc: Global,
@@ -111,13 +132,12 @@ pub(crate) fn faults(
     ensures { IfOk result (λ found.
         IsVerdict transcript.now.rules transcript.now.events.items (first_index found.items)) }
 {
-    let mut found = Vec::new(alloc);
     let walk = judge(alloc, transcript.rules, &transcript.events)?;
-    if let Some(index) = walk.fault {
-        found.push(fault_at(alloc, transcript, &walk.states, index)?)?;
-        if extent == Extent::All {
-            add_more(alloc, transcript, &mut found, walk.states, index)?;
+    match walk.fault {
+        None => Ok(Vec::new(alloc)),
+        Some(index) => {
+            let found = faults_from(alloc, extent, transcript, walk.states, index)?;
+            Ok(found)
         }
     }
-    Ok(found)
 }
