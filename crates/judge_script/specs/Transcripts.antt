@@ -1,0 +1,58 @@
+-- Which texts are transcripts.
+use Rattle.std.specs.Prelude.{◌≡◌, ℕ, ◌+◌, ◌<◌, false, not, List, [], ◌∷◌, ◌++◌, length, filter, codes, slice_index_or, Option, Some, None, if◌then◌else◌}
+use Rattle.std.specs.Str.Lines.{lines}
+use Rattle.script_words.specs.Steps.{◌>>=◌}
+use Rattle.judge_rules.specs.declared.calls.Event.{Event}
+use Rattle.judge_rules.specs.declared.words.Rules.{Rules}
+use Rattle.judge_script.specs.declared.reading.Transcript.{Transcript}
+use Rattle.judge_script.specs.Words.{is_blank, words_in}
+use Rattle.judge_script.specs.Headers.{no_rules, ruled}
+use Rattle.judge_script.specs.Numbers.{AreApart, IsEvent, IsPlace, NameTable, table_of}
+
+-- the lines that are not passed over
+abbrev pub kept_lines : List (List ℕ) → List (List ℕ)
+kept_lines ls = filter (λ line. not (is_blank line)) ls
+
+-- the numbers of the lines that are not passed over, where the first has this number
+abbrev pub kept_numbers : ℕ → List (List ℕ) → List ℕ
+kept_numbers i [] = []
+kept_numbers i (l ∷ ls) = if is_blank l then kept_numbers (i + 1) ls else i ∷ kept_numbers (i + 1) ls
+
+-- by what a manager is judged after these lines
+abbrev pub ruled_by : Rules → List (List ℕ) → Option Rules
+ruled_by r [] = Some r
+ruled_by r (l ∷ ls) = ruled r (words_in l) >>= λ q. ruled_by q ls
+
+-- lines spell events, each one
+abbrev pub AreEvents : NameTable → List (List ℕ) → List Event → Type 0
+AreEvents n [] [] = Unit {0}
+AreEvents n (l ∷ ls) (e ∷ es) = IsEvent n (words_in l) e × AreEvents n ls es
+AreEvents n _ _ = ⊥
+
+-- lines are a transcript: some first ones that say by what the manager is judged, and the others spell its events;
+-- no number two names, and the number 0 is that of no value
+pub record AreTranscript (ls : List (List ℕ)) (t : Transcript) : Type 0 where
+  pub first : List (List ℕ)
+  pub others : List (List ℕ)
+  pub numbers : List ℕ
+  pub parts : kept_lines ls ≡ first ++ others
+  pub places : kept_numbers 1 ls ≡ numbers ++ t.lines.items
+  pub long : length numbers ≡ length first
+  pub each : length t.lines.items ≡ length t.events.items
+  pub rules : ruled_by no_rules first ≡ Some t.rules
+  pub events : AreEvents (table_of t.names) others t.events.items
+  pub apart_xids : AreApart (table_of t.names).xids
+  pub apart_words : AreApart (table_of t.names).words
+  pub no_value : IsPlace (table_of t.names).words 0 (codes "none")
+
+-- a text is a transcript
+abbrev pub IsTranscript : List ℕ → Transcript → Type 0
+IsTranscript text t = AreTranscript (lines text) t
+
+-- a line of this number, counted from 1, is not passed over
+abbrev pub IsLineOf : List (List ℕ) → ℕ → Type 0
+IsLineOf ls number = (i : ℕ) × (number ≡ i + 1) × (i < length ls) × (is_blank (slice_index_or ls i []) ≡ false)
+
+-- the same of the lines of a text
+abbrev pub IsLine : List ℕ → ℕ → Type 0
+IsLine text number = IsLineOf (lines text) number
