@@ -309,11 +309,8 @@ class World:
                 wrong.append(f"forget {txn}: {answer}")
         return len(reports)
 
-    async def run(self, txns, kills):
-        """Gives what is wrong, and what is to be said of the run."""
-        before = self.money()
-        print(f"seed {self.seed}, {WORDS.get(self.presumptions, self.presumptions)}: {txns} transfers, {kills} kills of each sort", flush=True)
-        trace = open(self.folder / "trace", "a") if self.a.keep else None
+    async def started(self, trace=None):
+        """The application and the programs of the tree, all of them up."""
         net = self.net(trace)
         programs = net.programs = self.programs(net)
         for program in programs.values():
@@ -321,6 +318,14 @@ class World:
         bank = Bank(self, net, self.seed, self.presumptions)
         for program in programs.values():
             await program.up()
+        return bank, programs
+
+    async def run(self, txns, kills):
+        """Gives what is wrong, and what is to be said of the run."""
+        before = self.money()
+        print(f"seed {self.seed}, {WORDS.get(self.presumptions, self.presumptions)}: {txns} transfers, {kills} kills of each sort", flush=True)
+        bank, programs = await self.started(open(self.folder / "trace", "a") if self.a.keep else None)
+        net = bank.net
         begun = time.time()
         killer = asyncio.create_task(self.killer(bank, self.victims(programs), kills, txns))
         asker = asyncio.create_task(bank.asker())
@@ -447,13 +452,7 @@ def plain(pg, my, txns, at_once, name):
 
 async def through_the_tree(world, txns):
     """Gives how many transfers a second the tree makes, with nothing killed and nothing lost."""
-    net = world.net(None)
-    programs = net.programs = world.programs(net)
-    for program in programs.values():
-        program.start()
-    bank = Bank(world, net, world.seed, world.presumptions)
-    for program in programs.values():
-        await program.up()
+    bank, programs = await world.started()
     begun = time.time()
     bank.is_over = True  # nobody kills
     await asyncio.gather(*(bank.worker(txns) for _ in range(world.a.at_once)))

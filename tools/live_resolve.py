@@ -27,13 +27,7 @@ class Abandoned(live_bank.World):
     """A bank that is killed in the midst of its transfers, and not started again."""
 
     async def abandon(self, seconds):
-        net = self.net(None)
-        programs = net.programs = self.programs(net)
-        for program in programs.values():
-            program.start()
-        bank = live_bank.Bank(self, net, self.seed, self.presumptions)
-        for program in programs.values():
-            await program.up()
+        bank, programs = await self.started()
         workers = [asyncio.create_task(bank.worker(10 ** 9)) for _ in range(self.a.at_once)]
         chance = random.Random(self.seed)
         await asyncio.sleep(seconds)
@@ -44,7 +38,6 @@ class Abandoned(live_bank.World):
         for worker in workers:
             worker.cancel()
         await asyncio.gather(*workers, return_exceptions=True)
-        return bank
 
     def names(self):
         """The names of what is prepared, as each database prints them."""
