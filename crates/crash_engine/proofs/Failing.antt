@@ -1,5 +1,5 @@
 -- Runs that break off.
-use Rattle.std.proofs.Common.{◌≡◌, ◌∙◌, ◌⊎◌, ap, subst, sym, ℕ, suc, ◌+◌, ◌<◌, is_some, false, Option, Some, None, Result, Ok, Err, IfErr, List, [], ◌∷◌, ◌++◌, length, take, inl, inr, arith, refl}
+use Rattle.std.proofs.Common.{◌≡◌, ◌∙◌, ◌⊎◌, ap, subst, sym, ℕ, ◌<◌, is_some, false, Option, Some, None, Result, Ok, Err, IfErr, List, [], ◌∷◌, ◌++◌, length, take, inl, inr, refl}
 use Rattle.std.specs.Prelude.{Contains}
 use Rattle.std.specs.Result.{IsErrAnd}
 use Rattle.tree_model.specs.declared.events.Event.{Event}
@@ -25,7 +25,7 @@ use Rattle.crash_engine.specs.Origins.{Opens, OpensNot, PlaysFrom, start_by}
 use Rattle.crash_engine.specs.Audits.{Audits, asks_by}
 use Rattle.crash_engine.specs.Points.{AreTooLong, crash_of, points_in}
 use Rattle.crash_engine.specs.Trials.{made_by, tried_events}
-use Rattle.crash_engine.specs.Failures.{CannotEndAlone, CannotGoOver, CannotReport, CannotTry, CannotTryAll, PointBreaksOff, QuestionsBreakOff, RunBreaksOff, TrialBreaksOff}
+use Rattle.crash_engine.specs.Failures.{CannotEndAlone, CannotGoOn, CannotGoOver, CannotReport, CannotTry, CannotTryAll, PointBreaksOff, QuestionsBreakOff, RunBreaksOff, TrialBreaksOff}
 use Rattle.crash_engine.specs.declared.points.Point.{Point}
 
 -- an error that is handed on: memory was refused, or its cause stands for another
@@ -157,16 +157,10 @@ points_break o events first run why opens come none cannot = inr (record {
   cannot = cannot;
 })
 
--- not each crash behind so many events is tried
-pub behind_breaks : (o : Origin) (events : List Event) (n : ℕ) (why : Failure) → n < length events
-    → CannotTryAll o (take (n + 1) events) why → CannotGoOver o events why
-behind_breaks o events n why within cannot =
-    let more : n + 1 ≡ suc n = omega arith in
-    record {
-      before = n;
-      within = within;
-      cannot = subst (λ k. CannotTryAll o (take k events) why) more cannot;
-    }
+-- not each crash within the event behind so many, or behind it, is tried
+pub on_breaks : (o : Origin) (events : List Event) (n : ℕ) (why : Failure) → n < length events
+    → CannotGoOn o events n why → CannotGoOver o events why
+on_breaks o events n why within cannot = record { before = n; within = within; cannot = cannot }
 
 -- nothing is written of a script
 pub script_breaks : (input : List ℕ) (tree : List TreeEntry) (logs : Option (List ProcessLog)) (events : List Event)

@@ -1,4 +1,5 @@
 pub mod PointLaws
 pub mod Trying
+pub mod Going
 pub mod Reports
 pub mod Failing

@@ -1,14 +1,14 @@
 -- What is written of a script.
-use Rattle.std.proofs.Common.{◌≡◌, sym, subst, ℕ, suc, ◌+◌, ◌<◌, ◌≤◌, ◌&&◌, Bool, true, false, is_some, if◌then◌else◌, Option, Some, None, List, length, take, arith}
+use Rattle.std.proofs.Common.{◌≡◌, sym, subst, ℕ, suc, ◌+◌, ◌<◌, ◌≤◌, ◌&&◌, Bool, true, false, is_some, if◌then◌else◌, Option, Some, None, List, length, arith}
 use Rattle.tree_model.specs.declared.events.Event.{Event}
 use Rattle.tree_model.specs.declared.trees.TreeEntry.{TreeEntry}
 use Rattle.logs_script.specs.declared.line.ProcessLog.{ProcessLog}
 use Rattle.reopen_script.specs.Inputs.{IsReopenScript}
 use Rattle.core_law.specs.worlds.Refusals.{Refusal}
-use Rattle.crash_engine.specs.Trials.{Adds, EndsAlone, GoesOver, GoesThrough, IsRefused, Known, TriesAll, known_of}
+use Rattle.crash_engine.specs.Trials.{EndsAlone, GoesOn, GoesOver, GoesThrough, Known, known_of}
 use Rattle.crash_engine.specs.declared.origin.Origin.{Origin}
 use Rattle.crash_engine.specs.declared.trial.Found.{Found}
-use Rattle.crash_engine.specs.declared.trial.Trial.{Trial}
+use Rattle.crash_engine.specs.declared.trials.Trial.{Trial}
 use Rattle.crash_engine.specs.Crashes.{IsCrashReport, TriesFrom, TriesScript}
 use Rattle.crash_engine.specs.Texts.{are_clean, crashes_text, ending_by, is_clean}
 use Rattle.crash_engine.specs.declared.ending.Ending.{Ending}
@@ -17,28 +17,25 @@ use Rattle.crash_engine.specs.declared.ending.Ending.TheVariants as ending
 -- one event more is gone through
 pub one_event_more : (o : Origin) (known : Known) (events : List Event) (n : ℕ) (refusal : Refusal)
     (old new : List Trial) → is_some refusal ≡ false
-    → Adds o known (take (n + 1) events) refusal old new → GoesThrough o known events n old
+    → GoesOn o known events n refusal old new → GoesThrough o known events n old
     → GoesThrough o known events (n + 1) new
-one_event_more o known events n (Some r) old new is adds goes = absurd (cc)
-one_event_more o known events n None old new is adds goes =
+one_event_more o known events n (Some r) old new is on goes = absurd (cc)
+one_event_more o known events n None old new is on goes =
     let more : n + 1 ≡ suc n = omega arith in
-    subst (λ k. GoesThrough o known events k new) (sym more)
-    (old, adds.0, adds.1, goes, subst (λ k. TriesAll o known (take k events) adds.0) more adds.2)
+    subst (λ k. GoesThrough o known events k new) (sym more) (old, goes, on)
 
 -- an event is refused
 pub one_refused : (o : Origin) (known : Known) (events : List Event) (n : ℕ) (refusal : Refusal)
     (old new : List Trial) → is_some refusal ≡ true
-    → n < length events → Adds o known (take (n + 1) events) refusal old new → GoesThrough o known events n old
+    → n < length events → GoesOn o known events n refusal old new → GoesThrough o known events n old
     → GoesOver o known events refusal new
-one_refused o known events n None old new is within adds goes = absurd (cc)
-one_refused o known events n (Some r) old new is within adds goes =
-    let more : n + 1 ≡ suc n = omega arith in (
-      n,
-      within,
-      subst (GoesThrough o known events n) (sym adds.0) goes,
-      subst
-          (λ k. IsRefused o (take k events) r) more adds.1,
-    )
+one_refused o known events n None old new is within on goes = absurd (cc)
+one_refused o known events n (Some r) old new is within on goes = (
+  n,
+  within,
+  subst (GoesThrough o known events n) (sym on.0) goes,
+  on.1,
+)
 
 -- all are gone through
 pub all_over : (o : Origin) (known : Known) (events : List Event) (n : ℕ) (ts : List Trial)

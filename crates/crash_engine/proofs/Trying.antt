@@ -22,8 +22,9 @@ use Rattle.tree_engine.specs.Runs.{BeginsBy, HasCome}
 use Rattle.tree_engine.proofs.TreeReports.{begun_by, ran_by}
 use Rattle.crash_engine.specs.declared.origin.Origin.{Origin}
 use Rattle.crash_engine.specs.Origins.{Opens, PlaysFrom}
+use Rattle.crash_engine.specs.declared.points.Place.{Place}
 use Rattle.crash_engine.specs.declared.points.Point.{Point}
-use Rattle.crash_engine.specs.declared.trial.Trial.{Trial}
+use Rattle.crash_engine.specs.declared.trials.Trial.{Trial}
 use Rattle.crash_engine.specs.Points.{crash_of, points_in}
 use Rattle.tree_engine.specs.Trees.{Plays}
 use Rattle.crash_engine.specs.Trials.{Adds, AddsTrials, AreTried, Asked, Broken, Early, EndsWith, Finds, Known, Leaves, Tries}
@@ -166,59 +167,59 @@ tried_so o known events p r crash asks first middle end f opens crashes of_crash
       ends = found _ ran;
     })
 
-one_more : (o : Origin) (known : Known) (events : List Event) (ps : List Point) (ts : List Trial) (p : Point)
-    (t : Trial) → AreTried o known events ps ts
-    → t.events ≡ length events → t.point ≡ p → Tries o known events (Some p) t.found
-    → AreTried o known events (ps ++ p ∷ []) (ts ++ t ∷ [])
-one_more o known events [] [] p t are count at tries = (count, at, tries, tt)
-one_more o known events [] (u ∷ ts) p t are count at tries = absurd are
-one_more o known events (q ∷ ps) [] p t are count at tries = absurd are
-one_more o known events (q ∷ ps) (u ∷ ts) p t are count at tries =
-    (are.0, are.1, are.2, one_more o known events ps ts p t are.3 count at tries)
+one_more : (o : Origin) (known : Known) (at : Place) (events : List Event) (ps : List Point) (ts : List Trial) (p : Point)
+    (t : Trial) → AreTried o known at events ps ts
+    → t.place ≡ at → t.point ≡ p → Tries o known events (Some p) t.found
+    → AreTried o known at events (ps ++ p ∷ []) (ts ++ t ∷ [])
+one_more o known at events [] [] p t are there is tries = (there, is, tries, tt)
+one_more o known at events [] (u ∷ ts) p t are there is tries = absurd are
+one_more o known at events (q ∷ ps) [] p t are there is tries = absurd are
+one_more o known at events (q ∷ ps) (u ∷ ts) p t are there is tries =
+    (are.0, are.1, are.2, one_more o known at events ps ts p t are.3 there is tries)
 
-pub none_tried : (o : Origin) (known : Known) (events : List Event) (old : List Trial)
-    → AddsTrials o known events [] old old
-none_tried o known events old = ([], sym (append-nil old), tt)
+pub none_tried : (o : Origin) (known : Known) (at : Place) (events : List Event) (old : List Trial)
+    → AddsTrials o known at events [] old old
+none_tried o known at events old = ([], sym (append-nil old), tt)
 
-pub tried_more : (o : Origin) (known : Known) (events : List Event) (ps : List Point) (i : ℕ) (p : Point)
+pub tried_more : (o : Origin) (known : Known) (at : Place) (events : List Event) (ps : List Point) (i : ℕ) (p : Point)
     (t : Trial) (old mid new : List Trial)
-    → i < length ps → p ≡ get_or ps i p → new ≡ mid ++ t ∷ [] → t.events ≡ length events → t.point ≡ p
+    → i < length ps → p ≡ get_or ps i p → new ≡ mid ++ t ∷ [] → t.place ≡ at → t.point ≡ p
     → Tries o known events (Some p) t.found
-    → AddsTrials o known events (take i ps) old mid → AddsTrials o known events (take (i + 1) ps) old new
-tried_more o known events ps i p t old mid new within is pushed count at tries before = (
+    → AddsTrials o known at events (take i ps) old mid → AddsTrials o known at events (take (i + 1) ps) old new
+tried_more o known at events ps i p t old mid new within is pushed there point tries before = (
   before.0 ++ t ∷ [],
   pushed ∙ ap (λ xs. xs ++ t ∷ []) before.1 ∙ append_assoc old before.0 (t ∷ []),
-  subst (λ qs. AreTried o known events qs (before.0 ++ t ∷ []))
+  subst (λ qs. AreTried o known at events qs (before.0 ++ t ∷ []))
       (sym (take_more ps i p within ∙ ap (λ q. take i ps ++ q ∷ []) (sym is)))
-      (one_more o known events (take i ps) before.0 p t before.2 count at tries),
+      (one_more o known at events (take i ps) before.0 p t before.2 there point tries),
 )
 
 -- all points behind these events were tried
-pub all_tried : (o : Origin) (known : Known) (events : List Event) (now : WorldState) (refusal : Refusal)
+pub all_tried : (o : Origin) (known : Known) (at : Place) (events : List Event) (now : WorldState) (refusal : Refusal)
     (ps : List Point) (old new : List Trial)
     → is_some refusal ≡ false → PlaysFrom o events refusal now → ps ≡ points_in now
-    → AddsTrials o known events ps old new → Adds o known events None old new
-all_tried o known events now (Some r) ps old new is ran points tried = absurd (cc)
-all_tried o known events now None ps old new is ran points tried = (
+    → AddsTrials o known at events ps old new → Adds o known at events None old new
+all_tried o known at events now (Some r) ps old new is ran points tried = absurd (cc)
+all_tried o known at events now None ps old new is ran points tried = (
   tried.0,
   tried.1,
   record {
     state = now;
     ran = ran;
-    tried = subst (λ qs. AreTried o known events qs tried.0) points tried.2;
+    tried = subst (λ qs. AreTried o known at events qs tried.0) points tried.2;
   },
 )
 
 -- an event was refused
-pub refused_adds : (o : Origin) (known : Known) (events : List Event) (now : WorldState)
+pub refused_adds : (o : Origin) (known : Known) (at : Place) (events : List Event) (now : WorldState)
     (refusal : Refusal) (old : List Trial)
-    → is_some refusal ≡ true → PlaysFrom o events refusal now → Adds o known events refusal old old
-refused_adds o known events now None old is ran = absurd (cc)
-refused_adds o known events now (Some r) old is ran = (refl, (now, ran))
+    → is_some refusal ≡ true → PlaysFrom o events refusal now → Adds o known at events refusal old old
+refused_adds o known at events now None old is ran = absurd (cc)
+refused_adds o known at events now (Some r) old is ran = (refl, (now, ran))
 
 -- all of these points were
-pub all_points : (o : Origin) (known : Known) (events : List Event) (ps : List Point) (i : ℕ)
+pub all_points : (o : Origin) (known : Known) (at : Place) (events : List Event) (ps : List Point) (i : ℕ)
     (old new : List Trial) → length ps ≤ i
-    → AddsTrials o known events (take i ps) old new → AddsTrials o known events ps old new
-all_points o known events ps i old new past tried =
-    subst (λ qs. AddsTrials o known events qs old new) (take_all i ps past) tried
+    → AddsTrials o known at events (take i ps) old new → AddsTrials o known at events ps old new
+all_points o known at events ps i old new past tried =
+    subst (λ qs. AddsTrials o known at events qs old new) (take_all i ps past) tried

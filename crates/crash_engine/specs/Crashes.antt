@@ -9,7 +9,7 @@ use Rattle.tree_engine.specs.Reports.{RefusesInput, TellsDamage}
 use Rattle.crash_engine.specs.Trials.{EndsAlone, GoesOver, known_of}
 use Rattle.crash_engine.specs.declared.origin.Origin.{Origin}
 use Rattle.crash_engine.specs.declared.trial.Found.{Found}
-use Rattle.crash_engine.specs.declared.trial.Trial.{Trial}
+use Rattle.crash_engine.specs.declared.trials.Trial.{Trial}
 use Rattle.crash_engine.specs.Texts.{crashes_text, ending_by}
 use Rattle.crash_engine.specs.declared.ending.Ending.{Ending}
 use Rattle.crash_engine.specs.declared.ending.Ending.TheVariants as ending

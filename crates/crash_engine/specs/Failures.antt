@@ -13,6 +13,7 @@ use Rattle.tree_engine.specs.Failures.{CannotMake}
 use Rattle.crash_engine.specs.Audits.{Audits}
 use Rattle.crash_engine.specs.Origins.{OpensNot, PlaysFrom, StartsFrom, start_by}
 use Rattle.crash_engine.specs.Points.{AreTooLong, crash_of, points_in}
+use Rattle.crash_engine.specs.Settles.{SettlesBy}
 use Rattle.crash_engine.specs.Trials.{made_by, tried_events}
 use Rattle.crash_engine.specs.declared.origin.Origin.{Origin}
 use Rattle.crash_engine.specs.declared.points.Point.{Point}
@@ -27,7 +28,7 @@ pub record EventsBreakOff (o : Origin) (events : List Event) (why : Failure) : T
 abbrev pub RunBreaksOff : Origin → List Event → Failure → Type 0
 RunBreaksOff o events why = OpensNot o why ⊎ EventsBreakOff o events why
 
--- these events and the crash behind them, or none, were made; behind them the questions for all cases that an
+-- these events and the crash after them, or none, were made; after them the questions for all cases that an
 -- audit then shows in doubt, and all that comes of them, cannot be made for this reason
 pub record QuestionsBreakOff (o : Origin) (events : List Event) (p : Option Point)
     (why : Failure) : Type 0 where
@@ -38,12 +39,12 @@ pub record QuestionsBreakOff (o : Origin) (events : List Event) (p : Option Poin
   pub cannot : CannotMake (start_by o.tree o.logs (events ++ crash_of p) None middle crashes)
       (tried_events events p report) why
 
--- the trial of a crash behind these events, or of none, breaks off for this reason
+-- the trial of a crash after these events, or of none, breaks off for this reason
 abbrev pub TrialBreaksOff : Origin → List Event → Option Point → Failure → Type 0
 TrialBreaksOff o events p why =
     RunBreaksOff o (events ++ crash_of p) why ⊎ QuestionsBreakOff o events p why
 
--- the trial of a crash at one of these points behind these events breaks off for this reason
+-- the trial of a crash at one of these points after these events breaks off for this reason
 pub record PointBreaksOff (o : Origin) (events : List Event) (ps : List Point)
     (why : Failure) : Type 0 where
   pub point : Point
@@ -57,16 +58,30 @@ pub record PointsBreakOff (o : Origin) (events : List Event) (why : Failure) : T
   pub ran : PlaysFrom o events None state
   pub cannot : PointBreaksOff o events (points_in state) why ⊎ ((why ≡ Exhausted) × AreTooLong state)
 
--- not each crash behind these events is tried, for this reason: they cannot all be made, or they lead to such
+-- not each crash after these events is tried, for this reason: they cannot all be made, or they lead to such
 -- a state
 abbrev pub CannotTryAll : Origin → List Event → Failure → Type 0
 CannotTryAll o events why = RunBreaksOff o events why ⊎ PointsBreakOff o events why
 
--- not each crash behind the first of these events, or the first two, and so on, is tried, for this reason
+-- not each crash after these events and the first of these deliveries, or the first two, and so on, is tried, for this reason
+pub record CannotGoDown (o : Origin) (events deliveries : List Event) (why : Failure) : Type 0 where
+  pub before : ℕ
+  pub within : before < length deliveries
+  pub cannot : CannotTryAll o (events ++ take (suc before) deliveries) why
+
+-- the same of the deliveries of a settle after these events
+abbrev pub CannotSettle : Origin → List Event → Failure → Type 0
+CannotSettle o events why = (deliveries : List Event) × SettlesBy o events deliveries × CannotGoDown o events deliveries why
+
+-- not each crash within the event after the first so many, or after it, is tried, for this reason
+abbrev pub CannotGoOn : Origin → List Event → ℕ → Failure → Type 0
+CannotGoOn o events n why = CannotTryAll o (take (suc n) events) why ⊎ CannotSettle o (take n events) why
+
+-- not each crash within the first of these events and after it, within the second, and so on, is tried, for this reason
 pub record CannotGoOver (o : Origin) (events : List Event) (why : Failure) : Type 0 where
   pub before : ℕ
   pub within : before < length events
-  pub cannot : CannotTryAll o (take (suc before) events) why
+  pub cannot : CannotGoOn o events before why
 
 -- the trial without a crash of those of these events that are made breaks off for this reason
 pub record AloneBreaksOff (o : Origin) (events : List Event) (why : Failure) : Type 0 where

@@ -1,15 +1,16 @@
 -- The lines of crashes.
-use Rattle.std.specs.Prelude.{ℕ, ◌+◌, ◌&&◌, nat_eq, not, Bool, false, if◌then◌else◌, None, Some, List, [], ◌++◌, codes, count_by, length}
+use Rattle.std.specs.Prelude.{ℕ, ◌+◌, ◌==◌, ◌&&◌, nat_eq, not, Bool, false, if◌then◌else◌, None, Some, List, [], ◌++◌, codes, count_by, length}
 use Rattle.std.specs.List.{flat_map, list_all}
 use Rattle.tree_model.specs.declared.names.Case.{Case}
 use Rattle.tree_model.specs.Errors.{step_error_number}
 use Rattle.core_law.specs.worlds.Refusals.{Refusal}
 use Rattle.tree_engine.specs.Trees.{refused_text}
 use Rattle.crash_engine.specs.declared.auditing.Left.{Left}
+use Rattle.crash_engine.specs.declared.points.Place.{Place}
 use Rattle.crash_engine.specs.declared.points.Point.{Point}
 use Rattle.crash_engine.specs.declared.trial.Found.{Found}
 use Rattle.crash_engine.specs.declared.trial.Found.TheVariants.{Damaged, Ended, Refused}
-use Rattle.crash_engine.specs.declared.trial.Trial.{Trial}
+use Rattle.crash_engine.specs.declared.trials.Trial.{Trial}
 use Rattle.crash_engine.specs.declared.ending.Ending.{Ending}
 use Rattle.crash_engine.specs.declared.ending.Ending.TheVariants as ending
 use Rattle.trace_lines.specs.Trace.{case_word, number_word}
@@ -63,14 +64,22 @@ found_text (Ended l) = left_text l
 found_text (Refused event e) = codes " refused" ++ number_word event ++ number_word (step_error_number e)
 found_text (Damaged process place) = codes " damaged" ++ number_word process.0 ++ number_word place
 
--- the crash: behind so many events this process restarts, and keeps so many bytes
-unfoldable pub point_text : ℕ → Point → List ℕ
-point_text events p = codes "event" ++ number_word events ++ codes " restart" ++ number_word p.process.0 ++ number_word p.keep ++ codes ":"
+-- behind so many deliveries, if it is within a settle
+abbrev pub delivery_text : ℕ → List ℕ
+delivery_text n = if n == 0 then [] else codes " delivery" ++ number_word n
+
+-- behind the event with this number, or within it
+unfoldable pub place_text : Place → List ℕ
+place_text at = (codes "event" ++ number_word at.event) ++ delivery_text at.delivery
+
+-- the crash: there this process restarts, and keeps so many bytes
+unfoldable pub point_text : Place → Point → List ℕ
+point_text at p = place_text at ++ (codes " restart" ++ number_word p.process.0 ++ number_word p.keep) ++ codes ":"
 
 -- the line of a crash, where something is left
 unfoldable pub trial_text : Trial → List ℕ
 trial_text t =
-    if is_clean t.found then [] else point_text t.events t.point ++ found_text t.found ++ codes "\n"
+    if is_clean t.found then [] else point_text t.place t.point ++ found_text t.found ++ codes "\n"
 
 -- the line of what is left without any crash, where something is
 unfoldable pub alone_text : Found → List ℕ

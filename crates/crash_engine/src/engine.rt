@@ -16,7 +16,8 @@ use crate::auditing::Left;
 use crate::ending::Ending;
 use crate::lines::{are_clean, is_clean, text_of};
 use crate::origin::{Origin, damage_of};
-use crate::trial::{Found, Trial, left_alone, try_alone, try_event};
+use crate::trial::{Found, left_alone, try_alone};
+use crate::trials::{Trial, try_event};
 use link_script::ScriptError;
 use logs_script::damaged;
 use reopen_script::read_reopen;
@@ -51,7 +52,7 @@ fn show<P: Write>(
     Ok(())
 }
 
-/// Tries each crash behind each event of a script, up to the first that is refused. The errors are those of
+/// Tries each crash within each event of a script and behind it, up to the first that is refused. The errors are those of
 /// `show` and `try_event`.
 fn try_events<P: Write>(
     alloc: Global,
@@ -69,7 +70,7 @@ fn try_events<P: Write>(
     let mut trials = Vec::new(alloc);
     for made in 0..events.len() {
         show(alloc, progress, made + 1, events.len())?;
-        let refusal = try_event(alloc, origin, known, &events[..made + 1], &mut trials)?;
+        let refusal = try_event(alloc, origin, known, events, made, &mut trials)?;
         if refusal.is_some() {
             return Ok((trials, refusal));
         }
@@ -129,8 +130,8 @@ fn answer<P: Write>(
     }
 }
 
-/// Reads a tree script and tries each crash of it: behind each of its events, of each process, with each
-/// number of its unforced records that the crash may leave. Each is a run of its own of the script's events
+/// Reads a tree script and tries each crash of it: behind each of its events and behind each delivery of a settle, of each
+/// process, with each number of its unforced records that the crash may leave. Each is a run of its own of the script's events
 /// so far and the crash; then everything is delivered, every case that the logs show in doubt asks its
 /// parent, everything is delivered again, and the logs are audited. Writes first what the script leaves
 /// without any crash, where it leaves a case in doubt or a mismatch; then a line for each crash that leaves
@@ -139,7 +140,7 @@ fn answer<P: Write>(
 ///
 /// Each of these runs is one of the model: the headline holds of it, and mismatches are reported in it; over logs, so
 /// it is from each run that left them, and a log that is damaged after a crash is told: no run leaves such logs. The
-/// time goes with the square of the number of events. `progress` gets a line for each percent of them; a
+/// time goes with the square of the number of events and deliveries. `progress` gets a line for each percent of them; a
 /// failed write there is no failure of the run.
 /// After a failed read, or where memory is refused, a device fails or numbers are used up, nothing was
 /// written; after a failed write, a beginning of the text. Device and Exhausted come only of a script, one of

@@ -9,7 +9,9 @@ mod engine;
 mod lines;
 mod origin;
 mod points;
+mod settles;
 mod trial;
+mod trials;
 
 pub use ending::Ending;
 pub use engine::run_crash;

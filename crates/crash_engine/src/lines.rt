@@ -7,6 +7,7 @@ ghost use Rattle.crash_engine.specs.Texts.{
   are_clean as all_clean,
   cases_text,
   crashes_text,
+  delivery_text,
   doubt_count,
   found_text,
   has_doubt as doubt_in,
@@ -14,6 +15,7 @@ ghost use Rattle.crash_engine.specs.Texts.{
   is_clean as clean_by,
   left_text,
   mismatch_count,
+  place_text,
   point_text,
   refusal_text,
   totals_text,
@@ -23,8 +25,9 @@ ghost use Rattle.std.specs.List.{flat_map};
 ghost use Rattle.trace_lines.specs.Trace.{case_word, number_word};
 
 use crate::auditing::Left;
-use crate::points::Point;
-use crate::trial::{Found, Trial};
+use crate::points::{Place, Point};
+use crate::trial::Found;
+use crate::trials::Trial;
 use std::alloc::{AllocError, Global};
 use trace_lines::{push, push_case_word, push_number_word};
 use tree_engine::{Refusal, push_refused};
@@ -116,13 +119,33 @@ fn has_mismatch(found: &Found) -> bool
     }
 }
 
-/// Where the crash is.
-#[tactic(auto, unfolding(crate::specs::Texts::point_text))]
-fn push_point(out: &mut Vec<u8>, events: usize, point: Point) -> Result<(), AllocError>
-    ensures { OnOk result (out.new.items ≡ out.old.items ++ point_text events point) }
+/// Behind how many deliveries, if it is within a settle.
+fn push_delivery(out: &mut Vec<u8>, delivery: usize) -> Result<(), AllocError>
+    ensures { OnOk result (out.new.items ≡ out.old.items ++ delivery_text delivery) }
+{
+    if delivery == 0 {
+        return Ok(());
+    }
+    push(out, " delivery")?;
+    push_number_word(out, delivery as u64)
+}
+
+/// Behind which event, or within which.
+#[tactic(auto, unfolding(crate::specs::Texts::place_text))]
+fn push_place(out: &mut Vec<u8>, place: Place) -> Result<(), AllocError>
+    ensures { OnOk result (out.new.items ≡ out.old.items ++ place_text place) }
 {
     push(out, "event")?;
-    push_number_word(out, events as u64)?;
+    push_number_word(out, place.event as u64)?;
+    push_delivery(out, place.delivery)
+}
+
+/// Where the crash is.
+#[tactic(auto, unfolding(crate::specs::Texts::point_text))]
+fn push_point(out: &mut Vec<u8>, place: Place, point: Point) -> Result<(), AllocError>
+    ensures { OnOk result (out.new.items ≡ out.old.items ++ point_text place point) }
+{
+    push_place(out, place)?;
     push_two(out, " restart", u64::from(point.process.0), point.keep)?;
     push(out, ":")
 }
@@ -135,7 +158,7 @@ fn push_trial(out: &mut Vec<u8>, trial: &Trial) -> Result<(), AllocError>
     if is_clean(&trial.found) {
         return Ok(());
     }
-    push_point(out, trial.events, trial.point)?;
+    push_point(out, trial.place, trial.point)?;
     push_found(out, &trial.found)?;
     push(out, "\n")
 }

@@ -10,6 +10,15 @@ use std::alloc::{AllocError, Global};
 use tree_model::{Event, ProcessId};
 use tree_world::World;
 
+/// Where in a script a crash is tried.
+#[derive(Clone, Copy, PartialEq, Eq)]
+pub struct Place {
+    /// The event behind which it is, or within which, by its number from 1.
+    pub event: usize,
+    /// Within a settle, behind how many of its deliveries; 0 is behind the whole event.
+    pub delivery: usize,
+}
+
 /// A crash that is tried: this process restarts, and keeps so many bytes behind its forced front.
 #[derive(Clone, Copy, PartialEq, Eq)]
 pub struct Point {

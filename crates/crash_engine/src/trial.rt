@@ -1,6 +1,6 @@
 //! A crash, tried.
 
-ghost use Rattle.std.specs.Prelude.{◌≡◌, ◌⊎◌, ◌++◌, ◌∷◌, [], IfErr, IfOk, List, OnOk, take};
+ghost use Rattle.std.specs.Prelude.{◌≡◌, ◌⊎◌, IfErr, IfOk, List, take};
 ghost use Rattle.tree_model.specs.declared.events.Event.{Event as AnyEvent};
 ghost use Rattle.core_law.specs.worlds.Refusals.{Refusal as AnyRefusal};
 ghost use Rattle.core_law.specs.worlds.Worlds.{WorldState};
@@ -10,22 +10,16 @@ ghost use Rattle.tree_world.specs.Worlds.{state};
 ghost use Rattle.report_io.specs.Streams.{IsOfRun};
 ghost use Rattle.crash_engine.specs.declared.origin.Origin.{Origin as AnyOrigin};
 ghost use Rattle.crash_engine.specs.Origins.{Opens, PlaysFrom};
-ghost use Rattle.crash_engine.specs.Failures.{
-  CannotEndAlone,
-  CannotTryAll,
-  PointBreaksOff,
-  RunBreaksOff,
-  TrialBreaksOff,
-};
-ghost use Rattle.crash_engine.specs.Trials.{Adds, AddsTrials, EndsAlone, EndsWith, Leaves, Tries, known_by, known_of, left_beyond, made_by, nothing_known, trial_of};
+ghost use Rattle.crash_engine.specs.Failures.{CannotEndAlone, RunBreaksOff, TrialBreaksOff};
+ghost use Rattle.crash_engine.specs.Trials.{EndsAlone, EndsWith, Leaves, Tries, known_by, known_of, left_beyond, made_by, nothing_known};
 
 use crate::auditing::{Left, asks_of, audit_of, cases_beyond, doubts_of, mismatches_of};
 use crate::origin::{Origin, opened};
-use crate::points::{Point, crash_events, points_of};
+use crate::points::{Point, crash_events};
 use report_io::Failure;
 use std::alloc::{AllocError, Global};
 use tree_audit::{Line, Report};
-use tree_engine::{Refusal, Run};
+use tree_engine::Run;
 use tree_model::{Event, ProcessId, StepError};
 
 /// What a crash ends with.
@@ -38,14 +32,6 @@ pub enum Found {
     /// The log of this process, of a tree that was opened over logs, is damaged there: no run leaves logs that come to
     /// that.
     Damaged(ProcessId, usize),
-}
-
-/// A crash behind so many events of a script, and what it ends with.
-#[derive(Drop)]
-pub struct Trial {
-    pub events: usize,
-    pub point: Point,
-    pub found: Found,
 }
 
 /// The cases of an audit's lines that are in doubt or show a mismatch, beyond the known ones.
@@ -136,96 +122,6 @@ pub fn try_point(
     let found = crash(alloc, known, &mut run, events, point);
     run.close();
     found
-}
-
-/// Adds a crash that was tried.
-fn push_trial(
-    trials: &mut Vec<Trial>,
-    events: usize,
-    point: Point,
-    found: Found,
-) -> Result<(), AllocError>
-    ensures { OnOk result (trials.new.items ≡ trials.old.items ++ trial_of events point found ∷ []) }
-{
-    trials.push(Trial {
-        events,
-        point,
-        found,
-    })?;
-    Ok(())
-}
-
-/// Tries a crash at each of these points behind these events. The errors are those of the trial of one.
-fn try_points(
-    alloc: Global,
-    origin: &Origin,
-    known: &Left,
-    events: &[Event],
-    points: &[Point],
-    trials: &mut Vec<Trial>,
-) -> Result<(), Failure>
-    requires { IsTree origin.now.tree }
-    ensures tried { OnOk result (AddsTrials origin.now (known_by known.now) events.now points.now
-        trials.old.items trials.new.items) }
-    ensures err { IfErr result (λ why. (why ≡ Failure.Memory)
-        ⊎ PointBreaksOff origin.now events.now points.now why) }
-    ensures why { IfErr result IsOfRun }
-{
-    for point in points {
-        let found = try_point(alloc, origin, known, events, Some(*point))?;
-        push_trial(trials, events.len(), *point, found)?;
-    }
-    Ok(())
-}
-
-/// Runs these events in a tree that has just opened, and tries each crash behind them. The errors are those
-/// of `try_event`.
-fn try_behind(
-    alloc: Global,
-    origin: &Origin,
-    known: &Left,
-    run: &mut Run,
-    events: &[Event],
-    trials: &mut Vec<Trial>,
-) -> Result<Refusal, Failure>
-    requires { Opens origin.now run.old }
-    ensures adds { IfOk result (λ refusal. Adds origin.now (known_by known.now) events.now refusal
-        trials.old.items trials.new.items) }
-    ensures numbered { IfOk result IsNumbered }
-    ensures err { IfErr result (λ why. (why ≡ Failure.Memory) ⊎ CannotTryAll origin.now events.now why) }
-    ensures why { IfErr result IsOfRun }
-{
-    run.make_all(alloc, events)?;
-    let refusal = run.refusal();
-    if refusal.is_some() {
-        return Ok(refusal);
-    }
-    let points = points_of(alloc, run.world())?;
-    try_points(alloc, origin, known, events, &points, trials)?;
-    Ok(None)
-}
-
-/// Tries each crash behind these events; or tells which of them is refused, and tries none. Memory; Device,
-/// Exhausted: the run of the events breaks off for that, or that of a crash behind them, or the records of a
-/// process that a crash may take come to 2^64 bytes or more.
-pub fn try_event(
-    alloc: Global,
-    origin: &Origin,
-    known: &Left,
-    events: &[Event],
-    trials: &mut Vec<Trial>,
-) -> Result<Refusal, Failure>
-    requires { IsTree origin.now.tree }
-    ensures adds { IfOk result (λ refusal. Adds origin.now (known_by known.now) events.now refusal
-        trials.old.items trials.new.items) }
-    ensures numbered { IfOk result IsNumbered }
-    ensures err { IfErr result (λ why. (why ≡ Failure.Memory) ⊎ CannotTryAll origin.now events.now why) }
-    ensures why { IfErr result IsOfRun }
-{
-    let mut run = opened(alloc, origin)?;
-    let refusal = try_behind(alloc, origin, known, &mut run, events, trials);
-    run.close();
-    refusal
 }
 
 /// How many of these events a run of them makes: all, or those before the first that is refused. Memory;

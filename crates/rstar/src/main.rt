@@ -203,21 +203,22 @@ Examples: rstar audit < examples/commit.logs
 const CRASH_HELP: &str = "\
 Where it refuses, --explain tells on standard error what is wrong, and what is wanted there.
 
-In: a tree script, as 'rstar tree' reads it, with logs ahead of its events or without. Behind
-each of its events, each process crashes in a run of its own, once with each number of its
-unforced records kept, from none to all. Then messages are delivered as by settle, every case
+In: a tree script, as 'rstar tree' reads it, with logs ahead of its events or without. After
+each of its events, and within a settle after each delivery, each process crashes in a run of
+its own, once with each number of its unforced records kept, from none to all. Then messages are delivered as by settle, every case
 that its log shows in doubt asks its parent, messages are delivered again, and the logs are
 audited. Out: first 'no crash:' and what
 all events leave without one, where they leave something: 'in-doubt CASE ..', 'mismatch CASE
 ..', or both. Then a line for each crash that leaves more than that: 'event N restart P K:' and
-likewise the cases that it adds; it is the run of the first N events and 'restart P K'.
+likewise the cases that it adds; it is the run of the first N events and 'restart P K'. Within
+a settle it is 'event N delivery D restart P K:', after the first D deliveries of event N.
 'refused N E' would stand there, too, were there such a crash; none was found. The last line is
 'points N in-doubt D mismatches M': so many crashes were tried, and so many add a case in doubt,
 and a mismatch. 'refused N E' stands behind it where event N of the script is refused, and
 'error ..' alone where the script is. The status is 2 where an event is refused, else 3 where
 the script or a crash leaves something. Standard error has a line for each percent of the
 events. Each crash runs its script anew, so the time goes with the square of the number of
-events: of three processes some 1,000 events take ten seconds, and some 2,500 a minute.
+events and deliveries.
 
 Examples: rstar crash < examples/commit.tree
           rstar crash < examples/operator.tree";
