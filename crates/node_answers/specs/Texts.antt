@@ -1,10 +1,13 @@
 -- What a node writes.
-use Rattle.std.specs.Prelude.{ℕ, Some, List, ◌++◌, codes}
+use Rattle.std.specs.Prelude.{ℕ, Some, List, [], ◌++◌, codes}
 use Rattle.std.specs.List.{flat_map}
 use Rattle.std.specs.Fmt.{decimal}
 use Rattle.tree_model.specs.declared.names.Case.{Case}
 use Rattle.tree_model.specs.declared.names.Txn.{Txn}
 use Rattle.tree_model.specs.declared.events.Reaction.{Reaction}
+use Rattle.tree_model.specs.declared.events.StepError.{StepError}
+use Rattle.tree_model.specs.declared.events.StepError.TheVariants.{Memory, Device, UnknownTxn, NotAChild, Closed, Failed, NotInDoubt, NothingToForget, NoSuch, Exhausted}
+use Rattle.tree_model.specs.Errors.{step_error_number}
 use Rattle.tree_model.specs.Names.{root_case}
 use Rattle.tree_model.specs.Texts.{case_text, kept_lines, outcome_word, reaction_lines}
 use Rattle.trace_lines.specs.Trace.{lines_text}
@@ -13,6 +16,10 @@ use Rattle.log_lines.specs.Held.{listed_text}
 use Rattle.log_lines.specs.Words.{bytes_word}
 use Rattle.log_news.specs.declared.doubts.Decision.{Decision}
 use Rattle.node_answers.specs.declared.status.Status.{Status}
+use Rattle.node_answers.specs.declared.refusing.Manner.{Manner}
+use Rattle.node_answers.specs.declared.refusing.Manner.TheVariants.{Numbers, Words}
+use Rattle.node_answers.specs.declared.refusing.Nothing.{Nothing}
+use Rattle.node_answers.specs.declared.refusing.Nothing.TheVariants.{NoText, NoLine}
 use Rattle.log_news.specs.declared.news.News.{News}
 use Rattle.log_news.specs.declared.news.News.TheVariants as news
 
@@ -25,7 +32,7 @@ abbrev pub help_text : List ℕ
 help_text =
     codes "begin pa|pc\njoin CASE CHILD\nwork CASE CHILD put KEY VALUE|get KEY|del KEY\n"
     ++ codes "commit TXN\nabort TXN\nask CASE\nheur CASE commit|rollback\nforget CASE\n"
-    ++ codes "N F->T MESSAGE\ntrim\ndoubt\noutcome TXN\nagain CASE\n"
+    ++ codes "N F->T MESSAGE\ntrim\ndoubt\noutcome TXN\nagain CASE\nresolve NAME\n"
     ++ codes "status\nlog\ndata\nhelp\nend\n"
     ++ ok_text
 
@@ -53,13 +60,41 @@ pairs_text ps = flat_map pair_line ps
 abbrev pub data_text : List (List ℕ × List ℕ) → List ℕ
 data_text ps = pairs_text ps ++ ok_text
 
--- the answer to the line of nothing
-abbrev pub error_text : List ℕ
-error_text = codes "error\n"
+-- Refusals.
 
--- the answer to a line that is refused by this number
-abbrev pub refused_text : ℕ → List ℕ
-refused_text n = codes "refused " ++ decimal n ++ codes "\n"
+-- why a line is the line of nothing, in a word after a space, if it is to be said
+abbrev pub nothing_word : Manner → Nothing → List ℕ
+nothing_word Numbers n = []
+nothing_word Words NoText = codes " no-text"
+nothing_word Words NoLine = codes " no-line"
+
+-- the answer to the line of nothing
+abbrev pub error_text : Manner → Nothing → List ℕ
+error_text m n = codes "error" ++ nothing_word m n ++ codes "\n"
+
+-- the word of a refusal, after a space
+abbrev pub step_error_word : StepError → List ℕ
+step_error_word Memory = codes " memory"
+step_error_word Device = codes " device"
+step_error_word UnknownTxn = codes " no-case"
+step_error_word NotAChild = codes " no-child"
+step_error_word Closed = codes " closed"
+step_error_word Failed = codes " failed"
+step_error_word NotInDoubt = codes " not-in-doubt"
+step_error_word NothingToForget = codes " nothing-to-forget"
+step_error_word NoSuch = codes " not-here"
+step_error_word Exhausted = codes " used-up"
+
+-- that word, if it is to be said
+abbrev pub refusal_word : Manner → StepError → List ℕ
+refusal_word Numbers e = []
+refusal_word Words e = step_error_word e
+
+-- the answer to a line that is refused: its number, and a word, if it is to be said
+abbrev pub refused_text : Manner → StepError → List ℕ
+refused_text m e = codes "refused " ++ decimal (step_error_number e) ++ refusal_word m e ++ codes "\n"
+
+-- What was done.
 
 -- the lines of a reaction of this process, before which so many messages were sent, and `ok`
 unfoldable pub shown_text : ℕ → ℕ → Reaction → List ℕ

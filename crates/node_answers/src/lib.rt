@@ -4,11 +4,11 @@
 #![tactic(auto)]
 
 mod holding;
+mod refusing;
 mod status;
 mod text;
 
 pub use holding::{data_text, log_text};
+pub use refusing::{Manner, Nothing, error_text, refused_text};
 pub use status::{Status, help_text, status_text};
-pub use text::{
-    doubt_text, error_text, obeyed_text, outcome_text, refused_text, shown_text, trimmed_text,
-};
+pub use text::{doubt_text, obeyed_text, outcome_text, shown_text, trimmed_text};

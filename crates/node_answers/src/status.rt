@@ -63,7 +63,7 @@ pub fn help_text(alloc: Global) -> Result<Vec<u8>, AllocError>
     )?;
     push(
         &mut out,
-        "N F->T MESSAGE\ntrim\ndoubt\noutcome TXN\nagain CASE\n",
+        "N F->T MESSAGE\ntrim\ndoubt\noutcome TXN\nagain CASE\nresolve NAME\n",
     )?;
     push(&mut out, "status\nlog\ndata\nhelp\nend\n")?;
     push(&mut out, "ok\n")?;

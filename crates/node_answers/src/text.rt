@@ -8,11 +8,9 @@ ghost use Rattle.node_answers.specs.Texts.{
   decisions_text,
   doubt_line,
   doubts_text,
-  error_text,
   news_text,
   news_word as word_of,
   ok_text,
-  refused_text,
   shown_text,
   trimmed_text,
 };
@@ -77,26 +75,6 @@ pub fn obeyed_text(alloc: Global) -> Result<Vec<u8>, AllocError>
 {
     let mut out = Vec::new(alloc);
     push(&mut out, "ok\n")?;
-    Ok(out)
-}
-
-/// The answer to the line of nothing.
-pub fn error_text(alloc: Global) -> Result<Vec<u8>, AllocError>
-    ensures { IfOk result (λ text. text.items ≡ error_text) }
-{
-    let mut out = Vec::new(alloc);
-    push(&mut out, "error\n")?;
-    Ok(out)
-}
-
-/// The answer to a line that is refused by this number.
-pub fn refused_text(alloc: Global, number: u8) -> Result<Vec<u8>, AllocError>
-    ensures { IfOk result (λ text. text.items ≡ refused_text number) }
-{
-    let mut out = Vec::new(alloc);
-    push(&mut out, "refused ")?;
-    push_number(&mut out, u64::from(number))?;
-    push(&mut out, "\n")?;
     Ok(out)
 }
 

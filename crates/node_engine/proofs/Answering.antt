@@ -10,7 +10,6 @@ use Rattle.tree_model.specs.declared.events.Input.TheVariants.{Act as ActInput, 
 use Rattle.tree_model.specs.declared.events.Reaction.{Reaction}
 use Rattle.tree_model.specs.declared.events.StepError.{StepError}
 use Rattle.tree_model.specs.declared.events.StepError.TheVariants.{Memory, Device, NoSuch}
-use Rattle.tree_model.specs.Errors.{step_error_number}
 use Rattle.tree_model.specs.Names.{same_process}
 use Rattle.tree_model.specs.Plays.{process_of_act}
 use Rattle.tree_model.specs.Trees.{root_of}
@@ -44,7 +43,12 @@ module _ {A E : Type 0} (items : A → List ℕ) (old : NodeState) (core : CoreS
       → IfOk r (λ text. Shows (moved old core d) new reaction (items text))
       → IfOk r (λ text. AnswersInput old new input (items text))
   shown_ok reaction new (Ok text) handles h = record {
-    seat = record { tree = ap (λ (n : NodeState). n.tree) h.after; me = ap (λ (n : NodeState). n.me) h.after };
+    seat = record {
+      tree = ap (λ (n : NodeState). n.tree) h.after;
+      me = ap (λ (n : NodeState). n.me) h.after;
+      manner = ap (λ (n : NodeState). n.manner) h.after;
+      name = ap (λ (n : NodeState). n.name) h.after;
+    };
     end = Ok reaction;
     took = subst (λ (n : NodeState). HandlesInput old.core n.core old.holdings n.holdings input reaction)
         (sym h.after) handles;
@@ -54,10 +58,10 @@ module _ {A E : Type 0} (items : A → List ℕ) (old : NodeState) (core : CoreS
 
   pub refused_ok : (e : StepError) (r : Result A E)
       → NotHandled old.core core old.holdings d input e
-      → IfOk r (λ text. items text ≡ refused_text (step_error_number e)) → OnOk r (IsRefusal e)
+      → IfOk r (λ text. items text ≡ refused_text old.manner e) → OnOk r (IsRefusal e)
       → IfOk r (λ text. AnswersInput old (moved old core d) input (items text))
   refused_ok e (Ok text) refuses told refusal = record {
-    seat = record { tree = refl; me = refl };
+    seat = record { tree = refl; me = refl; manner = refl; name = refl };
     end = Err e;
     took = refuses;
     told = (told, refl, refusal);
@@ -71,7 +75,12 @@ module _ {A : Type 0} (old : NodeState) (core : CoreState) (d : ManagerData) (in
       → IfErr r (TakesInput old new input)
   shown_err reaction new (Ok text) handles h why = tt
   shown_err reaction new (Err e) handles h why = record {
-    seat = record { tree = ap (λ (n : NodeState). n.tree) h; me = ap (λ (n : NodeState). n.me) h };
+    seat = record {
+      tree = ap (λ (n : NodeState). n.tree) h;
+      me = ap (λ (n : NodeState). n.me) h;
+      manner = ap (λ (n : NodeState). n.manner) h;
+      name = ap (λ (n : NodeState). n.name) h;
+    };
     end = Ok reaction;
     took = subst (λ (n : NodeState). HandlesInput old.core n.core old.holdings n.holdings input reaction)
         (sym h) handles;
@@ -83,16 +92,16 @@ module _ {A : Type 0} (old : NodeState) (core : CoreState) (d : ManagerData) (in
       → IfErr r (TakesInput old (moved old core d) input)
   refused_err e (Ok text) refuses why = tt
   refused_err e (Err f) refuses why =
-      record { seat = record { tree = refl; me = refl }; end = Err e; took = refuses; untold = why }
+      record { seat = record { tree = refl; me = refl; manner = refl; name = refl }; end = Err e; took = refuses; untold = why }
 
 -- Trims.
 
 module _ {A E : Type 0} (items : A → List ℕ) (old : NodeState) (core : CoreState) (d : ManagerData) where
   pub trim_refused_ok : (e : StepError) (r : Result A E) → NoTrim old.core core old.holdings d e
-      → IfOk r (λ text. items text ≡ refused_text (step_error_number e)) → OnOk r (IsRefusal e)
+      → IfOk r (λ text. items text ≡ refused_text old.manner e) → OnOk r (IsRefusal e)
       → IfOk r (λ text. AnswersTrim old (moved old core d) (items text))
   trim_refused_ok e (Ok text) refuses told refusal = record {
-    seat = record { tree = refl; me = refl };
+    seat = record { tree = refl; me = refl; manner = refl; name = refl };
     sent = refl;
     end = Err e;
     took = refuses;
@@ -105,7 +114,7 @@ module _ {A : Type 0} (old : NodeState) (core : CoreState) (d : ManagerData) whe
       → IfErr r (IsUnrefused e) → IfErr r (TakesTrim old (moved old core d))
   trim_refused_err e (Ok text) refuses why = tt
   trim_refused_err e (Err f) refuses why =
-      record { seat = record { tree = refl; me = refl }; end = Err e; took = refuses; untold = why }
+      record { seat = record { tree = refl; me = refl; manner = refl; name = refl }; end = Err e; took = refuses; untold = why }
 
 -- Whose they are.
 
@@ -121,7 +130,7 @@ module _ {A E : Type 0} (items : A → List ℕ) (mine : Bool) (old new : NodeSt
   mine_ok r is h = rw is h
 
   pub others_ok : (r : Result A E) → mine ≡ false → new ≡ old
-      → IfOk r (λ text. items text ≡ refused_text (step_error_number NoSuch))
+      → IfOk r (λ text. items text ≡ refused_text old.manner NoSuch)
       → IfOk r (λ text. AnswersIf mine old new input (items text))
   others_ok (Ok text) is same told = rw is (same, told)
   others_ok (Err e) is same told = tt
@@ -151,7 +160,7 @@ module _ {A E : Type 0} (items : A → List ℕ) (x : Txn) (s : NodeState) where
   outcome_told b (Err e) is h = tt
 
   pub outcome_refused : (b : Bool) (r : Result A E) → b ≡ false
-      → IfOk r (λ text. items text ≡ refused_text (step_error_number NoSuch))
+      → IfOk r (λ text. items text ≡ refused_text s.manner NoSuch)
       → IfOk r (λ text. TellsOutcome b x s s (items text))
   outcome_refused b (Ok text) is h = rw is (refl, h)
   outcome_refused b (Err e) is h = tt
@@ -186,7 +195,7 @@ takes_nothing asked.Nothing s = (refl, refl)
 takes_nothing (asked.Act a) s = if_nothing (same_process (process_of_act (root_of s.tree) a) s.me) s (ActInput a)
 takes_nothing (asked.Message n e) s = if_nothing (hears s e) s (MessageInput n e.message)
 takes_nothing asked.Trim s = record {
-  seat = record { tree = refl; me = refl };
+  seat = record { tree = refl; me = refl; manner = refl; name = refl };
   end = Err Memory;
   took = (same_core s.core, rests s.holdings);
   untold = λ e. absurd (cc);
@@ -199,7 +208,9 @@ takes_nothing asked.Log s = (refl, refl)
 takes_nothing asked.Data s = (refl, refl)
 takes_nothing asked.Help s = (refl, refl)
 takes_nothing asked.End s = (refl, refl)
+takes_nothing (asked.Resolve name) s = (refl, refl)
 takes_nothing asked.Unknown s = (refl, refl)
+takes_nothing asked.NoText s = (refl, refl)
 
 module _ {A E : Type 0} (items : A → List ℕ) (line : List ℕ) (a : Asked) (old new : NodeState)
     (r : Result A E) (text : IsUtf8 line) (is : a ≡ asked_at (root_of old.tree) line) where

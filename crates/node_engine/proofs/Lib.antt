@@ -3,3 +3,4 @@ pub mod Homes
 pub mod Owed
 pub mod Pairs
 pub mod Answering
+pub mod Resolving

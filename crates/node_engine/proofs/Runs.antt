@@ -229,7 +229,9 @@ taken_own asked.Log old new why h = memory_own why h.1
 taken_own asked.Data old new why h = memory_own why h.1
 taken_own asked.Help old new why h = memory_own why h.1
 taken_own asked.End old new why h = memory_own why h.1
+taken_own (asked.Resolve name) old new why h = memory_own why h.1
 taken_own asked.Unknown old new why h = memory_own why h.1
+taken_own asked.NoText old new why h = memory_own why h.1
 
 stops_own : (start : Stand) (opening : Reaction) (now : Stand) (why : NodeFailure) → IsOwn why
     → Unanswered start opening now why → Stops start opening now why

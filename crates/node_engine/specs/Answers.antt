@@ -1,5 +1,5 @@
 -- What a node makes of a line, and what it answers.
-use Rattle.std.specs.Prelude.{◌≡◌, ◌≢◌, ◌≤◌, ◌+◌, ◌^◌, ◌⊎◌, ⊤, ℕ, Bool, true, false, ◌&&◌, is_none, Option, Some, None, Result, Ok, Err, List, [], ◌++◌, length}
+use Rattle.std.specs.Prelude.{◌≡◌, ◌≢◌, ◌≤◌, ◌+◌, ◌^◌, ◌⊎◌, ⊤, ℕ, Bool, true, false, ◌&&◌, is_none, Option, Some, None, option_map, string_bytes, Result, Ok, Err, List, [], ◌++◌, length}
 use Rattle.std.specs.Str.{IsUtf8}
 use Rattle.tree_model.specs.declared.messages.Envelope.{Envelope}
 use Rattle.tree_model.specs.declared.names.ProcessId.{ProcessId}
@@ -12,7 +12,6 @@ use Rattle.tree_model.specs.declared.events.Reaction.{Reaction}
 use Rattle.tree_model.specs.declared.events.StepError.{StepError}
 use Rattle.tree_model.specs.declared.events.StepError.TheVariants.{Memory, Device, NoSuch}
 use Rattle.tree_model.specs.declared.records.LogRecord.{LogRecord}
-use Rattle.tree_model.specs.Errors.{step_error_number}
 use Rattle.tree_model.specs.Names.{same_process}
 use Rattle.tree_model.specs.Nodes.{Place, reaction_of}
 use Rattle.tree_model.specs.Plays.{process_of_act}
@@ -32,6 +31,10 @@ use Rattle.node_lines.specs.Asked.{asked_at}
 use Rattle.node_lines.specs.Speakers.{may_speak}
 use Rattle.node_engine.specs.Again.{owed_again}
 use Rattle.node_engine.specs.DataTexts.{TellsData}
+use Rattle.node_engine.specs.Branches.{IsAnswer, name_text, own_logs, trust_of}
+use Rattle.branch_names.specs.declared.cases.Naming.{Naming}
+use Rattle.branch_names.specs.Cases.{IsNaming}
+use Rattle.resolve_engine.specs.declared.answer.Answer.{Answer}
 use Rattle.node_engine.specs.declared.failure.NodeFailure.{NodeFailure}
 use Rattle.node_engine.specs.declared.failure.NodeFailure.TheVariants as failure
 use Rattle.node_engine.specs.declared.serving.Serving.{Serving}
@@ -40,15 +43,20 @@ use Rattle.log_news.specs.Doubts.{decisions_in, doubts_in}
 use Rattle.log_news.specs.News.{news_in}
 use Rattle.node_answers.specs.Texts.{decisions_text, doubts_text, error_text, help_text, log_text, news_text, ok_text, refused_text, shown_text, status_text, trimmed_text}
 use Rattle.node_answers.specs.declared.status.Status.{Status}
+use Rattle.node_answers.specs.declared.refusing.Manner.{Manner}
+use Rattle.node_answers.specs.declared.refusing.Manner.TheVariants.{Numbers}
+use Rattle.node_answers.specs.declared.refusing.Nothing.TheVariants.{NoLine, NoText}
 
--- the tree, and the process; what it keeps and, at a manager, its data; and how many messages it sent since it
--- opened
+-- the tree, and the process; what it keeps and, at a manager, its data; how many messages it sent since it opened; how much it
+-- says of a line that it refuses; and the name of the tree in the names of branches in databases, if it has one
 pub record NodeState : Type 0 where
   pub tree : List TreeEntry
   pub me : ProcessId
   pub core : CoreState
   pub holdings : ManagerData
   pub sent : ℕ
+  pub manner : Manner
+  pub name : Option (List ℕ)
 
 -- what a node is
 abbrev pub state_of : {L : Type 0} → Serving L → NodeState
@@ -58,9 +66,11 @@ state_of s = record {
   core = core_of s.node;
   holdings = data_of s.node;
   sent = s.sent;
+  manner = s.manner;
+  name = option_map string_bytes s.name;
 }
 
--- the node of a process of this tree, which has sent nothing yet
+-- the node of a process of this tree, which has sent nothing yet, says numbers alone and knows no name of the tree
 abbrev pub opened : {L : Type 0} → List TreeEntry → ProcessId → Node L → NodeState
 opened tree me node = record {
   tree = tree;
@@ -68,12 +78,20 @@ opened tree me node = record {
   core = core_of node;
   holdings = data_of node;
   sent = 0;
+  manner = Numbers;
+  name = None;
 }
 
--- the same process, in the same tree
+-- the node, which says so much of a line that it refuses, in a tree of this name
+abbrev pub speaks : NodeState → Manner → Option (List ℕ) → NodeState
+speaks s m n = record s { manner = m; name = n }
+
+-- the same process, in the same tree, which answers alike
 pub record SameSeat (old new : NodeState) : Type 0 where
   pub tree : new.tree ≡ old.tree
   pub me : new.me ≡ old.me
+  pub manner : new.manner ≡ old.manner
+  pub name : new.name ≡ old.name
 
 -- the lines of a reaction are told, and its messages are sent; nothing else is otherwise
 pub record Shows (old new : NodeState) (reaction : Reaction) (text : List ℕ) : Type 0 where
@@ -114,7 +132,7 @@ abbrev pub ToldOf : NodeState → NodeState → List ℕ → Result Reaction Ste
 ToldOf old new text (Ok reaction) =
     (text ≡ shown_text old.me.0 old.sent reaction) × (new.sent ≡ old.sent + length reaction.messages)
 ToldOf old new text (Err e) =
-    (text ≡ refused_text (step_error_number e)) × (new.sent ≡ old.sent) × IsRefusal e
+    (text ≡ refused_text old.manner e) × (new.sent ≡ old.sent) × IsRefusal e
 
 -- why what became of an input is not told, behind so many messages that were sent
 abbrev pub Untold : ℕ → Result Reaction StepError → NodeFailure → Type 0
@@ -138,7 +156,7 @@ pub record AnswersInput (old new : NodeState) (input : Input) (text : List ℕ) 
 -- an input of this process, or of another, which is refused: there is no such process here
 abbrev pub AnswersIf : Bool → NodeState → NodeState → Input → List ℕ → Type 0
 AnswersIf true old new input text = AnswersInput old new input text
-AnswersIf false old new input text = Tells old new text (refused_text (step_error_number NoSuch))
+AnswersIf false old new input text = Tells old new text (refused_text old.manner NoSuch)
 
 -- an input that is for this process p or is not
 abbrev pub AnswersFor : ProcessId → NodeState → NodeState → Input → List ℕ → Type 0
@@ -176,7 +194,7 @@ Trimmed old new (Err e) = NoTrim old.core new.core old.holdings new.holdings e
 -- what is told of a trim
 abbrev pub ToldOfTrim : NodeState → List ℕ → Result ℕ StepError → Type 0
 ToldOfTrim old text (Ok remain) = text ≡ trimmed_text old.me.0 remain
-ToldOfTrim old text (Err e) = (text ≡ refused_text (step_error_number e)) × IsRefusal e
+ToldOfTrim old text (Err e) = (text ≡ refused_text old.manner e) × IsRefusal e
 
 -- why what became of a trim is not told
 abbrev pub UntoldTrim : Result ℕ StepError → NodeFailure → Type 0
@@ -211,7 +229,7 @@ is_root s = is_none (parent_of s.tree s.me)
 -- how a transaction ended, as far as its root's log tells; at another process that is refused
 abbrev pub TellsOutcome : Bool → Txn → NodeState → NodeState → List ℕ → Type 0
 TellsOutcome true x old new text = Tells old new text (news_text x (news_in (records_at old) x) ++ ok_text)
-TellsOutcome false x old new text = Tells old new text (refused_text (step_error_number NoSuch))
+TellsOutcome false x old new text = Tells old new text (refused_text old.manner NoSuch)
 
 -- the cases in doubt, and those that an operator decided and that wait to be told
 abbrev pub doubt_text : NodeState → List ℕ
@@ -258,13 +276,34 @@ resends es = reaction_of (sends_only es)
 
 -- These messages are told, under the next numbers, and nothing else is otherwise; without them there is a refusal.
 abbrev pub AnswersAgain : Option (List Envelope) → NodeState → NodeState → List ℕ → Type 0
-AnswersAgain None old new text = Tells old new text (refused_text (step_error_number NoSuch))
+AnswersAgain None old new text = Tells old new text (refused_text old.manner NoSuch)
 AnswersAgain (Some es) old new text = Shows old new (resends es) text
 
 -- nothing is otherwise, and that is not told: memory was refused, or with them 2^64 or more were sent
 abbrev pub TakesAgain : Option (List Envelope) → NodeState → NodeState → NodeFailure → Type 0
 TakesAgain None old new why = TellsNothing old new why
 TakesAgain (Some es) old new why = (new ≡ old) × IsUnshown old.sent (resends es) why
+
+-- Branches.
+
+-- this is answered of what a name is of, by the log of the process alone, if its bytes read
+pub record Finds (s : NodeState) (of : Naming) (answer : Option Answer) : Type 0 where
+  pub log : List ℕ
+  pub spells : SpellsLog s.core log
+  pub is_answer : IsAnswer s.tree (own_logs s.me log) (trust_of (is_root s) s.core of) of answer
+
+-- this tells what is to be done with a branch of this name
+pub record Resolves (s : NodeState) (name text : List ℕ) : Type 0 where
+  pub of : Naming
+  pub named : IsNaming s.tree s.name name of
+  pub answer : Option Answer
+  pub finds : Finds s of answer
+  pub told : text ≡ name_text s.manner name answer
+
+-- the same of bytes, which are a name if they are a text
+abbrev pub TellsName : NodeState → List ℕ → List ℕ → Type 0
+TellsName s name text =
+    (IsUtf8 name × Resolves s name text) ⊎ ((IsUtf8 name → ⊥) × (text ≡ error_text s.manner NoText))
 
 -- Lines.
 
@@ -279,10 +318,12 @@ Answers (asked.Outcome x) old new text = TellsOutcome (is_root old) x old new te
 Answers (asked.Again c) old new text = AnswersAgain (owed_at old c) old new text
 Answers asked.Status old new text = (new ≡ old) × TellsStatus old text
 Answers asked.Log old new text = (new ≡ old) × TellsLog old text
-Answers asked.Data old new text = (new ≡ old) × TellsData (records_at old) text
+Answers asked.Data old new text = (new ≡ old) × TellsData old.manner (records_at old) text
 Answers asked.Help old new text = Tells old new text help_text
 Answers asked.End old new text = Tells old new text ok_text
-Answers asked.Unknown old new text = Tells old new text error_text
+Answers (asked.Resolve name) old new text = (new ≡ old) × TellsName old name text
+Answers asked.Unknown old new text = Tells old new text (error_text old.manner NoLine)
+Answers asked.NoText old new text = Tells old new text (error_text old.manner NoText)
 
 -- what was asked is made or not, and for this reason not answered
 abbrev pub Takes : Asked → NodeState → NodeState → NodeFailure → Type 0
@@ -292,9 +333,9 @@ Takes asked.Trim old new why = TakesTrim old new why
 Takes (asked.Again c) old new why = TakesAgain (owed_at old c) old new why
 Takes _ old new why = TellsNothing old new why
 
--- what a line asks; one that is no text asks nothing that a node knows
+-- what a line asks, if it is a text
 abbrev pub Asks : ProcessId → List ℕ → Asked → Type 0
-Asks root line a = (IsUtf8 line × (a ≡ asked_at root line)) ⊎ ((IsUtf8 line → ⊥) × (a ≡ asked.Unknown))
+Asks root line a = (IsUtf8 line × (a ≡ asked_at root line)) ⊎ ((IsUtf8 line → ⊥) × (a ≡ asked.NoText))
 
 -- a line is answered
 pub record AnswersLine (line : List ℕ) (old new : NodeState) (text : List ℕ) : Type 0 where

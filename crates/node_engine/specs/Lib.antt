@@ -1,4 +1,5 @@
 pub mod Again
+pub mod Branches
 pub mod DataTexts
 pub mod Answers
 pub mod Runs

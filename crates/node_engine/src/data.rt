@@ -5,7 +5,7 @@ ghost use Rattle.kv_store.specs.Pairs.{ArePairsOf};
 ghost use Rattle.node_engine.specs.DataTexts.{DataAre, data_answer};
 
 use kv_core::{ReplayError, Replayed, replay};
-use node_answers::{data_text, refused_text};
+use node_answers::{Manner, data_text, refused_text};
 use std::alloc::{AllocError, Global};
 use tree_model::{Bytes, LogRecord, StepError};
 
@@ -34,12 +34,13 @@ pub(crate) fn pairs_in(
 /// What is told of these keys and values; a refusal, where there are none.
 pub(crate) fn answer(
     alloc: Global,
+    manner: Manner,
     pairs: &Option<Vec<(Bytes, Bytes)>>,
 ) -> Result<Vec<u8>, AllocError>
-    ensures { IfOk result (λ text. text.items ≡ data_answer (option_map (λ v. v.items) pairs.now)) }
+    ensures { IfOk result (λ text. text.items ≡ data_answer manner (option_map (λ v. v.items) pairs.now)) }
 {
     match pairs {
         Some(pairs) => data_text(alloc, pairs),
-        None => refused_text(alloc, StepError::Exhausted.number()),
+        None => refused_text(alloc, manner, StepError::Exhausted),
     }
 }

@@ -4,6 +4,7 @@
 #![tactic(auto)]
 
 mod again;
+mod branches;
 mod data;
 mod failure;
 mod run;

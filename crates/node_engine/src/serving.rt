@@ -1,9 +1,9 @@
 //! A node: what it makes of a line.
 
-ghost use Rattle.std.specs.Prelude.{◌≡◌, ◌++◌, IfErr, IfOk, OnErr, OnOk};
+ghost use Rattle.std.specs.Prelude.{◌≡◌, ◌++◌, IfErr, IfOk, OnErr, OnOk, option_map, string_bytes};
 ghost use Rattle.tree_model.specs.declared.events.StepError.TheVariants.{NoSuch};
-ghost use Rattle.tree_model.specs.Errors.{step_error_number};
-ghost use Rattle.tree_model.specs.Names.{same_process};
+ghost use Rattle.branch_names.specs.Cases.{IsPlaced};
+ghost use Rattle.tree_model.specs.Names.{root_case, same_process};
 ghost use Rattle.tree_model.specs.Plays.{process_of_act};
 ghost use Rattle.tree_model.specs.Trees.{root_of};
 ghost use Rattle.tree_node.specs.Nodes.{core_of, data_of};
@@ -17,9 +17,11 @@ ghost use Rattle.node_engine.specs.Answers.{
   AnswersInput,
   AnswersLine,
   AnswersTrim,
+  Finds,
   IsRefusal,
   IsUnrefused,
   IsUnshown,
+  Resolves,
   Shows,
   Takes,
   TakesAgain,
@@ -29,6 +31,7 @@ ghost use Rattle.node_engine.specs.Answers.{
   TakesLine,
   TakesTrim,
   TellsLog,
+  TellsName,
   TellsOutcome,
   TellsStatus,
   doubt_text as text_of_doubts,
@@ -38,29 +41,35 @@ ghost use Rattle.node_engine.specs.Answers.{
   opened,
   records_at,
   resends,
+  speaks,
   state_of,
 };
+ghost use Rattle.node_engine.specs.Branches.{trust_of};
 ghost use Rattle.node_engine.specs.DataTexts.{TellsData};
 ghost use Rattle.tree_model.specs.declared.events.Input.TheVariants.{Act as ActInput, Message as MessageInput};
 ghost use Rattle.log_news.specs.News.{news_in};
 ghost use Rattle.node_answers.specs.Texts.{news_text, ok_text, refused_text as text_of_refusal};
 
 use crate::again::owed;
+use crate::branches::{found_in, name_text, trust_by};
 use crate::data::{answer, pairs_in};
 use crate::failure::NodeFailure;
+use branch_names::{Naming, case_named};
 use core_model::InputRef;
 use log_news::{boot_of, decisions_of, doubts_of, news_of};
 use log_store::LogStore;
 use log_text::LogForm;
 use node_answers::{
-    Status, doubt_text, error_text, help_text, log_text, obeyed_text, outcome_text, refused_text,
-    shown_text, status_text, trimmed_text,
+    Manner, Nothing, Status, doubt_text, error_text, help_text, log_text, obeyed_text,
+    outcome_text, refused_text, shown_text, status_text, trimmed_text,
 };
 use node_lines::{Asked, asked_of, may_speak};
+use resolve_engine::{Answer, Trust};
 use std::alloc::Global;
 use std::str;
 use tree_model::{
-    Act, Case, Envelope, Envelopes, Kind, ProcessId, Reaction, Sequence, StepError, Tree, Txn,
+    Act, Bytes, Case, Envelope, Envelopes, Kind, ProcessId, Reaction, Sequence, Standing,
+    StepError, Tree, Txn,
 };
 use tree_node::Node;
 
@@ -72,6 +81,9 @@ pub struct Serving<L: LogStore> {
     pub(crate) me: ProcessId,
     pub(crate) node: Node<L>,
     pub(crate) sent: u64,
+    pub(crate) manner: Manner,
+    /// The name of the tree, as the names of its branches in databases begin.
+    pub(crate) name: Option<String>,
 }
 
 /// The process of an act: its case's ticket's child, or the root.
@@ -93,15 +105,15 @@ fn process_of(root: ProcessId, act: &Act) -> ProcessId
 }
 
 /// The answer to what is refused. Behind a failed device, or without memory, there is none.
-fn refusal(alloc: Global, error: StepError) -> Result<Vec<u8>, NodeFailure>
-    ensures text { IfOk result (λ text. text.items ≡ text_of_refusal (step_error_number error)) }
+fn refusal(alloc: Global, manner: Manner, error: StepError) -> Result<Vec<u8>, NodeFailure>
+    ensures text { IfOk result (λ text. text.items ≡ text_of_refusal manner error) }
     ensures refusal { OnOk result (IsRefusal error) }
     ensures err { IfErr result (IsUnrefused error) }
 {
     match error {
         StepError::Memory => Err(NodeFailure::Memory),
         StepError::Device => Err(NodeFailure::Device),
-        _ => Ok(refused_text(alloc, error.number())?),
+        _ => Ok(refused_text(alloc, manner, error)?),
     }
 }
 
@@ -129,7 +141,7 @@ fn repeated(alloc: Global, messages: Envelopes) -> Reaction
 }
 
 impl<L: LogStore> Serving<L> {
-    /// The process `me` of this tree, which has sent nothing yet.
+    /// The process `me` of this tree, which has sent nothing yet, says numbers alone and knows no name of the tree.
     pub fn new(alloc: Global, tree: Tree, me: ProcessId, node: Node<L>) -> Self
         ensures { state_of result ≡ opened tree me node }
     {
@@ -139,7 +151,18 @@ impl<L: LogStore> Serving<L> {
             me,
             node,
             sent: 0,
+            manner: Manner::Numbers,
+            name: None,
         }
+    }
+
+    /// That node, which says so much of what it refuses, in a tree of this name, if it has one.
+    pub fn speaking(mut self, manner: Manner, name: Option<String>) -> Self
+        ensures { state_of result ≡ speaks (state_of self) manner (option_map string_bytes name) }
+    {
+        self.manner = manner;
+        self.name = name;
+        self
     }
 
     /// The process.
@@ -174,7 +197,7 @@ impl<L: LogStore> Serving<L> {
     {
         match self.node.handle(input) {
             Ok(reaction) => self.show(&reaction),
-            Err(error) => refusal(self.alloc, error),
+            Err(error) => refusal(self.alloc, self.manner, error),
         }
     }
 
@@ -197,7 +220,7 @@ impl<L: LogStore> Serving<L> {
         if self.is(process_of(self.tree.root(), act)) {
             self.make(InputRef::Act(act))
         } else {
-            refusal(self.alloc, StepError::NoSuch)
+            refusal(self.alloc, self.manner, StepError::NoSuch)
         }
     }
 
@@ -219,7 +242,7 @@ impl<L: LogStore> Serving<L> {
         if self.hears(envelope) {
             self.make(InputRef::Message(number, &envelope.message))
         } else {
-            refusal(self.alloc, StepError::NoSuch)
+            refusal(self.alloc, self.manner, StepError::NoSuch)
         }
     }
 
@@ -231,7 +254,7 @@ impl<L: LogStore> Serving<L> {
     {
         match self.node.trim_sound() {
             Ok(remain) => Ok(trimmed_text(self.alloc, self.me, remain)?),
-            Err(error) => refusal(self.alloc, error),
+            Err(error) => refusal(self.alloc, self.manner, error),
         }
     }
 
@@ -278,12 +301,12 @@ impl<L: LogStore> Serving<L> {
 
     /// The data of a manager; a coordinator has none.
     fn data(&self) -> Result<Vec<u8>, NodeFailure>
-        ensures ok { IfOk result (λ text. TellsData (records_at (state_of self.now)) text.items) }
+        ensures ok { IfOk result (λ text. TellsData (state_of self.now).manner (records_at (state_of self.now)) text.items) }
         ensures err { IfErr result (λ e. e ≡ NodeFailure.Memory) }
     {
         let records = self.node.records()?;
         let pairs = pairs_in(self.alloc, records)?;
-        Ok(answer(self.alloc, &pairs)?)
+        Ok(answer(self.alloc, self.manner, &pairs)?)
     }
 
     /// What is to be sent once more of a case, by the log.
@@ -331,10 +354,10 @@ impl<L: LogStore> Serving<L> {
 
     /// The refusal of what another process is to be asked.
     fn refuse(&self) -> Result<Vec<u8>, NodeFailure>
-        ensures ok { IfOk result (λ text. text.items ≡ text_of_refusal (step_error_number NoSuch)) }
+        ensures ok { IfOk result (λ text. text.items ≡ text_of_refusal (state_of self.now).manner NoSuch) }
         ensures err { IfErr result (λ e. e ≡ NodeFailure.Memory) }
     {
-        Ok(refused_text(self.alloc, StepError::NoSuch.number())?)
+        Ok(refused_text(self.alloc, self.manner, StepError::NoSuch)?)
     }
 
     /// The line of how a transaction ended, which is refused where this is not its root.
@@ -347,6 +370,75 @@ impl<L: LogStore> Serving<L> {
             self.tell_own(txn)
         } else {
             self.refuse()
+        }
+    }
+
+    /// Where the root's case of a transaction stands here; Unknown, where it is not live.
+    fn standing(&self, txn: Txn) -> Standing
+        ensures { result ≡ ((state_of self.now).core.view_of (root_case txn)).standing }
+    {
+        match &self.node {
+            Node::Coordinator(coordinator) => coordinator.standing(&Case { txn, ticket: None }),
+            Node::Manager(_) => Standing::Unknown,
+        }
+    }
+
+    /// How far the log counts of what a name is of.
+    fn trust(&self, naming: Naming) -> Trust
+        ensures { result ≡ trust_of (is_at_root (state_of self.now)) (state_of self.now).core naming }
+    {
+        match naming {
+            Naming::Case(case) => trust_by(
+                self.is_root() && case.ticket.is_some(),
+                self.standing(case.txn),
+            ),
+            Naming::OtherTree | Naming::Foreign => Trust::Parts,
+        }
+    }
+
+    /// The name of the tree.
+    fn tree_name(&self) -> Option<&str>
+        ensures { option_map (λ s. s.now) result ≡ (state_of self.now).name }
+    {
+        match &self.name {
+            None => None,
+            Some(name) => Some(name.as_str()),
+        }
+    }
+
+    /// The answer to what a name is of; None, if the log does not read.
+    #[tactic(auto, using(crate::proofs::Resolving::found_at))]
+    fn found(&self, naming: Naming) -> Result<Option<Answer>, NodeFailure>
+        requires { IsPlaced self.now.tree naming }
+        ensures ok { IfOk result (Finds (state_of self.now) naming) }
+        ensures err { IfErr result (λ e. e ≡ NodeFailure.Memory) }
+    {
+        let log = self.node.log_text()?;
+        let trust = self.trust(naming);
+        Ok(found_in(self.alloc, &self.tree, self.me, log, trust, naming)?)
+    }
+
+    /// What is to be done with a branch of this name.
+    #[tactic(auto, using(crate::proofs::Resolving::resolved_at))]
+    fn resolve_text(&self, name: &str) -> Result<Vec<u8>, NodeFailure>
+        ensures ok { IfOk result (λ text. Resolves (state_of self.now) name.now text.items) }
+        ensures err { IfErr result (λ e. e ≡ NodeFailure.Memory) }
+    {
+        let naming = case_named(self.alloc, &self.tree, self.tree_name(), name)?;
+        let answer = self.found(naming)?;
+        Ok(name_text(self.alloc, self.manner, name, &answer)?)
+    }
+
+    /// What is to be done with a branch of this name, by the node's own log: what stands there counts; at the root, of a
+    /// branch below it whose transaction is not under way, also that nothing does. Refused, if the log does not read.
+    #[tactic(auto, using(crate::proofs::Resolving::text_so, crate::proofs::Resolving::no_text_at))]
+    fn resolve(&self, name: &Bytes) -> Result<Vec<u8>, NodeFailure>
+        ensures ok { IfOk result (λ text. TellsName (state_of self.now) name.now text.items) }
+        ensures err { IfErr result (λ e. e ≡ NodeFailure.Memory) }
+    {
+        match str::from_utf8(name.as_slice()) {
+            Ok(name) => self.resolve_text(name),
+            Err(_) => Ok(error_text(self.alloc, self.manner, Nothing::NoText)?),
         }
     }
 
@@ -364,12 +456,14 @@ impl<L: LogStore> Serving<L> {
             Asked::Doubt => self.doubt(),
             Asked::Outcome(txn) => self.tell(txn),
             Asked::Again(case) => self.again(case),
+            Asked::Resolve(name) => self.resolve(name),
             Asked::Status => self.status(),
             Asked::Log => self.log(),
             Asked::Data => self.data(),
             Asked::Help => Ok(help_text(self.alloc)?),
             Asked::End => Ok(obeyed_text(self.alloc)?),
-            Asked::Unknown => Ok(error_text(self.alloc)?),
+            Asked::Unknown => Ok(error_text(self.alloc, self.manner, Nothing::NoLine)?),
+            Asked::NoText => Ok(error_text(self.alloc, self.manner, Nothing::NoText)?),
         }
     }
 
@@ -383,7 +477,7 @@ impl<L: LogStore> Serving<L> {
         self.answer_asked(&asked)
     }
 
-    /// The answer to a line, without its end. One that is no text is the line of nothing.
+    /// The answer to a line, without its end. One that is no text asks nothing.
     pub fn answer(&mut self, line: &[u8]) -> Result<Vec<u8>, NodeFailure>
         ensures ok { IfOk result (λ text.
             AnswersLine line.now (state_of self.old) (state_of self.new) text.items) }
@@ -391,7 +485,7 @@ impl<L: LogStore> Serving<L> {
     {
         match str::from_utf8(line) {
             Ok(line) => self.answer_text(line),
-            Err(_) => Ok(error_text(self.alloc)?),
+            Err(_) => Ok(error_text(self.alloc, self.manner, Nothing::NoText)?),
         }
     }
 }

@@ -22,7 +22,7 @@ use Rattle.node_law.proofs.Finding.{finds_kept}
 use Rattle.node_law.proofs.Starts.{listed_place, seat_form}
 
 -- the form of the log of a listed process
-form_is : (s : WorldState) (es : List Made) (w : World) → FollowsBehindFaults es w s → (e : TreeEntry)
+pub form_is : (s : WorldState) (es : List Made) (w : World) → FollowsBehindFaults es w s → (e : TreeEntry)
     → find (λ x. same_process x.id e.id) s.tree ≡ Some e → (c : CoreState) → s.node_at e.id ≡ Some c
     → form_of c.place ≡ form_by e
 form_is s es w f e listed c there =

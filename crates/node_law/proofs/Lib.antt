@@ -8,3 +8,4 @@ pub mod Tells
 pub mod Files
 pub mod Sending
 pub mod Repeats
+pub mod Branches

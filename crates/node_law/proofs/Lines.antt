@@ -225,7 +225,9 @@ module _ (s t : WorldState) (old new : NodeState) (was : Sits s old) (same : new
   answered_so asked.Data text h sent enters = still enters h.0
   answered_so asked.Help text h sent enters = still enters h.0
   answered_so asked.End text h sent enters = still enters h.0
+  answered_so (asked.Resolve name) text h sent enters = still enters h.0
   answered_so asked.Unknown text h sent enters = still enters h.0
+  answered_so asked.NoText text h sent enters = still enters h.0
 
   taken_so : (a : Asked) (why : NodeFailure) (h : Takes a old new why) → WasSent s.net a
       → EntersTaken s t old new a why h → LifeStep s t
@@ -243,7 +245,9 @@ module _ (s t : WorldState) (old new : NodeState) (was : Sits s old) (same : new
   taken_so asked.Data why h sent enters = still enters h.0
   taken_so asked.Help why h sent enters = still enters h.0
   taken_so asked.End why h sent enters = still enters h.0
+  taken_so (asked.Resolve name) why h sent enters = still enters h.0
   taken_so asked.Unknown why h sent enters = still enters h.0
+  taken_so asked.NoText why h sent enters = still enters h.0
 
 pub answered : (s t : WorldState) → Answered s t → LifeStep s t
 answered s t h = answered_so s t h.old h.new h.was h.same h.is h.alone h.answers.asked h.text h.answers.answers

@@ -34,7 +34,7 @@ by_role Manager None p h = absurd h
 by_role Manager (Some q) p h = here q p h
 
 -- whose role is a child's has that parent in the tree
-has_parent : (tree : List TreeEntry) (q p : ProcessId) → IsChildRole (role_of tree q) p
+pub has_parent : (tree : List TreeEntry) (q p : ProcessId) → IsChildRole (role_of tree q) p
     → is_parent p (parent_of tree q) ≡ true
 unfolding role_of parent_of
 has_parent [] q p h = absurd h

@@ -40,7 +40,7 @@ use Rattle.node_law.proofs.Lines.{same_as_it_is}
 -- Where a listed process sits.
 
 -- its role is that of its entry
-listed_role : (tree : List TreeEntry) (q : ProcessId) (e : TreeEntry)
+pub listed_role : (tree : List TreeEntry) (q : ProcessId) (e : TreeEntry)
     → find (λ x. same_process x.id q) tree ≡ Some e → role_of tree q ≡ role_by e.kind e.parent
 unfolding role_of
 listed_role [] q e h = absurd (cc)

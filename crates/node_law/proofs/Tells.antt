@@ -15,7 +15,7 @@ use Rattle.node_law.proofs.Speakers.{sits_at_root}
 
 module _ (s : WorldState) (es : List Made) (w : World) (f : FollowsBehindFaults es w s) (old new : NodeState)
     (sits : Sits s old) (works : old.core.log.failed ≡ false) (x : Txn) (text : List ℕ) where
-  by_root : (b : Bool) → is_root old ≡ b → TellsOutcome b x old new text → TellsEnd w x text
+  by_root : (b : Bool) → is_root old ≡ b → TellsOutcome b x old new text → TellsEnd old w x text
   by_root true is h = inl (record {
     news = news_in (records_of old.core.log.kept) x;
     text_is = h.1;

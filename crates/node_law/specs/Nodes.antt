@@ -13,7 +13,6 @@ use Rattle.tree_model.specs.declared.events.Reaction.{Reaction}
 use Rattle.tree_model.specs.declared.events.StepError.{StepError}
 use Rattle.tree_model.specs.declared.events.StepError.TheVariants.{NoSuch}
 use Rattle.tree_model.specs.declared.trees.TreeEntry.{TreeEntry}
-use Rattle.tree_model.specs.Errors.{step_error_number}
 use Rattle.tree_model.specs.Names.{same_process}
 use Rattle.tree_model.specs.Nodes.{place_of}
 use Rattle.tree_model.specs.Plays.{process_of_act}
@@ -102,7 +101,9 @@ module _ (s t : WorldState) (old new : NodeState) where
   EntersAnswered asked.Data text h = Silent s t
   EntersAnswered asked.Help text h = Silent s t
   EntersAnswered asked.End text h = Silent s t
+  EntersAnswered (asked.Resolve name) text h = Silent s t
   EntersAnswered asked.Unknown text h = Silent s t
+  EntersAnswered asked.NoText text h = Silent s t
 
   -- of an input that was made or not, and is not answered
   abbrev pub EntersTake : (mine : Bool) (input : Input) (why : NodeFailure) → TakesIf mine old new input why
@@ -127,7 +128,9 @@ module _ (s t : WorldState) (old new : NodeState) where
   EntersTaken asked.Data why h = Silent s t
   EntersTaken asked.Help why h = Silent s t
   EntersTaken asked.End why h = Silent s t
+  EntersTaken (asked.Resolve name) why h = Silent s t
   EntersTaken asked.Unknown why h = Silent s t
+  EntersTaken asked.NoText why h = Silent s t
 
 -- A node answered a line, as `run_node` says: what it answers is what it did, and what it sent stands in it.
 pub record Answered (s t : WorldState) : Type 0 where
@@ -256,8 +259,8 @@ pub record TellsSo (w : World) (x : Txn) (text : List ℕ) : Type 0 where
   pub so : NewsAreSo w x news
 
 -- it does so, or refuses to tell
-abbrev pub TellsEnd : World → Txn → List ℕ → Type 0
-TellsEnd w x text = TellsSo w x text ⊎ (text ≡ refused_text (step_error_number NoSuch))
+abbrev pub TellsEnd : NodeState → World → Txn → List ℕ → Type 0
+TellsEnd n w x text = TellsSo w x text ⊎ (text ≡ refused_text n.manner NoSuch)
 
 -- Where the state of a tree stands for a run, what a node whose device works answers to `outcome` is the outcome of that
 -- transaction; or it refuses to tell, as it is not its root.
@@ -265,7 +268,7 @@ abbrev pub OutcomesAreTold : Type 0
 OutcomesAreTold = (s : WorldState) (es : List Made) (w : World) → FollowsBehindFaults es w s
     → (old new : NodeState) → Sits s old → old.core.log.failed ≡ false
     → (line text : List ℕ) (h : AnswersLine line old new text) (x : Txn) → h.asked ≡ asked.Outcome x
-    → TellsEnd w x text
+    → TellsEnd old w x text
 
 -- a refusal that calls a log neither damaged nor one of the first format
 abbrev pub CallsItRead : ReopenError → Type 0

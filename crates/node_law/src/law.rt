@@ -1,5 +1,6 @@
 //! The laws. The functions do nothing: each one's contract is a law.
 
+ghost use Rattle.node_law.specs.Branches.{BranchesAreTold};
 ghost use Rattle.node_law.specs.Files.{StoresLeaveFiles};
 ghost use Rattle.node_law.specs.Nodes.{
   NodesAreRuns,
@@ -34,6 +35,13 @@ pub fn senders_may_speak()
 /// transaction; or it refuses to tell, as it is not its root.
 pub fn outcomes_are_told()
     ensures { OutcomesAreTold }
+{}
+
+/// Where the state of a tree stands for a run in which no process is failed now, what a node answers to `resolve` is how
+/// the transaction ends: an answer that says commit or rollback of a case of which an audit of that world tells, and that is in
+/// doubt there, if it is not the node's own.
+pub fn branches_are_told()
+    ensures { BranchesAreTold }
 {}
 
 /// Where the state of a tree stands for a run, what a node tells once more, as `again` asks it, are messages that

@@ -1,5 +1,5 @@
 -- What a line asks of a node.
-use Rattle.std.specs.Prelude.{ℕ, List, codes, Option, Some, None, if◌then◌else◌}
+use Rattle.std.specs.Prelude.{ℕ, ◌==◌, List, codes, length, Option, Some, None, if◌then◌else◌}
 use Rattle.spellings.specs.Words.{cut_at}
 use Rattle.tree_model.specs.declared.names.ProcessId.{ProcessId}
 use Rattle.tree_model.specs.declared.messages.Envelope.{Envelope}
@@ -11,7 +11,7 @@ use Rattle.link_script.specs.Names.{case_at, txn_at}
 use Rattle.link_script.specs.Events.{event_at}
 use Rattle.node_lines.specs.Lines.{line_at}
 use Rattle.node_lines.specs.declared.asked.Asked.{Asked}
-use Rattle.node_lines.specs.declared.asked.Asked.TheVariants.{Nothing, Act, Message, Trim, Doubt, Outcome, Again, Status, Log, Data, Help, End, Unknown}
+use Rattle.node_lines.specs.declared.asked.Asked.TheVariants.{Nothing, Act, Message, Trim, Doubt, Outcome, Again, Resolve, Status, Log, Data, Help, End, Unknown}
 
 -- of the events of a script a node is asked for acts alone
 abbrev pub asked_by_event : Option Event → Asked
@@ -31,11 +31,24 @@ asked_by_line None other = other
 abbrev pub sent_asked : ProcessId → List ℕ → Asked
 sent_asked root line = asked_by_line (line_at root line) (act_asked root line)
 
--- the outcome of this transaction, or that this case's decision is told once more, by the word
+-- the outcome of the transaction of this name
+abbrev pub outcome_asked : ProcessId → List ℕ → Option Asked
+outcome_asked root name = txn_at root name >>= λ x. Some (Outcome x)
+
+-- that the decision of the case of this name is told once more
+abbrev pub again_asked : ProcessId → List ℕ → Option Asked
+again_asked root name = case_at root name >>= λ c. Some (Again c)
+
+-- what is to be done with a branch of this name, if there is one
+abbrev pub resolve_asked : List ℕ → Option Asked
+resolve_asked name = if length name == 0 then None else Some (Resolve name)
+
+-- what is asked about this name, by the word before it
 abbrev pub asked_of_name : ProcessId → List ℕ → List ℕ → Option Asked
 asked_of_name root word name =
-    if same word (codes "outcome") then (txn_at root name >>= λ x. Some (Outcome x))
-    else if same word (codes "again") then (case_at root name >>= λ c. Some (Again c))
+    if same word (codes "outcome") then outcome_asked root name
+    else if same word (codes "again") then again_asked root name
+    else if same word (codes "resolve") then resolve_asked name
     else None
 
 -- what a line asks that is a word and a name

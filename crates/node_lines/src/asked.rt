@@ -2,14 +2,24 @@
 
 ghost use Rattle.std.specs.Prelude.{◌≡◌, IfOk};
 ghost use Rattle.script_words.specs.Steps.{same};
-ghost use Rattle.node_lines.specs.Asked.{act_asked, asked_at, end_word, longer_asked, named_asked, sent_asked};
+ghost use Rattle.node_lines.specs.Asked.{
+  act_asked,
+  again_asked,
+  asked_at,
+  end_word,
+  longer_asked,
+  named_asked,
+  outcome_asked,
+  resolve_asked,
+  sent_asked,
+};
 
 use crate::line::line_of;
 use link_script::{case_of, event_of, txn_of};
 use script_words::says_nothing;
 use spellings::word::cut;
 use std::alloc::{AllocError, Global};
-use tree_model::{Act, Case, Envelope, Event, ProcessId, Txn};
+use tree_model::{Act, Bytes, Case, Envelope, Event, ProcessId, Txn};
 
 /// What a line asks of a node.
 #[derive(Drop)]
@@ -28,6 +38,8 @@ pub enum Asked {
     Outcome(Txn),
     /// That whoever owes an acknowledgement of the case's decision is told it once more.
     Again(Case),
+    /// What is to be done with a prepared branch of this name, which is a text.
+    Resolve(Bytes),
     /// How its log stands.
     Status,
     /// What its log holds.
@@ -40,6 +52,8 @@ pub enum Asked {
     End,
     /// It is the line of nothing.
     Unknown,
+    /// It is no text: not UTF-8.
+    NoText,
 }
 
 /// What a line asks, over a tree with this root.
@@ -66,22 +80,49 @@ pub fn asked_of(alloc: Global, root: ProcessId, line: &str) -> Result<Asked, All
 fn longer_of(alloc: Global, root: ProcessId, line: &str) -> Result<Asked, AllocError>
     ensures { IfOk result (λ asked. asked ≡ longer_asked root line.now) }
 {
-    match named_of(root, line) {
+    match named_of(alloc, root, line)? {
         Some(asked) => Ok(asked),
         None => sent_of(alloc, root, line),
     }
 }
 
-/// What a line asks that is a word and a name: `outcome TXN` or `again CASE`.
+/// What a line asks that is a word and a name: `outcome TXN`, `again CASE` or `resolve NAME`.
 #[tactic(auto, unfolding(crate::specs::Asked::named_asked))]
-fn named_of(root: ProcessId, line: &str) -> Option<Asked>
-    ensures { result ≡ named_asked root line.now }
+fn named_of(alloc: Global, root: ProcessId, line: &str) -> Result<Option<Asked>, AllocError>
+    ensures { IfOk result (λ asked. asked ≡ named_asked root line.now) }
 {
-    match cut(line, ' ')? {
-        ("outcome", name) => Some(Asked::Outcome(txn_of(root, name)?)),
-        ("again", name) => Some(Asked::Again(case_of(root, name)?)),
-        _ => None,
+    match cut(line, ' ') {
+        None => Ok(None),
+        Some(("outcome", name)) => Ok(outcome_of(root, name)),
+        Some(("again", name)) => Ok(again_of(root, name)),
+        Some(("resolve", name)) => resolve_of(alloc, name),
+        Some(_) => Ok(None),
     }
+}
+
+/// The outcome of the transaction of this name.
+fn outcome_of(root: ProcessId, name: &str) -> Option<Asked>
+    ensures { result ≡ outcome_asked root name.now }
+{
+    Some(Asked::Outcome(txn_of(root, name)?))
+}
+
+/// The decision of the case of this name, once more.
+fn again_of(root: ProcessId, name: &str) -> Option<Asked>
+    ensures { result ≡ again_asked root name.now }
+{
+    Some(Asked::Again(case_of(root, name)?))
+}
+
+/// What is to be done with a branch of this name, if there is one.
+fn resolve_of(alloc: Global, name: &str) -> Result<Option<Asked>, AllocError>
+    ensures { IfOk result (λ asked. asked ≡ resolve_asked name.now) }
+{
+    if name.is_empty() {
+        return Ok(None);
+    }
+    let name = Bytes::from_slice(alloc, name.as_bytes())?;
+    Ok(Some(Asked::Resolve(name)))
 }
 
 /// A message or an act.

@@ -2,6 +2,7 @@
 
 use link_script::read_tree;
 use log_store::{LogStore, MemoryStore};
+use node_answers::Manner;
 use node_engine::{Nobody, Serving, StartError, run_node, start};
 use std::alloc::Global;
 use tree_model::{ProcessId, Tree};
@@ -268,6 +269,212 @@ data 79 32
 ok
 ";
 
+/// Lines of a root that is asked for branches, whose tree is called bank.
+const RESOLVES: &str = "\
+resolve a1.1
+resolve a1.1@4.1.1
+begin pa
+resolve a1.1@4.1.1
+join a1.1 4
+1 4->1 JOINED a1.1 4.1.1
+commit a1.1
+resolve a1.1@4.1.1
+2 4->1 YES a1.1@4.1.1
+resolve a1.1@4.1.1
+resolve bank:a1.1@4.1.1
+resolve 4003:62616e6b3a61312e31:342e312e31
+resolve shop:a1.1@4.1.1
+resolve a1.1@3.1.1
+resolve a1.1@2.1.1
+resolve a1.1
+resolve 7:00:
+resolve a1.1@9.1.1
+resolve
+3 4->1 ACK a1.1@4.1.1 commit
+resolve a1.1@4.1.1
+begin pc
+join c1.2 4
+4 4->1 JOINED c1.2 4.1.2
+commit c1.2
+resolve c1.2@4.1.2
+abort c1.2
+resolve c1.2@4.1.2
+resolve c1.9@4.1.9
+commit c1.9
+2 4->1 JOINED a1.1@9.1.1 4.1.1
+";
+
+const RESOLVES_SAID: &str = "\
+log 1 Opened 1 forced
+ok
+resolve a1.1 wait
+ok
+resolve a1.1@4.1.1 rollback
+ok
+begin a1.1
+ok
+resolve a1.1@4.1.1 wait
+ok
+1 1->4 JOIN a1.1
+ok
+ok
+2 1->4 PREPARE a1.1@4.1.1 0
+ok
+resolve a1.1@4.1.1 wait
+ok
+log 1 Commit a1.1 forced
+told a1.1 committed
+3 1->4 COMMIT a1.1@4.1.1
+ok
+resolve a1.1@4.1.1 commit
+ok
+resolve bank:a1.1@4.1.1 commit
+ok
+resolve 4003:62616e6b3a61312e31:342e312e31 commit
+ok
+resolve shop:a1.1@4.1.1 foreign
+ok
+resolve a1.1@3.1.1 unknown 2
+ok
+resolve a1.1@2.1.1 wait
+ok
+resolve a1.1 commit
+ok
+resolve 7:00: foreign
+ok
+resolve a1.1@9.1.1 foreign
+ok
+error no-line
+log 1 End a1.1 plain
+ok
+resolve a1.1@4.1.1 commit
+ok
+begin c1.2
+ok
+4 1->4 JOIN c1.2
+ok
+ok
+log 1 Collecting c1.2 forced
+5 1->4 PREPARE c1.2@4.1.2 0
+ok
+resolve c1.2@4.1.2 wait
+ok
+log 1 Abort c1.2 forced
+told c1.2 aborted
+6 1->4 ABORT c1.2@4.1.2
+ok
+resolve c1.2@4.1.2 rollback
+ok
+resolve c1.9@4.1.9 commit
+ok
+refused 3 no-case
+refused 9 not-here
+";
+
+/// Lines of a coordinator below the root that is asked for branches.
+const ASKED_ABOVE: &str = "\
+1 1->2 JOIN a1.1
+join a1.1@2.1.1 3
+1 3->2 JOINED a1.1@2.1.1 3.1.1
+2 1->2 PREPARE a1.1@2.1.1 0
+resolve a1.1@3.1.1
+2 3->2 YES a1.1@3.1.1
+resolve a1.1@3.1.1
+resolve a1.1@2.1.1
+resolve a1.1@3.1.2
+3 1->2 ABORT a1.1@2.1.1
+resolve a1.1@3.1.1
+resolve a1.1@2.1.1
+resolve a1.1@4.1.1
+";
+
+const ASKED_ABOVE_SAID: &str = "\
+log 2 Opened 1 forced
+ok
+1 2->1 JOINED a1.1 2.1.1
+ok
+2 2->3 JOIN a1.1@2.1.1
+ok
+ok
+3 2->3 PREPARE a1.1@3.1.1 0
+ok
+resolve a1.1@3.1.1 wait
+ok
+log 2 Prepare a1.1@2.1.1 forced
+4 2->1 YES a1.1@2.1.1
+ok
+resolve a1.1@3.1.1 unknown 1
+ok
+resolve a1.1@2.1.1 unknown 1
+ok
+resolve a1.1@3.1.2 wait
+ok
+log 2 Abort a1.1@2.1.1 plain
+5 2->3 ABORT a1.1@3.1.1
+ok
+resolve a1.1@3.1.1 rollback
+ok
+resolve a1.1@2.1.1 rollback
+ok
+resolve a1.1@4.1.1 unknown 1
+ok
+";
+
+/// Lines of a manager that is asked for branches, one of which an operator decides.
+const ASKED_BELOW: &str = "\
+1 1->4 JOIN a1.1
+2 1->4 WORK a1.1@4.1.1 1 put x 1
+resolve a1.1@4.1.1
+3 1->4 PREPARE a1.1@4.1.1 1
+resolve a1.1@4.1.1
+heur a1.1@4.1.1 rollback
+resolve a1.1@4.1.1
+4 1->4 COMMIT a1.1@4.1.1
+resolve a1.1@4.1.1
+5 1->4 JOIN a1.2
+6 1->4 WORK a1.2@4.1.2 1 put y 1
+7 1->4 PREPARE a1.2@4.1.2 1
+8 1->4 COMMIT a1.2@4.1.2
+resolve a1.2@4.1.2
+heur a1.1@4.1.1 commit
+";
+
+const ASKED_BELOW_SAID: &str = "\
+log 4 Opened 1 forced
+ok
+1 4->1 JOINED a1.1 4.1.1
+ok
+ok
+resolve a1.1@4.1.1 unknown 1
+ok
+log 4 Prepared a1.1@4.1.1 forced
+2 4->1 YES a1.1@4.1.1
+ok
+resolve a1.1@4.1.1 unknown 1
+ok
+log 4 HeurRollback a1.1@4.1.1 forced
+ok
+resolve a1.1@4.1.1 heuristic-rollback
+ok
+log 4 Told a1.1@4.1.1 forced
+3 4->1 ACK a1.1@4.1.1 commit mixed 4.1.1
+ok
+resolve a1.1@4.1.1 heuristic-rollback
+ok
+4 4->1 JOINED a1.2 4.1.2
+ok
+ok
+log 4 Prepared a1.2@4.1.2 forced
+5 4->1 YES a1.2@4.1.2
+ok
+log 4 Committed a1.2@4.1.2 forced
+6 4->1 ACK a1.2@4.1.2 commit
+ok
+resolve a1.2@4.1.2 commit
+ok
+refused 7 not-in-doubt
+";
+
 /// The tree in which process 4 has another parent.
 const MOVED: &str = "\
 [[process]]
@@ -310,6 +517,36 @@ ok
 
 /// Lets a store go.
 fn let_go(_store: MemoryStore) {}
+
+/// What a node that speaks by words, in a tree that is called bank, writes of these lines.
+fn spoken(alloc: Global, tree: &Tree, process: ProcessId, lines: &[u8]) -> Option<Vec<u8>> {
+    let entry = tree.entry(process)?;
+    let name = String::from_str(alloc, "bank").ok()?;
+    let store = MemoryStore::from_bytes(Vec::new(alloc));
+    let Ok((node, opening)) = start(alloc, tree, entry, store) else {
+        return None;
+    };
+    let mut reader = lines;
+    let mut out = Vec::new(alloc);
+    let ended = run_node(
+        alloc,
+        node.speaking(Manner::Words, Some(name)),
+        &opening,
+        &mut reader,
+        &mut out,
+        &mut Nobody,
+    );
+    let_go(ended.ok()?);
+    Some(out)
+}
+
+/// Whether such a node writes just this.
+fn speaks(alloc: Global, tree: &Tree, process: ProcessId, lines: &str, said: &str) -> bool {
+    match spoken(alloc, tree, process, lines.as_bytes()) {
+        None => false,
+        Some(out) => out.as_slice() == said.as_bytes(),
+    }
+}
 
 /// The store of a node that ended in order, of which a crash takes what it can, where it wrote just this.
 fn served(
@@ -430,6 +667,15 @@ pub fn run(alloc: Global, tree: &Tree) -> &'static str {
     }
     if !says(alloc, tree, ProcessId(4), HELD, HELD_SAID) {
         return "what a log holds is told otherwise";
+    }
+    if !speaks(alloc, tree, ProcessId(1), RESOLVES, RESOLVES_SAID) {
+        return "a root resolves otherwise";
+    }
+    if !speaks(alloc, tree, ProcessId(2), ASKED_ABOVE, ASKED_ABOVE_SAID) {
+        return "a coordinator below the root resolves otherwise";
+    }
+    if !speaks(alloc, tree, ProcessId(4), ASKED_BELOW, ASKED_BELOW_SAID) {
+        return "a manager resolves otherwise";
     }
     if !sees_change(alloc, tree) {
         return "a tree that has changed is not seen";

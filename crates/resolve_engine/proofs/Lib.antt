@@ -2,5 +2,6 @@ mod Standings
 mod Namings
 mod Words
 mod Climbs
-mod TrueAnswers
+pub mod TrueAnswers
 mod Giving
+pub mod Sound

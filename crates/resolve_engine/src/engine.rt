@@ -1,11 +1,12 @@
 //! The engine of `rstar resolve`.
 
-ghost use Rattle.std.specs.Prelude.{◌≡◌, ◌++◌, ℕ, List, IfOk, IfErr, OnOk, option_map};
+ghost use Rattle.std.specs.Prelude.{◌≡◌, ◌++◌, ℕ, List, None, IfOk, IfErr, OnOk, option_map};
 ghost use Rattle.std.specs.Io.KnownBytes.{Appends, Keeps};
 ghost use Rattle.report_io.specs.Streams.{IsInput, WritesFront};
+ghost use Rattle.tree_audit.specs.Reports.{IsNoReport, kept_lists};
 ghost use Rattle.tree_headline.specs.auditor.Audits.{Logs};
 ghost use Rattle.tree_model.specs.Trees.{IsTree};
-ghost use Rattle.logs_script.specs.Faults.{fault_text};
+ghost use Rattle.logs_script.specs.Faults.{fault_text, first_damage};
 ghost use Rattle.link_script.specs.declared.script.ScriptFault.TheVariants.{Utf8};
 ghost use Rattle.resolve_engine.specs.Answers.{answer_of};
 ghost use Rattle.branch_names.specs.Cases.{IsPlaced};
@@ -14,7 +15,7 @@ ghost use Rattle.resolve_engine.specs.Reports.{GivesAll, GivesOne, IsResolveRepo
 ghost use Rattle.resolve_engine.specs.declared.engine.Ending.{Ending as AnyEnding};
 
 use crate::answer::{Answer, Reason, Word};
-use crate::asked::{Asked, Form};
+use crate::asked::{Asked, Form, Trust};
 use crate::finding::Finder;
 use crate::lines::{push_explained, push_line};
 use crate::reading::read_some_logs;
@@ -156,6 +157,27 @@ fn answer_to(alloc: Global, finder: &Finder, naming: Naming) -> Result<Answer, A
             reason: Reason::NoName,
         }),
     }
+}
+
+/// What is answered of what a name is of, by these logs of a tree; those of some processes may be missing. Damaged: the
+/// first log in the order of the tree that is.
+pub fn answer_named(
+    alloc: Global,
+    tree: &Tree,
+    logs: &[ProcessLog],
+    trust: Trust,
+    naming: Naming,
+) -> Result<Answer, AuditError>
+    requires tree { IsTree tree.now }
+    requires placed { IsPlaced tree.now naming }
+    ensures sound { OnOk result (first_damage tree.now logs.now ≡ None) }
+    ensures ok { IfOk result (λ answer. answer ≡ naming_answer
+        (answer_of trust tree.now logs.now (kept_lists tree.now logs.now)) naming) }
+    ensures err { IfErr result (λ e. IsNoReport tree.now logs.now e) }
+{
+    let notes = all_notes(alloc, tree, logs)?;
+    let finder = Finder::new(alloc, tree, logs, &notes, trust)?;
+    Ok(answer_to(alloc, &finder, naming)?)
 }
 
 /// Whether a name has to wait, or a log is wanted for it.

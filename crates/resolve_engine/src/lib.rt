@@ -25,6 +25,7 @@ mod sql;
 
 pub use answer::{Answer, Reason, Word};
 pub use asked::{Asked, Database, Form, Trust};
-pub use engine::{Ending, run_resolve};
+pub use engine::{Ending, answer_named, run_resolve};
 pub use finding::Finder;
+pub use lines::push_answer;
 pub use reading::read_some_logs;

@@ -1,3 +1,2 @@
 mod Kept
-mod Reading
 pub mod Truly

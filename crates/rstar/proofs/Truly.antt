@@ -50,7 +50,7 @@ use Rattle.rstar.specs.Laws.{AuditsOfLeftLogsAreTrue, AuditsTruly}
 use Rattle.left_logs.proofs.Entries.{none_failed}
 use Rattle.rstar.proofs.Kept.{own_kept}
 use Rattle.left_logs.proofs.Left.{logs_fit, spells_at}
-use Rattle.rstar.proofs.Reading.{IsSoundLog, sound_at, sound_records}
+use Rattle.resolve_engine.proofs.Sound.{IsSoundLog, sound_at, sound_records}
 use Rattle.left_logs.proofs.Undamaged.{entry_log, none_damaged, some_node}
 use Rattle.left_logs.proofs.Unfailed.{NoneFailed, all_up}
 

@@ -3,13 +3,14 @@
 use crate::tell;
 use line_faults::{Script, finding_of};
 use node_engine::Witness;
+use spellings::word::cut;
 use std::alloc::{AllocError, Global};
 use std::str;
 
 /// The lines that a node takes.
 const LINES: &str =
     "begin, join, work, commit, abort, ask, heur and forget as `rstar tree` has them, \
-                     N F->T MESSAGE as another node wrote it, trim, doubt, outcome TXN, again CASE, status, log, data, help or end";
+                     N F->T MESSAGE as another node wrote it, trim, doubt, outcome TXN, again CASE, resolve NAME, status, log, data, help or end";
 
 /// Tells on standard error of each line that a node refuses, if it is to.
 #[derive(Drop)]
@@ -91,14 +92,18 @@ fn told(
         Err(_) => "",
     };
     let shown = shown(alloc, text)?;
-    if answer == "error\n" {
+    if answer.starts_with("error") {
         let fault = fault(alloc, text)?;
         return Ok(Some(format!(in alloc; "line {number}: {shown}\n{fault}")?));
     }
     match answer.strip_prefix("refused ") {
         None => Ok(None),
         Some(rest) => {
-            let error = rest.trim_end();
+            let rest = rest.trim_end();
+            let error = match cut(rest, ' ') {
+                None => rest,
+                Some((number, _)) => number,
+            };
             let why = reason(text, error);
             Ok(Some(format!(in alloc; "line {number}: {shown}\nrefused {error}: {why}\n")?))
         }

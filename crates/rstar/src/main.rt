@@ -229,7 +229,9 @@ TREE is a file with the processes as TOML, ME the number of one of them, LOG the
 log; with --new it is made, and without it a log that is missing is not begun anew. One process
 has a log at a time. A log of the first format is migrated first ('rstar migrate --help'). Where
 it does not start, standard error tells why; with --explain also what is wrong with each line
-that it refuses.
+that it refuses. With --words a refusal has a word after its number, as 'refused 5 closed', and
+'error' one, no-line or no-text. --name says how the names of the tree's branches in databases
+begin, for 'resolve'.
 
 In, a line each, answered in order, each before the next is read:
   begin pa|pc, join, work, commit, abort, ask, heur, forget    as 'rstar tree --help' has them
@@ -246,6 +248,12 @@ In, a line each, answered in order, each before the next is read:
   again CASE                           the decision of the case once more, to each child that it
                                        names: for one whose acknowledgement was lost. Nothing is
                                        recorded; refused 9, if the case waits for none
+  resolve NAME                         what is to be done with a prepared branch of this name, as
+                                       'rstar resolve' reads names: 'resolve NAME commit',
+                                       'rollback', 'heuristic-commit', 'heuristic-rollback',
+                                       'wait', 'unknown PROCESS' or 'foreign'. It goes by this
+                                       process's log alone; what is not in it counts at the root,
+                                       of a transaction that is not under way
   status                               'status boot B records N unforced N bytes N in-doubt N
                                        decided N' of the log
   log                                  what the log holds, as 'rstar log' has it
@@ -392,7 +400,19 @@ fn node_grammar<'a>(alloc: Global) -> Result<Command<'a>, AllocError> {
         alloc,
         "explain",
         "Tells on standard error what is wrong with each line that is refused",
-    ))
+    ))?
+    .arg(flag(
+        alloc,
+        "words",
+        "Says a word after the number of a refusal, and after 'error'",
+    ))?
+    .arg(
+        Arg::new(alloc, "name")
+            .long("name")
+            .value_name("NAME")
+            .help("The name of the tree, as the names of its branches in databases begin")
+            .action(ArgAction::Set),
+    )
 }
 
 /// The words after the program's name, and what help says of them.
@@ -467,6 +487,8 @@ fn node_of<'a>(matches: &ArgMatches<'a>) -> Option<NodeWords<'a>> {
         log: matches.get_str("LOG")?,
         is_new: matches.get_flag("new"),
         is_explained: matches.get_flag("explain"),
+        has_words: matches.get_flag("words"),
+        name: matches.get_str("name"),
     })
 }
 

@@ -6,6 +6,7 @@ use crate::files::{
     tree_in, warn,
 };
 use file_store::{FileStore, HostFile, Trouble};
+use node_answers::Manner;
 use node_engine::{NodeFailure, Serving, StartError, run_node, start};
 use std::alloc::{AllocError, Global};
 use std::io::{self, BufReader};
@@ -13,7 +14,7 @@ use tree_model::Reaction;
 use tree_node::ReopenError;
 
 /// The words behind `rstar node`: the file of the tree, the process, the file of its log, and whether that is
-/// to be made; and whether what is refused is explained.
+/// to be made; whether what is refused is explained, and said by words; and the name of the tree.
 #[derive(Clone, Copy)]
 pub struct NodeWords<'a> {
     pub tree: &'a str,
@@ -21,6 +22,8 @@ pub struct NodeWords<'a> {
     pub log: &'a str,
     pub is_new: bool,
     pub is_explained: bool,
+    pub has_words: bool,
+    pub name: Option<&'a str>,
 }
 
 /// A node over a log in a file.
@@ -48,18 +51,39 @@ struct OpenNode {
     trouble: Trouble,
 }
 
+/// How much the node says of what it refuses.
+fn manner_of(words: NodeWords<'_>) -> Manner {
+    if words.has_words {
+        Manner::Words
+    } else {
+        Manner::Numbers
+    }
+}
+
+/// The name of the tree, if one is given.
+fn name_of(alloc: Global, words: NodeWords<'_>) -> Result<Option<String>, End> {
+    let Some(name) = words.name else {
+        return Ok(None);
+    };
+    match String::from_str(alloc, name) {
+        Ok(name) => Ok(Some(name)),
+        Err(_) => Err(no_memory(alloc, words.log)),
+    }
+}
+
 /// The node of these words. Its file is written only once it is known that the process goes on over the log.
 fn started(rt: &HostRuntime, words: NodeWords<'_>) -> Result<OpenNode, End> {
     let alloc = rt.alloc();
     let tree = tree_in(rt, words.tree)?;
     let entry = entry_of(alloc, &tree, words.me)?;
+    let name = name_of(alloc, words)?;
     let seen = log_in(rt, words.log, words.is_new)?;
     judged(alloc, words.log, &tree, entry, seen.bytes())?;
     warn(rt, words.log, entry, seen.bytes());
     let (store, trouble) = settled(alloc, words.log, seen)?;
     match start(alloc, &tree, entry, store) {
         Ok((node, opening)) => Ok(OpenNode {
-            node,
+            node: node.speaking(manner_of(words), name),
             opening,
             trouble,
         }),

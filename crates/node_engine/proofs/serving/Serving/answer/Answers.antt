@@ -9,11 +9,11 @@ pub returns-in_err-error_text-in-Err-clause-err : goal.returns-in_err-error_text
 returns-in_err-error_text-in-Err-clause-err g c =
     passed_on c.from_residual.result Memory (TakesLine c.args.line.now (state_of c.args.self.now)
     (state_of c.args.self.now)) c.from_residual.ensures.1
-    (record { asked = asked.Unknown; asks = inr (c.in-Err.ensures.cases.0, refl); takes = (refl, refl) })
+    (record { asked = asked.NoText; asks = inr (c.in-Err.ensures.cases.0, refl); takes = (refl, refl) })
 
 pub returns-in_ok-error_text-in-Err-clause-ok : goal.returns-in_ok-error_text-in-Err-clause-ok
 returns-in_ok-error_text-in-Err-clause-ok g c = record {
-  asked = asked.Unknown;
+  asked = asked.NoText;
   asks = inr (c.in-Err.ensures.cases.0, refl);
   answers = (refl, c.in_ok-error_text-in-Err.ensures);
 }

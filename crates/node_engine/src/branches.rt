@@ -1,0 +1,96 @@
+//! What is to be done with a prepared branch, by the log of one process that runs.
+
+ghost use Rattle.std.specs.Prelude.{◌≡◌, IfOk, option_map};
+ghost use Rattle.branch_names.specs.Cases.{IsPlaced};
+ghost use Rattle.node_engine.specs.Branches.{IsAnswer, name_text as text_of_name, own_logs, trust_by as trust_in};
+
+use branch_names::Naming;
+use logs_script::ProcessLog;
+use node_answers::{Manner, refused_text};
+use resolve_engine::{Answer, Trust, answer_named, push_answer};
+use std::alloc::{AllocError, Global};
+use trace_lines::push;
+use tree_audit::AuditError;
+use tree_model::{ProcessId, Sequence, Standing, StepError, Tree};
+
+/// How far the log of a process counts, by whether it is the root of a branch below it, and by where the root's case of the
+/// transaction stands there.
+pub(crate) fn trust_by(is_above: bool, standing: Standing) -> Trust
+    ensures { result ≡ trust_in is_above standing }
+{
+    match (is_above, standing) {
+        (true, Standing::Unknown) => Trust::Complete,
+        _ => Trust::Parts,
+    }
+}
+
+/// The log of the process alone.
+fn own(alloc: Global, me: ProcessId, log: Vec<u8>) -> Result<Vec<ProcessLog>, AllocError>
+    ensures { IfOk result (λ logs. logs.items ≡ own_logs me log.items) }
+{
+    let mut logs = Vec::new(alloc);
+    logs.push(ProcessLog {
+        process: me,
+        bytes: Sequence::from_vec(log),
+    })?;
+    Ok(logs)
+}
+
+/// The answer to what a name is of, by these logs of this tree; None, if one of them does not read.
+#[tactic(auto, using(crate::proofs::Resolving::none_of_a_fault, crate::proofs::Resolving::none_of_a_damage))]
+fn answered(
+    alloc: Global,
+    tree: &Tree,
+    logs: &[ProcessLog],
+    trust: Trust,
+    naming: Naming,
+) -> Result<Option<Answer>, AllocError>
+    requires { IsPlaced tree.now naming }
+    ensures { IfOk result (IsAnswer tree.now logs.now trust naming) }
+{
+    match tree.check() {
+        Err(_) => Ok(None),
+        Ok(()) => match answer_named(alloc, tree, logs, trust, naming) {
+            Ok(answer) => Ok(Some(answer)),
+            Err(AuditError::Damaged(_, _)) => Ok(None),
+            Err(AuditError::Memory) => Err(AllocError),
+        },
+    }
+}
+
+/// The answer to what a name is of, by this log of the process; None, if it does not read.
+pub(crate) fn found_in(
+    alloc: Global,
+    tree: &Tree,
+    me: ProcessId,
+    log: Vec<u8>,
+    trust: Trust,
+    naming: Naming,
+) -> Result<Option<Answer>, AllocError>
+    requires { IsPlaced tree.now naming }
+    ensures { IfOk result (IsAnswer tree.now (own_logs me log.items) trust naming) }
+{
+    let logs = own(alloc, me, log)?;
+    answered(alloc, tree, &logs, trust, naming)
+}
+
+/// What is told of a name; without an answer a refusal.
+pub(crate) fn name_text(
+    alloc: Global,
+    manner: Manner,
+    name: &str,
+    answer: &Option<Answer>,
+) -> Result<Vec<u8>, AllocError>
+    ensures { IfOk result (λ text. text.items ≡ text_of_name manner name.now answer.now) }
+{
+    match answer {
+        None => refused_text(alloc, manner, StepError::NoSuch),
+        Some(answer) => {
+            let mut out = Vec::new(alloc);
+            push(&mut out, "resolve ")?;
+            push_answer(&mut out, name, answer.word)?;
+            push(&mut out, "\nok\n")?;
+            Ok(out)
+        }
+    }
+}
