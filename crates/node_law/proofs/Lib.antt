@@ -9,3 +9,4 @@ pub mod Files
 pub mod Sending
 pub mod Repeats
 pub mod Branches
+pub mod AtHome

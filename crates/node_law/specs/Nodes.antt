@@ -33,6 +33,7 @@ use Rattle.node_lines.specs.declared.asked.Asked.{Asked}
 use Rattle.node_lines.specs.declared.asked.Asked.TheVariants as asked
 use Rattle.node_engine.specs.declared.failure.NodeFailure.{NodeFailure}
 use Rattle.node_engine.specs.Answers.{Answers, AnswersIf, AnswersLine, NodeState, Takes, TakesIf, TakesLine, hears, leaves_it, owed_at, takes_it}
+use Rattle.node_engine.specs.Starts.{NamesOthers}
 use Rattle.node_lines.specs.Speakers.{may_speak}
 use Rattle.log_news.specs.declared.news.News.{News}
 use Rattle.node_answers.specs.Texts.{news_text, ok_text, refused_text}
@@ -282,6 +283,13 @@ abbrev pub NodesFindTheirLogs : Type 0
 NodesFindTheirLogs = (s : WorldState) (es : List Made) (w : World) → IsTree s.tree → FollowsBehindFaults es w s
     → (q : ProcessId) (c : CoreState) → s.node_at q ≡ Some c → (bytes : List ℕ) (h : FindsLog c bytes)
     → Keeps (form_of c.place) c bytes (length bytes - h.forced)
+
+-- What was found of a process's own log names nobody else: at its next start no node calls it the log of another process or
+-- of another tree.
+abbrev pub OwnFilesAreAtHome : Type 0
+OwnFilesAreAtHome = (s : WorldState) (es : List Made) (w : World) → IsTree s.tree → FollowsBehindFaults es w s
+    → (e : TreeEntry) → find (λ x. same_process x.id e.id) s.tree ≡ Some e
+    → (c : CoreState) → s.node_at e.id ≡ Some c → (bytes : List ℕ) → FindsLog c bytes → NamesOthers s.tree e bytes → ⊥
 
 -- What was found of a process's own log is whole: at its next start no node calls it damaged, nor a log of the first format.
 module _ {L : Type 0} (bytes : L → List ℕ) (forced failures : L → ℕ) where

@@ -6,6 +6,7 @@ ghost use Rattle.node_law.specs.Nodes.{
   NodesAreRuns,
   NodesFindTheirLogs,
   OutcomesAreTold,
+  OwnFilesAreAtHome,
   OwnFilesAreRead,
   RepeatsWereSent,
   SentMaySpeak,
@@ -60,6 +61,12 @@ pub fn stores_leave_files<F: LogFile>(store: &FileStore<F>)
 /// found behind the forced ones.
 pub fn nodes_find_their_logs()
     ensures { NodesFindTheirLogs }
+{}
+
+/// What was found of a process's own log names nobody else: no node calls it, at its next start, the log of another process
+/// or of another tree.
+pub fn own_files_are_at_home()
+    ensures { OwnFilesAreAtHome }
 {}
 
 /// What was found of a process's own log is called neither damaged nor of the first format, whatever its process
