@@ -1,10 +1,12 @@
 -- The frames of the records that stay in a trim.
-use Rattle.std.proofs.Common.{◌≡◌, ◌≤◌, ◌+◌, ◌-◌, ℕ, suc, Bool, true, false, if◌then◌else◌, List, [], ◌∷◌, ◌++◌, length, take, Option, Some, None, fold, refl, sym, ap, subst, ◌∙◌, arith, append-nil, append_assoc, length-append}
+use Rattle.std.proofs.Common.{◌≡◌, ◌≤◌, ◌+◌, ◌-◌, ℕ, suc, Bool, true, false, if◌then◌else◌, List, [], ◌∷◌, ◌++◌, length, map, take, Option, Some, None, fold, refl, sym, ap, subst, ◌∙◌, arith, append-nil, append_assoc, length-append}
 use Rattle.std.proofs.Math.Seq.{take-append_seam}
 use Rattle.log_text.specs.declared.form.LogForm.{LogForm}
 use Rattle.tree_model.specs.declared.records.LogRecord.{LogRecord}
 use Rattle.log_text.specs.Frames.{Cut, first_frame}
 use Rattle.log_text.specs.Forms.{header}
+use Rattle.log_text.specs.declared.encode.Frame.{Frame}
+use Rattle.log_text.specs.Made.{frame_record}
 use Rattle.log_text.specs.Payloads.{records_text}
 use Rattle.log_text.specs.Reading.{read_record}
 use Rattle.tree_model.specs.Records.{is_opened}
@@ -16,9 +18,10 @@ use Rattle.log_rules.proofs.trim.Marked.{marked_is, opens_is}
 use Rattle.log_rules.specs.trim.Trims.{front_of_trim, last_opened, opened_after}
 use Rattle.log_rules.proofs.trim.Picks.{picks_what_stays}
 use Rattle.rec_log.specs.Texts.{and_records, is_whole, records_by, records_in, whole_by, whole_if}
-use Rattle.rec_log.specs.Sights.{AreRecords, LogState, NotRewritten, Rewritten, body, log_state, records_of}
-use Rattle.rec_log.specs.Trimming.{BeginsWith, Holds, Spells, Trimmed, opened_count, trim_of}
+use Rattle.rec_log.specs.Sights.{AreRecords, IsLogText, LogState, NotRewritten, Rewritten, body, log_state, records_of}
+use Rattle.rec_log.specs.Trimming.{BeginsWith, Holds, IsTrimmed, Spells, Trimmed, opened_count, trim_of}
 use Rattle.rec_log.specs.declared.log.LogError.{LogError}
+use Rattle.rec_log.proofs.Known.{log_is_long}
 use Rattle.rec_log.proofs.Turns.{records_stand}
 use Rattle.rec_log.proofs.Frames.{no_records, nothing_whole, step, step_whole}
 use Rattle.rec_log.proofs.Openings.{frame_at}
@@ -292,7 +295,7 @@ text_of_trim p text kept ls rs e s are =
 
 -- A log that was trimmed.
 
-kept_is : (p : LogForm) (text bytes : List ℕ) (forced failures room : ℕ) (failed : Bool) (s : LogState)
+pub kept_is : (p : LogForm) (text bytes : List ℕ) (forced failures room : ℕ) (failed : Bool) (s : LogState)
     → log_state p text forced failures room failed ≡ s → bytes ≡ body text
     → records_in p 0 bytes ≡ records_of s.sight.kept
 kept_is p text bytes forced failures room failed s view e =
@@ -325,3 +328,54 @@ pub not_trimmed : (seen old new : LogState) (ls rs : List LogRecord) (e : LogErr
     → ls ≡ trim_of old rs → NotRewritten seen new ls e → NotRewritten old new (trim_of old rs) e
 not_trimmed seen old new ls rs e view is r =
     subst (λ s. NotRewritten s new (trim_of old rs) e) view (subst (λ ms. NotRewritten seen new ms e) is r)
+
+-- A trim that leaves the log as it is.
+
+pub trimmed_same : (p : LogForm) (text text' : List ℕ) (o : Option ℕ) → IsTrimmed p text o → text' ≡ text
+    → IsTrimmed p text' o
+trimmed_same p text text' o h e = subst (λ t. IsTrimmed p t o) (sym e) h
+
+-- the log's own bytes are what a trim leaves of it
+pub trims_to_itself : (p : LogForm) (text bytes : List ℕ) (forced failures room count : ℕ) (failed : Bool) (s : LogState)
+    (rs : List LogRecord) → log_state p text forced failures room failed ≡ s → IsLogText p text forced failed
+    → IsTrimmed p text (Some count) → failed ≡ false → bytes ≡ text → rs ≡ []
+    → Spells p bytes (trim_of s rs) × (count ≡ length (trim_of s rs))
+trims_to_itself p text bytes forced failures room count failed s rs view is t works e none =
+    let stands = kept_is p text (body text) forced failures room failed s view refl in
+    let same : records_in p 0 (body text) ≡ trim_of s rs =
+    sym t.0 ∙ ap front_of_trim stands ∙ sym (append-nil (front_of_trim (records_of s.sight.kept)))
+    ∙ ap (λ ls. front_of_trim (records_of s.sight.kept) ++ ls) (sym none) in
+    let own : Spells p text (trim_of s rs) =
+    record {
+      begins = is.begins;
+      long = log_is_long p text forced failed is;
+      holds = record { whole = is.whole works; read = same };
+    } in (
+      subst (λ b. Spells p b (trim_of s rs)) (sym e) own,
+      t.1 ∙ ap length same,
+    )
+
+pub no_frames : (frames : List Frame) → length frames ≡ 0 → map frame_record frames ≡ []
+no_frames [] e = refl
+no_frames (f ∷ fs) e = absurd (omega (arith, e))
+
+-- a trim left the log as it was
+pub trim_left : (p q : LogForm) (text text' asked : List ℕ) (forced failures room forced' failures' room' count : ℕ)
+    (failed failed' : Bool) (old new : LogState) (rs : List LogRecord)
+    → log_state p text forced failures room failed ≡ old → log_state q text' forced' failures' room' failed' ≡ new
+    → q ≡ p → asked ≡ text → rs ≡ [] → records_in p 0 (body asked) ≡ trim_of old rs
+    → Rewritten old new (trim_of old rs) → count ≡ length (trim_of old rs) → IsTrimmed q text' (Some count)
+trim_left p q text text' asked forced failures room forced' failures' room' count failed failed' old new rs view view' same e none read r c =
+    let before = kept_is p text (body text) forced failures room failed old view refl in
+    let after = kept_is q text' (body text') forced' failures' room' failed' new view' refl in
+    let made : records_of new.sight.kept ≡ trim_of old rs =
+    (λ i. r.forced i ++ r.unforced i) ∙ append-nil (trim_of old rs) in
+    let old_is : records_of old.sight.kept ≡ trim_of old rs =
+    sym before ∙ ap (λ t. records_in p 0 (body t)) (sym e) ∙ read in
+    let front : trim_of old rs ≡ front_of_trim (records_of old.sight.kept) =
+    ap (λ ls. front_of_trim (records_of old.sight.kept) ++ ls) none
+    ∙ append-nil (front_of_trim (records_of old.sight.kept)) in
+    let now : records_in q 0 (body text') ≡ trim_of old rs = after ∙ made in (
+      ap front_of_trim (now ∙ sym old_is) ∙ sym front ∙ sym now,
+      c ∙ ap length (sym now),
+    )

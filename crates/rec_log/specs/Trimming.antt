@@ -1,5 +1,5 @@
 -- A log that is put in place of another, and what a trim leaves.
-use Rattle.std.specs.Prelude.{◌≡◌, ◌≤◌, ◌<◌, ℕ, true, List, [], ◌∷◌, ◌++◌, length, take}
+use Rattle.std.specs.Prelude.{◌≡◌, ◌≤◌, ◌<◌, ⊤, ℕ, true, Option, None, Some, List, [], ◌∷◌, ◌++◌, length, take}
 use Rattle.log_text.specs.declared.form.LogForm.{LogForm}
 use Rattle.tree_model.specs.declared.records.LogRecord.{LogRecord}
 use Rattle.log_text.specs.Forms.{header}
@@ -28,6 +28,13 @@ pub record BeginsWith (p : LogForm) (bytes frame : List ℕ) (m : Mark) (rest : 
   pub read : records_in p 0 bytes ≡ first ∷ records_in p 0 rest
   pub whole : is_whole p 0 rest ≡ true
   pub shorter : length rest < length bytes
+
+-- where a count is told, a trim with nothing behind leaves the records as they are, and so many they are
+abbrev pub IsTrimmed : LogForm → List ℕ → Option ℕ → Type 0
+IsTrimmed p text None = ⊤
+IsTrimmed p text (Some count) =
+    (front_of_trim (records_in p 0 (body text)) ≡ records_in p 0 (body text))
+    × (count ≡ length (records_in p 0 (body text)))
 
 -- how many records the frame of the last Opened is: none, where there are no bytes
 abbrev pub opened_count : List ℕ → ℕ

@@ -14,7 +14,7 @@ ghost use Rattle.rec_log.specs.Restarting.{BreaksLeft, PutsLeft, WritesLeft};
 ghost use Rattle.rec_log.specs.Texts.{records_in};
 ghost use Rattle.rec_log.specs.Trimming.{Spells, Trimmed, trim_of};
 
-use crate::opening::{Found, OpenError, find, is_old};
+use crate::opening::{Found, OpenError, find, is_old, is_same};
 use crate::trimming::{TrimmedText, trimmed_text};
 use log_store::{LogStore, MemoryStore, StoreError};
 use log_text::{Frame, HEADER_SIZE, LogForm, LogFormat, ReadFault, first_frame, read_record};
@@ -55,10 +55,14 @@ pub struct RecLog<L: LogStore> {
     /// looks for the end of the last whole record after them alone.
     known: usize,
     failed: bool,
+    /// How many records stand, if the last trim had none to put behind them and left the log as it was, and nothing
+    /// was written since: the next such trim leaves it as it is, too.
+    trimmed: Option<usize>,
 }
 
 impl<L: LogStore> Model for RecLog<L> {
     ghost use Rattle.rec_log.specs.Sights.{IsKnown, IsLogText, LogState, log_state};
+    ghost use Rattle.rec_log.specs.Trimming.{IsTrimmed};
 
     ghost Value = { LogState };
 
@@ -66,7 +70,8 @@ impl<L: LogStore> Model for RecLog<L> {
         (L.room l.store) l.failed };
 
     ghost invariant = { λ l. IsLogText l.form (L.bytes l.store) (L.forced l.store) l.failed
-        × IsKnown l.form (L.bytes l.store) (L.forced l.store) l.known };
+        × IsKnown l.form (L.bytes l.store) (L.forced l.store) l.known
+        × IsTrimmed l.form (L.bytes l.store) l.trimmed };
 }
 
 /// The bytes behind the header.
@@ -319,6 +324,16 @@ fn settled_as<L: LogStore + Drop>(
     }
 }
 
+/// Whether no frames are to stand behind, and the text is these bytes.
+fn is_unchanged(behind: &[Frame], text: &[u8], bytes: &[u8]) -> bool
+    ensures { result ≡ true → (map frame_record behind.now ≡ []) × (text.now ≡ bytes.now) }
+{
+    if !behind.is_empty() {
+        return false;
+    }
+    is_same(text, bytes)
+}
+
 /// How many bytes are known to be whole records and forced, of so many that are whole records and so many that are
 /// forced.
 fn known_of(size: usize, forced: usize) -> usize
@@ -352,6 +367,7 @@ impl<L: LogStore + Drop> RecLog<L> {
             store,
             known,
             failed: false,
+            trimmed: None,
         })
     }
 }
@@ -394,6 +410,7 @@ impl<L: LogStore> RecLog<L> {
         ensures err { IfErr result (λ e. (e ≡ LogError.Device)
             × Breaks self.old self.new (frame_record frame.now ∷ [])) }
     {
+        self.trimmed = None;
         if let Err(_) = append_frame(&mut self.store, self.form, frame) {
             self.failed = true;
             return Err(LogError::Device);
@@ -488,6 +505,7 @@ impl<L: LogStore> RecLog<L> {
         if let Err(_) = self.store.reserve(left.text.len()) {
             return Err(LogError::Memory);
         }
+        self.trimmed = None;
         self.store.crash(keep);
         match write_left(&mut self.store, left.is_torn, &left.text) {
             Ok(()) => {
@@ -532,6 +550,7 @@ impl<L: LogStore> RecLog<L> {
         if let Err(_) = self.store.reserve(text.len()) {
             return Err(LogError::Memory);
         }
+        self.trimmed = None;
         if let Err(_) = self.store.replace(text) {
             self.known = HEADER_SIZE;
             self.failed = true;
@@ -541,10 +560,30 @@ impl<L: LogStore> RecLog<L> {
         Ok(())
     }
 
+    /// The log that a trim leaves.
+    fn after_trim(&self, behind: &[Frame], alloc: Global) -> Result<TrimmedText, AllocError>
+        requires works { self.now.sight.failed ≡ false }
+        requires sound { AreRecords self.now.sight.form.kind (map frame_record behind.now) }
+        ensures text { IfOk result (λ log. Spells self.now.sight.form log.text.items
+            (trim_of self.now (map frame_record behind.now))) }
+        ensures count { IfOk result (λ log. log.count ≡ length (trim_of self.now (map frame_record behind.now))) }
+    {
+        let bytes = self.store.bytes();
+        match self.trimmed {
+            Some(count) if behind.is_empty() => {
+                let text = Vec::from_slice(alloc, bytes)?;
+                Ok(TrimmedText { text, count })
+            }
+            _ => trimmed_text(self.form, body(bytes), behind, alloc),
+        }
+    }
+
     /// Puts the records that stay in a trim in place of all that stand, and these behind them, forced by one
     /// `replace`: the last Opened, the records of the cases and branches that are not forgotten, and these.
     /// Gives how many they are. All memory is taken before. Memory: nothing changed. Device: the log stands
     /// as it was or trimmed, and the log has failed.
+    ///
+    /// After a trim that left the log as it was, the next one puts the same bytes in place and does not read them.
     pub fn trim(&mut self, behind: &[Frame], alloc: Global) -> Result<usize, LogError>
         requires works { self.old.sight.failed ≡ false }
         requires sound { AreRecords self.old.sight.form.kind (map frame_record behind.now) }
@@ -553,14 +592,18 @@ impl<L: LogStore> RecLog<L> {
         ensures err { IfErr result (λ e. NotRewritten self.old self.new
             (trim_of self.old (map frame_record behind.now)) e) }
     {
-        let bytes = self.store.bytes();
-        let trimmed = match trimmed_text(self.form, body(bytes), behind, alloc) {
+        let TrimmedText { text, count } = match self.after_trim(behind, alloc) {
             Ok(trimmed) => trimmed,
             Err(_) => return Err(LogError::Memory),
         };
-        let TrimmedText { text, count } = trimmed;
+        let is_same = is_unchanged(behind, &text, self.store.bytes());
         match self.put(&text) {
-            Ok(()) => Ok(count),
+            Ok(()) => {
+                if is_same {
+                    self.trimmed = Some(count);
+                }
+                Ok(count)
+            }
             Err(error) => Err(error),
         }
     }
