@@ -1,15 +1,16 @@
 //! A log as its records.
 
-ghost use Rattle.std.specs.Prelude.{◌≡◌, ◌≤◌, ◌<◌, ◌+◌, ◌++◌, ◌∷◌, ◌⊎◌, [], true, false, IfOk, IfErr, OnOk, drop, length, map, take};
+ghost use Rattle.std.specs.Prelude.{◌≡◌, ◌≤◌, ◌<◌, ◌+◌, ◌++◌, ◌∷◌, ◌⊎◌, [], true, false, IfOk, IfErr, OnOk, List, drop, length, map, take};
 ghost use Rattle.std.specs.List.{AllByRecursion};
 ghost use Rattle.log_rules.specs.sound.Sound.{IsSound};
 ghost use Rattle.log_text.specs.Forms.{header, log_form};
 ghost use Rattle.log_text.specs.Made.{frame_record};
 ghost use Rattle.log_text.specs.Payloads.{record_size, record_text, records_text};
-ghost use Rattle.rec_log.specs.Sights.{Appended, AreRecords, Breaks, EndsSound, Forced, IsKnown, IsRecord, NotRestarted, NotRewritten, ReadsAs, Restarts, Rewritten, Sounds, body, left_by, log_state, records_of, whole_within};
+ghost use Rattle.rec_log.specs.Sights.{Appended, AreRecords, Breaks, EndsSound, Forced, IsFront, IsKnown, IsRecord, NotRestarted, NotRewritten, ReadsAs, Restarts, Rewritten, Sounds, body, frames_size, left_by, log_state, records_of, whole_within};
 ghost use Rattle.log_store.specs.Stores.{AppendBreaks, Appends, MemoryRefuses, Replaces};
 ghost use Rattle.rec_log.specs.Openings.{IsFound, IsRefused, NotOpened, Opens, Settles, is_old};
 ghost use Rattle.rec_log.specs.Errors.{log_error_number};
+ghost use Rattle.tree_model.specs.declared.records.LogRecord.{LogRecord as AnyRecord};
 ghost use Rattle.rec_log.specs.Restarting.{BreaksLeft, PutsLeft, WritesLeft};
 ghost use Rattle.rec_log.specs.Texts.{records_in};
 ghost use Rattle.rec_log.specs.Trimming.{Spells, Trimmed, trim_of};
@@ -444,7 +445,9 @@ impl<L: LogStore> RecLog<L> {
 
     /// How many bytes it has. A crash that keeps so many behind the forced front keeps every record.
     pub fn size(&self) -> usize
-        ensures { left_by self.now.sight result ≡ records_of self.now.sight.kept }
+        ensures keeps { left_by self.now.sight result ≡ records_of self.now.sight.kept }
+        ensures whole { self.now.sight.failed ≡ false
+            → result ≡ 5 + frames_size (records_of self.now.sight.kept) }
     {
         self.store.bytes().len()
     }
@@ -464,6 +467,21 @@ impl<L: LogStore> RecLog<L> {
         let forced = self.store.forced();
         let left = left_by(self.store.bytes(), forced, keep);
         records_in(self.form, body(left), alloc)
+    }
+
+    /// Of the records that a crash would leave which keeps so many bytes behind the forced front, those after the first
+    /// ones, if the header and these, all of them forced, are so many bytes.
+    pub fn kept_after(
+        &self,
+        size: usize,
+        keep: usize,
+        alloc: Global,
+    ) -> Result<Vec<LogRecord>, AllocError>
+        ensures { IfOk result (λ records. (first : List AnyRecord) → IsFront self.now.sight size first
+            → first ++ records.items ≡ left_by self.now.sight keep) }
+    {
+        let left = left_by(self.store.bytes(), self.store.forced(), keep);
+        records_behind(self.form, left, size.min(left.len()), alloc)
     }
 
     /// How many of the records behind the forced ones a crash would leave that keeps so many bytes behind
