@@ -131,6 +131,12 @@ impl<L: LogStore> Coordinator<L> {
             return Err(StepError::Failed);
         }
         self.front = None;
+        if let Some(count) = self.log.trimmed() {
+            return match self.log.put_again(self.alloc) {
+                Ok(()) => Ok(count as u64),
+                Err(error) => Err(step_error(error)),
+            };
+        }
         match self.log.trim(&[], self.alloc) {
             Ok(count) => Ok(count as u64),
             Err(error) => Err(step_error(error)),

@@ -43,7 +43,7 @@ impl<L: LogStore> KvManager<L> {
 
     /// Trims its log: the last Opened and the records of the branches that are not forgotten stay, and
     /// behind them the data, keys rising, forced by one write. Gives how many records remain. Its own
-    /// records are never refused. Failed, Memory: nothing changed. Device: the log stands as it was or
+    /// records are never refused. A log that its last trim left as it was is not read, nor are the data. Failed, Memory: nothing changed. Device: the log stands as it was or
     /// trimmed, and the manager has failed until a restart.
     pub fn trim(&mut self) -> Result<usize, TrimError>
         ensures ok { IfOk result (Trims (sight_of self.old) (sight_of self.new)) }
@@ -53,8 +53,14 @@ impl<L: LogStore> KvManager<L> {
         if self.has_failed() {
             return Err(TrimError::Failed);
         }
-        let frames = self.data_frames()?;
         self.records_are_sound();
+        if let Some(count) = self.log.trimmed() {
+            return match self.log.put_again(self.alloc) {
+                Ok(()) => Ok(count),
+                Err(error) => Err(trim_error(error)),
+            };
+        }
+        let frames = self.data_frames()?;
         match self.log.trim(&frames, self.alloc) {
             Ok(count) => Ok(count),
             Err(error) => Err(trim_error(error)),

@@ -1,12 +1,10 @@
 -- The frames of the records that stay in a trim.
-use Rattle.std.proofs.Common.{◌≡◌, ◌≤◌, ◌+◌, ◌-◌, ℕ, suc, Bool, true, false, if◌then◌else◌, List, [], ◌∷◌, ◌++◌, length, map, take, Option, Some, None, fold, refl, sym, ap, subst, ◌∙◌, arith, append-nil, append_assoc, length-append}
+use Rattle.std.proofs.Common.{◌≡◌, ◌≤◌, ◌+◌, ◌-◌, ℕ, suc, Bool, true, false, if◌then◌else◌, List, [], ◌∷◌, ◌++◌, length, take, Option, Some, None, fold, refl, sym, ap, subst, ◌∙◌, arith, append-nil, append_assoc, length-append}
 use Rattle.std.proofs.Math.Seq.{take-append_seam}
 use Rattle.log_text.specs.declared.form.LogForm.{LogForm}
 use Rattle.tree_model.specs.declared.records.LogRecord.{LogRecord}
 use Rattle.log_text.specs.Frames.{Cut, first_frame}
 use Rattle.log_text.specs.Forms.{header}
-use Rattle.log_text.specs.declared.encode.Frame.{Frame}
-use Rattle.log_text.specs.Made.{frame_record}
 use Rattle.log_text.specs.Payloads.{records_text}
 use Rattle.log_text.specs.Reading.{read_record}
 use Rattle.tree_model.specs.Records.{is_opened}
@@ -19,7 +17,7 @@ use Rattle.log_rules.specs.trim.Trims.{front_of_trim, last_opened, opened_after}
 use Rattle.log_rules.proofs.trim.Picks.{picks_what_stays}
 use Rattle.rec_log.specs.Texts.{and_records, is_whole, records_by, records_in, whole_by, whole_if}
 use Rattle.rec_log.specs.Sights.{AreRecords, IsLogText, LogState, NotRewritten, Rewritten, body, log_state, records_of}
-use Rattle.rec_log.specs.Trimming.{BeginsWith, Holds, IsTrimmed, Spells, Trimmed, opened_count, trim_of}
+use Rattle.rec_log.specs.Trimming.{BeginsWith, Holds, IsSettled, IsTrimmed, Spells, StayWhole, Trimmed, data_behind, data_by, opened_count, trim_of}
 use Rattle.rec_log.specs.declared.log.LogError.{LogError}
 use Rattle.rec_log.proofs.Known.{log_is_long}
 use Rattle.rec_log.proofs.Turns.{records_stand}
@@ -335,47 +333,71 @@ pub trimmed_same : (p : LogForm) (text text' : List ℕ) (o : Option ℕ) → Is
     → IsTrimmed p text' o
 trimmed_same p text text' o h e = subst (λ t. IsTrimmed p t o) (sym e) h
 
--- the log's own bytes are what a trim leaves of it
-pub trims_to_itself : (p : LogForm) (text bytes : List ℕ) (forced failures room count : ℕ) (failed : Bool) (s : LogState)
-    (rs : List LogRecord) → log_state p text forced failures room failed ≡ s → IsLogText p text forced failed
-    → IsTrimmed p text (Some count) → failed ≡ false → bytes ≡ text → rs ≡ []
-    → Spells p bytes (trim_of s rs) × (count ≡ length (trim_of s rs))
-trims_to_itself p text bytes forced failures room count failed s rs view is t works e none =
+-- the log is what a trim leaves of it
+pub settled : (p : LogForm) (text : List ℕ) (forced failures room count : ℕ) (failed : Bool) (s : LogState)
+    → log_state p text forced failures room failed ≡ s → IsTrimmed p text (Some count) → IsSettled s count
+settled p text forced failures room count failed s view t =
     let stands = kept_is p text (body text) forced failures room failed s view refl in
-    let same : records_in p 0 (body text) ≡ trim_of s rs =
-    sym t.0 ∙ ap front_of_trim stands ∙ sym (append-nil (front_of_trim (records_of s.sight.kept)))
-    ∙ ap (λ ls. front_of_trim (records_of s.sight.kept) ++ ls) (sym none) in
-    let own : Spells p text (trim_of s rs) =
     record {
+      stays = subst (λ (f : LogForm). front_of_trim (records_of s.sight.kept)
+          ++ data_by f.kind (records_of s.sight.kept) ≡ records_of s.sight.kept)
+          (ap (λ (z : LogState). z.sight.form) view) (subst (StayWhole p.kind) stands t.0);
+      counted = t.1 ∙ ap length stands;
+    }
+
+-- the log's own bytes are a log
+pub own_text : (p : LogForm) (text bytes : List ℕ) (forced : ℕ) (failed : Bool) → IsLogText p text forced failed
+    → failed ≡ false → bytes ≡ text → Spells p bytes (records_in p 0 (body bytes))
+own_text p text bytes forced failed is works e =
+    subst (λ b. Spells p b (records_in p 0 (body b))) (sym e) (record {
       begins = is.begins;
       long = log_is_long p text forced failed is;
-      holds = record { whole = is.whole works; read = same };
-    } in (
-      subst (λ b. Spells p b (trim_of s rs)) (sym e) own,
+      holds = record { whole = is.whole works; read = refl };
+    })
+
+-- the log's own bytes were put in its place
+pub trimmed_again : (p q : LogForm) (text text' asked : List ℕ) (forced' failures' room' : ℕ)
+    (failed' : Bool) (o : Option ℕ) (old new : LogState)
+    → log_state q text' forced' failures' room' failed' ≡ new → q ≡ p → asked ≡ text
+    → Rewritten old new (records_in p 0 (body asked)) → IsTrimmed p text o → IsTrimmed q text' o
+trimmed_again p q text text' asked forced' failures' room' failed' None old new view form e r t = tt
+trimmed_again p q text text' asked forced' failures' room' failed' (Some count) old new view form e r t =
+    let stands = kept_is q text' (body text') forced' failures' room' failed' new view refl in
+    let made : records_of new.sight.kept ≡ records_in p 0 (body asked) =
+    (λ i. r.forced i ++ r.unforced i) ∙ append-nil (records_in p 0 (body asked)) in
+    let same : records_in p 0 (body text) ≡ records_in q 0 (body text') =
+    ap (λ b. records_in p 0 (body b)) (sym e) ∙ sym made ∙ sym stands in (
+      subst (λ (f : LogForm). StayWhole f.kind (records_in q 0 (body text'))) (sym form)
+          (subst (StayWhole p.kind) same t.0),
       t.1 ∙ ap length same,
     )
 
-pub no_frames : (frames : List Frame) → length frames ≡ 0 → map frame_record frames ≡ []
-no_frames [] e = refl
-no_frames (f ∷ fs) e = absurd (omega (arith, e))
-
 -- a trim left the log as it was
-pub trim_left : (p q : LogForm) (text text' asked : List ℕ) (forced failures room forced' failures' room' count : ℕ)
-    (failed failed' : Bool) (old new : LogState) (rs : List LogRecord)
-    → log_state p text forced failures room failed ≡ old → log_state q text' forced' failures' room' failed' ≡ new
-    → q ≡ p → asked ≡ text → rs ≡ [] → records_in p 0 (body asked) ≡ trim_of old rs
-    → Rewritten old new (trim_of old rs) → count ≡ length (trim_of old rs) → IsTrimmed q text' (Some count)
-trim_left p q text text' asked forced failures room forced' failures' room' count failed failed' old new rs view view' same e none read r c =
-    let before = kept_is p text (body text) forced failures room failed old view refl in
-    let after = kept_is q text' (body text') forced' failures' room' failed' new view' refl in
-    let made : records_of new.sight.kept ≡ trim_of old rs =
-    (λ i. r.forced i ++ r.unforced i) ∙ append-nil (trim_of old rs) in
-    let old_is : records_of old.sight.kept ≡ trim_of old rs =
-    sym before ∙ ap (λ t. records_in p 0 (body t)) (sym e) ∙ read in
-    let front : trim_of old rs ≡ front_of_trim (records_of old.sight.kept) =
-    ap (λ ls. front_of_trim (records_of old.sight.kept) ++ ls) none
-    ∙ append-nil (front_of_trim (records_of old.sight.kept)) in
-    let now : records_in q 0 (body text') ≡ trim_of old rs = after ∙ made in (
-      ap front_of_trim (now ∙ sym old_is) ∙ sym front ∙ sym now,
-      c ∙ ap length (sym now),
+pub trim_left : (p : LogForm) (text asked : List ℕ) (forced failures room count : ℕ) (failed : Bool) (old : LogState)
+    (rs : List LogRecord) → log_state p text forced failures room failed ≡ old → asked ≡ text
+    → rs ≡ data_behind old.sight → records_in p 0 (body asked) ≡ trim_of old rs → count ≡ length (trim_of old rs)
+    → IsTrimmed p text (Some count)
+trim_left p text asked forced failures room count failed old rs view e own read c =
+    let stands = kept_is p text (body text) forced failures room failed old view refl in
+    let now : trim_of old rs ≡ records_in p 0 (body text) = sym read ∙ ap (λ b. records_in p 0 (body b)) e in
+    let kept : records_of old.sight.kept ≡ records_in p 0 (body text) = sym stands in
+    let whole : front_of_trim (records_of old.sight.kept) ++ data_by old.sight.form.kind (records_of old.sight.kept)
+    ≡ records_of old.sight.kept =
+    ap (λ ls. front_of_trim (records_of old.sight.kept) ++ ls) (sym own) ∙ now ∙ stands in (
+      subst (StayWhole p.kind) kept (subst (λ (f : LogForm). StayWhole f.kind (records_of old.sight.kept))
+          (sym (ap (λ (z : LogState). z.sight.form) view)) whole),
+      c ∙ ap length now,
     )
+
+-- a log that is what a trim leaves of it was put in its own place: so it was trimmed
+pub settled_trimmed : (old new : LogState) (count : ℕ) → IsSettled old count
+    → Rewritten old new (records_of old.sight.kept) → Trimmed old new (data_behind old.sight) count
+settled_trimmed old new count s r = record {
+  log = subst (Rewritten old new) (sym s.stays) r;
+  counted = s.counted ∙ ap length (sym s.stays);
+}
+
+-- or it was not
+pub settled_untrimmed : (old new : LogState) (count : ℕ) (e : LogError) → IsSettled old count
+    → NotRewritten old new (records_of old.sight.kept) e → NotRewritten old new (trim_of old (data_behind old.sight)) e
+settled_untrimmed old new count e s r = subst (λ ls. NotRewritten old new ls e) (sym s.stays) r

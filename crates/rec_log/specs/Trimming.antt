@@ -1,13 +1,17 @@
 -- A log that is put in place of another, and what a trim leaves.
-use Rattle.std.specs.Prelude.{◌≡◌, ◌≤◌, ◌<◌, ⊤, ℕ, true, Option, None, Some, List, [], ◌∷◌, ◌++◌, length, take}
+use Rattle.std.specs.Prelude.{◌≡◌, ◌≤◌, ◌<◌, ⊤, ℕ, true, Option, None, Some, List, [], ◌∷◌, ◌++◌, length, map, take}
 use Rattle.log_text.specs.declared.form.LogForm.{LogForm}
+use Rattle.tree_model.specs.declared.names.Kind.{Kind}
+use Rattle.tree_model.specs.declared.names.Kind.TheVariants.{Coordinator, Manager}
+use Rattle.tree_model.specs.LogNames.{unnamed}
+use Rattle.tree_model.specs.Store.{base_records, data_of}
 use Rattle.tree_model.specs.declared.records.LogRecord.{LogRecord}
 use Rattle.log_text.specs.Forms.{header}
 pub use Rattle.log_rules.specs.trim.Trims.{front_of_trim}
 use Rattle.log_text.specs.Marks.{mark_of}
 use Rattle.log_text.specs.declared.mark.Mark.{Mark}
 use Rattle.rec_log.specs.Texts.{is_whole, records_in}
-use Rattle.rec_log.specs.Sights.{LogState, Rewritten, body, records_of}
+use Rattle.rec_log.specs.Sights.{LogSight, LogState, Rewritten, body, records_of}
 
 -- the bytes are the whole frames of these records
 pub record Holds (p : LogForm) (bytes : List ℕ) (ls : List LogRecord) : Type 0 where
@@ -29,13 +33,6 @@ pub record BeginsWith (p : LogForm) (bytes frame : List ℕ) (m : Mark) (rest : 
   pub whole : is_whole p 0 rest ≡ true
   pub shorter : length rest < length bytes
 
--- where a count is told, a trim with nothing behind leaves the records as they are, and so many they are
-abbrev pub IsTrimmed : LogForm → List ℕ → Option ℕ → Type 0
-IsTrimmed p text None = ⊤
-IsTrimmed p text (Some count) =
-    (front_of_trim (records_in p 0 (body text)) ≡ records_in p 0 (body text))
-    × (count ≡ length (records_in p 0 (body text)))
-
 -- how many records the frame of the last Opened is: none, where there are no bytes
 abbrev pub opened_count : List ℕ → ℕ
 opened_count [] = 0
@@ -44,6 +41,30 @@ opened_count (b ∷ bs) = 1
 -- the records of a log after a trim: what stays of them, and these behind it
 abbrev pub trim_of : LogState → List LogRecord → List LogRecord
 trim_of s rs = front_of_trim (records_of s.sight.kept) ++ rs
+
+-- the records of the data that a trim puts behind what stays: a coordinator has none
+abbrev pub data_by : Kind → List LogRecord → List LogRecord
+data_by Coordinator ls = []
+data_by Manager ls = map unnamed (base_records (data_of ls))
+
+-- those of a log
+abbrev pub data_behind : LogSight → List LogRecord
+data_behind s = data_by s.form.kind (records_of s.kept)
+
+-- a trim leaves these records of a log of this sort of process as they are
+abbrev pub StayWhole : Kind → List LogRecord → Type 0
+StayWhole k ls = front_of_trim ls ++ data_by k ls ≡ ls
+
+-- a trim leaves the log as it is, and so many its records are
+pub record IsSettled (s : LogState) (count : ℕ) : Type 0 where
+  pub stays : trim_of s (data_behind s.sight) ≡ records_of s.sight.kept
+  pub counted : count ≡ length (records_of s.sight.kept)
+
+-- where a count is told, a trim leaves the records of the text as they are, and so many they are
+abbrev pub IsTrimmed : LogForm → List ℕ → Option ℕ → Type 0
+IsTrimmed p text None = ⊤
+IsTrimmed p text (Some count) =
+    StayWhole p.kind (records_in p 0 (body text)) × (count ≡ length (records_in p 0 (body text)))
 
 -- what stays of the records stands, and these behind it, all of them forced, and so many they are
 pub record Trimmed (old new : LogState) (rs : List LogRecord) (count : ℕ) : Type 0 where

@@ -1,6 +1,6 @@
 //! A log as its records.
 
-ghost use Rattle.std.specs.Prelude.{◌≡◌, ◌≤◌, ◌<◌, ◌+◌, ◌++◌, ◌∷◌, ◌⊎◌, [], true, false, IfOk, IfErr, OnOk, List, drop, length, map, take};
+ghost use Rattle.std.specs.Prelude.{◌≡◌, ◌≤◌, ◌<◌, ◌+◌, ◌++◌, ◌∷◌, ◌⊎◌, [], true, false, IfOk, IfErr, IfSome, OnOk, List, drop, length, map, take};
 ghost use Rattle.std.specs.List.{AllByRecursion};
 ghost use Rattle.log_rules.specs.sound.Sound.{IsSound};
 ghost use Rattle.log_text.specs.Forms.{header, log_form};
@@ -13,7 +13,7 @@ ghost use Rattle.rec_log.specs.Errors.{log_error_number};
 ghost use Rattle.tree_model.specs.declared.records.LogRecord.{LogRecord as AnyRecord};
 ghost use Rattle.rec_log.specs.Restarting.{BreaksLeft, PutsLeft, WritesLeft};
 ghost use Rattle.rec_log.specs.Texts.{records_in};
-ghost use Rattle.rec_log.specs.Trimming.{Spells, Trimmed, trim_of};
+ghost use Rattle.rec_log.specs.Trimming.{IsSettled, Spells, Trimmed, data_behind, trim_of};
 
 use crate::opening::{Found, OpenError, find, is_old, is_same};
 use crate::trimming::{TrimmedText, trimmed_text};
@@ -56,8 +56,7 @@ pub struct RecLog<L: LogStore> {
     /// looks for the end of the last whole record after them alone.
     known: usize,
     failed: bool,
-    /// How many records stand, if the last trim had none to put behind them and left the log as it was, and nothing
-    /// was written since: the next such trim leaves it as it is, too.
+    /// How many records stand, if the last trim left the log as it was and nothing was written since: so will the next.
     trimmed: Option<usize>,
 }
 
@@ -325,16 +324,6 @@ fn settled_as<L: LogStore + Drop>(
     }
 }
 
-/// Whether no frames are to stand behind, and the text is these bytes.
-fn is_unchanged(behind: &[Frame], text: &[u8], bytes: &[u8]) -> bool
-    ensures { result ≡ true → (map frame_record behind.now ≡ []) × (text.now ≡ bytes.now) }
-{
-    if !behind.is_empty() {
-        return false;
-    }
-    is_same(text, bytes)
-}
-
 /// How many bytes are known to be whole records and forced, of so many that are whole records and so many that are
 /// forced.
 fn known_of(size: usize, forced: usize) -> usize
@@ -578,43 +567,54 @@ impl<L: LogStore> RecLog<L> {
         Ok(())
     }
 
-    /// The log that a trim leaves.
-    fn after_trim(&self, behind: &[Frame], alloc: Global) -> Result<TrimmedText, AllocError>
-        requires works { self.now.sight.failed ≡ false }
-        requires sound { AreRecords self.now.sight.form.kind (map frame_record behind.now) }
-        ensures text { IfOk result (λ log. Spells self.now.sight.form log.text.items
-            (trim_of self.now (map frame_record behind.now))) }
-        ensures count { IfOk result (λ log. log.count ≡ length (trim_of self.now (map frame_record behind.now))) }
+    /// How many records stand, if a trim would leave the log as it is: the last one did, and nothing was written since.
+    pub fn trimmed(&self) -> Option<usize>
+        ensures { IfSome result (λ count. IsSettled self.now count) }
     {
-        let bytes = self.store.bytes();
-        match self.trimmed {
-            Some(count) if behind.is_empty() => {
-                let text = Vec::from_slice(alloc, bytes)?;
-                Ok(TrimmedText { text, count })
+        self.trimmed
+    }
+
+    /// Puts all that stands in its own place, by one `replace`, and reads nothing. Memory: nothing changed. Device: the
+    /// log stands as it was, and has failed.
+    pub fn put_again(&mut self, alloc: Global) -> Result<(), LogError>
+        requires works { self.old.sight.failed ≡ false }
+        ensures form { self.new.sight.form ≡ self.old.sight.form }
+        ensures ok { OnOk result (Rewritten self.old self.new (records_of self.old.sight.kept)) }
+        ensures err { IfErr result (λ e. NotRewritten self.old self.new (records_of self.old.sight.kept) e) }
+    {
+        let Ok(text) = Vec::from_slice(alloc, self.store.bytes()) else {
+            return Err(LogError::Memory);
+        };
+        let trimmed = self.trimmed;
+        match self.put(&text) {
+            Ok(()) => {
+                self.trimmed = trimmed;
+                Ok(())
             }
-            _ => trimmed_text(self.form, body(bytes), behind, alloc),
+            Err(error) => Err(error),
         }
     }
 
-    /// Puts the records that stay in a trim in place of all that stand, and these behind them, forced by one
-    /// `replace`: the last Opened, the records of the cases and branches that are not forgotten, and these.
-    /// Gives how many they are. All memory is taken before. Memory: nothing changed. Device: the log stands
-    /// as it was or trimmed, and the log has failed.
-    ///
-    /// After a trim that left the log as it was, the next one puts the same bytes in place and does not read them.
+    /// Puts the records that stay in a trim in place of all that stand, and those of the data behind them, forced by one
+    /// `replace`: the last Opened, the records of the cases and branches that are not forgotten, and these. Gives how
+    /// many they are. All memory is taken before. Memory: nothing changed. Device: the log stands as it was or trimmed,
+    /// and the log has failed.
     pub fn trim(&mut self, behind: &[Frame], alloc: Global) -> Result<usize, LogError>
         requires works { self.old.sight.failed ≡ false }
         requires sound { AreRecords self.old.sight.form.kind (map frame_record behind.now) }
+        requires own { map frame_record behind.now ≡ data_behind self.old.sight }
         ensures form { self.new.sight.form ≡ self.old.sight.form }
         ensures ok { IfOk result (λ count. Trimmed self.old self.new (map frame_record behind.now) count) }
         ensures err { IfErr result (λ e. NotRewritten self.old self.new
             (trim_of self.old (map frame_record behind.now)) e) }
     {
-        let TrimmedText { text, count } = match self.after_trim(behind, alloc) {
+        let bytes = self.store.bytes();
+        let trimmed = match trimmed_text(self.form, body(bytes), behind, alloc) {
             Ok(trimmed) => trimmed,
             Err(_) => return Err(LogError::Memory),
         };
-        let is_same = is_unchanged(behind, &text, self.store.bytes());
+        let TrimmedText { text, count } = trimmed;
+        let is_same = is_same(&text, bytes);
         match self.put(&text) {
             Ok(()) => {
                 if is_same {

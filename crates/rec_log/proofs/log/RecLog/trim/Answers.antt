@@ -1,25 +1,24 @@
-use Rattle.std.proofs.Common.{◌≡◌, ◌∙◌, ap, map, subst, sym}
-use Rattle.log_text.specs.Made.{frame_record}
-use Rattle.rec_log.specs.Sights.{Rewritten, body}
-use Rattle.rec_log.specs.Texts.{records_in}
-use Rattle.rec_log.specs.Trimming.{trim_of}
-use Rattle.rec_log.proofs.Trims.{trim_left}
-use Rattle.rec_log.proofs.log.RecLog.trim.Goals as goal
-
 pub invariant_of-self : goal.invariant_of-self
 invariant_of-self g c =
+    let p = c.self.inside.form in
+    let text = g.L.LogStore.bytes c.self.inside.store in
     let old = c.args.self.now in
     let rs = map frame_record c.args.behind.now in
     let asked = c.deref-2.result.now in
-    let same = c.is_unchanged-is_same.ensures c.if-is_same.true in
-    let read : records_in old.sight.form 0 (body asked) ≡ trim_of old rs =
-    ap (λ t. records_in old.sight.form 0 (body t)) c.deref-2.ensures.value ∙ c.in-Ok.ensures.text.holds.read in
-    let form : c.self-2.inside.form ≡ c.self.inside.form =
-    ap (λ s. s.sight.form) c.self-2.view_is ∙ c.put.ensures.form ∙ sym (ap (λ s. s.sight.form) c.self.view_is) in (
+    let bytes = c.body.ensures ∙ ap body c.bytes-bytes.ensures in
+    let same : asked ≡ text =
+    c.deref-2.ensures.value ∙ sym c.deref.ensures.value
+    ∙ same_bytes_is _ _ (sym c.is_same-is_same.ensures ∙ c.if-is_same.true) ∙ c.bytes-bytes.ensures in
+    let read : records_in p 0 (body asked) ≡ trim_of old rs =
+    trim_read _ _ _ _ asked _ _ _ _ _ _ c.self.view_is bytes c.deref-2.ensures.value c.in-Ok.ensures.text in
+    let form : c.self-2.inside.form ≡ p =
+    ap (λ s. s.sight.form) c.self-2.view_is ∙ c.put.ensures.form ∙ sym (ap (λ s. s.sight.form) c.self.view_is) in
+    let made : Rewritten old c.put.new.self (records_in p 0 (body asked)) =
+    subst (λ f. Rewritten old c.put.new.self (records_in f 0 (body asked)))
+    (sym (ap (λ s. s.sight.form) c.self.view_is)) c.in-Ok-put.ensures.ok in (
       c.self-2.invariant.0,
       c.self-2.invariant.1,
-      trim_left _ _ _ _ asked _ _ _ _ _ _ c.in-Ok.trimmed.count _ _ old c.put.new.self rs c.self.view_is c.self-2.view_is
-          form (c.deref-2.ensures.value ∙ sym c.deref.ensures.value ∙ same.1 ∙ c.bytes.ensures) same.0
-          (ap (λ s. records_in s.sight.form 0 (body asked)) c.self.view_is ∙ read)
-          (subst (Rewritten old c.put.new.self) read c.in-Ok-put.ensures.ok) c.in-Ok.ensures.count,
+      trimmed_again p _ text _ asked _ _ _ _ _ old c.put.new.self c.self-2.view_is form same made
+          (trim_left p text asked _ _ _ _ _ old rs c.self.view_is same c.requires.own read
+          (count_stands _ _ _ _ _ _ _ _ _ _ c.self.view_is bytes c.in-Ok.ensures.count)),
     )
