@@ -1,5 +1,5 @@
 -- The frames of the records that stay in a trim.
-use Rattle.std.proofs.Common.{◌≡◌, ◌≤◌, ◌+◌, ◌-◌, ℕ, suc, Bool, true, false, if◌then◌else◌, List, [], ◌∷◌, ◌++◌, length, take, Option, Some, None, fold, refl, sym, ap, subst, ◌∙◌, arith, append-nil, append_assoc, length-append}
+use Rattle.std.proofs.Common.{◌≡◌, ◌≤◌, ◌+◌, ◌-◌, ℕ, suc, Bool, true, false, if◌then◌else◌, List, [], ◌∷◌, ◌++◌, length, take, Option, Some, None, IfSome, fold, refl, sym, ap, subst, ◌∙◌, arith, append-nil, append_assoc, length-append}
 use Rattle.std.proofs.Math.Seq.{take-append_seam}
 use Rattle.log_text.specs.declared.form.LogForm.{LogForm}
 use Rattle.tree_model.specs.declared.records.LogRecord.{LogRecord}
@@ -344,6 +344,13 @@ settled p text forced failures room count failed s view t =
           (ap (λ (z : LogState). z.sight.form) view) (subst (StayWhole p.kind) stands t.0);
       counted = t.1 ∙ ap length stands;
     }
+
+-- so it is, if a count is told
+pub settled_if : (p : LogForm) (text : List ℕ) (forced failures room : ℕ) (failed : Bool) (s : LogState) (o : Option ℕ)
+    → log_state p text forced failures room failed ≡ s → IsTrimmed p text o → IfSome o (λ count. IsSettled s count)
+settled_if p text forced failures room failed s None view t = tt
+settled_if p text forced failures room failed s (Some count) view t =
+    settled p text forced failures room count failed s view t
 
 -- the log's own bytes are a log
 pub own_text : (p : LogForm) (text bytes : List ℕ) (forced : ℕ) (failed : Bool) → IsLogText p text forced failed
