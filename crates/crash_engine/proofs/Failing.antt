@@ -157,7 +157,7 @@ points_break o events first run why opens come none cannot = inr (record {
   cannot = cannot;
 })
 
--- not each crash within the event behind so many, or behind it, is tried
+-- not each crash within the event that comes after the first n, or after it, is tried
 pub on_breaks : (o : Origin) (events : List Event) (n : ℕ) (why : Failure) → n < length events
     → CannotGoOn o events n why → CannotGoOver o events why
 on_breaks o events n why within cannot = record { before = n; within = within; cannot = cannot }

@@ -49,7 +49,7 @@ pub one_taken : (events : List Event) (n : ℕ) (event at : Event) → n < lengt
 one_taken events n event at within same is =
     ap (λ e. take n events ++ e ∷ []) (same ∙ is) ∙ sym (take_more events n at within)
 
--- the first so many events, and the next
+-- the first n events, and the next
 pub taken_on : (events : List Event) (n : ℕ) → take n events ++ take 1 (drop n events) ≡ take (suc n) events
 taken_on [] zero = refl
 taken_on [] (suc n) = refl

@@ -73,7 +73,7 @@ pub record CannotGoDown (o : Origin) (events deliveries : List Event) (why : Fai
 abbrev pub CannotSettle : Origin → List Event → Failure → Type 0
 CannotSettle o events why = (deliveries : List Event) × SettlesBy o events deliveries × CannotGoDown o events deliveries why
 
--- not each crash within the event after the first so many, or after it, is tried, for this reason
+-- not each crash within the event that comes after the first n, or after it, is tried, for this reason
 abbrev pub CannotGoOn : Origin → List Event → ℕ → Failure → Type 0
 CannotGoOn o events n why = CannotTryAll o (take (suc n) events) why ⊎ CannotSettle o (take n events) why
 

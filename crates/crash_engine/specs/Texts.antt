@@ -64,15 +64,15 @@ found_text (Ended l) = left_text l
 found_text (Refused event e) = codes " refused" ++ number_word event ++ number_word (step_error_number e)
 found_text (Damaged process place) = codes " damaged" ++ number_word process.0 ++ number_word place
 
--- behind so many deliveries, if it is within a settle
+-- after how many deliveries, if it is within a settle
 abbrev pub delivery_text : ℕ → List ℕ
 delivery_text n = if n == 0 then [] else codes " delivery" ++ number_word n
 
--- behind the event with this number, or within it
+-- after the event with this number, or within it
 unfoldable pub place_text : Place → List ℕ
 place_text at = (codes "event" ++ number_word at.event) ++ delivery_text at.delivery
 
--- the crash: there this process restarts, and keeps so many bytes
+-- the crash: there this process restarts, and keeps this many bytes
 unfoldable pub point_text : Place → Point → List ℕ
 point_text at p = place_text at ++ (codes " restart" ++ number_word p.process.0 ++ number_word p.keep) ++ codes ":"
 

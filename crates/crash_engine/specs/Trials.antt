@@ -134,8 +134,7 @@ abbrev pub Adds : Origin → Known → Place → List Event → Refusal → List
 Adds o known at events None old new = (behind : List Trial) × (new ≡ old ++ behind) × TriesAll o known at events behind
 Adds o known at events (Some refused) old new = (new ≡ old) × IsRefused o events refused
 
--- after so many events of a script, the last of which is made whole; after so many deliveries of the event with this
--- number
+-- after the event with this number; within it, after this many of its deliveries
 abbrev pub after_event : ℕ → Place
 after_event n = record { event = n; delivery = 0 }
 
@@ -143,7 +142,7 @@ abbrev pub within_event : ℕ → ℕ → Place
 within_event n d = record { event = n; delivery = d }
 
 -- each point was tried after the first of these deliveries of the event with this number, after the first two, and so on
--- to so many, these events being those before it
+-- to this many, these events being those before it
 abbrev pub GoesDown : Origin → Known → ℕ → List Event → List Event → ℕ → List Trial → List Trial → Type 0
 GoesDown o known number events deliveries zero old new = new ≡ old
 GoesDown o known number events deliveries (suc d) old new =
@@ -159,14 +158,14 @@ GoesWithin o known number events (Some Settle) old new =
     × GoesDown o known number events deliveries (pred (length deliveries)) old new
 GoesWithin o known number events event old new = new ≡ old
 
--- each point was tried within the event after the first so many, and after it; or one of them is refused, and none was
+-- each point was tried within the event that comes after the first n, and after it; or one of them is refused, and none was
 abbrev pub GoesOn : Origin → Known → List Event → ℕ → Refusal → List Trial → List Trial → Type 0
 GoesOn o known events n None old new =
     (middle : List Trial) × GoesWithin o known (suc n) (take n events) (slice_get events n) old middle
     × Adds o known (after_event (suc n)) (take (suc n) events) None middle new
 GoesOn o known events n (Some refused) old new = (new ≡ old) × IsRefused o (take (suc n) events) refused
 
--- so it was of the first event, of the second, and so on to so many
+-- so it was of the first event, of the second, and so on to the n-th
 abbrev pub GoesThrough : Origin → Known → List Event → ℕ → List Trial → Type 0
 GoesThrough o known events zero ts = ts ≡ []
 GoesThrough o known events (suc n) ts =

@@ -52,7 +52,7 @@ fn show<P: Write>(
     Ok(())
 }
 
-/// Tries each crash within each event of a script and behind it, up to the first that is refused. The errors are those of
+/// Tries each crash within each event of a script and after it, up to the first that is refused. The errors are those of
 /// `show` and `try_event`.
 fn try_events<P: Write>(
     alloc: Global,
@@ -130,7 +130,7 @@ fn answer<P: Write>(
     }
 }
 
-/// Reads a tree script and tries each crash of it: behind each of its events and behind each delivery of a settle, of each
+/// Reads a tree script and tries each crash of it: after each of its events and after each delivery of a settle, of each
 /// process, with each number of its unforced records that the crash may leave. Each is a run of its own of the script's events
 /// so far and the crash; then everything is delivered, every case that the logs show in doubt asks its
 /// parent, everything is delivered again, and the logs are audited. Writes first what the script leaves

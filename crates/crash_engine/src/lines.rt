@@ -119,7 +119,7 @@ fn has_mismatch(found: &Found) -> bool
     }
 }
 
-/// Behind how many deliveries, if it is within a settle.
+/// After how many deliveries, if it is within a settle.
 fn push_delivery(out: &mut Vec<u8>, delivery: usize) -> Result<(), AllocError>
     ensures { OnOk result (out.new.items ≡ out.old.items ++ delivery_text delivery) }
 {
@@ -130,7 +130,7 @@ fn push_delivery(out: &mut Vec<u8>, delivery: usize) -> Result<(), AllocError>
     push_number_word(out, delivery as u64)
 }
 
-/// Behind which event, or within which.
+/// After which event, or within which.
 #[tactic(auto, unfolding(crate::specs::Texts::place_text))]
 fn push_place(out: &mut Vec<u8>, place: Place) -> Result<(), AllocError>
     ensures { OnOk result (out.new.items ≡ out.old.items ++ place_text place) }

@@ -13,9 +13,9 @@ use tree_world::World;
 /// Where in a script a crash is tried.
 #[derive(Clone, Copy, PartialEq, Eq)]
 pub struct Place {
-    /// The event behind which it is, or within which, by its number from 1.
+    /// The event after which it is, or within which, by its number from 1.
     pub event: usize,
-    /// Within a settle, behind how many of its deliveries; 0 is behind the whole event.
+    /// Within a settle, after how many of its deliveries; 0 is after the whole event.
     pub delivery: usize,
 }
 

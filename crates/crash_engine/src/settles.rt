@@ -33,7 +33,7 @@ fn deliveries_among(alloc: Global, steps: &[Entry]) -> Result<Vec<Event>, AllocE
     Ok(events)
 }
 
-/// The deliveries that a tree made after its first so many steps, in order.
+/// The deliveries that a tree made after its first steps, of which there were this many, in order.
 pub(crate) fn deliveries_after(
     alloc: Global,
     world: &World<MemoryStore>,

@@ -121,7 +121,7 @@ fn try_run(
     Ok(())
 }
 
-/// Tries each crash after these events, unless one of them is refused. Memory; Device, Exhausted: the run of the events
+/// Tries each crash after these events; none, if one of them is refused. Memory; Device, Exhausted: the run of the events
 /// breaks off for that, or that of a crash after them, or the records of a process that a crash may take come to 2^64 bytes
 /// or more.
 fn try_after(
@@ -193,7 +193,7 @@ fn try_within(
     Ok(())
 }
 
-/// The deliveries of the event that a run made last, after so many steps: of a settle.
+/// The deliveries of the event that a run made last, after this many steps, if it is a settle.
 fn deliveries_of(
     alloc: Global,
     run: &Run,
@@ -257,7 +257,7 @@ fn try_last(
     )
 }
 
-/// Tries each crash within the event after the first so many, and after it; or tells which of them is refused, and tries
+/// Tries each crash within the event that comes after this many, and after it; or tells which of them is refused, and tries
 /// none. Memory; Device, Exhausted: the run of the events breaks off for that, or that of a crash, or the records of a
 /// process that a crash may take come to 2^64 bytes or more.
 pub fn try_event(
