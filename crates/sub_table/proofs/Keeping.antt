@@ -12,7 +12,7 @@ use Rattle.live_table.proofs.Writes.{Moves-changed, Updates-set, apart_changed, 
 use Rattle.sub_branch.specs.declared.branch.Branch.{Branch}
 use Rattle.sub_branch.specs.declared.branch.Stage.{Stage}
 use Rattle.sub_branch.specs.declared.branch.Stage.TheVariants.{Active, Heuristic, Prepared}
-use Rattle.sub_table.specs.Tables.{BranchTable, HasTicket, IsGivenFor, IsKept, Notes, Opens, Retires, branch_in, has_promised, nothing, promised, retired_at, ticket_in}
+use Rattle.sub_table.specs.Tables.{BranchTable, HasTicket, IsGivenFor, IsKept, Notes, Opens, Retires, branch_in, has_promised, nothing, promised, retired_at, ticket_in, tickets_of}
 
 abbrev pub Tickets : Type 0
 Tickets = List (Option (Case × Ticket))
@@ -26,8 +26,8 @@ table ts bs = record { tickets = ts; branches = bs }
 one : (c d : Case) → same_case c d ≡ true → c ≡ d
 one c d e = (case_tells c d).0 e
 
-pub none_kept : IsKept (table [] [])
-unfolding live_value
+pub none_kept : IsKept (table (tickets_of []) [])
+unfolding live_value tickets_of
 none_kept = record {
   apart = λ c j k here there. absurd cc;
   given = λ d k e. absurd cc;
@@ -272,22 +272,6 @@ module _ (old : BranchTable) (us : Tickets) (owner : Case) (branch : Branch) (ke
 
 -- The functions.
 
-active_ticket : (ts : Tickets) (c : Case) (s : Stage) (g : Case) (n : ℕ) (p : Bool) → s ≡ Active g n p
-    → HasTicket ts c s → live_value ts g ≡ None → ⊥
-active_ticket ts c s g n p stage h none =
-    let k = subst (λ (q : Stage). HasTicket ts c q) stage h in absurd (let f = sym k.1 ∙ none in cc)
-
-pub ticket_there : (ts : Tickets) (bs : Slots) (key : ℕ) (c : Case) (b : Branch) (g : Case) (n : ℕ)
-    (p : Bool) → IsKept (table ts bs)
-    → entry_at bs key ≡ Some (c, b) → b.stage ≡ Active g n p → live_value ts g ≡ None → ⊥
-ticket_there ts bs key c b g n p kept entry stage none =
-    active_ticket ts c b.stage g n p stage (kept.active c b
-    (live_at bs c key (c, b) kept.apart entry (same_case-itself c))) none
-
-pub dropped : (ts us : Tickets) (s : Stage) (g : Case) (n : ℕ) (p : Bool) → s ≡ Active g n p
-    → Moves ts us g None → Dropped ts us s
-dropped ts us s g n p stage moves = subst (λ (q : Stage). Dropped ts us q) (sym stage) moves
-
 not_active : (s : Stage) → has_promised s ≡ true → (g : Case) (n : ℕ) (p : Bool) → s ≡ Active g n p → ⊥
 not_active (Active d done spoiled) h g n p e = absurd cc
 not_active Prepared h g n p e = absurd cc
@@ -304,7 +288,7 @@ module _ (ts us : Tickets) (bs : Slots) (key : ℕ) (c : Case) (b : Branch) (kep
   at : live_value bs c ≡ Some b
   at = live_at bs c key (c, b) kept.apart entry (same_case-itself c)
 
-  updates : (w : Branch) → Updates bs (with_value bs key w) key (Some (c, w))
+  pub updates : (w : Branch) → Updates bs (with_value bs key w) key (Some (c, w))
   updates w = subst (λ e. Updates bs (with_value bs key w) key (rewritten e w)) entry
       (Updates-set bs key (rewritten (entry_at bs key) w) (rw entry refl))
 
@@ -377,41 +361,15 @@ removes ts us bs cs key b kept gone drops =
 
 -- a case was opened
 pub opens : (ts us : Tickets) (bs cs : Slots) (d : Case) (t : Ticket) (x : Xid)
-    (j k : ℕ) → IsKept (table ts bs)
-    → live_value bs (child_case d.txn t) ≡ None → live_value ts d ≡ None → Inserts ts us d t j
+    (k : ℕ) → IsKept (table ts bs)
+    → live_value bs (child_case d.txn t) ≡ None → live_value ts d ≡ None → Moves ts us d (Some t)
     → Inserts bs cs (child_case d.txn t) (record { xid = x; stage = Active d 0 false }) k
     → IsKept (table us cs)
-opens ts us bs cs d t x j k kept fresh ungiven given opened =
+opens ts us bs cs d t x k kept fresh ungiven given opened =
     opened_kept (table ts bs) (table us cs) d t x kept fresh ungiven
-    (record { branches = opened.moves; tickets = given.moves })
+    (record { branches = opened.moves; tickets = given })
     (apart_inserted bs cs k (child_case d.txn t) (record { xid = x; stage = Active d 0 false })
     fresh opened.updates kept.apart)
-
--- a ticket was given and taken back
-module _ (ts us vs : Tickets) (bs : Slots) (d : Case) (t s : Ticket) (j : ℕ)
-    (ungiven : live_value ts d ≡ None) (given : Inserts ts us d t j) (taken : Removes us vs j s) where
-  owner_is : taken.owner ≡ d
-  owner_is = ap (λ (p : Case × Ticket). p.0) (some_same (taken.owner, s) (d, t)
-      (sym taken.was ∙ given.updates.changed))
-
-  pub same_tickets : (e : Case) → live_value vs e ≡ live_value ts e
-  same_tickets e = by (same_case d e) refl
-    where
-      by : (b : Bool) → same_case d e ≡ b → live_value vs e ≡ live_value ts e
-      by true is =
-          let here = one d e is in
-          ap (live_value vs) (sym here) ∙ ap (live_value vs) (sym owner_is) ∙ taken.moves.own
-          ∙ sym ungiven ∙ ap (live_value ts) here
-      by false differs = taken.moves.others e (ap (λ (q : Case). same_case q e) owner_is ∙ differs)
-          ∙ given.moves.others e differs
-
-  pub taken_back : IsKept (table ts bs) → IsKept (table vs bs)
-  taken_back kept = record {
-    apart = kept.apart;
-    given = λ e k h. kept.given e k (sym (same_tickets e) ∙ h);
-    active = λ c b h. ticket_with ts vs c b.stage
-        (λ e k there child. same_tickets e ∙ there) (kept.active c b h);
-  }
 
 -- a case that promised is live again
 module _ (ts : Tickets) (bs cs : Slots) (c0 : Case) (x : Xid) (key : ℕ) (kept : IsKept (table ts bs))

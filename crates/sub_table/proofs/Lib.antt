@@ -1,4 +1,5 @@
 pub mod Keeping
+pub mod Tickets
 pub mod Undoing
 pub mod Reading
 pub mod Steps

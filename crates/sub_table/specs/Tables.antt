@@ -1,6 +1,6 @@
 -- The live branches of a subordinate, and the tickets that it gave for cases of its parent and that are
 -- active.
-use Rattle.std.specs.Prelude.{◌≡◌, ℕ, Bool, true, false, if◌then◌else◌, Option, Some, None, List}
+use Rattle.std.specs.Prelude.{◌≡◌, ℕ, Bool, true, false, if◌then◌else◌, Option, Some, None, is_some, List, filter, map}
 use Rattle.xa_xid.specs.declared.xid.Xid.{Xid}
 use Rattle.tree_model.specs.declared.names.Case.{Case}
 use Rattle.tree_model.specs.declared.names.Ticket.{Ticket}
@@ -46,6 +46,32 @@ view_in t c = kept_view (branch_in t c)
 abbrev pub IsGivenFor : Case → Stage → Type 0
 IsGivenFor d (Active e done spoiled) = d ≡ e
 IsGivenFor d _ = ⊥
+
+-- whether the branch is Active, by a ticket that was given for the parent's case
+abbrev pub is_for : Case → Stage → Bool
+is_for d (Active e done spoiled) = same_case e d
+is_for d _ = false
+
+-- a ticket is active while its branch is, under the parent's case for which it was given
+abbrev pub ticket_by : Stage → Option Ticket → Option (Case × Ticket)
+ticket_by (Active d done spoiled) None = None
+ticket_by (Active d done spoiled) (Some t) = Some (d, t)
+ticket_by Prepared o = None
+ticket_by (Heuristic told) o = None
+
+-- the active ticket of a branch that is kept
+abbrev pub given_ticket : Option (Case × Branch) → Option (Case × Ticket)
+given_ticket None = None
+given_ticket (Some p) = ticket_by p.1.stage p.0.ticket
+
+-- the active tickets of these branches
+unfoldable pub tickets_of : List (Option (Case × Branch)) → List (Option (Case × Ticket))
+tickets_of slots = filter is_some (map given_ticket slots)
+
+-- the ticket of the case of an entry
+abbrev pub entry_ticket : Option (Case × Branch) → Option Ticket
+entry_ticket None = None
+entry_ticket (Some p) = p.0.ticket
 
 -- an Active case has the active ticket that was given for the parent's case
 abbrev pub HasTicket : List (Option (Case × Ticket)) → Case → Stage → Type 0

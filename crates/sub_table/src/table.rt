@@ -1,11 +1,11 @@
-//! The live branches by case, and the active tickets by the parent's case.
+//! The live branches by case. The active tickets, by the parent's case, are those of the Active ones.
 
-ghost use Rattle.std.specs.Prelude.{◌≡◌, ◌≢◌, [], true, None, Some, IfOk, IsSome, OnErr, OnOk};
-ghost use Rattle.live_table.specs.Tables.{Finds, Moves, entry_at, live_count, live_value, value_at};
+ghost use Rattle.std.specs.Prelude.{◌≡◌, [], true, None, Some, IfOk, IsSome, OnErr, OnOk, option_copied};
+ghost use Rattle.live_table.specs.Tables.{Finds, entry_at, live_count, value_at};
 ghost use Rattle.tree_model.specs.Names.{child_case};
 ghost use Rattle.sub_branch.specs.declared.branch.Branch.{Branch as AnyBranch};
 ghost use Rattle.sub_branch.specs.declared.branch.Stage.TheVariants as stage;
-ghost use Rattle.sub_table.specs.Tables.{IsGivenFor, IsKept, Notes, Opens, Restores, Retires, SameTable, branch_in, has_promised, nothing, opened, promised, ticket_in};
+ghost use Rattle.sub_table.specs.Tables.{IsGivenFor, IsKept, Notes, Opens, Restores, Retires, SameTable, branch_in, entry_ticket, has_promised, is_for, nothing, opened, promised, ticket_in};
 
 use live_table::LiveTable;
 use std::alloc::{AllocError, Global};
@@ -14,30 +14,39 @@ use sub_branch::{Branch, Stage};
 use tree_model::{Case, Outcome, Ticket};
 use xa_xid::Xid;
 
-/// The live branches, and the active tickets.
+/// The live branches. A ticket is active while its branch is: the branch has the case for which it was given.
 #[derive(Drop)]
 pub struct Branches {
-    tickets: LiveTable<Ticket>,
     branches: LiveTable<Branch>,
 }
 
 impl Model for Branches {
-    ghost use Rattle.sub_table.specs.Tables.{BranchTable, IsKept};
+    ghost use Rattle.sub_table.specs.Tables.{BranchTable, IsKept, tickets_of};
 
     ghost Value = { BranchTable };
 
-    ghost view = { λ t. record { tickets = t.tickets; branches = t.branches } };
+    ghost view = { λ t. record { tickets = tickets_of t.branches; branches = t.branches } };
 
-    ghost invariant = { λ t. IsKept (record { tickets = t.tickets; branches = t.branches }) };
+    ghost invariant = { λ t. IsKept (record { tickets = tickets_of t.branches; branches = t.branches }) };
 }
 
-/// Takes the ticket out that was given for the parent's case.
-fn drop_ticket(tickets: &mut LiveTable<Ticket>, case: &Case)
-    requires { live_value tickets.old case.now ≢ None }
-    ensures { Moves tickets.old tickets.new case.now None }
+/// Whether the ticket of a branch is active, and was given for this case of the parent.
+fn is_for(branch: &Branch, case: &Case) -> bool
+    ensures { result ≡ is_for case.now branch.now.stage }
 {
-    if let Some(key) = tickets.find(case) {
-        let _ = tickets.remove(key);
+    match branch.stage {
+        Stage::Active { given_for, .. } => given_for.is(case),
+        _ => false,
+    }
+}
+
+/// The ticket of the case under the key.
+fn ticket_at(branches: &LiveTable<Branch>, key: usize) -> Option<Ticket>
+    ensures { result ≡ entry_ticket (entry_at branches.now key) }
+{
+    match branches.case_at(key) {
+        None => None,
+        Some(case) => case.ticket,
     }
 }
 
@@ -48,7 +57,6 @@ impl Branches {
         ensures branches { result.branches ≡ [] }
     {
         Branches {
-            tickets: LiveTable::new(alloc),
             branches: LiveTable::new(alloc),
         }
     }
@@ -69,10 +77,10 @@ impl Branches {
     }
 
     /// What is kept under the key.
-    pub fn get(&self, key: usize) -> Option<Branch>
-        ensures { result ≡ value_at self.now.branches key }
+    pub fn get(&self, key: usize) -> Option<&Branch>
+        ensures { option_copied result ≡ value_at self.now.branches key }
     {
-        self.branches.get(key).copied()
+        self.branches.get(key)
     }
 
     /// The active ticket that was given for the parent's case.
@@ -80,9 +88,16 @@ impl Branches {
         ensures is { result ≡ ticket_in self.now case.now }
         ensures kept { IsKept self.now }
     {
-        match self.tickets.find(case) {
+        let parent = *case;
+        let found = self.branches.find_by(
+            &case.txn,
+            |branch: &Branch| -> bool
+                ensures { result ≡ is_for parent branch.now.stage }
+            { is_for(branch, &parent) },
+        );
+        match found {
             None => None,
-            Some(key) => self.tickets.get(key).copied(),
+            Some(key) => ticket_at(&self.branches, key),
         }
     }
 
@@ -108,14 +123,7 @@ impl Branches {
                 spoiled: false,
             },
         };
-        let key = self.tickets.insert(given_for, ticket)?;
-        match self.branches.insert(case, branch) {
-            Ok(opened) => Ok(opened),
-            Err(error) => {
-                let _ = self.tickets.remove(key);
-                Err(error)
-            }
-        }
+        self.branches.insert(case, branch)
     }
 
     /// A case that is not live is live again, as it promised before a restart. Memory: nothing changed.
@@ -155,12 +163,11 @@ impl Branches {
         requires { IsSome (entry_at self.old.branches key) }
         ensures { Retires self.old self.new key promised }
     {
-        if let Some(branch) = self.branches.get_mut(key) {
-            let stage = branch.stage;
-            branch.stage = Stage::Prepared;
-            if let Stage::Active { given_for, .. } = stage {
-                drop_ticket(&mut self.tickets, &given_for);
+        match self.branches.get_mut(key) {
+            Some(branch) => {
+                branch.stage = Stage::Prepared;
             }
+            None => unreachable!(),
         }
     }
 
@@ -183,9 +190,6 @@ impl Branches {
         requires { IsSome (entry_at self.old.branches key) }
         ensures { Retires self.old self.new key nothing }
     {
-        let branch = self.branches.remove(key);
-        if let Stage::Active { given_for, .. } = branch.stage {
-            drop_ticket(&mut self.tickets, &given_for);
-        }
+        let _ = self.branches.remove(key);
     }
 }

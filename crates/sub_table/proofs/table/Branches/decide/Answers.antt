@@ -4,8 +4,9 @@ use Rattle.live_table.specs.Tables.{value_at}
 use Rattle.live_table.proofs.Writes.{entry_of}
 use Rattle.sub_branch.specs.declared.branch.Branch.{Branch}
 use Rattle.sub_branch.specs.declared.branch.Stage.TheVariants.{Heuristic}
-use Rattle.sub_table.specs.Tables.{BranchTable, Notes, has_promised}
-use Rattle.sub_table.proofs.Keeping.{decides, some_same, table}
+use Rattle.sub_table.specs.Tables.{BranchTable, Notes, has_promised, tickets_of}
+use Rattle.sub_table.proofs.Keeping.{some_same, table}
+use Rattle.sub_table.proofs.Tickets.{decided}
 use Rattle.sub_table.proofs.table.Branches.decide.Goals as goal
 
 pub invariant_of-self : goal.invariant_of-self
@@ -15,8 +16,7 @@ invariant_of-self c =
     let entry = some_same c.requires.0 c.in-Some.branch.now
     (sym c.requires.1 ∙ ap (λ (t : BranchTable). value_at t.branches c.args.key) (sym c.self.view_is)
     ∙ sym c.in-Some.ensures.value) in
-    (decides c.self.inside.tickets c.self.inside.tickets c.self.inside.branches c.args.key found.0
-    c.in-Some.branch.now c.self.invariant found.1
+    (decided c.self.inside.branches c.self.invariant c.args.key found.0 c.in-Some.branch.now found.1
     c.args.told (subst (λ (b : Branch). has_promised b.stage ≡ true) entry c.requires.2)).0
 
 pub returns : goal.returns
@@ -26,9 +26,8 @@ returns c =
     let entry = some_same c.requires.0 c.in-Some.branch.now
     (sym c.requires.1 ∙ ap (λ (t : BranchTable). value_at t.branches c.args.key) (sym c.self.view_is)
     ∙ sym c.in-Some.ensures.value) in
-    subst (λ t. Notes t (table c.self.inside.tickets (with_value c.self.inside.branches c.args.key
-    (record { xid = c.in-Some.branch.now.xid; stage = Heuristic c.args.told }))) c.args.key
-    (Heuristic c.args.told)) c.self.view_is
-    (decides c.self.inside.tickets c.self.inside.tickets c.self.inside.branches c.args.key found.0
-    c.in-Some.branch.now c.self.invariant found.1
+    let w : Branch = record { xid = c.in-Some.branch.now.xid; stage = Heuristic c.args.told } in
+    subst (λ t. Notes t (table (tickets_of (with_value c.self.inside.branches c.args.key w))
+    (with_value c.self.inside.branches c.args.key w)) c.args.key (Heuristic c.args.told)) c.self.view_is
+    (decided c.self.inside.branches c.self.invariant c.args.key found.0 c.in-Some.branch.now found.1
     c.args.told (subst (λ (b : Branch). has_promised b.stage ≡ true) entry c.requires.2)).1

@@ -4,8 +4,9 @@ use Rattle.live_table.specs.Tables.{value_at}
 use Rattle.live_table.proofs.Writes.{entry_of}
 use Rattle.sub_branch.specs.declared.branch.Branch.{Branch}
 use Rattle.sub_branch.specs.declared.branch.Stage.TheVariants.{Active}
-use Rattle.sub_table.specs.Tables.{BranchTable, IsGivenFor, Notes}
-use Rattle.sub_table.proofs.Keeping.{notes, some_same, table}
+use Rattle.sub_table.specs.Tables.{BranchTable, IsGivenFor, Notes, tickets_of}
+use Rattle.sub_table.proofs.Keeping.{some_same, table}
+use Rattle.sub_table.proofs.Tickets.{noted}
 use Rattle.sub_table.proofs.table.Branches.note.Goals as goal
 
 pub invariant_of-self : goal.invariant_of-self
@@ -15,8 +16,7 @@ invariant_of-self c =
     let entry = some_same c.requires.0 c.in-Some.branch.now
     (sym c.requires.1 ∙ ap (λ (t : BranchTable). value_at t.branches c.args.key) (sym c.self.view_is)
     ∙ sym c.in-Some.ensures.value) in
-    (notes c.self.inside.tickets c.self.inside.tickets c.self.inside.branches c.args.key found.0
-    c.in-Some.branch.now c.self.invariant found.1
+    (noted c.self.inside.branches c.self.invariant c.args.key found.0 c.in-Some.branch.now found.1
     c.args.given_for c.args.done c.args.spoiled
     (subst (λ (b : Branch). IsGivenFor c.args.given_for b.stage) entry c.requires.2)).0
 
@@ -27,11 +27,13 @@ returns c =
     let entry = some_same c.requires.0 c.in-Some.branch.now
     (sym c.requires.1 ∙ ap (λ (t : BranchTable). value_at t.branches c.args.key) (sym c.self.view_is)
     ∙ sym c.in-Some.ensures.value) in
-    subst (λ t. Notes t (table c.self.inside.tickets (with_value c.self.inside.branches c.args.key
-    (record { xid = c.in-Some.branch.now.xid; stage = Active c.args.given_for c.args.done c.args.spoiled })))
-    c.args.key
+    let w : Branch = record {
+      xid = c.in-Some.branch.now.xid;
+      stage = Active c.args.given_for c.args.done c.args.spoiled;
+    } in
+    subst (λ t. Notes t (table (tickets_of (with_value c.self.inside.branches c.args.key w))
+    (with_value c.self.inside.branches c.args.key w)) c.args.key
     (Active c.args.given_for c.args.done c.args.spoiled)) c.self.view_is
-    (notes c.self.inside.tickets c.self.inside.tickets c.self.inside.branches c.args.key found.0
-    c.in-Some.branch.now c.self.invariant found.1
+    (noted c.self.inside.branches c.self.invariant c.args.key found.0 c.in-Some.branch.now found.1
     c.args.given_for c.args.done c.args.spoiled
     (subst (λ (b : Branch). IsGivenFor c.args.given_for b.stage) entry c.requires.2)).1

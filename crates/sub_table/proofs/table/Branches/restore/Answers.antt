@@ -1,10 +1,19 @@
-use Rattle.std.proofs.Common.{ap, ◌∙◌}
-use Rattle.sub_table.specs.Tables.{branch_in}
-use Rattle.sub_table.proofs.Keeping.{restored_kept}
+use Rattle.std.proofs.Common.{ap, subst, ◌∙◌}
+use Rattle.sub_table.specs.Tables.{Restores, branch_in, tickets_of}
+use Rattle.sub_table.proofs.Keeping.{table}
+use Rattle.sub_table.proofs.Tickets.{restored}
 use Rattle.sub_table.proofs.table.Branches.restore.Goals as goal
 
 pub invariant_of-self-2 : goal.invariant_of-self-2
 invariant_of-self-2 c =
-    restored_kept c.self.inside.tickets c.self.inside.branches c.insert.new.self c.args.case c.args.xid
-    c.in_ok-insert.field-0 c.self.invariant
-    (ap (λ t. branch_in t c.args.case) c.self.view_is ∙ c.requires) (c.in_ok-insert.ensures.ok)
+    (restored c.self.inside.branches c.self.invariant c.insert.new.self c.args.case c.args.xid
+    c.in_ok-insert.field-0 (ap (λ t. branch_in t c.args.case) c.self.view_is ∙ c.requires)
+    c.in_ok-insert.ensures.ok).0
+
+pub returns-clause-ok : goal.returns-clause-ok
+returns-clause-ok c =
+    subst (λ t. Restores t (table (tickets_of c.insert.new.self) c.insert.new.self) c.args.case c.args.xid)
+    c.self.view_is
+    (restored c.self.inside.branches c.self.invariant c.insert.new.self c.args.case c.args.xid
+    c.in_ok-insert.field-0 (ap (λ t. branch_in t c.args.case) c.self.view_is ∙ c.requires)
+    c.in_ok-insert.ensures.ok).1
