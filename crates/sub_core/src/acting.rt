@@ -34,7 +34,7 @@ impl<M: ResourceManager> Subordinate<M> {
         ensures { result ≡ branch_in self.now.table case.now }
     {
         let (_, branch) = find_branch(&self.branches, case)?;
-        Some(branch)
+        Some(*branch)
     }
 
     /// A question to the parent about a case in doubt, or about one that an operator decided and that was

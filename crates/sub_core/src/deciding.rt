@@ -84,18 +84,18 @@ impl<M: ResourceManager> Subordinate<M> {
         &mut self,
         key: usize,
         case: Case,
-        xid: Xid,
+        xid: &Xid,
         outcome: Outcome,
     ) -> Result<Reaction, StepError>
         requires up { (M.sight self.old.manager).log.failed ≡ false }
-        requires at { IsAt self.old.table key case (prepared xid) }
+        requires at { IsAt self.old.table key case (prepared xid.now) }
         ensures ok { IfOk result (Acts (seen M.sight self.old) (seen M.sight self.new)
             (act.Decide case outcome)) }
         ensures err { IfErr result (NotActed (seen M.sight self.old) (seen M.sight self.new)
             (act.Decide case outcome)) }
     {
         let reaction = logged_alone(decision_kind(outcome), case, self.alloc)?;
-        match decide(&mut self.manager, &xid, outcome) {
+        match decide(&mut self.manager, xid, outcome) {
             Ok(()) => {
                 self.branches.decide(key, None);
                 Ok(reaction)
@@ -116,8 +116,9 @@ impl<M: ResourceManager> Subordinate<M> {
         let Some((key, branch)) = find_branch(&self.branches, &case) else {
             return Err(StepError::UnknownTxn);
         };
+        let xid = branch.xid;
         match branch.stage {
-            Stage::Prepared => self.decide_prepared(key, case, branch.xid, outcome),
+            Stage::Prepared => self.decide_prepared(key, case, &xid, outcome),
             Stage::Active { .. } => Err(StepError::NotInDoubt),
             Stage::Heuristic { .. } => Err(StepError::NotInDoubt),
         }
@@ -128,18 +129,18 @@ impl<M: ResourceManager> Subordinate<M> {
         &mut self,
         key: usize,
         case: Case,
-        xid: Xid,
+        xid: &Xid,
         outcome: Outcome,
     ) -> Result<Reaction, StepError>
         requires up { (M.sight self.old.manager).log.failed ≡ false }
-        requires at { IsAt self.old.table key case (decided xid None) }
+        requires at { IsAt self.old.table key case (decided xid.now None) }
         requires kept { IsKept self.old.table }
         ensures ok { IfOk result (Hears (seen M.sight self.old) (seen M.sight self.new)
             (tells_outcome outcome case)) }
         ensures err { IfErr result (NotHeard (seen M.sight self.old) (seen M.sight self.new)
             (tells_outcome outcome case)) }
     {
-        let found = self.findings(case, &xid, outcome)?;
+        let found = self.findings(case, xid, outcome)?;
         let reaction = ends_by(
             self.me,
             self.parent,
@@ -149,7 +150,7 @@ impl<M: ResourceManager> Subordinate<M> {
             found,
             self.alloc,
         )?;
-        match tell(&mut self.manager, &xid, outcome) {
+        match tell(&mut self.manager, xid, outcome) {
             Ok(()) => {
                 self.branches.decide(key, Some(outcome));
                 Ok(reaction)
@@ -187,12 +188,12 @@ impl<M: ResourceManager> Subordinate<M> {
         &mut self,
         key: usize,
         case: Case,
-        xid: Xid,
+        xid: &Xid,
         told: Option<Outcome>,
         outcome: Outcome,
     ) -> Result<Reaction, StepError>
         requires up { (M.sight self.old.manager).log.failed ≡ false }
-        requires at { IsAt self.old.table key case (decided xid told) }
+        requires at { IsAt self.old.table key case (decided xid.now told) }
         requires kept { IsKept self.old.table }
         ensures ok { IfOk result (Hears (seen M.sight self.old) (seen M.sight self.new)
             (tells_outcome outcome case)) }
@@ -201,7 +202,7 @@ impl<M: ResourceManager> Subordinate<M> {
     {
         match told {
             None => self.told_first(key, case, xid, outcome),
-            Some(told) => self.told_again(case, &xid, told, outcome),
+            Some(told) => self.told_again(case, xid, told, outcome),
         }
     }
 
@@ -210,18 +211,18 @@ impl<M: ResourceManager> Subordinate<M> {
         &mut self,
         key: usize,
         case: Case,
-        xid: Xid,
+        xid: &Xid,
         told: Option<Outcome>,
     ) -> Result<Reaction, StepError>
         requires up { (M.sight self.old.manager).log.failed ≡ false }
-        requires at { IsAt self.old.table key case (decided xid told) }
+        requires at { IsAt self.old.table key case (decided xid.now told) }
         requires kept { IsKept self.old.table }
         ensures ok { IfOk result (Acts (seen M.sight self.old) (seen M.sight self.new) (act.Forget case)) }
         ensures err { IfErr result (NotActed (seen M.sight self.old)
             (seen M.sight self.new) (act.Forget case)) }
     {
         let reaction = logged_alone(RecordKind::Forgot, case, self.alloc)?;
-        match forget(&mut self.manager, &xid) {
+        match forget(&mut self.manager, xid) {
             Ok(()) => {
                 self.branches.remove(key);
                 Ok(reaction)
@@ -240,8 +241,9 @@ impl<M: ResourceManager> Subordinate<M> {
         let Some((key, branch)) = find_branch(&self.branches, &case) else {
             return Err(StepError::UnknownTxn);
         };
+        let xid = branch.xid;
         match branch.stage {
-            Stage::Heuristic { told } => self.forget_decided(key, case, branch.xid, told),
+            Stage::Heuristic { told } => self.forget_decided(key, case, &xid, told),
             Stage::Active { .. } => Err(StepError::NothingToForget),
             Stage::Prepared => Err(StepError::NothingToForget),
         }

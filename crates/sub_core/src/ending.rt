@@ -85,10 +85,10 @@ impl<M: ResourceManager> Subordinate<M> {
         key: usize,
         case: Case,
         works: u64,
-        xid: Xid,
+        xid: &Xid,
     ) -> Result<Reaction, StepError>
         requires up { (M.sight self.old.manager).log.failed ≡ false }
-        requires at { (g : AnyCase) × (n : ℕ) × (p : Bool) × IsAt self.old.table key case (active xid g n p)
+        requires at { (g : AnyCase) × (n : ℕ) × (p : Bool) × IsAt self.old.table key case (active xid.now g n p)
             × (((n == works) && not p) ≡ false) }
         ensures ok { IfOk result (Hears (seen M.sight self.old) (seen M.sight self.new)
             (message.Prepare case works)) }
@@ -96,7 +96,7 @@ impl<M: ResourceManager> Subordinate<M> {
             (message.Prepare case works)) }
     {
         let reaction = reply(self.me, self.parent, Message::No(case), self.alloc)?;
-        match roll_back(&mut self.manager, &xid) {
+        match roll_back(&mut self.manager, xid) {
             Ok(()) => {
                 self.branches.remove(key);
                 Ok(reaction)
@@ -110,10 +110,10 @@ impl<M: ResourceManager> Subordinate<M> {
         &mut self,
         key: usize,
         case: Case,
-        xid: Xid,
+        xid: &Xid,
     ) -> Result<Reaction, StepError>
         requires up { (M.sight self.old.manager).log.failed ≡ false }
-        requires at { (g : AnyCase) × (n : ℕ) × (p : Bool) × IsAt self.old.table key case (active xid g n p) }
+        requires at { (g : AnyCase) × (n : ℕ) × (p : Bool) × IsAt self.old.table key case (active xid.now g n p) }
         ensures ok { IfOk result (Hears (seen M.sight self.old)
             (seen M.sight self.new) (message.Abort case)) }
         ensures err { IfErr result (NotHeard (seen M.sight self.old)
@@ -128,7 +128,7 @@ impl<M: ResourceManager> Subordinate<M> {
             found,
             self.alloc,
         )?;
-        match roll_back(&mut self.manager, &xid) {
+        match roll_back(&mut self.manager, xid) {
             Ok(()) => {
                 self.branches.remove(key);
                 Ok(reaction)
@@ -142,10 +142,10 @@ impl<M: ResourceManager> Subordinate<M> {
         &mut self,
         key: usize,
         case: Case,
-        xid: Xid,
+        xid: &Xid,
     ) -> Result<Reaction, StepError>
         requires up { (M.sight self.old.manager).log.failed ≡ false }
-        requires at { IsAt self.old.table key case (prepared xid) }
+        requires at { IsAt self.old.table key case (prepared xid.now) }
         requires kept { IsKept self.old.table }
         ensures ok { IfOk result (Hears (seen M.sight self.old)
             (seen M.sight self.new) (message.Abort case)) }
@@ -161,7 +161,7 @@ impl<M: ResourceManager> Subordinate<M> {
             Sequence::new(self.alloc),
             self.alloc,
         )?;
-        match roll_back(&mut self.manager, &xid) {
+        match roll_back(&mut self.manager, xid) {
             Ok(()) => {
                 self.branches.remove(key);
                 Ok(reaction)
@@ -175,10 +175,10 @@ impl<M: ResourceManager> Subordinate<M> {
         &mut self,
         key: usize,
         case: Case,
-        xid: Xid,
+        xid: &Xid,
     ) -> Result<Reaction, StepError>
         requires up { (M.sight self.old.manager).log.failed ≡ false }
-        requires at { IsAt self.old.table key case (prepared xid) }
+        requires at { IsAt self.old.table key case (prepared xid.now) }
         requires kept { IsKept self.old.table }
         ensures ok { IfOk result (Hears (seen M.sight self.old)
             (seen M.sight self.new) (message.Commit case)) }
@@ -194,7 +194,7 @@ impl<M: ResourceManager> Subordinate<M> {
             Sequence::new(self.alloc),
             self.alloc,
         )?;
-        match commit(&mut self.manager, &xid) {
+        match commit(&mut self.manager, xid) {
             Ok(()) => {
                 self.branches.remove(key);
                 Ok(reaction)

@@ -38,6 +38,7 @@ impl<M: ResourceManager> Subordinate<M> {
         let Some((key, branch)) = find_branch(&self.branches, &case) else {
             return Ok(reply(self.me, self.parent, Message::No(case), self.alloc)?);
         };
+        let xid = branch.xid;
         match branch.stage {
             Stage::Prepared => Ok(reply(self.me, self.parent, Message::Yes(case), self.alloc)?),
             Stage::Heuristic { .. } => {
@@ -45,9 +46,9 @@ impl<M: ResourceManager> Subordinate<M> {
             }
             Stage::Active { done, spoiled, .. } => {
                 if done == works && !spoiled {
-                    self.vote_with(key, case, works, branch.xid)
+                    self.vote_with(key, case, works, &xid)
                 } else {
-                    self.refuse(key, case, works, branch.xid)
+                    self.refuse(key, case, works, &xid)
                 }
             }
         }
@@ -65,10 +66,11 @@ impl<M: ResourceManager> Subordinate<M> {
         let Some((key, branch)) = find_branch(&self.branches, &case) else {
             return Ok(self.unreported(case, Outcome::Committed)?);
         };
+        let xid = branch.xid;
         match branch.stage {
-            Stage::Prepared => self.commit_prepared(key, case, branch.xid),
+            Stage::Prepared => self.commit_prepared(key, case, &xid),
             Stage::Heuristic { told } => {
-                self.tell_heuristic(key, case, branch.xid, told, Outcome::Committed)
+                self.tell_heuristic(key, case, &xid, told, Outcome::Committed)
             }
             Stage::Active { .. } => Ok(silence(self.alloc)),
         }
@@ -86,12 +88,13 @@ impl<M: ResourceManager> Subordinate<M> {
         let Some((key, branch)) = find_branch(&self.branches, &case) else {
             return Ok(self.unreported(case, Outcome::Aborted)?);
         };
+        let xid = branch.xid;
         match branch.stage {
-            Stage::Prepared => self.abort_prepared(key, case, branch.xid),
+            Stage::Prepared => self.abort_prepared(key, case, &xid),
             Stage::Heuristic { told } => {
-                self.tell_heuristic(key, case, branch.xid, told, Outcome::Aborted)
+                self.tell_heuristic(key, case, &xid, told, Outcome::Aborted)
             }
-            Stage::Active { .. } => self.abort_active(key, case, branch.xid),
+            Stage::Active { .. } => self.abort_active(key, case, &xid),
         }
     }
 }

@@ -2,7 +2,7 @@
 
 ghost use Rattle.tree_model.specs.declared.names.Kind.TheVariants as kind;
 ghost use Rattle.log_text.specs.Forms.{log_form};
-ghost use Rattle.std.specs.Prelude.{◌≡◌, IsTrue};
+ghost use Rattle.std.specs.Prelude.{◌≡◌, IsTrue, option_map};
 ghost use Rattle.tree_model.specs.Nodes.{AtLeaf};
 ghost use Rattle.core_model.specs.Opening.{IsOpened};
 ghost use Rattle.core_model.specs.States.{HasNumbers};
@@ -168,8 +168,8 @@ impl<M: ResourceManager> Subordinate<M> {
 }
 
 /// What is kept of a case, and its key.
-pub(crate) fn find_branch(branches: &Branches, case: &Case) -> Option<(usize, Branch)>
-    ensures finds { FindsBranch branches.now case.now result }
+pub(crate) fn find_branch<'a>(branches: &'a Branches, case: &Case) -> Option<(usize, &'a Branch)>
+    ensures finds { FindsBranch branches.now case.now (option_map (λ p. (p.0, p.1.now)) result) }
     ensures kept { IsKept branches.now }
 {
     let key = branches.find(case)?;

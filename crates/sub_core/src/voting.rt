@@ -44,10 +44,10 @@ impl<M: ResourceManager> Subordinate<M> {
         key: usize,
         case: Case,
         works: u64,
-        xid: Xid,
+        xid: &Xid,
     ) -> Result<Reaction, StepError>
         requires up { (M.sight self.old.manager).log.failed ≡ false }
-        requires at { (g : AnyCase) × IsAt self.old.table key case (active xid g works false) }
+        requires at { (g : AnyCase) × IsAt self.old.table key case (active xid.now g works false) }
         ensures ok { IfOk result (Hears (seen M.sight self.old) (seen M.sight self.new)
             (message.Prepare case works)) }
         ensures err { IfErr result (NotHeard (seen M.sight self.old) (seen M.sight self.new)
@@ -55,7 +55,7 @@ impl<M: ResourceManager> Subordinate<M> {
     {
         let room = Vec::with_capacity(self.alloc, 1)?;
         let written = logged(RecordKind::Prepared, case, true, self.alloc)?;
-        let vote = match promise(&mut self.manager, &xid) {
+        let vote = match promise(&mut self.manager, xid) {
             Ok(vote) => vote,
             Err(error) => return Err(error),
         };

@@ -19,18 +19,18 @@ impl<M: ResourceManager> Subordinate<M> {
         given_for: Case,
         done: u64,
         number: u64,
-        xid: Xid,
+        xid: &Xid,
         op: &Op,
     ) -> Result<Reaction, StepError>
         requires up { (M.sight self.old.manager).log.failed ≡ false }
-        requires at { IsAt self.old.table key case (active xid given_for done false) }
+        requires at { IsAt self.old.table key case (active xid.now given_for done false) }
         requires next { number ≡ done + 1 }
         ensures ok { IfOk result (Hears (seen M.sight self.old) (seen M.sight self.new)
             (message.Work case number op.now)) }
         ensures err { IfErr result (NotHeard (seen M.sight self.old) (seen M.sight self.new)
             (message.Work case number op.now)) }
     {
-        match work(&mut self.manager, &xid, op) {
+        match work(&mut self.manager, xid, op) {
             Ok(true) => {
                 self.branches.note(key, given_for, number, false);
                 Ok(silence(self.alloc))
@@ -55,9 +55,10 @@ impl<M: ResourceManager> Subordinate<M> {
         let Some((key, branch)) = find_branch(&self.branches, &case) else {
             return Ok(silence(self.alloc));
         };
+        let xid = branch.xid;
         match branch.stage.takes(number) {
             Some((given_for, done)) => {
-                self.work_on(key, case, given_for, done, number, branch.xid, op)
+                self.work_on(key, case, given_for, done, number, &xid, op)
             }
             None => Ok(silence(self.alloc)),
         }

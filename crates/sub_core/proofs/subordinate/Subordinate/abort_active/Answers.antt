@@ -14,7 +14,7 @@ use Rattle.sub_core.proofs.subordinate.Subordinate.abort_active.Goals as goal
 
 pub roll_back-requires-clause-named : goal.roll_back-requires-clause-named
 roll_back-requires-clause-named g c =
-    let b : Branch = active c.args.xid c.requires.at.0 c.requires.at.1 c.requires.at.2 in
+    let b : Branch = active c.args.xid.now c.requires.at.0 c.requires.at.1 c.requires.at.2 in
     let at : IsAt c.self.inside.branches c.args.key c.args.case b =
     subst (λ v. IsAt v.table c.args.key c.args.case b) (sym c.self.view_is) c.requires.at.3 in
     (c.self.invariant.named c.args.case b at.live).real
@@ -29,7 +29,7 @@ roll_back-requires-clause-state g c =
       table = c.self.inside.branches;
       manager = g.M.ResourceManager.sight c.self.inside.manager;
     } in
-    let b : Branch = active c.args.xid c.requires.at.0 c.requires.at.1 c.requires.at.2 in
+    let b : Branch = active c.args.xid.now c.requires.at.0 c.requires.at.1 c.requires.at.2 in
     let at : IsAt c.self.inside.branches c.args.key c.args.case b =
     subst (λ v. IsAt v.table c.args.key c.args.case b) (sym c.self.view_is) c.requires.at.3 in
     ap can_roll_back (c.self.invariant.stands c.args.case b at.live)
@@ -45,7 +45,7 @@ invariant_of-self g c =
       table = c.self.inside.branches;
       manager = g.M.ResourceManager.sight c.self.inside.manager;
     } in
-    let b : Branch = active c.args.xid c.requires.at.0 c.requires.at.1 c.requires.at.2 in
+    let b : Branch = active c.args.xid.now c.requires.at.0 c.requires.at.1 c.requires.at.2 in
     let at : IsAt c.self.inside.branches c.args.key c.args.case b =
     subst (λ v. IsAt v.table c.args.key c.args.case b) (sym c.self.view_is) c.requires.at.3 in
     let m : ManagerSight = g.M.ResourceManager.sight c.roll_back.new.manager in
@@ -62,7 +62,7 @@ invariant_of-self-in-Err-1 g c =
       table = c.self.inside.branches;
       manager = g.M.ResourceManager.sight c.self.inside.manager;
     } in
-    let b : Branch = active c.args.xid c.requires.at.0 c.requires.at.1 c.requires.at.2 in
+    let b : Branch = active c.args.xid.now c.requires.at.0 c.requires.at.1 c.requires.at.2 in
     let at : IsAt c.self.inside.branches c.args.key c.args.case b =
     subst (λ v. IsAt v.table c.args.key c.args.case b) (sym c.self.view_is) c.requires.at.3 in
     not_tied s (g.M.ResourceManager.sight c.roll_back.new.manager) c.args.case b call.Rollback c.in-Err.error
@@ -78,12 +78,12 @@ returns-in-Ok-clause-ok g c =
       table = c.self.inside.branches;
       manager = g.M.ResourceManager.sight c.self.inside.manager;
     } in
-    let b : Branch = active c.args.xid c.requires.at.0 c.requires.at.1 c.requires.at.2 in
+    let b : Branch = active c.args.xid.now c.requires.at.0 c.requires.at.1 c.requires.at.2 in
     let at : IsAt c.self.inside.branches c.args.key c.args.case b =
     subst (λ v. IsAt v.table c.args.key c.args.case b) (sym c.self.view_is) c.requires.at.3 in
     let m : ManagerSight = g.M.ResourceManager.sight c.roll_back.new.manager in
     let ends = abort_row s c.args.key c.args.case c.requires.at.0 c.requires.at.1
-    c.requires.at.2 c.args.xid at in
+    c.requires.at.2 c.args.xid.now at in
     let said : c.in_ok-reaction.reaction
     ≡ shown [] (acknowledged c.self.inside.me c.self.inside.parent c.args.case Aborted []) =
     subst (λ fs. c.in_ok-reaction.reaction ≡ shown [] (acknowledged c.self.inside.me c.self.inside.parent
@@ -104,12 +104,12 @@ returns-in-Err-clause-err g c =
       table = c.self.inside.branches;
       manager = g.M.ResourceManager.sight c.self.inside.manager;
     } in
-    let b : Branch = active c.args.xid c.requires.at.0 c.requires.at.1 c.requires.at.2 in
+    let b : Branch = active c.args.xid.now c.requires.at.0 c.requires.at.1 c.requires.at.2 in
     let at : IsAt c.self.inside.branches c.args.key c.args.case b =
     subst (λ v. IsAt v.table c.args.key c.args.case b) (sym c.self.view_is) c.requires.at.3 in
     let m : ManagerSight = g.M.ResourceManager.sight c.roll_back.new.manager in
     let ends = abort_row s c.args.key c.args.case c.requires.at.0 c.requires.at.1
-    c.requires.at.2 c.args.xid at in
+    c.requires.at.2 c.args.xid.now at in
     subst (λ v. NotHeard (seen g.M.ResourceManager.sight v) (behind s s.table m) (Abort c.args.case)
     c.in-Err.error) c.self.view_is
     (not_ended s c.args.key c.args.case b (Abort c.args.case) call.Rollback _ c.self.invariant at ends m

@@ -15,7 +15,7 @@ use Rattle.sub_core.proofs.subordinate.Subordinate.abort_prepared.Goals as goal
 
 pub roll_back-requires-clause-named : goal.roll_back-requires-clause-named
 roll_back-requires-clause-named g c =
-    let b : Branch = prepared c.args.xid in
+    let b : Branch = prepared c.args.xid.now in
     let at : IsAt c.self.inside.branches c.args.key c.args.case b =
     subst (λ v. IsAt v.table c.args.key c.args.case b) (sym c.self.view_is) c.requires.at in
     (c.self.invariant.named c.args.case b at.live).real
@@ -30,7 +30,7 @@ roll_back-requires-clause-state g c =
       table = c.self.inside.branches;
       manager = g.M.ResourceManager.sight c.self.inside.manager;
     } in
-    let b : Branch = prepared c.args.xid in
+    let b : Branch = prepared c.args.xid.now in
     let at : IsAt c.self.inside.branches c.args.key c.args.case b =
     subst (λ v. IsAt v.table c.args.key c.args.case b) (sym c.self.view_is) c.requires.at in
     ap can_roll_back (c.self.invariant.stands c.args.case b at.live)
@@ -45,7 +45,7 @@ invariant_of-self g c =
       table = c.self.inside.branches;
       manager = g.M.ResourceManager.sight c.self.inside.manager;
     } in
-    let b : Branch = prepared c.args.xid in
+    let b : Branch = prepared c.args.xid.now in
     let at : IsAt c.self.inside.branches c.args.key c.args.case b =
     subst (λ v. IsAt v.table c.args.key c.args.case b) (sym c.self.view_is) c.requires.at in
     let m : ManagerSight = g.M.ResourceManager.sight c.roll_back.new.manager in
@@ -62,7 +62,7 @@ invariant_of-self-in-Err-1 g c =
       table = c.self.inside.branches;
       manager = g.M.ResourceManager.sight c.self.inside.manager;
     } in
-    let b : Branch = prepared c.args.xid in
+    let b : Branch = prepared c.args.xid.now in
     let at : IsAt c.self.inside.branches c.args.key c.args.case b =
     subst (λ v. IsAt v.table c.args.key c.args.case b) (sym c.self.view_is) c.requires.at in
     not_tied s (g.M.ResourceManager.sight c.roll_back.new.manager) c.args.case b call.Rollback c.in-Err.error
@@ -78,11 +78,11 @@ returns-in-Ok-clause-ok g c =
       table = c.self.inside.branches;
       manager = g.M.ResourceManager.sight c.self.inside.manager;
     } in
-    let b : Branch = prepared c.args.xid in
+    let b : Branch = prepared c.args.xid.now in
     let at : IsAt c.self.inside.branches c.args.key c.args.case b =
     subst (λ v. IsAt v.table c.args.key c.args.case b) (sym c.self.view_is) c.requires.at in
     let m : ManagerSight = g.M.ResourceManager.sight c.roll_back.new.manager in
-    let ends = rolled_row s c.args.key c.args.case c.args.xid
+    let ends = rolled_row s c.args.key c.args.case c.args.xid.now
     (subst (λ v. IsKept v.table) (sym c.self.view_is) c.requires.kept) at in
     let said : c.in_ok-reaction.reaction
     ≡ outcome_reply kind.RolledBack c.args.case AbortedOutcome [] c.self.inside.me c.self.inside.parent =
@@ -104,11 +104,11 @@ returns-in-Err-clause-err g c =
       table = c.self.inside.branches;
       manager = g.M.ResourceManager.sight c.self.inside.manager;
     } in
-    let b : Branch = prepared c.args.xid in
+    let b : Branch = prepared c.args.xid.now in
     let at : IsAt c.self.inside.branches c.args.key c.args.case b =
     subst (λ v. IsAt v.table c.args.key c.args.case b) (sym c.self.view_is) c.requires.at in
     let m : ManagerSight = g.M.ResourceManager.sight c.roll_back.new.manager in
-    let ends = rolled_row s c.args.key c.args.case c.args.xid
+    let ends = rolled_row s c.args.key c.args.case c.args.xid.now
     (subst (λ v. IsKept v.table) (sym c.self.view_is) c.requires.kept) at in
     subst (λ v. NotHeard (seen g.M.ResourceManager.sight v) (behind s s.table m) (Abort c.args.case)
     c.in-Err.error) c.self.view_is

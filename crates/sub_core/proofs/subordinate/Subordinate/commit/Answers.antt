@@ -41,9 +41,9 @@ returns-in-Active-clause-ok g c =
       manager = g.M.ResourceManager.sight c.self.inside.manager;
     } in
     let at = subst (λ (st : Stage). IsAt s.table c.in-Some.key c.args.case
-    (record { xid = c.in-Some.branch.xid; stage = st })) c.in-Active.is c.in-Some.ensures.finds in
+    (record { xid = c.in-Some.branch.now.xid; stage = st })) c.in-Active.is c.in-Some.ensures.finds in
     subst (λ v. Hears (seen g.M.ResourceManager.sight v) (seen g.M.ResourceManager.sight v)
     (Commit c.args.case) c.silence.result) c.self.view_is
     (subst (λ r. Hears s s (Commit c.args.case) r) (sym c.silence.ensures)
     (heard s c.args.case (Commit c.args.case) _ (commit_active s c.args.case c.in-Some.ensures.kept
-    c.in-Some.key c.in-Some.branch.xid c.in-Active.given_for c.in-Active.done c.in-Active.spoiled at)))
+    c.in-Some.key c.in-Some.branch.now.xid c.in-Active.given_for c.in-Active.done c.in-Active.spoiled at)))

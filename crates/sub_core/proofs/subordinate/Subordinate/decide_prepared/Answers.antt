@@ -12,14 +12,14 @@ use Rattle.sub_core.proofs.subordinate.Subordinate.decide_prepared.Goals as goal
 
 pub decide-requires-clause-state : goal.decide-requires-clause-state
 decide-requires-clause-state g c =
-    let b : Branch = prepared c.args.xid in
+    let b : Branch = prepared c.args.xid.now in
     let at : IsAt c.self.inside.branches c.args.key c.args.case b =
     subst (λ v. IsAt v.table c.args.key c.args.case b) (sym c.self.view_is) c.requires.at in
     c.self.invariant.stands c.args.case b at.live
 
 pub decide-requires-in-Ok : goal.decide-requires-in-Ok
 decide-requires-in-Ok g c =
-    let b : Branch = prepared c.args.xid in
+    let b : Branch = prepared c.args.xid.now in
     let at : IsAt c.self.inside.branches c.args.key c.args.case b =
     subst (λ v. IsAt v.table c.args.key c.args.case b) (sym c.self.view_is) c.requires.at in
     (b, ap value_of at.entry, refl)
@@ -34,11 +34,11 @@ invariant_of-self g c =
       table = c.self.inside.branches;
       manager = g.M.ResourceManager.sight c.self.inside.manager;
     } in
-    let b : Branch = prepared c.args.xid in
+    let b : Branch = prepared c.args.xid.now in
     let at : IsAt c.self.inside.branches c.args.key c.args.case b =
     subst (λ v. IsAt v.table c.args.key c.args.case b) (sym c.self.view_is) c.requires.at in
     let m : ManagerSight = g.M.ResourceManager.sight c.decide.new.manager in
-    decides_tied s c.args.key c.args.case c.args.xid c.args.outcome c.self.invariant at
+    decides_tied s c.args.key c.args.case c.args.xid.now c.args.outcome c.self.invariant at
     c.decide-in-Ok.new.self m c.decide-in-Ok.ensures c.in-Ok.ensures.ok
 
 pub invariant_of-self-in-Err-1 : goal.invariant_of-self-in-Err-1
@@ -51,7 +51,7 @@ invariant_of-self-in-Err-1 g c =
       table = c.self.inside.branches;
       manager = g.M.ResourceManager.sight c.self.inside.manager;
     } in
-    let b : Branch = prepared c.args.xid in
+    let b : Branch = prepared c.args.xid.now in
     let at : IsAt c.self.inside.branches c.args.key c.args.case b =
     subst (λ v. IsAt v.table c.args.key c.args.case b) (sym c.self.view_is) c.requires.at in
     undecided_tied s (g.M.ResourceManager.sight c.decide.new.manager) c.args.case b c.args.outcome c.in-Err.error
@@ -67,7 +67,7 @@ returns-in-Ok-clause-ok g c =
       table = c.self.inside.branches;
       manager = g.M.ResourceManager.sight c.self.inside.manager;
     } in
-    let b : Branch = prepared c.args.xid in
+    let b : Branch = prepared c.args.xid.now in
     let at : IsAt c.self.inside.branches c.args.key c.args.case b =
     subst (λ v. IsAt v.table c.args.key c.args.case b) (sym c.self.view_is) c.requires.at in
     let m : ManagerSight = g.M.ResourceManager.sight c.decide.new.manager in
@@ -75,7 +75,7 @@ returns-in-Ok-clause-ok g c =
     (Decide c.args.case c.args.outcome) c.in_ok-reaction.reaction) c.self.view_is
     (subst (λ r. Acts s (behind s c.decide-in-Ok.new.self m) (Decide c.args.case c.args.outcome) r)
     (sym (c.in_ok-reaction.ensures ∙ ap (λ k. logged_alone k c.args.case) c.decision_kind.ensures))
-    (decides s c.args.key c.args.case c.args.xid c.args.outcome c.self.invariant at c.decide-in-Ok.new.self m
+    (decides s c.args.key c.args.case c.args.xid.now c.args.outcome c.self.invariant at c.decide-in-Ok.new.self m
     c.decide-in-Ok.ensures c.in-Ok.ensures.ok))
 
 pub returns-in-Err-clause-err : goal.returns-in-Err-clause-err
@@ -88,11 +88,11 @@ returns-in-Err-clause-err g c =
       table = c.self.inside.branches;
       manager = g.M.ResourceManager.sight c.self.inside.manager;
     } in
-    let b : Branch = prepared c.args.xid in
+    let b : Branch = prepared c.args.xid.now in
     let at : IsAt c.self.inside.branches c.args.key c.args.case b =
     subst (λ v. IsAt v.table c.args.key c.args.case b) (sym c.self.view_is) c.requires.at in
     let m : ManagerSight = g.M.ResourceManager.sight c.decide.new.manager in
     subst (λ v. NotActed (seen g.M.ResourceManager.sight v) (behind s s.table m)
     (Decide c.args.case c.args.outcome) c.in-Err.error) c.self.view_is
-    (not_decided s c.args.key c.args.case c.args.xid c.args.outcome c.self.invariant at m
+    (not_decided s c.args.key c.args.case c.args.xid.now c.args.outcome c.self.invariant at m
     c.in-Err.error c.in-Err.ensures.err)

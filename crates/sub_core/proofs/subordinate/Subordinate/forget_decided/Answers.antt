@@ -14,14 +14,14 @@ use Rattle.sub_core.proofs.subordinate.Subordinate.forget_decided.Goals as goal
 
 pub forget-requires-clause-named : goal.forget-requires-clause-named
 forget-requires-clause-named g c =
-    let b : Branch = decided c.args.xid c.args.told in
+    let b : Branch = decided c.args.xid.now c.args.told in
     let at : IsAt c.self.inside.branches c.args.key c.args.case b =
     subst (λ v. IsAt v.table c.args.key c.args.case b) (sym c.self.view_is) c.requires.at in
     (c.self.invariant.named c.args.case b at.live).real
 
 pub forget-requires-clause-state : goal.forget-requires-clause-state
 forget-requires-clause-state g c =
-    let b : Branch = decided c.args.xid c.args.told in
+    let b : Branch = decided c.args.xid.now c.args.told in
     let at : IsAt c.self.inside.branches c.args.key c.args.case b =
     subst (λ v. IsAt v.table c.args.key c.args.case b) (sym c.self.view_is) c.requires.at in
     c.self.invariant.stands c.args.case b at.live
@@ -36,7 +36,7 @@ invariant_of-self g c =
       table = c.self.inside.branches;
       manager = g.M.ResourceManager.sight c.self.inside.manager;
     } in
-    let b : Branch = decided c.args.xid c.args.told in
+    let b : Branch = decided c.args.xid.now c.args.told in
     let at : IsAt c.self.inside.branches c.args.key c.args.case b =
     subst (λ v. IsAt v.table c.args.key c.args.case b) (sym c.self.view_is) c.requires.at in
     let m : ManagerSight = g.M.ResourceManager.sight c.forget.new.manager in
@@ -53,7 +53,7 @@ invariant_of-self-in-Err-1 g c =
       table = c.self.inside.branches;
       manager = g.M.ResourceManager.sight c.self.inside.manager;
     } in
-    let b : Branch = decided c.args.xid c.args.told in
+    let b : Branch = decided c.args.xid.now c.args.told in
     let at : IsAt c.self.inside.branches c.args.key c.args.case b =
     subst (λ v. IsAt v.table c.args.key c.args.case b) (sym c.self.view_is) c.requires.at in
     not_tied s (g.M.ResourceManager.sight c.forget.new.manager) c.args.case b call.Forget c.in-Err.error
@@ -69,7 +69,7 @@ returns-in-Ok-clause-ok g c =
       table = c.self.inside.branches;
       manager = g.M.ResourceManager.sight c.self.inside.manager;
     } in
-    let b : Branch = decided c.args.xid c.args.told in
+    let b : Branch = decided c.args.xid.now c.args.told in
     let at : IsAt c.self.inside.branches c.args.key c.args.case b =
     subst (λ v. IsAt v.table c.args.key c.args.case b) (sym c.self.view_is) c.requires.at in
     let kept : IsKept s.table = subst (λ v. IsKept v.table) (sym c.self.view_is) c.requires.kept in
@@ -77,7 +77,7 @@ returns-in-Ok-clause-ok g c =
     subst (λ v. Acts (seen g.M.ResourceManager.sight v) (behind s c.remove.new.self m) (Forget c.args.case)
     c.in_ok-reaction.reaction) c.self.view_is
     (subst (λ r. Acts s (behind s c.remove.new.self m) (Forget c.args.case) r) (sym c.in_ok-reaction.ensures)
-    (forgets s c.args.key c.args.case c.args.xid c.args.told c.self.invariant kept at c.remove.new.self m
+    (forgets s c.args.key c.args.case c.args.xid.now c.args.told c.self.invariant kept at c.remove.new.self m
     c.remove.ensures c.in-Ok.ensures.ok))
 
 pub returns-in-Err-clause-err : goal.returns-in-Err-clause-err
@@ -90,12 +90,12 @@ returns-in-Err-clause-err g c =
       table = c.self.inside.branches;
       manager = g.M.ResourceManager.sight c.self.inside.manager;
     } in
-    let b : Branch = decided c.args.xid c.args.told in
+    let b : Branch = decided c.args.xid.now c.args.told in
     let at : IsAt c.self.inside.branches c.args.key c.args.case b =
     subst (λ v. IsAt v.table c.args.key c.args.case b) (sym c.self.view_is) c.requires.at in
     let kept : IsKept s.table = subst (λ v. IsKept v.table) (sym c.self.view_is) c.requires.kept in
     let m : ManagerSight = g.M.ResourceManager.sight c.forget.new.manager in
     subst (λ v. NotActed (seen g.M.ResourceManager.sight v) (behind s s.table m) (Forget c.args.case)
     c.in-Err.error) c.self.view_is
-    (not_forgotten s c.args.key c.args.case c.args.xid c.args.told c.self.invariant kept at m
+    (not_forgotten s c.args.key c.args.case c.args.xid.now c.args.told c.self.invariant kept at m
     c.in-Err.error c.in-Err.ensures.err)

@@ -32,12 +32,12 @@ returns-in_ok-reply-in-Prepared-clause-ok g c =
       manager = g.M.ResourceManager.sight c.self.inside.manager;
     } in
     let at = subst (λ (st : Stage). IsAt s.table c.in-Some.key c.args.case
-    (record { xid = c.in-Some.branch.xid; stage = st })) c.in-Prepared.is c.in-Some.ensures.finds in
+    (record { xid = c.in-Some.branch.now.xid; stage = st })) c.in-Prepared.is c.in-Some.ensures.finds in
     subst (λ v. Hears (seen g.M.ResourceManager.sight v) (seen g.M.ResourceManager.sight v)
     (Prepare c.args.case c.args.works) c.in_ok-reply-in-Prepared.field-0) c.self.view_is
     (subst (λ r. Hears s s (Prepare c.args.case c.args.works) r) (sym c.in_ok-reply-in-Prepared.ensures)
     (heard s c.args.case (Prepare c.args.case c.args.works) _ (prepare_again s c.args.case
-    c.in-Some.ensures.kept c.args.works c.in-Some.key c.in-Some.branch.xid at)))
+    c.in-Some.ensures.kept c.args.works c.in-Some.key c.in-Some.branch.now.xid at)))
 
 pub returns-in_ok-reply-in-Heuristic-clause-ok : goal.returns-in_ok-reply-in-Heuristic-clause-ok
 returns-in_ok-reply-in-Heuristic-clause-ok g c =
@@ -50,9 +50,9 @@ returns-in_ok-reply-in-Heuristic-clause-ok g c =
       manager = g.M.ResourceManager.sight c.self.inside.manager;
     } in
     let at = subst (λ (st : Stage). IsAt s.table c.in-Some.key c.args.case
-    (record { xid = c.in-Some.branch.xid; stage = st })) c.in-Heuristic.is c.in-Some.ensures.finds in
+    (record { xid = c.in-Some.branch.now.xid; stage = st })) c.in-Heuristic.is c.in-Some.ensures.finds in
     subst (λ v. Hears (seen g.M.ResourceManager.sight v) (seen g.M.ResourceManager.sight v)
     (Prepare c.args.case c.args.works) c.in_ok-reply-in-Heuristic.field-0) c.self.view_is
     (subst (λ r. Hears s s (Prepare c.args.case c.args.works) r) (sym c.in_ok-reply-in-Heuristic.ensures)
     (heard s c.args.case (Prepare c.args.case c.args.works) _ (prepare_decided s c.args.case
-    c.in-Some.ensures.kept c.args.works c.in-Some.key c.in-Some.branch.xid c.in-Heuristic.told at)))
+    c.in-Some.ensures.kept c.args.works c.in-Some.key c.in-Some.branch.now.xid c.in-Heuristic.told at)))

@@ -12,7 +12,7 @@ use Rattle.sub_core.proofs.subordinate.Subordinate.refuse.Goals as goal
 
 pub roll_back-requires-clause-named : goal.roll_back-requires-clause-named
 roll_back-requires-clause-named g c =
-    let b : Branch = active c.args.xid c.requires.at.0 c.requires.at.1 c.requires.at.2 in
+    let b : Branch = active c.args.xid.now c.requires.at.0 c.requires.at.1 c.requires.at.2 in
     let at : IsAt c.self.inside.branches c.args.key c.args.case b =
     subst (λ v. IsAt v.table c.args.key c.args.case b) (sym c.self.view_is) c.requires.at.3 in
     (c.self.invariant.named c.args.case b at.live).real
@@ -27,7 +27,7 @@ roll_back-requires-clause-state g c =
       table = c.self.inside.branches;
       manager = g.M.ResourceManager.sight c.self.inside.manager;
     } in
-    let b : Branch = active c.args.xid c.requires.at.0 c.requires.at.1 c.requires.at.2 in
+    let b : Branch = active c.args.xid.now c.requires.at.0 c.requires.at.1 c.requires.at.2 in
     let at : IsAt c.self.inside.branches c.args.key c.args.case b =
     subst (λ v. IsAt v.table c.args.key c.args.case b) (sym c.self.view_is) c.requires.at.3 in
     ap can_roll_back (c.self.invariant.stands c.args.case b at.live)
@@ -43,7 +43,7 @@ invariant_of-self g c =
       table = c.self.inside.branches;
       manager = g.M.ResourceManager.sight c.self.inside.manager;
     } in
-    let b : Branch = active c.args.xid c.requires.at.0 c.requires.at.1 c.requires.at.2 in
+    let b : Branch = active c.args.xid.now c.requires.at.0 c.requires.at.1 c.requires.at.2 in
     let at : IsAt c.self.inside.branches c.args.key c.args.case b =
     subst (λ v. IsAt v.table c.args.key c.args.case b) (sym c.self.view_is) c.requires.at.3 in
     let m : ManagerSight = g.M.ResourceManager.sight c.roll_back.new.manager in
@@ -60,7 +60,7 @@ invariant_of-self-in-Err-1 g c =
       table = c.self.inside.branches;
       manager = g.M.ResourceManager.sight c.self.inside.manager;
     } in
-    let b : Branch = active c.args.xid c.requires.at.0 c.requires.at.1 c.requires.at.2 in
+    let b : Branch = active c.args.xid.now c.requires.at.0 c.requires.at.1 c.requires.at.2 in
     let at : IsAt c.self.inside.branches c.args.key c.args.case b =
     subst (λ v. IsAt v.table c.args.key c.args.case b) (sym c.self.view_is) c.requires.at.3 in
     not_tied s (g.M.ResourceManager.sight c.roll_back.new.manager) c.args.case b call.Rollback c.in-Err.error
@@ -76,12 +76,12 @@ returns-in-Ok-clause-ok g c =
       table = c.self.inside.branches;
       manager = g.M.ResourceManager.sight c.self.inside.manager;
     } in
-    let b : Branch = active c.args.xid c.requires.at.0 c.requires.at.1 c.requires.at.2 in
+    let b : Branch = active c.args.xid.now c.requires.at.0 c.requires.at.1 c.requires.at.2 in
     let at : IsAt c.self.inside.branches c.args.key c.args.case b =
     subst (λ v. IsAt v.table c.args.key c.args.case b) (sym c.self.view_is) c.requires.at.3 in
     let m : ManagerSight = g.M.ResourceManager.sight c.roll_back.new.manager in
     let ends = refuse_row s c.args.key c.args.case c.requires.at.0 c.requires.at.1 c.args.works
-    c.requires.at.2 c.args.xid at c.requires.at.4 in
+    c.requires.at.2 c.args.xid.now at c.requires.at.4 in
     subst (λ v. Hears (seen g.M.ResourceManager.sight v) (behind s c.remove.new.self m)
     (Prepare c.args.case c.args.works) c.in_ok-reaction.reaction) c.self.view_is
     (subst (λ r. Hears s (behind s c.remove.new.self m) (Prepare c.args.case c.args.works) r)
@@ -99,12 +99,12 @@ returns-in-Err-clause-err g c =
       table = c.self.inside.branches;
       manager = g.M.ResourceManager.sight c.self.inside.manager;
     } in
-    let b : Branch = active c.args.xid c.requires.at.0 c.requires.at.1 c.requires.at.2 in
+    let b : Branch = active c.args.xid.now c.requires.at.0 c.requires.at.1 c.requires.at.2 in
     let at : IsAt c.self.inside.branches c.args.key c.args.case b =
     subst (λ v. IsAt v.table c.args.key c.args.case b) (sym c.self.view_is) c.requires.at.3 in
     let m : ManagerSight = g.M.ResourceManager.sight c.roll_back.new.manager in
     let ends = refuse_row s c.args.key c.args.case c.requires.at.0 c.requires.at.1 c.args.works
-    c.requires.at.2 c.args.xid at c.requires.at.4 in
+    c.requires.at.2 c.args.xid.now at c.requires.at.4 in
     subst (λ v. NotHeard (seen g.M.ResourceManager.sight v) (behind s s.table m)
     (Prepare c.args.case c.args.works) c.in-Err.error) c.self.view_is
     (not_ended s c.args.key c.args.case b (Prepare c.args.case c.args.works) call.Rollback _ c.self.invariant

@@ -17,21 +17,21 @@ findings-requires g c = record { at = (c.args.key, None, c.requires.at) }
 
 pub tell-requires-clause-named : goal.tell-requires-clause-named
 tell-requires-clause-named g c =
-    let b : Branch = decided c.args.xid None in
+    let b : Branch = decided c.args.xid.now None in
     let at : IsAt c.self.inside.branches c.args.key c.args.case b =
     subst (λ v. IsAt v.table c.args.key c.args.case b) (sym c.self.view_is) c.requires.at in
     (c.self.invariant.named c.args.case b at.live).real
 
 pub tell-requires-clause-state : goal.tell-requires-clause-state
 tell-requires-clause-state g c =
-    let b : Branch = decided c.args.xid None in
+    let b : Branch = decided c.args.xid.now None in
     let at : IsAt c.self.inside.branches c.args.key c.args.case b =
     subst (λ v. IsAt v.table c.args.key c.args.case b) (sym c.self.view_is) c.requires.at in
     c.self.invariant.stands c.args.case b at.live
 
 pub decide-requires : goal.decide-requires
 decide-requires g c =
-    let b : Branch = decided c.args.xid None in
+    let b : Branch = decided c.args.xid.now None in
     let at : IsAt c.self.inside.branches c.args.key c.args.case b =
     subst (λ v. IsAt v.table c.args.key c.args.case b) (sym c.self.view_is) c.requires.at in
     (b, ap value_of at.entry, refl)
@@ -46,12 +46,12 @@ invariant_of-self g c =
       table = c.self.inside.branches;
       manager = g.M.ResourceManager.sight c.self.inside.manager;
     } in
-    let b : Branch = decided c.args.xid None in
+    let b : Branch = decided c.args.xid.now None in
     let at : IsAt c.self.inside.branches c.args.key c.args.case b =
     subst (λ v. IsAt v.table c.args.key c.args.case b) (sym c.self.view_is) c.requires.at in
     let kept : IsKept s.table = subst (λ v. IsKept v.table) (sym c.self.view_is) c.requires.kept in
     let m : ManagerSight = g.M.ResourceManager.sight c.tell.new.manager in
-    told_tied s c.args.key c.args.case c.args.xid c.args.outcome c.self.invariant kept at c.decide.new.self m
+    told_tied s c.args.key c.args.case c.args.xid.now c.args.outcome c.self.invariant kept at c.decide.new.self m
     c.decide.ensures c.in-Ok.ensures.ok
 
 pub invariant_of-self-in-Err-1 : goal.invariant_of-self-in-Err-1
@@ -64,7 +64,7 @@ invariant_of-self-in-Err-1 g c =
       table = c.self.inside.branches;
       manager = g.M.ResourceManager.sight c.self.inside.manager;
     } in
-    let b : Branch = decided c.args.xid None in
+    let b : Branch = decided c.args.xid.now None in
     let at : IsAt c.self.inside.branches c.args.key c.args.case b =
     subst (λ v. IsAt v.table c.args.key c.args.case b) (sym c.self.view_is) c.requires.at in
     not_tied s (g.M.ResourceManager.sight c.tell.new.manager) c.args.case b (outcome_call c.args.outcome)
@@ -80,7 +80,7 @@ returns-in-Ok-clause-ok g c =
       table = c.self.inside.branches;
       manager = g.M.ResourceManager.sight c.self.inside.manager;
     } in
-    let b : Branch = decided c.args.xid None in
+    let b : Branch = decided c.args.xid.now None in
     let at : IsAt c.self.inside.branches c.args.key c.args.case b =
     subst (λ v. IsAt v.table c.args.key c.args.case b) (sym c.self.view_is) c.requires.at in
     let kept : IsKept s.table = subst (λ v. IsKept v.table) (sym c.self.view_is) c.requires.kept in
@@ -96,7 +96,7 @@ returns-in-Ok-clause-ok g c =
     (tells_outcome c.args.outcome c.args.case) c.in_ok-reaction.reaction) c.self.view_is
     (subst (λ r. Hears s (behind s c.decide.new.self m) (tells_outcome c.args.outcome c.args.case) r)
     (sym said)
-    (told_first s c.args.key c.args.case c.args.xid c.args.outcome c.self.invariant kept at c.decide.new.self
+    (told_first s c.args.key c.args.case c.args.xid.now c.args.outcome c.self.invariant kept at c.decide.new.self
     m c.decide.ensures c.in-Ok.ensures.ok))
 
 pub returns-in-Err-clause-err : goal.returns-in-Err-clause-err
@@ -109,12 +109,12 @@ returns-in-Err-clause-err g c =
       table = c.self.inside.branches;
       manager = g.M.ResourceManager.sight c.self.inside.manager;
     } in
-    let b : Branch = decided c.args.xid None in
+    let b : Branch = decided c.args.xid.now None in
     let at : IsAt c.self.inside.branches c.args.key c.args.case b =
     subst (λ v. IsAt v.table c.args.key c.args.case b) (sym c.self.view_is) c.requires.at in
     let kept : IsKept s.table = subst (λ v. IsKept v.table) (sym c.self.view_is) c.requires.kept in
     let m : ManagerSight = g.M.ResourceManager.sight c.tell.new.manager in
     subst (λ v. NotHeard (seen g.M.ResourceManager.sight v) (behind s s.table m)
     (tells_outcome c.args.outcome c.args.case) c.in-Err.error) c.self.view_is
-    (not_told s c.args.key c.args.case c.args.xid c.args.outcome c.self.invariant kept at m
+    (not_told s c.args.key c.args.case c.args.xid.now c.args.outcome c.self.invariant kept at m
     c.in-Err.error c.in-Err.ensures.err)

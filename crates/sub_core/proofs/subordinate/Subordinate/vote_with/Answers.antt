@@ -15,14 +15,14 @@ use Rattle.sub_core.proofs.subordinate.Subordinate.vote_with.Goals as goal
 pub promise-requires-clause-named : goal.promise-requires-clause-named
 promise-requires-clause-named g c =
     let at = subst (λ v. IsAt v.table c.args.key c.args.case
-    (active c.args.xid c.requires.at.0 c.args.works false)) (sym c.self.view_is) c.requires.at.1 in
-    (c.self.invariant.named c.args.case (active c.args.xid c.requires.at.0 c.args.works false) at.live).real
+    (active c.args.xid.now c.requires.at.0 c.args.works false)) (sym c.self.view_is) c.requires.at.1 in
+    (c.self.invariant.named c.args.case (active c.args.xid.now c.requires.at.0 c.args.works false) at.live).real
 
 pub promise-requires-clause-state : goal.promise-requires-clause-state
 promise-requires-clause-state g c =
     let at = subst (λ v. IsAt v.table c.args.key c.args.case
-    (active c.args.xid c.requires.at.0 c.args.works false)) (sym c.self.view_is) c.requires.at.1 in
-    c.self.invariant.stands c.args.case (active c.args.xid c.requires.at.0 c.args.works false) at.live
+    (active c.args.xid.now c.requires.at.0 c.args.works false)) (sym c.self.view_is) c.requires.at.1 in
+    c.self.invariant.stands c.args.case (active c.args.xid.now c.requires.at.0 c.args.works false) at.live
 
 pub invariant_of-self : goal.invariant_of-self
 invariant_of-self g c =
@@ -35,9 +35,9 @@ invariant_of-self g c =
       manager = g.M.ResourceManager.sight c.self.inside.manager;
     } in
     let at = subst (λ v. IsAt v.table c.args.key c.args.case
-    (active c.args.xid c.requires.at.0 c.args.works false)) (sym c.self.view_is) c.requires.at.1 in
+    (active c.args.xid.now c.requires.at.0 c.args.works false)) (sym c.self.view_is) c.requires.at.1 in
     not_tied s (g.M.ResourceManager.sight c.promise.new.manager) c.args.case
-    (active c.args.xid c.requires.at.0 c.args.works false) call.Prepare c.in-Err.error
+    (active c.args.xid.now c.requires.at.0 c.args.works false) call.Prepare c.in-Err.error
     c.self.invariant at.live c.in-Err.ensures.err
 
 pub returns-in-Err-clause-err : goal.returns-in-Err-clause-err
@@ -51,11 +51,11 @@ returns-in-Err-clause-err g c =
       manager = g.M.ResourceManager.sight c.self.inside.manager;
     } in
     let at = subst (λ v. IsAt v.table c.args.key c.args.case
-    (active c.args.xid c.requires.at.0 c.args.works false)) (sym c.self.view_is) c.requires.at.1 in
+    (active c.args.xid.now c.requires.at.0 c.args.works false)) (sym c.self.view_is) c.requires.at.1 in
     let m : ManagerSight = g.M.ResourceManager.sight c.promise.new.manager in
     subst (λ v. NotHeard (seen g.M.ResourceManager.sight v) (behind s s.table m)
     (Prepare c.args.case c.args.works) c.in-Err.error) c.self.view_is
-    (not_voted s c.args.key c.args.case c.requires.at.0 c.args.works c.args.xid c.self.invariant at m
+    (not_voted s c.args.key c.args.case c.requires.at.0 c.args.works c.args.xid.now c.self.invariant at m
     c.in-Err.error c.in-Err.ensures.err)
 
 pub invariant_of-self-in-Read-1 : goal.invariant_of-self-in-Read-1
@@ -69,8 +69,8 @@ invariant_of-self-in-Read-1 g c =
       manager = g.M.ResourceManager.sight c.self.inside.manager;
     } in
     let at = subst (λ v. IsAt v.table c.args.key c.args.case
-    (active c.args.xid c.requires.at.0 c.args.works false)) (sym c.self.view_is) c.requires.at.1 in
-    read_tied s c.args.key c.args.case c.requires.at.0 c.args.works c.args.xid c.self.invariant at
+    (active c.args.xid.now c.requires.at.0 c.args.works false)) (sym c.self.view_is) c.requires.at.1 in
+    read_tied s c.args.key c.args.case c.requires.at.0 c.args.works c.args.xid.now c.self.invariant at
     c.remove.new.self (g.M.ResourceManager.sight c.promise.new.manager) c.remove.ensures c.in-Ok.ensures.ok
 
 pub invariant_of-self-in_default : goal.invariant_of-self-in_default
@@ -84,11 +84,11 @@ invariant_of-self-in_default g c =
       manager = g.M.ResourceManager.sight c.self.inside.manager;
     } in
     let at = subst (λ v. IsAt v.table c.args.key c.args.case
-    (active c.args.xid c.requires.at.0 c.args.works false)) (sym c.self.view_is) c.requires.at.1 in
-    yes_tied s c.args.key c.args.case c.requires.at.0 c.args.works c.args.xid c.self.invariant at
+    (active c.args.xid.now c.requires.at.0 c.args.works false)) (sym c.self.view_is) c.requires.at.1 in
+    yes_tied s c.args.key c.args.case c.requires.at.0 c.args.works c.args.xid.now c.self.invariant at
     c.promise-in_default.new.self (g.M.ResourceManager.sight c.promise.new.manager)
     c.promise-in_default.ensures
-    (yes_of (s.manager.writes c.args.xid) c.in-Ok.vote c.in-Ok.ensures.vote
+    (yes_of (s.manager.writes c.args.xid.now) c.in-Ok.vote c.in-Ok.ensures.vote
     c.in_default.not-Read) c.in-Ok.ensures.ok
 
 pub returns-in-Read-clause-ok : goal.returns-in-Read-clause-ok
@@ -102,14 +102,14 @@ returns-in-Read-clause-ok g c =
       manager = g.M.ResourceManager.sight c.self.inside.manager;
     } in
     let at = subst (λ v. IsAt v.table c.args.key c.args.case
-    (active c.args.xid c.requires.at.0 c.args.works false)) (sym c.self.view_is) c.requires.at.1 in
+    (active c.args.xid.now c.requires.at.0 c.args.works false)) (sym c.self.view_is) c.requires.at.1 in
     let m : ManagerSight = g.M.ResourceManager.sight c.promise.new.manager in
     let said : c.says.result ≡ shown [] (post s.me s.parent (ReadMessage c.args.case) ∷ []) = search rules in
     subst (λ v. Hears (seen g.M.ResourceManager.sight v) (behind s c.remove.new.self m)
     (Prepare c.args.case c.args.works) c.says.result) c.self.view_is
     (subst (λ r. Hears s (behind s c.remove.new.self m) (Prepare c.args.case c.args.works)
     r) (sym said)
-    (read s c.args.key c.args.case c.requires.at.0 c.args.works c.args.xid c.self.invariant at
+    (read s c.args.key c.args.case c.requires.at.0 c.args.works c.args.xid.now c.self.invariant at
     c.remove.new.self m c.remove.ensures
     (sym c.in-Read.is ∙ c.in-Ok.ensures.vote) c.in-Ok.ensures.ok))
 
@@ -124,7 +124,7 @@ returns-in_default g c =
       manager = g.M.ResourceManager.sight c.self.inside.manager;
     } in
     let at = subst (λ v. IsAt v.table c.args.key c.args.case
-    (active c.args.xid c.requires.at.0 c.args.works false)) (sym c.self.view_is) c.requires.at.1 in
+    (active c.args.xid.now c.requires.at.0 c.args.works false)) (sym c.self.view_is) c.requires.at.1 in
     let m : ManagerSight = g.M.ResourceManager.sight c.promise.new.manager in
     let said : c.says-in_default.result ≡ record {
       begun = None;
@@ -138,9 +138,9 @@ returns-in_default g c =
           (Prepare c.args.case c.args.works) c.says-in_default.result) c.self.view_is
           (subst (λ r. Hears s (behind s c.promise-in_default.new.self m) (Prepare c.args.case c.args.works)
           r) (sym said)
-          (yes s c.args.key c.args.case c.requires.at.0 c.args.works c.args.xid c.self.invariant at
+          (yes s c.args.key c.args.case c.requires.at.0 c.args.works c.args.xid.now c.self.invariant at
           c.promise-in_default.new.self m c.promise-in_default.ensures
-          (yes_of (s.manager.writes c.args.xid) c.in-Ok.vote c.in-Ok.ensures.vote
+          (yes_of (s.manager.writes c.args.xid.now) c.in-Ok.vote c.in-Ok.ensures.vote
           c.in_default.not-Read) c.in-Ok.ensures.ok));
       err = tt;
     }

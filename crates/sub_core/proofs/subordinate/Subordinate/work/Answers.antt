@@ -24,12 +24,12 @@ returns-in_default-clause-ok g c =
 
 pub work_on-requires-clause-at : goal.work_on-requires-clause-at
 work_on-requires-clause-at g c =
-    let at = subst (λ v. IsAt v.table c.in-Some.key c.args.case c.in-Some.branch)
+    let at = subst (λ v. IsAt v.table c.in-Some.key c.args.case c.in-Some.branch.now)
     c.self.view_is c.in-Some.ensures.finds in
-    let taken = subst (λ r. TakesBy c.in-Some.branch.stage c.args.number r)
+    let taken = subst (λ r. TakesBy c.in-Some.branch.now.stage c.args.number r)
     c.in-Some-takes.is c.takes.ensures in
     subst (λ (st : Stage). IsAt c.args.self.now.table c.in-Some.key c.args.case
-    (record { xid = c.in-Some.branch.xid; stage = st })) taken.0 at
+    (record { xid = c.in-Some.branch.now.xid; stage = st })) taken.0 at
 
 pub returns-in-None-clause-ok : goal.returns-in-None-clause-ok
 returns-in-None-clause-ok g c =
@@ -46,4 +46,4 @@ returns-in-None-clause-ok g c =
     (subst (λ r. Hears s s (Work c.args.case c.args.number c.args.op.now) r) (sym c.silence-in-None.ensures)
     (heard s c.args.case (Work c.args.case c.args.number c.args.op.now) _
     (work_untaken s c.args.case c.in-Some.ensures.kept c.args.number c.args.op.now c.in-Some.key
-    c.in-Some.branch.xid c.in-Some.branch.stage c.in-Some.ensures.finds c.in-None.ensures)))
+    c.in-Some.branch.now.xid c.in-Some.branch.now.stage c.in-Some.ensures.finds c.in-None.ensures)))
