@@ -10,6 +10,7 @@
 //! reason       why an event was refused
 //! event        the sentences of that
 //! names        names as text
+//! rest         what a run leaves that its script may have meant to do
 //! clean        a text that a terminal can show
 //! ```
 #![tactic(auto)]
@@ -20,6 +21,8 @@ mod history;
 mod names;
 mod program;
 mod reason;
+mod rest;
 
 pub use line_faults::Script;
 pub use program::{failure_text, plain_refusal_text, refusal_text};
+pub use rest::rest_text;

@@ -2,7 +2,7 @@
 
 use crate::fault::{LineFault, Near};
 use crate::form::{Form, Script, script_by};
-use crate::near::nearest;
+use crate::friend::{friend_of, meant_by};
 use crate::part::Part;
 use std::alloc::{AllocError, Global};
 use xa_xid::Xid;
@@ -30,7 +30,7 @@ fn wrong<'a>(part: Part, word: &'a str) -> LineFault<'a> {
     LineFault::Wrong {
         word,
         part: part.name(),
-        near: Near(nearest(word, part.words())),
+        near: Near(meant_by(word, part.words())),
     }
 }
 
@@ -55,17 +55,30 @@ fn fault_by<'a>(form: Form, words: &[&'a str]) -> Option<(LineFault<'a>, Option<
     }
 }
 
-/// What is wrong with a line that begins with a word that begins none.
-fn unknown<'a>(script: Script, word: &'a str) -> Finding<'a> {
+/// The word of such a script that was meant by one that begins none of its lines; these words stand after it. A line
+/// with as many words as one of another script has is of that one.
+fn word_meant(script: Script, word: &str, rest: &[&str]) -> Option<&'static str> {
+    if let Some(other) = script_by(word) {
+        return if other != script && rest.len() == 1 {
+            friend_of(word, script.words())
+        } else {
+            None
+        };
+    }
+    meant_by(word, script.words())
+}
+
+/// What is wrong with a line that begins with a word that begins none, by the word that was meant.
+fn unknown<'a>(script: Script, word: &'a str, near: Option<&'static str>) -> Finding<'a> {
     let fault = match script_by(word) {
         _ if word.is_empty() => LineFault::Blank,
-        Some(other) if other != script => LineFault::OtherScript {
+        Some(other) if other != script && near.is_none() => LineFault::OtherScript {
             script: other.what(),
         },
         _ => LineFault::Unknown {
             word,
             line: script.line(),
-            near: Near(nearest(word, script.words())),
+            near: Near(near),
         },
     };
     Finding {
@@ -73,12 +86,6 @@ fn unknown<'a>(script: Script, word: &'a str) -> Finding<'a> {
         wanted: script.word_list(),
         part: None,
     }
-}
-
-/// The form of a word that was meant by one that begins no line.
-fn meant(script: Script, word: &str, verb: &str) -> Option<Form> {
-    let near = nearest(word, script.words())?;
-    script.form(near, verb)
 }
 
 /// The first thing that is wrong with a line of such a script by its form alone; None, where its form is
@@ -97,9 +104,12 @@ pub fn finding_of<'a>(
         None => "",
     };
     let Some(form) = script.form(first, verb) else {
-        let mut finding = unknown(script, first);
-        if let Some(form) = meant(script, first, verb) {
-            finding.wanted = form.shown;
+        let near = word_meant(script, first, rest);
+        let mut finding = unknown(script, first, near);
+        if let Some(near) = near {
+            if let Some(form) = script.form(near, verb) {
+                finding.wanted = form.shown;
+            }
         }
         return Ok(Some(finding));
     };

@@ -27,8 +27,10 @@ use crate::resolves::resolved;
 use crate::stops::run_stops;
 use audit_engine::{Detail, run_audit, run_log};
 use crash_engine::run_crash;
+use doubt_count::{count_doubts, status_by};
 use explanation::{Script, refusal_text};
 use judge_engine::Extent;
+use left_data::data_text;
 use migrate_engine::run_migrate;
 use std::alloc::Global;
 use std::{fs, io};
@@ -46,6 +48,8 @@ enum Program {
     Counts,
     /// A tree script, for the picture of its run.
     Picture,
+    /// A tree script, for the data that it leaves.
+    Data,
     /// A tree script, for what its crashes end with.
     Crash,
     /// A tree script, for what stops of its devices end with.
@@ -66,6 +70,8 @@ enum Program {
     Audit,
     /// Likewise, and what decided those that are in doubt or show a mismatch.
     Explain,
+    /// The logs of a tree, for how many of its cases are in doubt.
+    Doubts,
     /// Names of branches and the logs of a tree, for what is to be done with them.
     Resolve,
     /// What a resource manager answered, for the verdict: the first fault, or all.
@@ -89,6 +95,17 @@ fn audited(alloc: Global, detail: Detail, mut input: &[u8], out: &mut Vec<u8>) -
     Some(ending.number())
 }
 
+/// Audits logs and counts the cases in doubt: the exit status, and what it writes. No status where it fails.
+fn doubted(alloc: Global, input: &[u8], out: &mut Vec<u8>) -> Option<u8> {
+    let audited = audited(alloc, Detail::Lines, input, out)?;
+    let Some(count) = count_doubts(alloc, input).ok()? else {
+        return Some(audited);
+    };
+    let line = format!(in alloc; "in-doubt {count}\n").ok()?;
+    out.extend_from_slice(line.as_bytes()).ok()?;
+    Some(status_by(audited, count))
+}
+
 impl Program {
     /// The program of a row that begins with this word.
     fn of(word: &str) -> Option<Self> {
@@ -97,6 +114,7 @@ impl Program {
             "logs" => Some(Program::Logs),
             "counts" => Some(Program::Counts),
             "picture" => Some(Program::Picture),
+            "data" => Some(Program::Data),
             "crash" => Some(Program::Crash),
             "stops" => Some(Program::Stops),
             "cuts" => Some(Program::Cuts),
@@ -107,6 +125,7 @@ impl Program {
             "migrations" => Some(Program::Migrations),
             "audit" => Some(Program::Audit),
             "explain" => Some(Program::Explain),
+            "doubts" => Some(Program::Doubts),
             "resolve" => Some(Program::Resolve),
             "judge" => Some(Program::Judge(Extent::First)),
             "judge_all" => Some(Program::Judge(Extent::All)),
@@ -125,6 +144,7 @@ impl Program {
             Program::Logs => ("tree", "logs"),
             Program::Counts => ("tree", "counts"),
             Program::Picture => ("tree", "svg"),
+            Program::Data => ("tree", "data"),
             Program::Crash => ("tree", "crashes"),
             Program::Stops => ("tree", "stops"),
             Program::Cuts => ("tree", "cuts"),
@@ -132,6 +152,7 @@ impl Program {
             Program::Xa => ("xa", "out"),
             Program::Migrations => ("logs", "migrations"),
             Program::Log | Program::Migrate | Program::Audit | Program::Explain => ("logs", "out"),
+            Program::Doubts => ("logs", "doubts"),
             Program::Resolve => ("names", "out"),
             Program::Judge(_) => ("calls", "out"),
             Program::Plan => ("plan", "xa"),
@@ -148,6 +169,11 @@ impl Program {
             Program::Logs => run_tree(alloc, Output::Logs, &mut input, out),
             Program::Counts => run_tree(alloc, Output::Counts, &mut input, out),
             Program::Picture => run_tree(alloc, Output::Picture, &mut input, out),
+            Program::Data => {
+                let text = data_text(alloc, input).ok()??;
+                out.extend_from_slice(&text).ok()?;
+                return Some(0);
+            }
             Program::Crash => {
                 let mut progress = Vec::new(alloc);
                 let ending = run_crash(alloc, &mut input, out, &mut progress).ok()?;
@@ -174,6 +200,7 @@ impl Program {
             Program::Migrate => run_migrate(alloc, &mut input, out),
             Program::Audit => return audited(alloc, Detail::Lines, input, out),
             Program::Explain => return audited(alloc, Detail::Explained, input, out),
+            Program::Doubts => return doubted(alloc, input, out),
             Program::Resolve => return resolved(alloc, input, out),
             Program::Judge(extent) => return judged(alloc, extent, input, out),
             Program::Plan => return planned(alloc, input, out),

@@ -4,6 +4,8 @@
 //! what `rstar audit` says of the logs which `rstar tree --logs` leaves is true.
 #![tactic(auto)]
 
+mod auditing;
+mod data;
 mod explainer;
 mod files;
 mod judging;
@@ -15,12 +17,13 @@ mod resolving;
 mod running;
 mod source;
 
+use crate::auditing::{Audit, perform_audit};
 use crate::running::Run;
-use audit_engine::{Detail, run_audit, run_log};
+use audit_engine::run_log;
 use clap::error::ErrorKind;
 use clap::{Arg, ArgAction, ArgMatches, Command, Error};
 use crash_engine::run_crash;
-use explanation::{Script, failure_text, plain_refusal_text, refusal_text};
+use explanation::{Script, failure_text, plain_refusal_text, refusal_text, rest_text};
 use judging::JudgeWords;
 use migrate_engine::run_migrate;
 use migration::FileWords;
@@ -30,7 +33,7 @@ use resolving::ResolveWords;
 use source::{Source, bytes_in, source_of, tell_refused, tell_waiting};
 use std::alloc::{AllocError, Global};
 use std::io;
-use std::io::Read;
+use std::io::{IsTerminal, Read};
 use std::process::ExitCode;
 use std::sync::Wait;
 use std::thread::Threads;
@@ -42,6 +45,8 @@ use xa_engine::run_xa;
 enum Request {
     /// The events of a tree script, and what is written of them.
     Tree(Output),
+    /// The same, its trace, and the data that it leaves.
+    Data,
     /// The events of a tree script, on processes that run at the same time.
     Run(Run),
     /// The calls of an XA script.
@@ -49,7 +54,7 @@ enum Request {
     /// What the logs of a tree hold.
     Log,
     /// How the cases of a tree stand and end by its logs, and how much is written of that.
-    Audit(Detail),
+    Audit(Audit),
     /// The logs of a tree, by the second format.
     Migrate,
     /// What each crash of a tree script ends with.
@@ -80,8 +85,8 @@ enum Asked<'a> {
     Memory,
 }
 
-/// What `rstar --version` says behind the name.
-const VERSION: &str = "0.1.0, format of logs 2";
+/// What `rstar --version` says after the name: its own version, that of the reaction table, and that of logs.
+const VERSION: &str = "0.1.0, protocol 2, format of logs 2";
 
 /// What `rstar --help` says behind its subcommands.
 const EXAMPLES: &str = "\
@@ -100,7 +105,8 @@ Examples:
 
 Exit status: 0 the script was run to its end, 1 it was refused, 2 an event was refused,
 3 an audit found a mismatch, or a run of crash ends with one or a case in doubt, 4 reading,
-writing or memory failed, or the device of a log, or numbers are used up.";
+writing or memory failed, or the device of a log, or numbers are used up, 5 audit --in-doubt
+found no mismatch, but a case in doubt.";
 
 /// What `rstar tree --help` says below its usage.
 const TREE_HELP: &str = "\
@@ -133,7 +139,8 @@ first Opened of a process over an empty log does not count. With --logs, where n
 refused: the processes, a line ---, and a line 'log P HEX' for the log of each process, as
 'rstar log' and 'rstar audit' read them. With --picture, in place of the trace: one SVG file,
 time downward, a line for each process, an arrow for each delivery, a mark for each record; a
-refused event is its last row.
+refused event is its last row. With --data, after the trace, a line 'data P KEY VALUE' for each key that a
+manager holds then, keys rising.
 
 Examples: rstar tree < examples/commit.tree
           rstar tree < examples/crash.tree
@@ -330,6 +337,18 @@ fn picture<'a>(alloc: Global) -> Result<Arg<'a>, AllocError> {
     .conflicts_with("counts")
 }
 
+/// The flag `--data` of `rstar tree`, which `--logs`, `--counts` and `--picture` exclude.
+fn data<'a>(alloc: Global) -> Result<Arg<'a>, AllocError> {
+    flag(
+        alloc,
+        "data",
+        "Writes after the trace the keys and values that the managers hold then",
+    )
+    .conflicts_with("logs")?
+    .conflicts_with("counts")?
+    .conflicts_with("picture")
+}
+
 /// The words of `rstar tree`.
 fn tree<'a>(alloc: Global) -> Result<Command<'a>, AllocError> {
     explaining(
@@ -345,6 +364,7 @@ fn tree<'a>(alloc: Global) -> Result<Command<'a>, AllocError> {
     ))?
     .arg(counts(alloc)?)?
     .arg(picture(alloc)?)?
+    .arg(data(alloc)?)?
     .arg(source::word(alloc))
 }
 
@@ -377,6 +397,11 @@ fn audit<'a>(alloc: Global) -> Result<Command<'a>, AllocError> {
         alloc,
         "explain",
         "Tells of each case in doubt and each mismatch what decided it, and what to do; or what is wrong with a refused input",
+    ))?
+    .arg(flag(
+        alloc,
+        "in-doubt",
+        "Writes last how many cases are in doubt; the status is 5 if one is, and no line shows a mismatch",
     ))?
     .arg(logs::file(alloc))
 }
@@ -455,24 +480,17 @@ fn grammar<'a>(alloc: Global) -> Result<Command<'a>, AllocError> {
 }
 
 /// What is written of a tree script.
-fn output_of(matches: &ArgMatches) -> Output {
+fn tree_request(matches: &ArgMatches) -> Request {
     if matches.get_flag("logs") {
-        Output::Logs
+        Request::Tree(Output::Logs)
     } else if matches.get_flag("counts") {
-        Output::Counts
+        Request::Tree(Output::Counts)
     } else if matches.get_flag("picture") {
-        Output::Picture
+        Request::Tree(Output::Picture)
+    } else if matches.get_flag("data") {
+        Request::Data
     } else {
-        Output::Trace
-    }
-}
-
-/// How much is written of an audit.
-fn detail_of(matches: &ArgMatches) -> Detail {
-    if matches.get_flag("explain") {
-        Detail::Explained
-    } else {
-        Detail::Lines
+        Request::Tree(Output::Trace)
     }
 }
 
@@ -517,11 +535,7 @@ fn read_words<'a>(alloc: Global, words: &'a [String]) -> Result<Asked<'a>, Error
     let matches = grammar(alloc)?.try_get_matches_from(words)?;
     match matches.subcommand() {
         Some((name, found)) => Ok(match name {
-            "tree" => Asked::Request(
-                Request::Tree(output_of(found)),
-                told_of(found),
-                source_of(found),
-            ),
+            "tree" => Asked::Request(tree_request(found), told_of(found), source_of(found)),
             "run" => Asked::Request(
                 Request::Run(running::asked(found)),
                 told_of(found),
@@ -532,7 +546,7 @@ fn read_words<'a>(alloc: Global, words: &'a [String]) -> Result<Asked<'a>, Error
                 logs_asked(alloc, found, Request::Log, told_of(found), is_text)?
             }
             "audit" => {
-                let request = Request::Audit(detail_of(found));
+                let request = Request::Audit(auditing::asked(found));
                 logs_asked(alloc, found, request, told_of(found), false)?
             }
             "migrate" => match migration::file_of(found) {
@@ -571,14 +585,12 @@ fn run<R: Read, T: Threads + Wait + Sync>(
     let alloc = rt.alloc();
     match request {
         Request::Tree(output) => number(run_tree(alloc, output, reader, &mut writer)),
+        Request::Data => data::perform(alloc, reader, &mut writer),
         Request::Run(run) => number(running::start(threads, alloc, run, reader, &mut writer)),
         Request::Xa => number(run_xa(alloc, reader, &mut writer)),
         Request::Log => number(run_log(alloc, reader, &mut writer)),
         Request::Migrate => number(run_migrate(alloc, reader, &mut writer)),
-        Request::Audit(detail) => match run_audit(alloc, detail, reader, &mut writer) {
-            Ok(ending) => Ok(ending.number()),
-            Err(failure) => Err(failure),
-        },
+        Request::Audit(audit) => perform_audit(alloc, audit, reader, &mut writer),
         Request::Crash => match run_crash(alloc, reader, &mut writer, &mut rt.stderr()) {
             Ok(ending) => Ok(ending.number()),
             Err(failure) => Err(failure),
@@ -599,7 +611,7 @@ fn status_by(ended: Result<u8, Failure>) -> u8 {
 /// What is read for a request.
 fn script_of(request: Request) -> Script {
     match request {
-        Request::Tree(_) | Request::Run(_) | Request::Crash => Script::Tree,
+        Request::Tree(_) | Request::Data | Request::Run(_) | Request::Crash => Script::Tree,
         Request::Xa => Script::Xa,
         Request::Log | Request::Audit(_) | Request::Migrate => Script::Logs,
     }
@@ -631,10 +643,22 @@ fn run_on<T: Threads + Wait + Sync>(
 ) -> Result<u8, Failure> {
     let mut reader = input;
     let status = run(rt, threads, request, &mut reader)?;
-    if told == Told::Explained && (status == 1 || status == 2) {
-        tell(rt, why(rt.alloc(), request, input).ok());
+    match status {
+        0 => tell_rest(rt, request, input),
+        1 | 2 if told == Told::Explained => tell(rt, why(rt.alloc(), request, input).ok()),
+        1 | 2 => tell_refused(rt),
+        _ => {}
     }
     Ok(status)
+}
+
+/// Tells on standard error how many messages the run of a tree script leaves undelivered, if it leaves some.
+fn tell_rest(rt: &HostRuntime, request: Request, input: &[u8]) {
+    if let Request::Tree(_) | Request::Data = request {
+        if let Ok(text) = rest_text(rt.alloc(), input) {
+            tell(rt, text);
+        }
+    }
 }
 
 /// Runs what was asked on this input, tells on standard error why it was refused or could not go on, and
@@ -643,10 +667,11 @@ fn explained<R: Read, T: Threads + Wait + Sync>(
     rt: &HostRuntime,
     threads: &T,
     request: Request,
+    told: Told,
     reader: &mut R,
 ) -> Result<u8, Failure> {
     let input = read_all(rt.alloc(), reader)?;
-    run_on(rt, threads, request, Told::Explained, &input)
+    run_on(rt, threads, request, told, &input)
 }
 
 /// Runs a request for logs on those in files, and answers the exit status.
@@ -679,20 +704,6 @@ fn name_of(request: Request) -> &'static str {
     }
 }
 
-/// Runs what was asked on this input without an explanation, and answers the exit status.
-fn silent<R: Read, T: Threads + Wait + Sync>(
-    rt: &HostRuntime,
-    threads: &T,
-    request: Request,
-    reader: &mut R,
-) -> u8 {
-    let status = status_by(run(rt, threads, request, reader));
-    if status == 1 || status == 2 {
-        tell_refused(rt);
-    }
-    status
-}
-
 /// Runs what was asked on this input, and answers the exit status.
 fn perform_on<R: Read, T: Threads + Wait + Sync>(
     rt: &HostRuntime,
@@ -701,12 +712,14 @@ fn perform_on<R: Read, T: Threads + Wait + Sync>(
     told: Told,
     reader: &mut R,
 ) -> u8 {
-    if told == Told::Silent {
-        return silent(rt, threads, request, reader);
+    if told == Told::Silent && !rt.stderr().is_terminal() {
+        return status_by(run(rt, threads, request, reader));
     }
-    let ended = explained(rt, threads, request, reader);
+    let ended = explained(rt, threads, request, told, reader);
     if let Err(failure) = ended {
-        tell(rt, failure_text(rt.alloc(), failure).ok());
+        if told == Told::Explained {
+            tell(rt, failure_text(rt.alloc(), failure).ok());
+        }
     }
     status_by(ended)
 }

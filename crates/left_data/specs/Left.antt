@@ -1,0 +1,26 @@
+-- The data that a script leaves.
+use Rattle.std.specs.Prelude.{◌≡◌, ℕ, Option, List}
+use Rattle.tree_model.specs.declared.events.Event.{Event}
+use Rattle.tree_model.specs.declared.trees.TreeEntry.{TreeEntry}
+use Rattle.logs_script.specs.declared.line.ProcessLog.{ProcessLog}
+use Rattle.reopen_script.specs.Inputs.{IsReopenScript}
+use Rattle.tree_world.specs.Worlds.{logs_at, state}
+use Rattle.tree_engine.specs.declared.run.Run.{Run}
+use Rattle.tree_engine.specs.Runs.{BeginsBy, HasCome}
+use Rattle.left_data.specs.Texts.{data_lines}
+
+-- these events led the run to one in which the managers hold this
+pub record LeavesFrom (first : Run) (events : List Event) (text : List ℕ) : Type 0 where
+  pub end : Run
+  pub come : HasCome (state first.world) events end
+  pub is : text ≡ data_lines (state end.world).tree (logs_at (state end.world) (state end.world).tree)
+
+-- the input is a script of a tree, over these logs or over empty ones, and its events leave this
+pub record LeavesData (input text : List ℕ) : Type 0 where
+  pub tree : List TreeEntry
+  pub logs : Option (List ProcessLog)
+  pub events : List Event
+  pub script : IsReopenScript input tree logs events
+  pub first : Run
+  pub begins : BeginsBy tree logs first
+  pub leaves : LeavesFrom first events text

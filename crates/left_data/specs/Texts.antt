@@ -1,0 +1,34 @@
+-- The lines of the data that managers hold.
+use Rattle.std.specs.Prelude.{ℕ, List, [], ◌∷◌, ◌++◌, codes}
+use Rattle.std.specs.List.{flat_map}
+use Rattle.std.specs.Fmt.{decimal}
+use Rattle.tree_model.specs.declared.names.Kind.{Kind}
+use Rattle.tree_model.specs.declared.names.Kind.TheVariants.{Coordinator, Manager}
+use Rattle.tree_model.specs.declared.names.ProcessId.{ProcessId}
+use Rattle.tree_model.specs.declared.records.LogRecord.{LogRecord}
+use Rattle.tree_model.specs.declared.trees.TreeEntry.{TreeEntry}
+use Rattle.tree_model.specs.Store.{data_of}
+use Rattle.log_lines.specs.Words.{bytes_word}
+
+-- the line of a key and its value at a process
+abbrev pub pair_line : ProcessId → List ℕ × List ℕ → List ℕ
+pair_line q p = codes "data " ++ decimal q.0 ++ bytes_word p.0 ++ bytes_word p.1 ++ codes "\n"
+
+-- the lines of the keys and values of a process
+abbrev pub pairs_text : ProcessId → List (List ℕ × List ℕ) → List ℕ
+pairs_text q ps = flat_map (pair_line q) ps
+
+-- the lines of a process of this kind whose log has these records: a manager's keys and values, and nothing of a coordinator
+abbrev pub kind_lines : Kind → ProcessId → List LogRecord → List ℕ
+kind_lines Coordinator q ls = []
+kind_lines Manager q ls = pairs_text q (data_of ls).pairs
+
+-- the lines of a process whose log has these records
+abbrev pub process_lines : TreeEntry → List LogRecord → List ℕ
+process_lines e ls = kind_lines e.kind e.id ls
+
+-- the lines of these processes, whose logs have these records, in order
+unfoldable pub data_lines : List TreeEntry → List (List LogRecord) → List ℕ
+data_lines [] logs = []
+data_lines (e ∷ es) [] = []
+data_lines (e ∷ es) (ls ∷ logs) = process_lines e ls ++ data_lines es logs
