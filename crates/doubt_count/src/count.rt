@@ -3,8 +3,8 @@
 ghost use Rattle.std.specs.Prelude.{◌≡◌, IfNone, IfOk, IfSome};
 ghost use Rattle.doubt_count.specs.Doubts.{CountsDoubts, HasNoCount, doubts_of as doubts_in_lines, is_doubt as stands_in_doubt};
 
-use logs_script::read_logs;
 use link_script::ScriptError;
+use logs_script::read_logs;
 use std::alloc::{AllocError, Global};
 use tree_audit::{AuditError, Line, Own, audit};
 
@@ -14,11 +14,7 @@ fn is_doubt(own: Own) -> bool
 {
     match own {
         Own::InDoubt => true,
-        Own::Commit
-        | Own::Abort
-        | Own::Collecting
-        | Own::HeurCommit
-        | Own::HeurRollback => false,
+        Own::Commit | Own::Abort | Own::Collecting | Own::HeurCommit | Own::HeurRollback => false,
     }
 }
 

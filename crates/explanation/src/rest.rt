@@ -57,11 +57,7 @@ pub fn rest_text(alloc: Global, input: &[u8]) -> Result<Option<String>, Failure>
 }
 
 /// The same of a tree that has just opened, and the events that are made in it.
-fn rest_of(
-    alloc: Global,
-    run: &mut Run,
-    events: &[Event],
-) -> Result<Option<String>, Failure> {
+fn rest_of(alloc: Global, run: &mut Run, events: &[Event]) -> Result<Option<String>, Failure> {
     let mut steps = Vec::new(alloc);
     play(alloc, run, events, &mut steps)?;
     if run.refusal().is_some() {

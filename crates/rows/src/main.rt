@@ -28,6 +28,7 @@ use crate::stops::run_stops;
 use audit_engine::{Detail, run_audit, run_log};
 use crash_engine::run_crash;
 use doubt_count::{count_doubts, status_by};
+use expand_engine::expand;
 use explanation::{Script, refusal_text};
 use judge_engine::Extent;
 use left_data::data_text;
@@ -50,6 +51,8 @@ enum Program {
     Picture,
     /// A tree script, for the data that it leaves.
     Data,
+    /// A script that names messages, for the script of specified events that it comes to.
+    Expand,
     /// A tree script, for what its crashes end with.
     Crash,
     /// A tree script, for what stops of its devices end with.
@@ -106,6 +109,22 @@ fn doubted(alloc: Global, input: &[u8], out: &mut Vec<u8>) -> Option<u8> {
     Some(status_by(audited, count))
 }
 
+/// What a script that names messages comes to; the sentence of what is wrong with it, with status 1. No status where it
+/// fails.
+fn expanded(alloc: Global, input: &[u8], out: &mut Vec<u8>) -> Option<u8> {
+    match expand(alloc, input).ok()? {
+        Ok(text) => {
+            out.extend_from_slice(&text).ok()?;
+            Some(0)
+        }
+        Err(fault) => {
+            let line = format!(in alloc; "{fault}\n").ok()?;
+            out.extend_from_slice(line.as_bytes()).ok()?;
+            Some(1)
+        }
+    }
+}
+
 impl Program {
     /// The program of a row that begins with this word.
     fn of(word: &str) -> Option<Self> {
@@ -115,6 +134,7 @@ impl Program {
             "counts" => Some(Program::Counts),
             "picture" => Some(Program::Picture),
             "data" => Some(Program::Data),
+            "expand" => Some(Program::Expand),
             "crash" => Some(Program::Crash),
             "stops" => Some(Program::Stops),
             "cuts" => Some(Program::Cuts),
@@ -145,6 +165,7 @@ impl Program {
             Program::Counts => ("tree", "counts"),
             Program::Picture => ("tree", "svg"),
             Program::Data => ("tree", "data"),
+            Program::Expand => ("words", "expanded"),
             Program::Crash => ("tree", "crashes"),
             Program::Stops => ("tree", "stops"),
             Program::Cuts => ("tree", "cuts"),
@@ -174,6 +195,7 @@ impl Program {
                 out.extend_from_slice(&text).ok()?;
                 return Some(0);
             }
+            Program::Expand => return expanded(alloc, input, out),
             Program::Crash => {
                 let mut progress = Vec::new(alloc);
                 let ending = run_crash(alloc, &mut input, out, &mut progress).ok()?;

@@ -6,6 +6,7 @@
 
 mod auditing;
 mod data;
+mod expanding;
 mod explainer;
 mod files;
 mod judging;
@@ -18,6 +19,7 @@ mod running;
 mod source;
 
 use crate::auditing::{Audit, perform_audit};
+use crate::expanding::{Words, expanded};
 use crate::running::Run;
 use audit_engine::run_log;
 use clap::error::ErrorKind;
@@ -71,7 +73,9 @@ enum Told {
 /// What was read of a command line.
 #[derive(Drop)]
 enum Asked<'a> {
-    Request(Request, Told, Source<'a>),
+    Request(Request, Told, Words, Source<'a>),
+    /// A script with words for messages, as the script of specified events that it comes to.
+    Expand(Told, Source<'a>),
     /// A process of a tree, as a program of its own.
     Node(NodeWords<'a>),
     /// The log of a process in a file, by the second format.
@@ -99,6 +103,7 @@ Examples:
   rstar audit < examples/commit.logs
   rstar migrate < examples/commit.logs
   rstar crash < examples/commit.tree
+  rstar expand < examples/names.tree
   rstar resolve --logs examples/commit.logs < names
   rstar judge --plan 1 100 | rstar xa
   rstar node tree.toml 1 1.log --new
@@ -365,6 +370,7 @@ fn tree<'a>(alloc: Global) -> Result<Command<'a>, AllocError> {
     .arg(counts(alloc)?)?
     .arg(picture(alloc)?)?
     .arg(data(alloc)?)?
+    .arg(expanding::flag(alloc))?
     .arg(source::word(alloc))
 }
 
@@ -475,7 +481,9 @@ fn grammar<'a>(alloc: Global) -> Result<Command<'a>, AllocError> {
         "Tries a crash of each process behind each event of a script, and tells what stays in doubt",
         CRASH_HELP,
     )?
+    .arg(expanding::flag(alloc))?
     .arg(source::word(alloc))?)?
+    .subcommand(expanding::words(alloc)?)?
     .subcommand(node_grammar(alloc)?)
 }
 
@@ -526,7 +534,7 @@ fn logs_asked<'a>(
 ) -> Result<Asked<'a>, AllocError> {
     Ok(match logs::words_of(alloc, matches)? {
         Some(words) => Asked::Files(request, told, words, is_text),
-        None => Asked::Request(request, told, Source::Standard),
+        None => Asked::Request(request, told, Words::Specified, Source::Standard),
     })
 }
 
@@ -535,10 +543,17 @@ fn read_words<'a>(alloc: Global, words: &'a [String]) -> Result<Asked<'a>, Error
     let matches = grammar(alloc)?.try_get_matches_from(words)?;
     match matches.subcommand() {
         Some((name, found)) => Ok(match name {
-            "tree" => Asked::Request(tree_request(found), told_of(found), source_of(found)),
+            "tree" => Asked::Request(
+                tree_request(found),
+                told_of(found),
+                expanding::asked(found),
+                source_of(found),
+            ),
+            "expand" => Asked::Expand(told_of(found), source_of(found)),
             "run" => Asked::Request(
                 Request::Run(running::asked(found)),
                 told_of(found),
+                Words::Specified,
                 source_of(found),
             ),
             "log" => {
@@ -551,16 +566,31 @@ fn read_words<'a>(alloc: Global, words: &'a [String]) -> Result<Asked<'a>, Error
             }
             "migrate" => match migration::file_of(found) {
                 Some(words) => Asked::MigrateFile(words),
-                None => Asked::Request(Request::Migrate, told_of(found), Source::Standard),
+                None => Asked::Request(
+                    Request::Migrate,
+                    told_of(found),
+                    Words::Specified,
+                    Source::Standard,
+                ),
             },
             "judge" => Asked::Judge(judging::asked(found)),
             "resolve" => Asked::Resolve(resolving::asked(alloc, found)?),
-            "crash" => Asked::Request(Request::Crash, told_of(found), source_of(found)),
+            "crash" => Asked::Request(
+                Request::Crash,
+                told_of(found),
+                expanding::asked(found),
+                source_of(found),
+            ),
             "node" => match node_of(found) {
                 Some(words) => Asked::Node(words),
                 None => Asked::Memory,
             },
-            _ => Asked::Request(Request::Xa, told_of(found), source_of(found)),
+            _ => Asked::Request(
+                Request::Xa,
+                told_of(found),
+                Words::Specified,
+                source_of(found),
+            ),
         }),
         None => Ok(Asked::Memory),
     }
@@ -724,23 +754,41 @@ fn perform_on<R: Read, T: Threads + Wait + Sync>(
     status_by(ended)
 }
 
+/// Runs what was asked on a reader, and answers the exit status.
+fn perform_by<R: Read, T: Threads + Wait + Sync>(
+    rt: &HostRuntime,
+    threads: &T,
+    request: Request,
+    told: Told,
+    words: Words,
+    reader: &mut R,
+) -> u8 {
+    match words {
+        Words::Specified => perform_on(rt, threads, request, told, reader),
+        Words::Named => match expanded(rt, told == Told::Explained, reader) {
+            Ok(text) => perform_on(rt, threads, request, told, &mut text.as_slice()),
+            Err(status) => status,
+        },
+    }
+}
+
 /// Runs what was asked, and answers the exit status.
 fn perform<T: Threads + Wait + Sync>(
     rt: &HostRuntime,
     threads: &T,
     request: Request,
     told: Told,
+    words: Words,
     source: Source<'_>,
 ) -> u8 {
     match source {
         Source::Standard => {
             tell_waiting(rt);
-            perform_on(rt, threads, request, told, &mut rt.reader())
+            perform_by(rt, threads, request, told, words, &mut rt.reader())
         }
         Source::File(path) => match bytes_in(rt, path) {
             Some(bytes) => {
-                let mut reader = bytes.as_slice();
-                perform_on(rt, threads, request, told, &mut reader)
+                perform_by(rt, threads, request, told, words, &mut bytes.as_slice())
             }
             None => 4,
         },
@@ -763,7 +811,10 @@ fn status_of<T: Threads + Wait + Sync>(rt: &HostRuntime, threads: &T) -> u8 {
         return 4;
     };
     match read_words(alloc, words.as_slice()) {
-        Ok(Asked::Request(request, told, source)) => perform(rt, threads, request, told, source),
+        Ok(Asked::Request(request, told, words, source)) => {
+            perform(rt, threads, request, told, words, source)
+        }
+        Ok(Asked::Expand(told, source)) => expanding::run(rt, told == Told::Explained, source),
         Ok(Asked::Node(words)) => node::run(rt, words),
         Ok(Asked::MigrateFile(words)) => migration::run(rt, words),
         Ok(Asked::Resolve(words)) => resolving::run(rt, words),
