@@ -73,10 +73,11 @@ fn take_lines(
             expander.push(line)?;
             continue;
         }
-        let words = words_of(alloc, said(line))?;
-        if words.is_empty() {
+        let said = said(line);
+        if says_nothing(said) {
             continue;
         }
+        let words = words_of(alloc, said)?;
         match expander.take(alloc, &words)? {
             Line::Made => {}
             Line::Nothing => return Ok(Err(ExpandFault::Script(ScriptFault::Line(number)))),

@@ -82,7 +82,7 @@ fn is_prepare(message: &Message, case: Case) -> bool {
 
 impl<'a> History<'a> {
     /// The number of the event in which a step was made, from 1.
-    fn event_of(&self, step: usize) -> u64 {
+    pub(crate) fn event_of(&self, step: usize) -> u64 {
         let before = self
             .steps
             .iter()

@@ -10,7 +10,8 @@
 //! reason       why an event was refused
 //! event        the sentences of that
 //! names        names as text
-//! rest         what a run leaves that its script may have meant to do
+//! votes        why managers voted NO in a run
+//! rest         what is to be noted of a run: those votes, and messages that are never delivered
 //! clean        a text that a terminal can show
 //! ```
 #![tactic(auto)]
@@ -22,7 +23,8 @@ mod names;
 mod program;
 mod reason;
 mod rest;
+mod votes;
 
 pub use line_faults::Script;
 pub use program::{failure_text, plain_refusal_text, refusal_text};
-pub use rest::rest_text;
+pub use rest::notes_text;

@@ -1,6 +1,8 @@
 //! What a run leaves that its script may have meant to do.
 
-use crate::history::play;
+use crate::clean::cleaned;
+use crate::history::{History, play};
+use crate::votes::push_votes;
 use log_store::MemoryStore;
 use reopen_script::read_reopen;
 use report_io::Failure;
@@ -37,35 +39,64 @@ fn undelivered(alloc: Global, world: &World<MemoryStore>) -> Result<usize, Alloc
     Ok(waits.iter().filter(|waits| **waits).count())
 }
 
-/// How many messages the run of a tree script leaves undelivered, in a line; none, if it leaves none, or if the script
-/// or an event of it is refused. An error says why the run could not be made again, or that memory was refused.
-pub fn rest_text(alloc: Global, input: &[u8]) -> Result<Option<String>, Failure> {
+/// Adds how many messages a run leaves undelivered, if it leaves some.
+fn push_rest(
+    alloc: Global,
+    out: &mut String,
+    world: &World<MemoryStore>,
+) -> Result<(), AllocError> {
+    match undelivered(alloc, world)? {
+        0 => Ok(()),
+        1 => out.push_str("rstar: 1 message was not delivered\n"),
+        count => writeln!(out, "rstar: {count} messages were not delivered"),
+    }
+}
+
+/// What is to be noted of the run of a tree script, in lines: of each NO of a manager why, if that is to be explained; and
+/// how many messages it leaves undelivered, unless an event is refused. Of a script that is refused there is nothing. An
+/// error says why the run could not be made again, or that memory was refused.
+pub fn notes_text(alloc: Global, input: &[u8], explains: bool) -> Result<String, Failure> {
+    let mut out = String::new(alloc);
     let Ok((tree, logs, events)) = read_reopen(alloc, input) else {
-        return Ok(None);
+        return Ok(out);
     };
+    if let Err(_) = tree.check() {
+        return Ok(out);
+    }
     let opened = match logs {
         None => Ok(Run::open(alloc, tree)?),
         Some(logs) => Run::reopen(alloc, tree, logs.as_slice())?,
     };
     let Ok(run) = opened else {
-        return Ok(None);
+        return Ok(out);
     };
     let mut run = run;
-    let told = rest_of(alloc, &mut run, &events);
+    let noted = push_notes(alloc, &mut out, &mut run, &events, explains);
     run.close();
-    told
+    noted?;
+    Ok(cleaned(alloc, &out)?)
 }
 
 /// The same of a tree that has just opened, and the events that are made in it.
-fn rest_of(alloc: Global, run: &mut Run, events: &[Event]) -> Result<Option<String>, Failure> {
+fn push_notes(
+    alloc: Global,
+    out: &mut String,
+    run: &mut Run,
+    events: &[Event],
+    explains: bool,
+) -> Result<(), Failure> {
     let mut steps = Vec::new(alloc);
     play(alloc, run, events, &mut steps)?;
-    if run.refusal().is_some() {
-        return Ok(None);
+    if explains {
+        let history = History {
+            world: run.world(),
+            events,
+            steps: steps.as_slice(),
+        };
+        push_votes(alloc, out, &history)?;
     }
-    Ok(match undelivered(alloc, run.world())? {
-        0 => None,
-        1 => Some(String::from_str(alloc, "rstar: 1 message was not delivered\n")?),
-        count => Some(format!(in alloc; "rstar: {count} messages were not delivered\n")?),
-    })
+    if run.refusal().is_none() {
+        push_rest(alloc, out, run.world())?;
+    }
+    Ok(())
 }

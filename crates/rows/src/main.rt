@@ -29,7 +29,7 @@ use audit_engine::{Detail, run_audit, run_log};
 use crash_engine::run_crash;
 use doubt_count::{count_doubts, status_by};
 use expand_engine::expand;
-use explanation::{Script, refusal_text};
+use explanation::{Script, notes_text, refusal_text};
 use judge_engine::Extent;
 use left_data::data_text;
 use migrate_engine::run_migrate;
@@ -83,6 +83,8 @@ enum Program {
     Plan,
     /// An input that a program refuses, or an event of it, for what is told of it.
     Why(Script),
+    /// A tree script, for what is to be noted of its run.
+    Notes,
 }
 
 /// What is told of an input that is refused. No status where it fails.
@@ -150,6 +152,7 @@ impl Program {
             "judge" => Some(Program::Judge(Extent::First)),
             "judge_all" => Some(Program::Judge(Extent::All)),
             "plan" => Some(Program::Plan),
+            "notes" => Some(Program::Notes),
             "why_tree" => Some(Program::Why(Script::Tree)),
             "why_xa" => Some(Program::Why(Script::Xa)),
             "why_log" => Some(Program::Why(Script::Logs)),
@@ -177,6 +180,7 @@ impl Program {
             Program::Resolve => ("names", "out"),
             Program::Judge(_) => ("calls", "out"),
             Program::Plan => ("plan", "xa"),
+            Program::Notes => ("tree", "notes"),
             Program::Why(Script::Tree) => ("tree", "why"),
             Program::Why(Script::Xa) => ("xa", "why"),
             Program::Why(Script::Logs) => ("logs", "why"),
@@ -226,6 +230,11 @@ impl Program {
             Program::Resolve => return resolved(alloc, input, out),
             Program::Judge(extent) => return judged(alloc, extent, input, out),
             Program::Plan => return planned(alloc, input, out),
+            Program::Notes => {
+                let text = notes_text(alloc, input, true).ok()?;
+                out.extend_from_slice(text.as_bytes()).ok()?;
+                return Some(0);
+            }
             Program::Why(script) => return told(alloc, script, input, out),
         };
         Some(ended.ok()?.number())

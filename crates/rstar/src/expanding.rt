@@ -38,7 +38,7 @@ written. 'error ..' if a line asks for nothing, or for a message that does not w
 which), 'damaged P PLACE' if a log that it begins with is. 'tree --expand' and 'crash --expand' run such a
 script at once.
 
-Example: rstar expand < examples/names.tree";
+Example: rstar expand < examples/names.words";
 
 /// The words of `rstar expand`.
 pub(crate) fn words<'a>(alloc: Global) -> Result<Command<'a>, AllocError> {

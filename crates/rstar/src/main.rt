@@ -5,12 +5,12 @@
 #![tactic(auto)]
 
 mod auditing;
-mod data;
 mod expanding;
 mod explainer;
 mod files;
 mod judging;
 mod law;
+mod leaving;
 mod logs;
 mod migration;
 mod node;
@@ -25,7 +25,7 @@ use audit_engine::run_log;
 use clap::error::ErrorKind;
 use clap::{Arg, ArgAction, ArgMatches, Command, Error};
 use crash_engine::run_crash;
-use explanation::{Script, failure_text, plain_refusal_text, refusal_text, rest_text};
+use explanation::{Script, failure_text, notes_text, plain_refusal_text, refusal_text};
 use judging::JudgeWords;
 use migrate_engine::run_migrate;
 use migration::FileWords;
@@ -103,7 +103,7 @@ Examples:
   rstar audit < examples/commit.logs
   rstar migrate < examples/commit.logs
   rstar crash < examples/commit.tree
-  rstar expand < examples/names.tree
+  rstar expand < examples/names.words
   rstar resolve --logs examples/commit.logs < names
   rstar judge --plan 1 100 | rstar xa
   rstar node tree.toml 1 1.log --new
@@ -475,14 +475,16 @@ fn grammar<'a>(alloc: Global) -> Result<Command<'a>, AllocError> {
     .subcommand(migration::words(alloc)?)?
     .subcommand(resolving::words(alloc)?)?
     .subcommand(judging::words(alloc)?)?
-    .subcommand(explaining(
-        alloc,
-        "crash",
-        "Tries a crash of each process behind each event of a script, and tells what stays in doubt",
-        CRASH_HELP,
+    .subcommand(
+        explaining(
+            alloc,
+            "crash",
+            "Tries a crash of each process behind each event of a script, and tells what stays in doubt",
+            CRASH_HELP,
+        )?
+        .arg(expanding::flag(alloc))?
+        .arg(source::word(alloc))?,
     )?
-    .arg(expanding::flag(alloc))?
-    .arg(source::word(alloc))?)?
     .subcommand(expanding::words(alloc)?)?
     .subcommand(node_grammar(alloc)?)
 }
@@ -615,7 +617,7 @@ fn run<R: Read, T: Threads + Wait + Sync>(
     let alloc = rt.alloc();
     match request {
         Request::Tree(output) => number(run_tree(alloc, output, reader, &mut writer)),
-        Request::Data => data::perform(alloc, reader, &mut writer),
+        Request::Data => leaving::perform(alloc, reader, &mut writer),
         Request::Run(run) => number(running::start(threads, alloc, run, reader, &mut writer)),
         Request::Xa => number(run_xa(alloc, reader, &mut writer)),
         Request::Log => number(run_log(alloc, reader, &mut writer)),
@@ -673,8 +675,10 @@ fn run_on<T: Threads + Wait + Sync>(
 ) -> Result<u8, Failure> {
     let mut reader = input;
     let status = run(rt, threads, request, &mut reader)?;
+    if status == 0 || status == 2 {
+        tell_notes(rt, request, told, input);
+    }
     match status {
-        0 => tell_rest(rt, request, input),
         1 | 2 if told == Told::Explained => tell(rt, why(rt.alloc(), request, input).ok()),
         1 | 2 => tell_refused(rt),
         _ => {}
@@ -682,12 +686,20 @@ fn run_on<T: Threads + Wait + Sync>(
     Ok(status)
 }
 
-/// Tells on standard error how many messages the run of a tree script leaves undelivered, if it leaves some.
-fn tell_rest(rt: &HostRuntime, request: Request, input: &[u8]) {
+/// The bytes of the longest script of whose run something is noted where no explanation is asked for, since the run is
+/// made once more for that.
+const MOST_NOTED: usize = 1 << 16;
+
+/// Tells on standard error what is to be noted of the run of a tree script.
+fn tell_notes(rt: &HostRuntime, request: Request, told: Told, input: &[u8]) {
+    if told == Told::Silent && input.len() > MOST_NOTED {
+        return;
+    }
     if let Request::Tree(_) | Request::Data = request {
-        if let Ok(text) = rest_text(rt.alloc(), input) {
-            tell(rt, text);
-        }
+        tell(
+            rt,
+            notes_text(rt.alloc(), input, told == Told::Explained).ok(),
+        );
     }
 }
 
@@ -787,9 +799,7 @@ fn perform<T: Threads + Wait + Sync>(
             perform_by(rt, threads, request, told, words, &mut rt.reader())
         }
         Source::File(path) => match bytes_in(rt, path) {
-            Some(bytes) => {
-                perform_by(rt, threads, request, told, words, &mut bytes.as_slice())
-            }
+            Some(bytes) => { perform_by(rt, threads, request, told, words, &mut bytes.as_slice()) }
             None => 4,
         },
     }
