@@ -118,10 +118,9 @@ fn expanded(
     };
     let mut expander = Expander::new(alloc, run, root);
     let taken = lines_of(alloc, &mut expander, input, front.rule, &front.lines);
-    let text = Vec::from_slice(alloc, expander.lines.as_bytes());
-    expander.run.close();
+    let lines = expander.close();
     Ok(match taken? {
-        Ok(()) => Ok(text?),
+        Ok(()) => Ok(Vec::from_slice(alloc, lines.as_bytes())?),
         Err(fault) => Err(fault),
     })
 }

@@ -25,10 +25,10 @@ pub(crate) enum Line {
 
 /// A run, and the lines of the events that it has made.
 pub(crate) struct Expander {
-    pub(crate) run: Run,
+    run: Run,
     root: ProcessId,
     net: Net,
-    pub(crate) lines: String,
+    lines: String,
 }
 
 impl Expander {
@@ -40,6 +40,18 @@ impl Expander {
             net: Net::new(alloc),
             lines: String::new(alloc),
         }
+    }
+
+    /// Lets the run go, and answers the lines.
+    pub(crate) fn close(self) -> String {
+        let Expander {
+            run,
+            root: _,
+            net: _,
+            lines,
+        } = self;
+        run.close();
+        lines
     }
 
     /// Whether an event was refused: what comes after it counts for nothing.

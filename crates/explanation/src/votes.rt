@@ -91,7 +91,8 @@ impl Branches {
             spoiled: None,
             held: Vec::new(alloc),
             has_promised: false,
-        })
+        })?;
+        Ok(())
     }
 
     /// A branch ends.
@@ -127,7 +128,8 @@ impl Branches {
             return Ok(());
         }
         branch.done = index;
-        branch.held.push(Held { key, is_written })
+        branch.held.push(Held { key, is_written })?;
+        Ok(())
     }
 
     /// A manager crashed: what had not promised is gone, and what had holds what it wrote.
