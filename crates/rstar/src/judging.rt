@@ -1,5 +1,7 @@
 //! The command `rstar judge`.
 
+ghost use Rattle.std.specs.Prelude.{◌≤◌, IfOk};
+
 use crate::files::{End, failed, refused, status_of};
 use crate::source::{self, Source, bytes_in, source_of, tell_waiting};
 use crate::{flag, subcommand};
@@ -62,7 +64,8 @@ pub(crate) fn words<'a>(alloc: Global) -> Result<Command<'a>, AllocError> {
             .num_args(2..=2)
             .help("Writes a script of N calls")
             .action(ArgAction::Set)
-            .conflicts_with("all")?,
+            .conflicts_with("all")?
+            .conflicts_with("FILE")?,
     )?
     .arg(source::word(alloc))
 }
@@ -86,7 +89,9 @@ fn told(alloc: Global, failure: Failure) -> Result<String, AllocError> {
 }
 
 /// The number of a word, at most this.
-fn number_in(alloc: Global, word: &str, most: u64) -> Result<u64, End> {
+fn number_in(alloc: Global, word: &str, most: u64) -> Result<u64, End>
+    ensures { IfOk result (λ number. number ≤ most) }
+{
     match number_of(word) {
         Some(number) if number <= most => Ok(number),
         _ => Err(refused(format!(in alloc; "{word} is no number up to {most}"))),
