@@ -1,17 +1,34 @@
 //! The data that a script leaves.
 
-ghost use Rattle.std.specs.Prelude.{◌≡◌, [], IfOk, IfSome};
+ghost use Rattle.std.specs.Prelude.{[], IfOk, IfSome};
 ghost use Rattle.left_data.specs.Left.{LeavesData, LeavesFrom};
-ghost use Rattle.tree_engine.specs.Runs.{HasCome};
+ghost use Rattle.tree_engine.specs.Runs.{BeginsBy, HasCome};
+ghost use Rattle.tree_model.specs.Trees.{IsTree};
 ghost use Rattle.tree_world.specs.Worlds.{state};
 
 use crate::left::data_left;
 use link_script::ScriptError;
+use logs_script::ProcessLogs;
 use reopen_script::read_reopen;
 use report_io::Failure;
 use std::alloc::Global;
 use tree_engine::Run;
-use tree_model::Event;
+use tree_model::{Event, ProcessId, Tree};
+
+/// A tree that opens over these logs, or over empty ones; or the first log that is damaged, and where.
+fn opened(
+    alloc: Global,
+    tree: Tree,
+    logs: Option<ProcessLogs>,
+) -> Result<Result<Run, (ProcessId, usize)>, Failure>
+    requires { IsTree tree }
+    ensures { IfOk result (λ opened. IfOk opened (BeginsBy tree logs)) }
+{
+    match logs {
+        None => Ok(Ok(Run::open(alloc, tree)?)),
+        Some(logs) => Run::reopen(alloc, tree, logs.as_slice()),
+    }
+}
 
 /// Makes these events, and tells the data that they leave.
 fn data_after(alloc: Global, run: &mut Run, events: &[Event]) -> Result<Vec<u8>, Failure>
@@ -20,6 +37,17 @@ fn data_after(alloc: Global, run: &mut Run, events: &[Event]) -> Result<Vec<u8>,
 {
     run.make_all(alloc, events)?;
     data_left(alloc, run.world())
+}
+
+/// The same, and lets the run go.
+fn data_of(alloc: Global, run: Run, events: &[Event]) -> Result<Vec<u8>, Failure>
+    requires { HasCome (state run.world) [] run }
+    ensures { IfOk result (λ text. LeavesFrom run events.now text.items) }
+{
+    let mut run = run;
+    let told = data_after(alloc, &mut run, events);
+    run.close();
+    told
 }
 
 /// The data that a tree script leaves its managers, as `data_left` has it: after its last event, or after those before
@@ -33,15 +61,8 @@ pub fn data_text(alloc: Global, input: &[u8]) -> Result<Option<Vec<u8>>, Failure
         Err(ScriptError::Fault(_)) => return Ok(None),
         Err(ScriptError::Memory) => return Err(Failure::Memory),
     };
-    let opened = match logs {
-        None => Ok(Run::open(alloc, tree)?),
-        Some(logs) => Run::reopen(alloc, tree, logs.as_slice())?,
-    };
-    let Ok(run) = opened else {
-        return Ok(None);
-    };
-    let mut run = run;
-    let told = data_after(alloc, &mut run, &events);
-    run.close();
-    Ok(Some(told?))
+    match opened(alloc, tree, logs)? {
+        Ok(run) => Ok(Some(data_of(alloc, run, &events)?)),
+        Err(_) => Ok(None),
+    }
 }
