@@ -4,7 +4,6 @@ import java.io.FileOutputStream;
 import java.io.InputStreamReader;
 import java.io.PrintStream;
 import java.sql.Connection;
-import java.sql.DriverManager;
 import java.sql.PreparedStatement;
 import java.sql.ResultSet;
 import java.sql.SQLException;
@@ -30,9 +29,10 @@ import javax.transaction.xa.Xid;
 /**
  * Makes the calls of scripts of `rstar xa` on a resource manager behind javax.transaction.xa, for tools/judge:
  * XaDrive KIND URL [SQL]. A line of its input is a call, and is written with ` -> ` and its answer; `reset` stands
- * between scripts, `restart 0` lets the manager fall, `disconnect T` closes the connection of a thread. A thread of a
- * script has a connection of its own. A call that takes xa.limit seconds is `hung`, and the rest of its script is
- * passed over. Properties: xa.limit, xa.why (messages on standard error), xa.first (number of the first script).
+ * between scripts, `restart 0` says that the server fell and is up again, `disconnect T` closes the connection of a
+ * thread. A thread of a script has a connection of its own. A call that takes xa.limit seconds is `hung`, and the rest
+ * of its script is passed over. Properties: xa.limit, xa.why (messages on standard error), xa.first (number of the first
+ * script), xa.keep (the table and what is in it stay).
  */
 public class XaDrive {
     record Name(int format, byte[] gtrid, byte[] bqual) implements Xid {
@@ -75,10 +75,10 @@ public class XaDrive {
         void close() throws Exception;
     }
 
-    /** A manager that gives seats, and can fall. */
+    /** A manager that gives seats; its server may have fallen. */
     interface Manager {
         Seat seat() throws Exception;
-        void fall() throws Exception;
+        void fell() throws Exception;
     }
 
     record SqlSeat(XAConnection connection, Connection sql) implements Seat {
@@ -162,19 +162,7 @@ public class XaDrive {
             }
         }
 
-        /** The engine in this process stops as a fall stops it. */
-        public void fall() throws Exception {
-            try {
-                if (kind.equals("derby")) DriverManager.getConnection("jdbc:derby:" + url + ";shutdown=true");
-                else
-                    try (Connection it = source.getXAConnection().getConnection(); Statement sql = it.createStatement()) {
-                        sql.execute("shutdown immediately");
-                    }
-            } catch (SQLException e) {
-                // so it says that it is down
-            }
-            source = source();
-        }
+        public void fell() throws Exception { source = source(); }
     }
 
     /** A broker of ActiveMQ: its sessions have no data that a script could read. */
@@ -201,7 +189,7 @@ public class XaDrive {
             };
         }
 
-        public void fall() { throw new UnsupportedOperationException("a broker does not fall here"); }
+        public void fell() { throw new UnsupportedOperationException("a broker does not fall here"); }
     }
 
     final Manager manager;
@@ -383,7 +371,7 @@ public class XaDrive {
                 return "done";
             case "restart":
                 seats.clear(); // not closed: a manager that falls closes nothing
-                manager.fall();
+                manager.fell();
                 return "boot 0";
             case "disconnect":
                 Seat seat = seats.remove(w[1]);
@@ -397,7 +385,7 @@ public class XaDrive {
     static Manager manager(String[] words) throws Exception {
         if (words[0].equals("activemq")) return new Queues(words[1]);
         Sql sql = new Sql(words[0], words[1], words.length > 2 ? words[2] : null);
-        sql.create();
+        if (System.getProperty("xa.keep") == null) sql.create();
         return sql;
     }
 
