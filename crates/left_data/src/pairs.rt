@@ -18,7 +18,7 @@ fn pairs_of(replayed: &Replayed) -> Result<Vec<(Bytes, Bytes)>, AllocError>
 
 /// The keys and values that these records make, keys rising. Exhausted: the records are no key store's, or count 2^63
 /// commits, which no run leaves.
-#[tactic(auto, using(crate::proofs::Pairs::pairs_are))]
+#[tactic(auto, using(crate::proofs::DataPairs::pairs_are))]
 pub(crate) fn pairs_in(
     alloc: Global,
     records: Vec<LogRecord>,
