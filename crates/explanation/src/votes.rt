@@ -42,7 +42,7 @@ struct Branches {
 }
 
 /// The key of an operation, and whether it is written.
-fn key_of(op: Op) -> (Bytes, bool) {
+fn key_of(op: &Op) -> (&Bytes, bool) {
     match op {
         Op::Put(key, _) => (key, true),
         Op::Get(key) => (key, false),
@@ -104,13 +104,14 @@ impl Branches {
     /// A work comes to a branch.
     fn work(
         &mut self,
+        alloc: Global,
         manager: ProcessId,
         case: Case,
         index: u64,
-        op: Op,
+        op: &Op,
     ) -> Result<(), AllocError> {
         let (key, is_written) = key_of(op);
-        let holder = self.holder(manager, case, &key, is_written);
+        let holder = self.holder(manager, case, key, is_written);
         let Some(place) = self.place(manager, case) else {
             return Ok(());
         };
@@ -123,6 +124,7 @@ impl Branches {
         {
             return Ok(());
         }
+        let key = key.copied(alloc)?;
         if let Some(holder) = holder {
             branch.spoiled = Some(Spoiled { key, holder });
             return Ok(());
@@ -212,13 +214,13 @@ fn says_no(reaction: &Reaction) -> bool {
 fn take(
     alloc: Global,
     branches: &mut Branches,
-    entry: Entry,
+    entry: &Entry,
 ) -> Result<Option<(Case, String)>, AllocError> {
     let manager = entry.step.process;
-    let reaction = entry.reaction;
-    match entry.step.happening {
+    let reaction = &entry.reaction;
+    match &entry.step.happening {
         Happening::Input(Input::Message(_, Message::Join(_))) => {
-            if let Some((case, ticket)) = given(&reaction) {
+            if let Some((case, ticket)) = given(reaction) {
                 let own = Case {
                     txn: case.txn,
                     ticket: Some(ticket),
@@ -229,30 +231,30 @@ fn take(
             }
         }
         Happening::Input(Input::Message(_, Message::Work(case, index, op))) => {
-            branches.work(manager, case, index, op)?;
+            branches.work(alloc, manager, *case, *index, op)?;
         }
         Happening::Input(Input::Message(_, Message::Prepare(case, works))) => {
-            if says_no(&reaction) {
-                let reason = branches.reason(alloc, manager, case, works)?;
-                branches.end(manager, case);
-                return Ok(Some((case, reason)));
+            if says_no(reaction) {
+                let reason = branches.reason(alloc, manager, *case, *works)?;
+                branches.end(manager, *case);
+                return Ok(Some((*case, reason)));
             }
-            match vote_in(&reaction) {
+            match vote_in(reaction) {
                 Some(true) => {
-                    if let Some(place) = branches.place(manager, case) {
+                    if let Some(place) = branches.place(manager, *case) {
                         if let Some(branch) = branches.open.get_mut(place) {
                             branch.has_promised = true;
                         }
                     }
                 }
-                Some(false) => branches.end(manager, case),
+                Some(false) => branches.end(manager, *case),
                 None => {}
             }
         }
         Happening::Input(Input::Message(_, Message::Commit(case) | Message::Abort(case))) => {
-            branches.end(manager, case);
+            branches.end(manager, *case);
         }
-        Happening::Input(Input::Act(Act::Decide(case, _))) => branches.end(manager, case),
+        Happening::Input(Input::Act(Act::Decide(case, _))) => branches.end(manager, *case),
         Happening::Restart(_) => branches.restart(manager),
         _ => {}
     }
@@ -286,7 +288,7 @@ pub(crate) fn push_votes(
         if !is_manager(history, process) {
             continue;
         }
-        if let Some((case, reason)) = take(alloc, &mut branches, entry)? {
+        if let Some((case, reason)) = take(alloc, &mut branches, &entry)? {
             let event = history.event_of(step);
             let case = CaseName(case);
             writeln!(out, "rstar: event {event}: {case} votes NO: {reason}")?;
