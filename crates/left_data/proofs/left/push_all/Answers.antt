@@ -1,4 +1,5 @@
-use Rattle.std.proofs.Common.{rules, ◌≡◌, ◌++◌, map, List, [], ◌∷◌, subst}
+use Rattle.std.proofs.Common.{rules, ◌≡◌, ◌∙◌, ◌++◌, map, List, [], ◌∷◌, subst, sym}
+use Rattle.std.proofs.lemmas.List.{nil_from_length}
 use Rattle.tree_model.specs.declared.records.LogRecord.{LogRecord}
 use Rattle.left_data.specs.Texts.{data_lines}
 use Rattle.left_data.proofs.Passing.{IsSoFar, ends, ends_early, goes_on}
@@ -6,7 +7,7 @@ use Rattle.left_data.proofs.left.push_all.Goals as goal
 
 pub returns-in_default : goal.returns-in_default
 returns-in_default c =
-    let none : c.loop-records.rest.now ≡ [] = search rules in
+    let none : c.loop-records.rest.now ≡ [] = nil_from_length _ c.in_default.ensures.cases in
     ends_early c.loop-records.out.items _ _
     (subst (λ es. IsSoFar c.loop-records.out.items es (map (λ log. log.items) c.loop-records.records-iterator.rest.items)
     (c.args.out.now.items ++ data_lines c.args.entries.now (map (λ log. log.items) c.args.logs.items)))
@@ -31,7 +32,8 @@ loop-records-preserved c =
 
 pub returns : goal.returns
 returns c =
-    let none : c.loop-records.records-iterator.rest.items ≡ [] = search rules in
+    let none : c.loop-records.records-iterator.rest.items ≡ [] =
+    nil_from_length _ (sym c.loop-records.records-iterator.rest.ok.0 ∙ c.in-None.ensures.steps.0) in
     ends c.loop-records.out.items _ c.loop-records.rest.now
     (subst (λ vs. IsSoFar c.loop-records.out.items c.loop-records.rest.now (map (λ log. log.items) vs)
     (c.args.out.now.items ++ data_lines c.args.entries.now (map (λ log. log.items) c.args.logs.items)))
