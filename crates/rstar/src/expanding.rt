@@ -15,7 +15,7 @@ use tree_model::ProcessId;
 
 /// Of which words a script is.
 #[derive(Clone, Copy, PartialEq, Eq)]
-pub(crate) enum Words {
+pub(crate) enum Vocabulary {
     /// Those of the grammar of scripts.
     Specified,
     /// Those that name messages, too.
@@ -60,11 +60,11 @@ pub(crate) fn flag<'a>(alloc: Global) -> Arg<'a> {
 }
 
 /// Of which words the script is that is read.
-pub(crate) fn asked(matches: &ArgMatches) -> Words {
+pub(crate) fn asked(matches: &ArgMatches) -> Vocabulary {
     if matches.get_flag("expand") {
-        Words::Named
+        Vocabulary::Named
     } else {
-        Words::Specified
+        Vocabulary::Specified
     }
 }
 

@@ -19,7 +19,7 @@ mod running;
 mod source;
 
 use crate::auditing::{Audit, perform_audit};
-use crate::expanding::{Words, expanded};
+use crate::expanding::{Vocabulary, expanded};
 use crate::running::Run;
 use audit_engine::run_log;
 use clap::error::ErrorKind;
@@ -73,7 +73,7 @@ enum Told {
 /// What was read of a command line.
 #[derive(Drop)]
 enum Asked<'a> {
-    Request(Request, Told, Words, Source<'a>),
+    Request(Request, Told, Vocabulary, Source<'a>),
     /// A script with words for messages, as the script of specified events that it comes to.
     Expand(Told, Source<'a>),
     /// A process of a tree, as a program of its own.
@@ -536,7 +536,7 @@ fn logs_asked<'a>(
 ) -> Result<Asked<'a>, AllocError> {
     Ok(match logs::words_of(alloc, matches)? {
         Some(words) => Asked::Files(request, told, words, is_text),
-        None => Asked::Request(request, told, Words::Specified, Source::Standard),
+        None => Asked::Request(request, told, Vocabulary::Specified, Source::Standard),
     })
 }
 
@@ -555,7 +555,7 @@ fn read_words<'a>(alloc: Global, words: &'a [String]) -> Result<Asked<'a>, Error
             "run" => Asked::Request(
                 Request::Run(running::asked(found)),
                 told_of(found),
-                Words::Specified,
+                Vocabulary::Specified,
                 source_of(found),
             ),
             "log" => {
@@ -571,7 +571,7 @@ fn read_words<'a>(alloc: Global, words: &'a [String]) -> Result<Asked<'a>, Error
                 None => Asked::Request(
                     Request::Migrate,
                     told_of(found),
-                    Words::Specified,
+                    Vocabulary::Specified,
                     Source::Standard,
                 ),
             },
@@ -590,7 +590,7 @@ fn read_words<'a>(alloc: Global, words: &'a [String]) -> Result<Asked<'a>, Error
             _ => Asked::Request(
                 Request::Xa,
                 told_of(found),
-                Words::Specified,
+                Vocabulary::Specified,
                 source_of(found),
             ),
         }),
@@ -772,12 +772,12 @@ fn perform_by<R: Read, T: Threads + Wait + Sync>(
     threads: &T,
     request: Request,
     told: Told,
-    words: Words,
+    words: Vocabulary,
     reader: &mut R,
 ) -> u8 {
     match words {
-        Words::Specified => perform_on(rt, threads, request, told, reader),
-        Words::Named => match expanded(rt, told == Told::Explained, reader) {
+        Vocabulary::Specified => perform_on(rt, threads, request, told, reader),
+        Vocabulary::Named => match expanded(rt, told == Told::Explained, reader) {
             Ok(text) => perform_on(rt, threads, request, told, &mut text.as_slice()),
             Err(status) => status,
         },
@@ -790,7 +790,7 @@ fn perform<T: Threads + Wait + Sync>(
     threads: &T,
     request: Request,
     told: Told,
-    words: Words,
+    words: Vocabulary,
     source: Source<'_>,
 ) -> u8 {
     match source {
