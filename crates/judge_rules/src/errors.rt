@@ -1,0 +1,40 @@
+//! Why the states that may follow are not told.
+
+use std::alloc::{AllocError, AllocFailed};
+use thiserror::Error;
+
+/// More states than these are not gone through.
+pub const MOST_STATES: usize = 20_000;
+
+/// Why the states that may follow are not told.
+#[derive(Clone, Copy, Debug, PartialEq, Eq, Error)]
+pub enum StepError {
+    /// Memory was refused.
+    #[error("out of memory")]
+    Memory,
+    /// There are more than can be gone through.
+    #[error("more states are possible than can be gone through")]
+    TooMany,
+}
+
+impl From<AllocError> for StepError {
+    ghost use Rattle.judge_rules.specs.declared.errors.StepError.TheVariants.{Memory};
+    ghost use Rattle.std.specs.Prelude.{◌≡◌};
+
+    ghost from_gives = { λ _ e. e ≡ Memory };
+
+    fn from(_e: AllocError) -> StepError {
+        StepError::Memory
+    }
+}
+
+impl<T: Drop> From<AllocFailed<T>> for StepError {
+    ghost use Rattle.judge_rules.specs.declared.errors.StepError.TheVariants.{Memory};
+    ghost use Rattle.std.specs.Prelude.{◌≡◌};
+
+    ghost from_gives = { λ _ e. e ≡ Memory };
+
+    fn from(_e: AllocFailed<T>) -> StepError {
+        StepError::Memory
+    }
+}

@@ -1,0 +1,48 @@
+-- Two states with the same parts are one.
+use Rattle.std.proofs.Common.{◌≡◌, ℕ, Bool, true, List, [], ◌∷◌, refl}
+use Rattle.std.proofs.lemmas.Bool.{false≢true}
+use Rattle.std.specs.Cmp.{first_so, second_so}
+use Rattle.std.specs.Cmp.Lexicographic.{pointwise}
+use Rattle.judge_state.specs.declared.parts.Branch.{Branch}
+use Rattle.judge_state.specs.declared.parts.Link.{Link}
+use Rattle.judge_state.specs.declared.parts.Listed.{Listed}
+use Rattle.judge_state.specs.declared.parts.Work.{Work}
+use Rattle.judge_state.specs.declared.parts.Write.{Write}
+use Rattle.judge_state.specs.Sights.{Sight}
+
+sight_of : Bool → Bool → List Link → List ℕ → List Branch → List Work → List ℕ → List Listed → List Write
+    → List ℕ → List Branch → List Work → Sight
+sight_of o h l m b w s d v u k z = record {
+  opened = o;
+  hung = h;
+  links = l;
+  migrated = m;
+  branches = b;
+  works = w;
+  scans = s;
+  listed = d;
+  values = v;
+  outside = u;
+  lost = k;
+  lost_works = z;
+}
+
+pub one_sight : (a b : Sight) → (a.opened ≡ b.opened) × (a.hung ≡ b.hung)
+    → (a.links ≡ b.links) × (a.migrated ≡ b.migrated) × (a.branches ≡ b.branches)
+    → (a.scans ≡ b.scans) × (a.listed ≡ b.listed) × (a.outside ≡ b.outside)
+    → (a.works ≡ b.works) × (a.values ≡ b.values) → (a.lost ≡ b.lost) × (a.lost_works ≡ b.lost_works) → a ≡ b
+unfolding sight_of
+one_sight a b o t s d p =
+    let e : sight_of a.opened a.hung a.links a.migrated a.branches a.works a.scans a.listed a.values a.outside a.lost a.lost_works
+    ≡ sight_of b.opened b.hung b.links b.migrated b.branches b.works b.scans b.listed b.values b.outside b.lost b.lost_works =
+    cc in e
+
+-- lists of equal elements are one
+pub same_each : {A : Type 0} {E : A → A → Bool} → ((a b : A) → E a b ≡ true → a ≡ b) → (xs ys : List A)
+    → pointwise E xs ys ≡ true → xs ≡ ys
+same_each sound [] [] h = refl
+same_each sound [] (y ∷ ys) h = absurd (false≢true h)
+same_each sound (x ∷ xs) [] h = absurd (false≢true h)
+same_each {E = E} sound (x ∷ xs) (y ∷ ys) h =
+    let a = sound x y (first_so (E x y) (pointwise E xs ys) h) in
+    let b = same_each sound xs ys (second_so (E x y) (pointwise E xs ys) h) in cc

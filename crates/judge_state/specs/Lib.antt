@@ -1,0 +1,5 @@
+pub mod Parts
+pub mod Sights
+pub mod Questions
+pub mod Moves
+pub mod Scans
