@@ -1,0 +1,49 @@
+-- The states that are possible after a front of a history, and the first fault of a history.
+use Rattle.std.specs.Prelude.{ℕ, false, ◌+◌, ◌<◌, ◌↔◌, ◌⊎◌, List, length, take, Contains, Option, Some, None}
+use Rattle.judge_state.specs.Sights.{Sight}
+use Rattle.judge_rules.specs.declared.calls.Event.{Event}
+use Rattle.judge_rules.specs.declared.words.Rules.{Rules}
+use Rattle.judge_rules.specs.Histories.{IsLegal, Leads, Step}
+
+-- a list has what it had, and these states
+abbrev pub Adds : List Sight → List Sight → List Sight → Type 0
+Adds old new more = (t : Sight) → Contains new t ↔ (Contains old t ⊎ Contains more t)
+
+-- a list has exactly the states that may follow one of these
+abbrev pub Follows : Rules → List Sight → Event → List Sight → Type 0
+Follows r old e new = (t : Sight) → Contains new t ↔ ((s : Sight) × Contains old s × Step r s e t)
+
+-- a list has exactly the states to which a history may lead from one of these
+abbrev pub AreLeft : Rules → List Sight → List Event → List Sight → Type 0
+AreLeft r starts es states = (t : Sight) → Contains states t ↔ ((s : Sight) × Contains starts s × Leads r s es t)
+
+-- a history leads from one of these states to some state
+abbrev pub LeadsOn : Rules → List Sight → List Event → Type 0
+LeadsOn r starts es = (s : Sight) × (t : Sight) × Contains starts s × Leads r s es t
+
+-- from these states the event of this index is the first that leads to none
+pub record Stops (r : Rules) (starts : List Sight) (es : List Event) (i : ℕ) : Type 0 where
+  pub within : i < length es
+  pub before : LeadsOn r starts (take i es)
+  pub stops : LeadsOn r starts (take (i + 1) es) → ⊥
+
+-- from these states a history leads on, or which of its events is the first that leads to none
+abbrev pub IsWalk : Rules → List Sight → List Event → Option ℕ → Type 0
+IsWalk r starts es None = LeadsOn r starts es
+IsWalk r starts es (Some i) = Stops r starts es i
+
+-- the event of this index is the first fault of a history: what is before it is legal, and with it is not
+pub record IsFirstFault (r : Rules) (es : List Event) (i : ℕ) : Type 0 where
+  pub within : i < length es
+  pub before : IsLegal r (take i es)
+  pub fault : IsLegal r (take (i + 1) es) → ⊥
+  pub illegal : IsLegal r es → ⊥
+
+-- what is found of a history: it is legal, or its first fault
+abbrev pub IsVerdict : Rules → List Event → Option ℕ → Type 0
+IsVerdict r es None = IsLegal r es
+IsVerdict r es (Some i) = IsFirstFault r es i
+
+-- the same excuses, and no promise
+abbrev pub without_promises : Rules → Rules
+without_promises r = record r { never = record { heuristics = false; failures = false; rollback = false } }
