@@ -1,0 +1,9 @@
+use Rattle.std.proofs.Common.{◌≡◌, ◌<◌, length}
+use Rattle.judge_engine.specs.Reports.{first_index}
+use Rattle.judge_engine.proofs.judging.add_more.Given as goal
+
+abbrev pub invariant-loop-turn : goal.invariant-loop-turn
+invariant-loop-turn l = record {
+  some : 0 < length l.found.items;
+  first : first_index l.found.items ≡ first_index l.initial.found.items;
+}
