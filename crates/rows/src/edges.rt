@@ -1,7 +1,7 @@
 //! What no script can show: streams and devices that fail, a script cut at every byte, and the calls of a
 //! tree that runs.
 
-use crate::{floods, reopenings, scripts, stops, streams, worlds};
+use crate::{floods, judges, reopenings, scripts, stops, streams, worlds};
 use std::alloc::Global;
 
 /// Whether the edge of this name holds. There is none of another name, nor where memory is refused.
@@ -21,6 +21,9 @@ pub(crate) fn holds(alloc: Global, name: &str) -> bool {
             reopenings::a_reopening_that_stops_at_each_write(alloc) == Some(true)
         }
         "floods_keep_the_promises" => floods::floods_keep_the_promises(alloc) == Some(true),
+        "what_the_key_store_answers_conforms" => {
+            judges::what_the_key_store_answers_conforms(alloc) == Some(true)
+        }
         "nothing_is_left_live" => worlds::nothing_is_left_live(alloc) == Some(true),
         _ => false,
     }

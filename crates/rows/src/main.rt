@@ -10,6 +10,7 @@ mod damages;
 mod edges;
 mod fakes;
 mod floods;
+mod judges;
 mod migrations;
 mod reopenings;
 mod resolves;
@@ -20,12 +21,14 @@ mod worlds;
 
 use crate::damages::{run_cuts, run_damages};
 use crate::edges::holds;
+use crate::judges::{judged, planned};
 use crate::migrations::run_migrations;
 use crate::resolves::resolved;
 use crate::stops::run_stops;
 use audit_engine::{Detail, run_audit, run_log};
 use crash_engine::run_crash;
 use explanation::{Script, refusal_text};
+use judge_engine::Extent;
 use migrate_engine::run_migrate;
 use std::alloc::Global;
 use std::{fs, io};
@@ -65,6 +68,10 @@ enum Program {
     Explain,
     /// Names of branches and the logs of a tree, for what is to be done with them.
     Resolve,
+    /// What a resource manager answered, for the verdict: the first fault, or all.
+    Judge(Extent),
+    /// A seed and a number of calls, for the script of calls.
+    Plan,
     /// An input that a program refuses, or an event of it, for what is told of it.
     Why(Script),
 }
@@ -101,6 +108,9 @@ impl Program {
             "audit" => Some(Program::Audit),
             "explain" => Some(Program::Explain),
             "resolve" => Some(Program::Resolve),
+            "judge" => Some(Program::Judge(Extent::First)),
+            "judge_all" => Some(Program::Judge(Extent::All)),
+            "plan" => Some(Program::Plan),
             "why_tree" => Some(Program::Why(Script::Tree)),
             "why_xa" => Some(Program::Why(Script::Xa)),
             "why_log" => Some(Program::Why(Script::Logs)),
@@ -123,6 +133,8 @@ impl Program {
             Program::Migrations => ("logs", "migrations"),
             Program::Log | Program::Migrate | Program::Audit | Program::Explain => ("logs", "out"),
             Program::Resolve => ("names", "out"),
+            Program::Judge(_) => ("calls", "out"),
+            Program::Plan => ("plan", "xa"),
             Program::Why(Script::Tree) => ("tree", "why"),
             Program::Why(Script::Xa) => ("xa", "why"),
             Program::Why(Script::Logs) => ("logs", "why"),
@@ -163,6 +175,8 @@ impl Program {
             Program::Audit => return audited(alloc, Detail::Lines, input, out),
             Program::Explain => return audited(alloc, Detail::Explained, input, out),
             Program::Resolve => return resolved(alloc, input, out),
+            Program::Judge(extent) => return judged(alloc, extent, input, out),
+            Program::Plan => return planned(alloc, input, out),
             Program::Why(script) => return told(alloc, script, input, out),
         };
         Some(ended.ok()?.number())

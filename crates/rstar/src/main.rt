@@ -6,6 +6,7 @@
 
 mod explainer;
 mod files;
+mod judging;
 mod law;
 mod logs;
 mod migration;
@@ -20,6 +21,7 @@ use clap::error::ErrorKind;
 use clap::{Arg, ArgAction, ArgMatches, Command, Error};
 use crash_engine::run_crash;
 use explanation::{Script, failure_text, plain_refusal_text, refusal_text};
+use judging::JudgeWords;
 use migrate_engine::run_migrate;
 use migration::FileWords;
 use node::NodeWords;
@@ -69,6 +71,8 @@ enum Asked<'a> {
     Node(NodeWords<'a>),
     /// The log of a process in a file, by the second format.
     MigrateFile(FileWords<'a>),
+    /// The verdict on what an XA resource manager answered.
+    Judge(JudgeWords<'a>),
     /// What is to be done with prepared branches.
     Resolve(ResolveWords<'a>),
     /// What a request for logs asks of those in files, and whether only their text is written.
@@ -91,6 +95,7 @@ Examples:
   rstar migrate < examples/commit.logs
   rstar crash < examples/commit.tree
   rstar resolve --logs examples/commit.logs < names
+  rstar judge --plan 1 100 | rstar xa
   rstar node tree.toml 1 1.log --new
 
 Exit status: 0 the script was run to its end, 1 it was refused, 2 an event was refused,
@@ -438,6 +443,7 @@ fn grammar<'a>(alloc: Global) -> Result<Command<'a>, AllocError> {
     .subcommand(audit(alloc)?)?
     .subcommand(migration::words(alloc)?)?
     .subcommand(resolving::words(alloc)?)?
+    .subcommand(judging::words(alloc)?)?
     .subcommand(explaining(
         alloc,
         "crash",
@@ -533,6 +539,7 @@ fn read_words<'a>(alloc: Global, words: &'a [String]) -> Result<Asked<'a>, Error
                 Some(words) => Asked::MigrateFile(words),
                 None => Asked::Request(Request::Migrate, told_of(found), Source::Standard),
             },
+            "judge" => Asked::Judge(judging::asked(found)),
             "resolve" => Asked::Resolve(resolving::asked(alloc, found)?),
             "crash" => Asked::Request(Request::Crash, told_of(found), source_of(found)),
             "node" => match node_of(found) {
@@ -747,6 +754,7 @@ fn status_of<T: Threads + Wait + Sync>(rt: &HostRuntime, threads: &T) -> u8 {
         Ok(Asked::Node(words)) => node::run(rt, words),
         Ok(Asked::MigrateFile(words)) => migration::run(rt, words),
         Ok(Asked::Resolve(words)) => resolving::run(rt, words),
+        Ok(Asked::Judge(words)) => judging::run(rt, words),
         Ok(Asked::Files(request, told, words, is_text)) => {
             perform_files(rt, threads, request, told, &words, is_text)
         }
