@@ -18,7 +18,7 @@ mod source;
 use crate::running::Run;
 use audit_engine::{Detail, run_audit, run_log};
 use clap::error::ErrorKind;
-use clap::{Arg, ArgAction, ArgMatches, Command, Error};
+use clap::{Arg, ArgAction, ArgMatches, Command, Error, value_parser};
 use crash_engine::run_crash;
 use explanation::{Script, failure_text, plain_refusal_text, refusal_text};
 use judging::JudgeWords;
@@ -34,6 +34,7 @@ use std::io::Read;
 use std::process::ExitCode;
 use std::sync::Wait;
 use std::thread::Threads;
+use std::time::Clock;
 use tree_engine::{Failure, Output, Status, run_tree};
 use xa_engine::run_xa;
 
@@ -411,14 +412,36 @@ fn node_grammar<'a>(alloc: Global) -> Result<Command<'a>, AllocError> {
         "words",
         "Says a word after the number of a refusal, and after 'error'",
     ))?
+    .arg(flag(
+        alloc,
+        "joined",
+        "Says a line 'joined CASE CHILD TXN@TICKET' where a child has joined a case",
+    ))?
     .arg(
         Arg::new(alloc, "name")
             .long("name")
             .value_name("NAME")
             .help("The name of the tree, as the names of its branches in databases begin")
             .action(ArgAction::Set),
+    )?
+    .arg(
+        Arg::new(alloc, "ask")
+            .long("ask")
+            .value_name("SECONDS")
+            .help("Asks again about what is in doubt, each time so many seconds have passed")
+            .value_parser(value_parser!(u64).range(1..=MOST_SECONDS)),
+    )?
+    .arg(
+        Arg::new(alloc, "trim-at")
+            .long("trim-at")
+            .value_name("BYTES")
+            .help("Trims the log after an answer, where its file is longer than this")
+            .value_parser(value_parser!(u64).range(1..)),
     )
 }
+
+/// `--ask` waits at most a day.
+const MOST_SECONDS: u64 = 86_400;
 
 /// The words after the program's name, and what help says of them.
 fn grammar<'a>(alloc: Global) -> Result<Command<'a>, AllocError> {
@@ -495,6 +518,9 @@ fn node_of<'a>(matches: &ArgMatches<'a>) -> Option<NodeWords<'a>> {
         is_explained: matches.get_flag("explain"),
         has_words: matches.get_flag("words"),
         name: matches.get_str("name"),
+        ask: matches.get_one::<u64>("ask"),
+        trim_at: matches.get_one::<u64>("trim-at"),
+        tells_joined: matches.get_flag("joined"),
     })
 }
 
@@ -735,7 +761,10 @@ fn perform<T: Threads + Wait + Sync>(
 }
 
 /// Reads the command line and runs it.
-fn status_of<T: Threads + Wait + Sync>(rt: &HostRuntime, threads: &T) -> u8 {
+fn status_of<T: Threads + Wait + Sync + Clock + Copy + Drop + Send + 'static>(
+    rt: &HostRuntime,
+    threads: &T,
+) -> u8 {
     let alloc = rt.alloc();
     let args = match std::env::args(rt) {
         Ok(args) => args,
@@ -751,7 +780,7 @@ fn status_of<T: Threads + Wait + Sync>(rt: &HostRuntime, threads: &T) -> u8 {
     };
     match read_words(alloc, words.as_slice()) {
         Ok(Asked::Request(request, told, source)) => perform(rt, threads, request, told, source),
-        Ok(Asked::Node(words)) => node::run(rt, words),
+        Ok(Asked::Node(words)) => node::run(rt, *threads, words),
         Ok(Asked::MigrateFile(words)) => migration::run(rt, words),
         Ok(Asked::Resolve(words)) => resolving::run(rt, words),
         Ok(Asked::Judge(words)) => judging::run(rt, words),

@@ -7,14 +7,20 @@ use crate::files::{
 };
 use file_store::{FileStore, HostFile, Trouble};
 use node_answers::Manner;
+use node_desk::{Desk, Direct, Feed, Habits, Pump, Told, Waits};
 use node_engine::{NodeFailure, Serving, StartError, run_node, start};
 use std::alloc::{AllocError, Global};
 use std::io::{self, BufReader};
+use std::sync::Wait;
+use std::thread::Threads;
+use std::time::{Clock, Duration};
 use tree_model::Reaction;
 use tree_node::ReopenError;
 
 /// The words behind `rstar node`: the file of the tree, the process, the file of its log, and whether that is
-/// to be made; whether what is refused is explained, and said by words; and the name of the tree.
+/// to be made; whether what is refused is explained, and said by words; the name of the tree; after how many seconds it asks
+/// again; from how many bytes of its log's file on it trims; and
+/// whether it tells of each child that joins.
 #[derive(Clone, Copy)]
 pub struct NodeWords<'a> {
     pub tree: &'a str,
@@ -24,6 +30,9 @@ pub struct NodeWords<'a> {
     pub is_explained: bool,
     pub has_words: bool,
     pub name: Option<&'a str>,
+    pub ask: Option<u64>,
+    pub trim_at: Option<u64>,
+    pub tells_joined: bool,
 }
 
 /// A node over a log in a file.
@@ -99,30 +108,87 @@ fn not_ended(alloc: Global, path: &str, failure: NodeFailure, trouble: &Trouble)
     }
 }
 
-/// Answers the input, and gives the store of the node, all of it forced.
-fn answer_input(
+/// One desk, for the reader, for the writer and for who explains.
+#[derive(Drop)]
+struct Desks {
+    reads: Desk,
+    writes: Desk,
+    explains: Desk,
+}
+
+impl Desks {
+    fn new(alloc: Global) -> Result<Desks, AllocError> {
+        let reads = Desk::new(alloc)?;
+        Ok(Desks {
+            writes: reads.shared()?,
+            explains: reads.shared()?,
+            reads,
+        })
+    }
+}
+
+/// What the program does beside the lines of the input.
+fn habits_of(words: NodeWords<'_>) -> Habits<'_> {
+    Habits {
+        ask: words.ask.map(|seconds| Duration::from_secs(seconds)),
+        trim_at: words.trim_at,
+        tells_joined: words.tells_joined,
+        log: words.log,
+    }
+}
+
+/// Answers the lines that come from this reader, and gives the store of the node, all of it forced.
+fn answer_from<R: Waits + Drop>(
     rt: &HostRuntime,
     words: NodeWords<'_>,
-    node: FileNode,
-    opening: &Reaction,
-    trouble: &Trouble,
+    open: OpenNode,
+    reader: R,
 ) -> Result<FileStore<HostFile>, End> {
     let alloc = rt.alloc();
-    let Ok(mut reader) = BufReader::new(alloc, rt.reader()) else {
+    let OpenNode {
+        node,
+        opening,
+        trouble,
+    } = open;
+    let Ok(desks) = Desks::new(alloc) else {
         let_go(node);
         return Err(failed(Err(AllocError)));
     };
-    let mut witness = Explainer::new(rt, words.is_explained);
-    match run_node(
-        alloc,
-        node,
-        opening,
-        &mut reader,
-        &mut io::writer(rt),
-        &mut witness,
-    ) {
+    let Ok(mut feed) = Feed::new(rt, desks.reads, reader, habits_of(words)) else {
+        let_go(node);
+        return Err(failed(format!(in alloc; "the clock cannot be read")));
+    };
+    let mut told = Told::new(desks.writes, io::writer(rt));
+    let mut witness = Explainer::new(rt, words.is_explained, desks.explains);
+    match run_node(alloc, node, &opening, &mut feed, &mut told, &mut witness) {
         Ok(store) => Ok(store),
-        Err(failure) => Err(not_ended(alloc, words.log, failure, trouble)),
+        Err(failure) => Err(not_ended(alloc, words.log, failure, &trouble)),
+    }
+}
+
+/// Answers the input. To ask by time it has to be waited for, which a thread makes possible.
+fn answer_input<T: Threads + Wait + Clock + Copy + Drop + Send + 'static>(
+    rt: &HostRuntime,
+    threads: T,
+    words: NodeWords<'_>,
+    open: OpenNode,
+) -> Result<FileStore<HostFile>, End> {
+    let alloc = rt.alloc();
+    if words.ask.is_some() {
+        return match Pump::new(threads, *rt) {
+            Ok(reader) => answer_from(rt, words, open, reader),
+            Err(error) => {
+                let_go(open.node);
+                Err(failed(format!(in alloc; "standard input: {error}")))
+            }
+        };
+    }
+    match BufReader::new(alloc, rt.reader()) {
+        Ok(reader) => answer_from(rt, words, open, Direct::new(reader)),
+        Err(_) => {
+            let_go(open.node);
+            Err(failed(Err(AllocError)))
+        }
     }
 }
 
@@ -143,18 +209,26 @@ fn close(
 }
 
 /// Starts the node and answers its input.
-fn serve(rt: &HostRuntime, words: NodeWords<'_>) -> Result<(), End> {
-    let OpenNode {
-        node,
-        opening,
-        trouble,
-    } = started(rt, words)?;
-    let store = answer_input(rt, words, node, &opening, &trouble)?;
+fn serve<T: Threads + Wait + Clock + Copy + Drop + Send + 'static>(
+    rt: &HostRuntime,
+    threads: T,
+    words: NodeWords<'_>,
+) -> Result<(), End> {
+    let open = started(rt, words)?;
+    let Ok(trouble) = open.trouble.shared() else {
+        let_go(open.node);
+        return Err(failed(Err(AllocError)));
+    };
+    let store = answer_input(rt, threads, words, open)?;
     close(rt, words.log, store, &trouble)
 }
 
 /// Runs a node, and answers the exit status. Why it did not start, or ended before its input did, stands on
 /// standard error.
-pub fn run(rt: &HostRuntime, words: NodeWords<'_>) -> u8 {
-    status_of(rt, "node", serve(rt, words))
+pub fn run<T: Threads + Wait + Clock + Copy + Drop + Send + 'static>(
+    rt: &HostRuntime,
+    threads: T,
+    words: NodeWords<'_>,
+) -> u8 {
+    status_of(rt, "node", serve(rt, threads, words))
 }
