@@ -239,6 +239,15 @@ that it refuses. With --words a refusal has a word after its number, as 'refused
 'error' one, no-line or no-text. --name says how the names of the tree's branches in databases
 begin, for 'resolve'.
 
+Beside the lines of the input, and without an 'ok', so that each 'ok' answers one of them:
+  --ask SECONDS    whatever is in doubt here is asked about again, as by 'ask CASE', each time so
+                   many seconds have passed; what is written of it are its messages
+  --trim-at BYTES  the log is trimmed after an answer, if its file is longer; of what a trim took
+                   'outcome' is 'unknown'. If much is left, not before it has doubled
+  --joined         before the 'ok' to a JOINED that is accepted a line 'joined CASE CHILD
+                   TXN@TICKET': CASE is the case that JOINED names, the last word the child's.
+                   Numbers of messages may be left out then
+
 In, a line each, answered in order, each before the next is read:
   begin pa|pc, join, work, commit, abort, ask, heur, forget    as 'rstar tree --help' has them
   N F->T MESSAGE                       a message to this process, as another node wrote it; N is
@@ -268,7 +277,8 @@ In, a line each, answered in order, each before the next is read:
   help                                 a line for each kind of line that a node knows
   end                                  all that stands is forced, and it ends; nothing behind is read
 Out: what the process did, as a trace has it, and then 'ok'; 'refused E' (docs/ERRORS.md; 9 what
-is for another process, or from one that may not send it); 'error' where the line is the line of nothing. What an answer rests on
+is for another process, or from one that may not send it); 'error' where the line is the line of nothing, or has
+more than 4,096 bytes before its line feed. What an answer rests on
 is on the disk before it is written. Whoever carries the messages reads '->T' and may lose,
 repeat and reorder them, and may not alter one or invent one. At the end of the input all that
 stands is forced, and the status is 0. A signal that ends it forces nothing: the next start goes
