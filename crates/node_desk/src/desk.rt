@@ -53,9 +53,14 @@ pub(crate) fn line_at(text: &[u8], at: usize) -> Option<(&[u8], usize)> {
     Some((line, at.saturating_add(end).saturating_add(1)))
 }
 
-/// The case that a line `doubt CASE` names.
+/// The case that a line `doubt CASE` or `decided CASE OUTCOME` names.
 fn case_in(line: &[u8]) -> Option<&[u8]> {
-    line.strip_prefix(b"doubt ".as_slice())
+    if let Some(case) = line.strip_prefix(b"doubt ".as_slice()) {
+        return Some(case);
+    }
+    let rest = line.strip_prefix(b"decided ".as_slice())?;
+    let end = rest.iter().position(|byte| *byte == b' ')?;
+    rest.get(..end)
 }
 
 /// The first case that lines from this place on name, and where the next line begins.

@@ -3,6 +3,7 @@
 use crate::desk::{Desk, Turn};
 use crate::joining::joining_of;
 use crate::pump::Waits;
+use crate::window::Window;
 use input_lines::{LineFault, read_line};
 use std::alloc::{AllocError, Global};
 use std::fs;
@@ -30,13 +31,12 @@ pub struct Feed<'a, R: Waits + Drop> {
     desk: Desk,
     reader: R,
     habits: Habits<'a>,
-    /// When it last asked.
-    asked: Instant,
+    /// When it last asked; None, if it never does.
+    asked: Option<Instant>,
     /// Over this length of its file the log is trimmed.
     limit: u64,
-    /// The line that is given, and how much of it was taken.
-    line: Vec<u8>,
-    at: usize,
+    /// The line that is given.
+    line: Window,
     /// The input is at its end: nothing is given any more, not even a line of the program's own.
     is_over: bool,
     /// A JOINED that is given after what is asked before it.
@@ -54,16 +54,19 @@ const NOTHING: &[u8] = b"?\n";
 impl<'a, R: Waits + Drop> Feed<'a, R> {
     pub fn new(rt: &HostRuntime, desk: Desk, reader: R, habits: Habits<'a>) -> io::Result<Self> {
         let alloc = rt.alloc();
+        let asked = match habits.ask {
+            Some(_) => Some(Instant::now(rt)?),
+            None => None,
+        };
         Ok(Feed {
             rt: *rt,
             alloc,
             desk,
             reader,
             habits,
-            asked: Instant::now(rt)?,
+            asked,
             limit: habits.trim_at.unwrap_or(u64::MAX),
-            line: Vec::new(alloc),
-            at: 0,
+            line: Window::new(Vec::new(alloc)),
             is_over: false,
             held: None,
         })
@@ -72,8 +75,7 @@ impl<'a, R: Waits + Drop> Feed<'a, R> {
     /// Gives a line.
     fn give(&mut self, line: Vec<u8>, turn: Turn) {
         self.desk.begin(turn);
-        self.line = line;
-        self.at = 0;
+        self.line = Window::new(line);
     }
 
     /// Gives a line of these words.
@@ -102,7 +104,7 @@ impl<'a, R: Waits + Drop> Feed<'a, R> {
     /// How long it is until it asks again; None, if it never does.
     fn left(&self) -> Option<Duration> {
         let every = self.habits.ask?;
-        match self.asked.elapsed(&self.rt) {
+        match self.asked?.elapsed(&self.rt) {
             Ok(passed) => Some(every.saturating_sub(passed)),
             Err(_) => Some(every),
         }
@@ -183,10 +185,20 @@ impl<'a, R: Waits + Drop> Feed<'a, R> {
             return self.give_words(b"trim\n", Turn::Trim);
         }
         if self.is_time()? {
-            self.asked = Instant::now(&self.rt)?;
+            self.asked = Some(Instant::now(&self.rt)?);
             return self.give_words(b"doubt\n", Turn::Doubt);
         }
         self.give_input()
+    }
+}
+
+impl<'a, R: Waits + Drop> Feed<'a, R> {
+    /// Sees that a line is given, if there is one.
+    fn fill(&mut self) -> io::Result<()> {
+        if self.line.is_empty() && !self.is_over {
+            self.give_next()?;
+        }
+        Ok(())
     }
 }
 
@@ -202,16 +214,11 @@ impl<'a, R: Waits + Drop> Read for Feed<'a, R> {
 
 impl<'a, R: Waits + Drop> BufRead for Feed<'a, R> {
     fn fill_buf(&mut self) -> io::Result<&[u8]> {
-        if self.at >= self.line.len() && !self.is_over {
-            self.give_next()?;
-        }
-        Ok(match self.line.get(self.at..) {
-            Some(bytes) => bytes,
-            None => &[],
-        })
+        self.fill()?;
+        Ok(self.line.rest())
     }
 
     fn consume(&mut self, amount: usize) {
-        self.at = self.at.saturating_add(amount);
+        self.line.take(amount);
     }
 }

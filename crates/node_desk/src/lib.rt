@@ -8,6 +8,7 @@
 //! joining  a JOINED, by its words
 //! feed     the reader: the lines of the input, none longer than a bound, and the program's own
 //! told     the writer: answers to the program's own lines go no further, but the messages that they have
+//! window   bytes that are given piece by piece
 //! pump     an input that a thread of its own reads, so that it can be waited for with a limit
 //! ```
 #![tactic(auto)]
@@ -17,6 +18,7 @@ mod feed;
 mod joining;
 mod pump;
 mod told;
+mod window;
 
 pub use desk::{Desk, Turn};
 pub use feed::{Feed, Habits};

@@ -1,5 +1,6 @@
 //! An input that can be waited for.
 
+use crate::window::Window;
 use crossbeam_channel::{Receiver, RecvTimeoutError, Sender, bounded};
 use std::alloc::Global;
 use std::io::{self, BufRead, ErrorKind, Read};
@@ -86,8 +87,7 @@ fn hand_on<T: Wait, R: Read>(rt: &T, alloc: Global, reader: &mut R, parts: &Send
 pub struct Pump<T: Wait + Clock + Drop> {
     rt: T,
     parts: Receiver<Part, Global>,
-    part: Vec<u8>,
-    at: usize,
+    part: Window,
     is_done: bool,
 }
 
@@ -106,8 +106,7 @@ impl<T: Threads + Wait + Clock + Copy + Drop + Send + 'static> Pump<T> {
             Ok(_) => Ok(Pump {
                 rt,
                 parts,
-                part: Vec::new(alloc),
-                at: 0,
+                part: Window::new(Vec::new(alloc)),
                 is_done: false,
             }),
             Err(_) => Err(io::Error::from(ErrorKind::WouldBlock)),
@@ -116,17 +115,25 @@ impl<T: Threads + Wait + Clock + Copy + Drop + Send + 'static> Pump<T> {
 }
 
 impl<T: Wait + Clock + Drop> Pump<T> {
-    /// Whether bytes are at hand.
-    fn has_bytes(&self) -> bool {
-        self.at < self.part.len()
+    /// Sees that bytes are at hand, unless the input is at its end.
+    fn fill(&mut self) -> io::Result<()> {
+        if !self.part.is_empty() || self.is_done {
+            return Ok(());
+        }
+        match self.parts.recv(&self.rt) {
+            Ok(part) => self.take(part),
+            Err(_) => {
+                self.is_done = true;
+                Ok(())
+            }
+        }
     }
 
     /// Takes the next part.
     fn take(&mut self, part: Part) -> io::Result<()> {
         match part {
             Part::Bytes(bytes) => {
-                self.part = bytes;
-                self.at = 0;
+                self.part = Window::new(bytes);
                 Ok(())
             }
             Part::Failed(kind) => Err(io::Error::from(kind)),
@@ -146,26 +153,18 @@ impl<T: Wait + Clock + Drop> Read for Pump<T> {
 
 impl<T: Wait + Clock + Drop> BufRead for Pump<T> {
     fn fill_buf(&mut self) -> io::Result<&[u8]> {
-        if !self.has_bytes() && !self.is_done {
-            match self.parts.recv(&self.rt) {
-                Ok(part) => self.take(part)?,
-                Err(_) => self.is_done = true,
-            }
-        }
-        Ok(match self.part.get(self.at..) {
-            Some(bytes) => bytes,
-            None => &[],
-        })
+        self.fill()?;
+        Ok(self.part.rest())
     }
 
     fn consume(&mut self, amount: usize) {
-        self.at = self.at.saturating_add(amount);
+        self.part.take(amount);
     }
 }
 
 impl<T: Wait + Clock + Drop> Waits for Pump<T> {
     fn has_input(&mut self, at_most: Duration) -> io::Result<bool> {
-        if self.has_bytes() || self.is_done {
+        if !self.part.is_empty() || self.is_done {
             return Ok(true);
         }
         match self.parts.recv_timeout(&self.rt, at_most) {

@@ -240,8 +240,8 @@ that it refuses. With --words a refusal has a word after its number, as 'refused
 begin, for 'resolve'.
 
 Beside the lines of the input, and without an 'ok', so that each 'ok' answers one of them:
-  --ask SECONDS    whatever is in doubt here is asked about again, as by 'ask CASE', each time so
-                   many seconds have passed; what is written of it are its messages
+  --ask SECONDS    each case that 'doubt' tells is asked about again, as by 'ask CASE', each time
+                   so many seconds have passed; what is written of it are its messages
   --trim-at BYTES  the log is trimmed after an answer, if its file is longer; of what a trim took
                    'outcome' is 'unknown'. If much is left, not before it has doubled
   --joined         before the 'ok' to a JOINED that is accepted a line 'joined CASE CHILD
