@@ -108,8 +108,17 @@ fn nothing() -> Habits<'static> {
     }
 }
 
-/// Whether each row is as it must be.
-fn rows(rt: &HostRuntime) -> io::Result<bool> {
+/// Says whether a row is as it must be.
+fn tell(rt: &HostRuntime, name: &str, is_so: bool) -> io::Result<()> {
+    let word = if is_so {
+        "as it must be"
+    } else {
+        "not as it must be"
+    };
+    println!(rt; "{name}: {word}")
+}
+
+fn main(rt: HostRuntime) -> io::Result<()> {
     let long = long_lines(rt.alloc()).map_err(no_memory)?;
     let joins = Habits {
         tells_joined: true,
@@ -119,23 +128,19 @@ fn rows(rt: &HostRuntime) -> io::Result<bool> {
         trim_at: Some(9),
         ..nothing()
     };
-    let trims_later = Habits {
+    let later = Habits {
         trim_at: Some(10),
         ..nothing()
     };
-    Ok(
-        is_told(rt, &long, nothing(), LONG_SAID, 0)?
-            && is_told(rt, JOINED.as_bytes(), nothing(), PLAIN_SAID, 0)?
-            && is_told(rt, JOINED.as_bytes(), joins, JOINED_SAID, 0)?
-            && is_told(rt, JOINED.as_bytes(), trims, PLAIN_SAID, 1)?
-            && is_told(rt, JOINED.as_bytes(), trims_later, PLAIN_SAID, 0)?,
-    )
-}
-
-fn main(rt: HostRuntime) -> io::Result<()> {
-    if rows(&rt)? {
-        println!(rt; "lines beside a node: as they must")
-    } else {
-        println!(rt; "lines beside a node: not as they must")
-    }
+    let lines = JOINED.as_bytes();
+    let is_so = is_told(&rt, &long, nothing(), LONG_SAID, 0)?;
+    tell(&rt, "lines that are too long", is_so)?;
+    let is_so = is_told(&rt, lines, nothing(), PLAIN_SAID, 0)?;
+    tell(&rt, "nothing beside", is_so)?;
+    let is_so = is_told(&rt, lines, joins, JOINED_SAID, 0)?;
+    tell(&rt, "who has joined", is_so)?;
+    let is_so = is_told(&rt, lines, trims, PLAIN_SAID, 1)?;
+    tell(&rt, "a trim", is_so)?;
+    let is_so = is_told(&rt, lines, later, PLAIN_SAID, 0)?;
+    tell(&rt, "no trim", is_so)
 }
