@@ -20,7 +20,7 @@ is_doubt _ = false
 abbrev pub doubts_of : List Line → ℕ
 doubts_of ls = count_by (λ l. is_doubt l.own) ls
 
--- the input says a tree and its logs, none of which is damaged, and an audit of them has so many lines of cases in doubt
+-- the input says a tree and its logs, none of which is damaged, and an audit of them has this number of lines of cases in doubt
 pub record CountsDoubts (input : List ℕ) (count : ℕ) : Type 0 where
   pub tree : List TreeEntry
   pub logs : List ProcessLog
@@ -41,6 +41,6 @@ pub record HasDamage (input : List ℕ) : Type 0 where
 abbrev pub HasNoCount : List ℕ → Type 0
 HasNoCount input = ((fault : ScriptFault) × IsLogsFault input fault) ⊎ HasDamage input
 
--- the status of an audit with so many cases in doubt, by the one without
+-- the status of an audit that counts the cases in doubt: that of the audit alone, and the count
 abbrev pub status_of : ℕ → ℕ → ℕ
 status_of audited doubts = if nat_eq audited 0 && nat_lt 0 doubts then 5 else audited

@@ -56,7 +56,7 @@ fn push_first(expander: &mut Expander, text: &str, count: usize) -> Result<(), F
     Ok(())
 }
 
-/// Makes the events of these lines, the first of which has the number behind this one, up to a refused one.
+/// Makes the events of these lines, up to a refused one; the line before the first has this number.
 fn take_lines(
     alloc: Global,
     expander: &mut Expander,

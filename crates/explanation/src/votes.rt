@@ -145,7 +145,7 @@ impl Branches {
         }
     }
 
-    /// Why a branch that is asked for its vote after so many works says NO.
+    /// Why a branch that is asked for its vote after this number of works says NO.
     fn reason(
         &self,
         alloc: Global,

@@ -131,7 +131,7 @@ struct Plan {
     state: State,
     /// How many branches were named.
     named: u32,
-    /// Of ten calls so many are legal by the state.
+    /// Of ten calls this many are legal by the state.
     sure: u32,
 }
 
@@ -390,7 +390,7 @@ fn script(alloc: Global, seed: u64, count: u32) -> Result<Vec<u8>, StepError> {
     Ok(out)
 }
 
-/// Writes a script of so many calls, the same for the same seed.
+/// Writes a script of this many calls, the same for the same seed.
 pub fn run_plan<W: Write>(
     alloc: Global,
     seed: u64,

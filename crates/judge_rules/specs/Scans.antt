@@ -16,7 +16,7 @@ use Rattle.judge_rules.specs.Passes.{one, one_if}
 abbrev pub scan_in : ℕ → ℕ → Sight → Sight
 scan_in t f s = if has f start_scan then scan_opened t s else s
 
--- so many branches leave none out: fewer than are asked for; or the manager counts not
+-- this number of branches leaves none out: fewer than are asked for; or the manager counts not
 abbrev pub is_short : Rules → ℕ → List ℕ → Bool
 is_short r count xs = r.lacks.count || not (nat_le count (length xs))
 

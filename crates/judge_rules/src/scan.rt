@@ -25,7 +25,7 @@ fn scan_in(alloc: Global, thread: u32, flags: Flags, state: &State) -> Result<St
     }
 }
 
-/// Whether so many branches leave none out.
+/// Whether this number of branches leaves none out.
 fn is_short(rules: Rules, count: u32, given: &[u32]) -> bool
     ensures { result ≡ is_short rules count given.now }
 {

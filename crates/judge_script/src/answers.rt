@@ -77,7 +77,7 @@ fn xids_of(alloc: Global, words: &[&str]) -> Result<Option<Vec<Xid>>, AllocError
     Ok(Some(xids))
 }
 
-/// A number of branches, and so many names.
+/// A number of branches, and as many names.
 fn given_of<'a>(alloc: Global, first: &str, rest: &[&str]) -> Result<Option<Said<'a>>, AllocError>
     ensures found { IfOk result (λ read. IfSome read (λ said. SaysBy first.now (map (λ s. s.now) rest.now) said)) }
     ensures none { IfOk result (λ read. IfNone read ((xids : AnyVec AnyXid)

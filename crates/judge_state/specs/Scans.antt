@@ -74,11 +74,11 @@ may_hold k v ws = fold (held_after k v) (v == 0) ws
 abbrev pub is_written : ℕ → ℕ → List Write → Bool
 is_written k v ws = list_any (λ w. w.key == k && w.value == v) ws
 
--- a value was the committed one under a key when so many of these were committed, or later
+-- a value was the committed one under a key when this many of these were committed, or later
 abbrev pub may_read_in : ℕ → ℕ → ℕ → List Write → Bool
 may_read_in since k v ws = may_hold k v (take since ws) || is_written k v (drop since ws)
 
--- a value was the committed one under a key when so many were committed, or later
+-- a value was the committed one under a key when this many were committed, or later
 abbrev pub may_read : ℕ → ℕ → ℕ → Sight → Bool
 may_read since k v s = may_read_in since k v s.values
 

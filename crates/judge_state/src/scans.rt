@@ -99,7 +99,7 @@ fn is_written(key: u32, value: u32, writes: &[Write]) -> bool
     writes.iter().any(|w| w.key == key && w.value == value)
 }
 
-/// Whether a value was the committed one under a key when so many were committed, or later.
+/// Whether a value was the committed one under a key when this many were committed, or later.
 fn may_read_in(since: usize, key: u32, value: u32, writes: &[Write]) -> bool
     ensures { result ≡ may_read_in since key value writes.now }
 {
@@ -172,7 +172,7 @@ impl State {
             || has(given, l.branch))
     }
 
-    /// Whether a value was the committed one under a key when so many were committed, or later.
+    /// Whether a value was the committed one under a key when this many were committed, or later.
     pub fn may_read(&self, since: usize, key: u32, value: u32) -> bool
         ensures { result ≡ may_read since key value self.now }
     {

@@ -1,12 +1,15 @@
 -- The data that a script leaves.
-use Rattle.std.specs.Prelude.{◌≡◌, ℕ, Option, List}
+use Rattle.std.specs.Prelude.{◌≡◌, ◌⊎◌, ℕ, Option, List}
 use Rattle.tree_model.specs.declared.events.Event.{Event}
+use Rattle.tree_model.specs.declared.names.ProcessId.{ProcessId}
 use Rattle.tree_model.specs.declared.trees.TreeEntry.{TreeEntry}
+use Rattle.link_script.specs.declared.script.ScriptError.TheVariants.{Fault}
+use Rattle.link_script.specs.declared.script.ScriptFault.{ScriptFault}
 use Rattle.logs_script.specs.declared.line.ProcessLog.{ProcessLog}
-use Rattle.reopen_script.specs.Inputs.{IsReopenScript}
+use Rattle.reopen_script.specs.Inputs.{IsReopenError, IsReopenScript}
 use Rattle.tree_world.specs.Worlds.{logs_at, state}
 use Rattle.tree_engine.specs.declared.run.Run.{Run}
-use Rattle.tree_engine.specs.Runs.{BeginsBy, HasCome}
+use Rattle.tree_engine.specs.Runs.{BeginsBy, HasCome, IsDamageBy}
 use Rattle.left_data.specs.Texts.{data_lines}
 
 -- these events led the run to one in which the managers hold this
@@ -24,3 +27,17 @@ pub record LeavesData (input text : List ℕ) : Type 0 where
   pub first : Run
   pub begins : BeginsBy tree logs first
   pub leaves : LeavesFrom first events text
+
+-- the input is a script of a tree and of logs, one of which is damaged there
+pub record HasDamage (input : List ℕ) : Type 0 where
+  pub tree : List TreeEntry
+  pub logs : Option (List ProcessLog)
+  pub events : List Event
+  pub script : IsReopenScript input tree logs events
+  pub process : ProcessId
+  pub place : ℕ
+  pub damaged : IsDamageBy tree logs process place
+
+-- the input is no script, or one of the logs that it begins with is damaged
+abbrev pub HasNoData : List ℕ → Type 0
+HasNoData input = ((fault : ScriptFault) × IsReopenError input (Fault fault)) ⊎ HasDamage input

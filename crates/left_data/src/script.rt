@@ -1,8 +1,8 @@
 //! The data that a script leaves.
 
-ghost use Rattle.std.specs.Prelude.{[], IfOk, IfSome};
-ghost use Rattle.left_data.specs.Left.{LeavesData, LeavesFrom};
-ghost use Rattle.tree_engine.specs.Runs.{BeginsBy, HasCome};
+ghost use Rattle.std.specs.Prelude.{[], IfErr, IfNone, IfOk, IfSome};
+ghost use Rattle.left_data.specs.Left.{HasNoData, LeavesData, LeavesFrom};
+ghost use Rattle.tree_engine.specs.Runs.{BeginsBy, HasCome, IsDamageBy};
 ghost use Rattle.tree_model.specs.Trees.{IsTree};
 ghost use Rattle.tree_world.specs.Worlds.{state};
 
@@ -22,7 +22,8 @@ fn opened(
     logs: Option<ProcessLogs>,
 ) -> Result<Result<Run, (ProcessId, usize)>, Failure>
     requires { IsTree tree }
-    ensures { IfOk result (λ opened. IfOk opened (BeginsBy tree logs)) }
+    ensures begins { IfOk result (λ opened. IfOk opened (BeginsBy tree logs)) }
+    ensures damage { IfOk result (λ opened. IfErr opened (λ d. IsDamageBy tree logs d.0 d.1)) }
 {
     match logs {
         None => Ok(Ok(Run::open(alloc, tree)?)),
@@ -54,7 +55,8 @@ fn data_of(alloc: Global, run: Run, events: &[Event]) -> Result<Vec<u8>, Failure
 /// the refused one. None: the script is refused, or a log that it begins with is damaged. An error says that memory was
 /// refused, or why an event could not be made.
 pub fn data_text(alloc: Global, input: &[u8]) -> Result<Option<Vec<u8>>, Failure>
-    ensures { IfOk result (λ text. IfSome text (λ text. LeavesData input.now text.items)) }
+    ensures data { IfOk result (λ text. IfSome text (λ text. LeavesData input.now text.items)) }
+    ensures none { IfOk result (λ text. IfNone text (HasNoData input.now)) }
 {
     let (tree, logs, events) = match read_reopen(alloc, input) {
         Ok(script) => script,

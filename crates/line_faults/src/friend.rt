@@ -1,6 +1,8 @@
 //! Words of other systems for what a grammar has another word for.
 
-use crate::near::nearest;
+ghost use Rattle.std.specs.Prelude.{Contains, IfSome, map};
+
+use crate::near::{first_near, nearest};
 
 /// Words that stand in other systems for a word of a grammar, each with that word.
 const FRIENDS: &[(&str, &str)] = &[
@@ -25,10 +27,15 @@ const FRIENDS: &[(&str, &str)] = &[
 ];
 
 /// The word of these that another system's word stands for, if it is one of those.
-pub(crate) fn friend_of(word: &str, words: &[&'static str]) -> Option<&'static str> {
+pub(crate) fn friend_of(word: &str, words: &[&'static str]) -> Option<&'static str>
+    ensures { IfSome result (λ meant. Contains (map (λ s. s.now) words.now) meant.now) }
+{
     for (friend, meant) in FRIENDS {
-        if *friend == word && words.contains(meant) {
-            return Some(meant);
+        if *friend == word {
+            let found = first_near(0, meant, words);
+            if found.is_some() {
+                return found;
+            }
         }
     }
     None
@@ -36,6 +43,11 @@ pub(crate) fn friend_of(word: &str, words: &[&'static str]) -> Option<&'static s
 
 /// The word of these that was meant by one that is none of them: what it stands for in another system, or else the
 /// nearest.
-pub(crate) fn meant_by(word: &str, words: &[&'static str]) -> Option<&'static str> {
-    friend_of(word, words).or(nearest(word, words))
+pub(crate) fn meant_by(word: &str, words: &[&'static str]) -> Option<&'static str>
+    ensures { IfSome result (λ meant. Contains (map (λ s. s.now) words.now) meant.now) }
+{
+    match friend_of(word, words) {
+        Some(meant) => Some(meant),
+        None => nearest(word, words),
+    }
 }

@@ -18,7 +18,7 @@ use std::io::Read;
 pub enum JudgeWords<'a> {
     /// The verdict on a transcript.
     Transcript(Extent, Source<'a>),
-    /// A script of so many calls, by this seed.
+    /// A script of N calls, by this seed.
     Plan(&'a str, &'a str),
 }
 

@@ -479,7 +479,7 @@ fn grammar<'a>(alloc: Global) -> Result<Command<'a>, AllocError> {
         explaining(
             alloc,
             "crash",
-            "Tries a crash of each process behind each event of a script, and tells what stays in doubt",
+            "Tries a crash of each process after each event of a script, and tells what stays in doubt",
             CRASH_HELP,
         )?
         .arg(expanding::flag(alloc))?
