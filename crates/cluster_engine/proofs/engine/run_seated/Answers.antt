@@ -1,8 +1,8 @@
 use Rattle.std.proofs.Common.{◌∙◌, refl, subst, sym}
-use Rattle.tree_model.specs.Trees.{root_of}
 use Rattle.tree_cluster.specs.Opening.{SeatsTree}
 use Rattle.cluster_engine.specs.Made.{FirstMade}
 use Rattle.std.proofs.lemmas.Result.{IfErr-weaker}
+use Rattle.cluster_engine.proofs.Making.{some_passes}
 use Rattle.cluster_engine.proofs.Reporting.{closed_written, not_closed, not_posted}
 use Rattle.cluster_engine.proofs.engine.run_seated.Goals as goal
 
@@ -12,6 +12,11 @@ new-requires-clause-seats g c =
     c.args.opened.ties.shared.key.items)
     (sym (c.in_ok-copy.ensures ∙ c.entries.ensures)) c.requires.seats
 
+pub play-requires-after_bounds : goal.play-requires-after_bounds
+play-requires-after_bounds g c κs within =
+    some_passes c.args.workers c.as_mut_slice-passes.result.now c.requires.workers.0
+    (c.as_mut_slice-passes.ensures.value ∙ c.in-Ok.ensures.passes)
+
 pub closed_text-requires : goal.closed_text-requires
 closed_text-requires g c = (c.requires.seats.tree_is, c.requires.seats.is_tree)
 
@@ -20,7 +25,7 @@ returns-in-None-clause-text g c =
     closed_written (λ r. r.0.items) c.args.output c.args.tree c.args.events.now c.args.workers
     c.as_mut_slice-passes.result.now c.play.new.passes c.closed_text.result c.requires.workers.0
     (c.as_mut_slice-passes.ensures.value ∙ c.in-Ok.ensures.passes)
-    (subst (λ t. FirstMade (root_of t) c.args.events.now c.as_mut_slice-passes.result.now c.play.new.passes)
+    (subst (λ t. FirstMade t c.args.events.now c.as_mut_slice-passes.result.now c.play.new.passes)
     (sym c.requires.seats.tree_is) (c.in-None.ensures.made refl))
     c.closed_text.ensures.text
 
