@@ -1,5 +1,5 @@
 mod Standings
-mod Namings
+pub mod Namings
 mod Words
 mod Climbs
 pub mod TrueAnswers

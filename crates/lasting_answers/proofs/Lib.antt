@@ -1,0 +1,4 @@
+pub mod Shut
+pub mod Ever
+pub mod Refusals
+pub mod Lasting
