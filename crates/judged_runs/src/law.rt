@@ -1,0 +1,30 @@
+//! The laws. The functions do nothing: each one's contract is a law.
+
+ghost use Rattle.std.specs.Prelude.{List};
+ghost use Rattle.xa_assoc.specs.Answers.{IsNew};
+ghost use Rattle.xa_assoc.specs.declared.states.States.{States as AnyStates};
+ghost use Rattle.xa_xid.specs.declared.xid.Xid.{Xid as AnyXid};
+ghost use Rattle.judge_state.specs.declared.parts.Decision.{Decision};
+ghost use Rattle.judge_rules.specs.declared.calls.Event.{Event};
+ghost use Rattle.judge_rules.specs.Histories.{IsLegal};
+ghost use Rattle.kv_manager.specs.Sights.{KvSight};
+ghost use Rattle.xa_engine.specs.declared.answer.Answer.{Answer as AnyAnswer};
+ghost use Rattle.xa_engine.specs.declared.script.request.Request.{Request as AnyRequest};
+ghost use Rattle.xa_engine.specs.Runs.{IsFresh};
+ghost use Rattle.judged_runs.specs.Deeds.{Leads};
+ghost use Rattle.judged_runs.specs.Events.{AreEvents, LeadsCovered};
+ghost use Rattle.judged_runs.specs.Names.{Numbers, lacks_forced};
+
+/// Whatever happens to the tables of a key store, as far as `Deed` has it, is a legal history of the judge of a manager
+/// that promises nothing and whose end of a prepared branch may not be forced.
+pub fn deeds_conform()
+    ensures { (n : Numbers) (m : AnyStates) (d : AnyXid → Decision) (es : List Event) → IsNew m → Leads n m d es
+        → IsLegal lacks_forced es }
+{}
+
+/// What a new manager answers to the requests of a script conforms to that judge, where the law covers each of them:
+/// requests and answers, their names numbered, are events of a legal history.
+pub fn runs_conform()
+    ensures { (n : Numbers) (m k : KvSight) (requests : List AnyRequest) (answers : List AnyAnswer) (es : List Event)
+        → IsFresh m → LeadsCovered m requests answers k → AreEvents n requests answers es → IsLegal lacks_forced es }
+{}
