@@ -1,35 +1,17 @@
 //! The data that a script leaves.
 
-ghost use Rattle.std.specs.Prelude.{[], IfErr, IfNone, IfOk, IfSome};
+ghost use Rattle.std.specs.Prelude.{[], IfNone, IfOk, IfSome};
 ghost use Rattle.left_data.specs.Left.{HasNoData, LeavesData, LeavesFrom};
-ghost use Rattle.tree_engine.specs.Runs.{BeginsBy, HasCome, IsDamageBy};
-ghost use Rattle.tree_model.specs.Trees.{IsTree};
+ghost use Rattle.tree_engine.specs.Runs.{HasCome};
 ghost use Rattle.tree_world.specs.Worlds.{state};
 
 use crate::left::data_left;
 use link_script::ScriptError;
-use logs_script::ProcessLogs;
 use reopen_script::read_reopen;
 use report_io::Failure;
 use std::alloc::Global;
-use tree_engine::Run;
-use tree_model::{Event, ProcessId, Tree};
-
-/// A tree that opens over these logs, or over empty ones; or the first log that is damaged, and where.
-fn opened(
-    alloc: Global,
-    tree: Tree,
-    logs: Option<ProcessLogs>,
-) -> Result<Result<Run, (ProcessId, usize)>, Failure>
-    requires { IsTree tree }
-    ensures begins { IfOk result (λ opened. IfOk opened (BeginsBy tree logs)) }
-    ensures damage { IfOk result (λ opened. IfErr opened (λ d. IsDamageBy tree logs d.0 d.1)) }
-{
-    match logs {
-        None => Ok(Ok(Run::open(alloc, tree)?)),
-        Some(logs) => Run::reopen(alloc, tree, logs.as_slice()),
-    }
-}
+use tree_engine::{Run, opened};
+use tree_model::Event;
 
 /// Makes these events, and tells the data that they leave.
 fn data_after(alloc: Global, run: &mut Run, events: &[Event]) -> Result<Vec<u8>, Failure>

@@ -2,6 +2,7 @@
 
 use crate::fixed::{LEGEND, STYLE};
 use crate::frame::Frame;
+use crate::signs::Signs;
 use crate::words::{push_pair, push_word};
 use std::alloc::AllocError;
 use trace_lines::push;
@@ -80,11 +81,25 @@ fn push_key(
     push(out, "</text></g>\n")
 }
 
-fn push_legend(out: &mut Vec<u8>, frame: Frame) -> Result<(), AllocError> {
+/// How many entries a legend has that explains these signs.
+pub fn keys_of(signs: &Signs) -> u64 {
+    let mut keys: u64 = 0;
+    for (sign, _, _) in LEGEND {
+        if signs.has(sign) {
+            keys = keys.saturating_add(1);
+        }
+    }
+    keys
+}
+
+/// The legend: of each sign that the picture has, what it means.
+fn push_legend(out: &mut Vec<u8>, frame: Frame, signs: &Signs) -> Result<(), AllocError> {
     let mut entry: u32 = 0;
-    for (sign, meaning) in LEGEND {
-        push_key(out, frame, entry, sign, meaning)?;
-        entry = entry.saturating_add(1);
+    for (sign, drawn, meaning) in LEGEND {
+        if signs.has(sign) {
+            push_key(out, frame, entry, drawn, meaning)?;
+            entry = entry.saturating_add(1);
+        }
     }
     Ok(())
 }
@@ -95,10 +110,11 @@ pub fn push_head(
     frame: Frame,
     height: u64,
     summary: &Summary,
+    signs: &Signs,
 ) -> Result<(), AllocError> {
     push_size(out, frame.width(), height)?;
     push_summary(out, summary)?;
     push(out, STYLE)?;
     push_ground(out, frame.width(), height, summary)?;
-    push_legend(out, frame)
+    push_legend(out, frame, signs)
 }

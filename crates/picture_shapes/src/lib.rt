@@ -8,16 +8,18 @@ mod frame;
 mod head;
 mod parts;
 mod shapes;
+mod signs;
 mod strokes;
 mod svg;
 mod words;
 
-pub use frame::{APPLICATION, Frame, ROW, width_of, x_of};
-pub use head::{Summary, push_head};
+pub use frame::{Frame, ROW, Room, WIDE, width_of};
+pub use head::{Summary, keys_of, push_head};
 pub use shapes::{
     Bar, Dot, EventRule, Joint, Label, Life, Look, Patch, Path, Plate, Ring, Shape, Spot, Square,
     Stroke, Tip, Tone, Torn,
 };
+pub use signs::Signs;
 pub use strokes::push_strokes;
 pub use svg::{push_shapes, push_squares};
 pub use words::{push_escaped, push_pair, push_word};

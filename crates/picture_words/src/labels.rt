@@ -17,9 +17,6 @@ use tree_model::{
     StepError, Subject, Told, Txn,
 };
 
-/// The most characters of a label, a message's number with it.
-pub const LABEL: usize = 23;
-
 /// Words with so much room: where they are longer, two dots stand for the rest.
 pub fn shortened(mut words: Vec<u8>, room: usize) -> Result<Vec<u8>, AllocError> {
     if words.len() > room {
@@ -117,15 +114,16 @@ pub fn number_label(alloc: Global, number: u64) -> Result<Vec<u8>, AllocError> {
     Ok(out)
 }
 
-/// What stands along the arrow of a message behind its number, which has so many characters.
+/// What stands along the arrow of a message after its number, which has so many characters, with so much room for both.
 pub fn message_label(
     alloc: Global,
     number: usize,
     message: &Message,
+    room: usize,
 ) -> Result<Vec<u8>, AllocError> {
     let mut out = Vec::new(alloc);
     push_message(&mut out, message)?;
-    shortened(out, LABEL.saturating_sub(number))
+    shortened(out, room.saturating_sub(number))
 }
 
 /// A word, and a case behind it.
@@ -281,13 +279,13 @@ fn conclusion_word(conclusion: Conclusion) -> &'static str {
     }
 }
 
-/// What the application is told.
-pub fn told_label(alloc: Global, told: Told) -> Result<Vec<u8>, AllocError> {
+/// What the application is told, with so much room.
+pub fn told_label(alloc: Global, told: Told, room: usize) -> Result<Vec<u8>, AllocError> {
     let mut out = Vec::new(alloc);
     push(&mut out, conclusion_word(told.conclusion))?;
     push(&mut out, " ")?;
     push_txn(&mut out, told.txn)?;
-    shortened(out, LABEL.saturating_sub(2))
+    shortened(out, room)
 }
 
 /// The same, as a trace has it.
@@ -352,11 +350,16 @@ fn push_act_label(out: &mut Vec<u8>, act: &Act, begun: Option<Txn>) -> Result<()
     }
 }
 
-/// What stands along the arrow of an act, which began this transaction, if it began one.
-pub fn act_label(alloc: Global, act: &Act, begun: Option<Txn>) -> Result<Vec<u8>, AllocError> {
+/// What stands along the arrow of an act, which began this transaction, if it began one, with so much room.
+pub fn act_label(
+    alloc: Global,
+    act: &Act,
+    begun: Option<Txn>,
+    room: usize,
+) -> Result<Vec<u8>, AllocError> {
     let mut out = Vec::new(alloc);
     push_act_label(&mut out, act, begun)?;
-    shortened(out, LABEL.saturating_sub(2))
+    shortened(out, room)
 }
 
 /// The line of an act in a script.

@@ -6,7 +6,7 @@
 mod labels;
 
 pub use labels::{
-    LABEL, act_label, act_line, act_tone, event_line, message_label, message_title, message_tone,
+    act_label, act_line, act_tone, event_line, message_label, message_title, message_tone,
     message_with, number_label, outcome_label, record_name, record_names, record_tone,
     refusal_words, shortened, told_label, told_title, told_tone,
 };

@@ -28,6 +28,7 @@ use crate::stops::run_stops;
 use audit_engine::{Detail, run_audit, run_log};
 use crash_engine::run_crash;
 use doubt_count::{count_doubts, status_by};
+use event_trace::event_trace;
 use expand_engine::expand;
 use explanation::{Script, notes_text, refusal_text};
 use judge_engine::Extent;
@@ -51,6 +52,8 @@ enum Program {
     Picture,
     /// A tree script, for the data that it leaves.
     Data,
+    /// A tree script, for its trace with the number of its event before each line.
+    Events,
     /// A script that names messages, for the script of specified events that it comes to.
     Expand,
     /// A tree script, for what its crashes end with.
@@ -136,6 +139,7 @@ impl Program {
             "counts" => Some(Program::Counts),
             "picture" => Some(Program::Picture),
             "data" => Some(Program::Data),
+            "events" => Some(Program::Events),
             "expand" => Some(Program::Expand),
             "crash" => Some(Program::Crash),
             "stops" => Some(Program::Stops),
@@ -168,6 +172,7 @@ impl Program {
             Program::Counts => ("tree", "counts"),
             Program::Picture => ("tree", "svg"),
             Program::Data => ("tree", "data"),
+            Program::Events => ("tree", "events"),
             Program::Expand => ("words", "expanded"),
             Program::Crash => ("tree", "crashes"),
             Program::Stops => ("tree", "stops"),
@@ -198,6 +203,11 @@ impl Program {
                 let text = data_text(alloc, input).ok()??;
                 out.extend_from_slice(&text).ok()?;
                 return Some(0);
+            }
+            Program::Events => {
+                let (text, status) = event_trace(alloc, input).ok()??;
+                out.extend_from_slice(&text).ok()?;
+                return Some(status.number());
             }
             Program::Expand => return expanded(alloc, input, out),
             Program::Crash => {

@@ -14,6 +14,7 @@ mod leaving;
 mod logs;
 mod migration;
 mod node;
+mod numbering;
 mod resolving;
 mod running;
 mod source;
@@ -49,6 +50,8 @@ enum Request {
     Tree(Output),
     /// The same, its trace, and the data that it leaves.
     Data,
+    /// The same, its trace with the number of its event before each line.
+    Events,
     /// The events of a tree script, on processes that run at the same time.
     Run(Run),
     /// The calls of an XA script.
@@ -145,7 +148,8 @@ refused: the processes, a line ---, and a line 'log P HEX' for the log of each p
 'rstar log' and 'rstar audit' read them. With --picture, in place of the trace: one SVG file,
 time downward, a line for each process, an arrow for each delivery, a mark for each record; a
 refused event is its last row. With --data, after the trace, a line 'data P KEY VALUE' for each key that a
-manager holds then, keys rising.
+manager holds then, keys rising. With --events the number of its event stands before each line:
+0 before the lines of the opening, none before the last line.
 
 Examples: rstar tree < examples/commit.tree
           rstar tree < examples/crash.tree
@@ -354,6 +358,19 @@ fn data<'a>(alloc: Global) -> Result<Arg<'a>, AllocError> {
     .conflicts_with("picture")
 }
 
+/// The flag `--events` of `rstar tree`, which excludes the others.
+fn events<'a>(alloc: Global) -> Result<Arg<'a>, AllocError> {
+    flag(
+        alloc,
+        "events",
+        "Writes the number of its event before each line of the trace",
+    )
+    .conflicts_with("logs")?
+    .conflicts_with("counts")?
+    .conflicts_with("picture")?
+    .conflicts_with("data")
+}
+
 /// The words of `rstar tree`.
 fn tree<'a>(alloc: Global) -> Result<Command<'a>, AllocError> {
     explaining(
@@ -370,6 +387,7 @@ fn tree<'a>(alloc: Global) -> Result<Command<'a>, AllocError> {
     .arg(counts(alloc)?)?
     .arg(picture(alloc)?)?
     .arg(data(alloc)?)?
+    .arg(events(alloc)?)?
     .arg(expanding::flag(alloc))?
     .arg(source::word(alloc))
 }
@@ -499,6 +517,8 @@ fn tree_request(matches: &ArgMatches) -> Request {
         Request::Tree(Output::Picture)
     } else if matches.get_flag("data") {
         Request::Data
+    } else if matches.get_flag("events") {
+        Request::Events
     } else {
         Request::Tree(Output::Trace)
     }
@@ -618,6 +638,7 @@ fn run<R: Read, T: Threads + Wait + Sync>(
     match request {
         Request::Tree(output) => number(run_tree(alloc, output, reader, &mut writer)),
         Request::Data => leaving::perform(alloc, reader, &mut writer),
+        Request::Events => numbering::perform(alloc, reader, &mut writer),
         Request::Run(run) => number(running::start(threads, alloc, run, reader, &mut writer)),
         Request::Xa => number(run_xa(alloc, reader, &mut writer)),
         Request::Log => number(run_log(alloc, reader, &mut writer)),
@@ -643,7 +664,8 @@ fn status_by(ended: Result<u8, Failure>) -> u8 {
 /// What is read for a request.
 fn script_of(request: Request) -> Script {
     match request {
-        Request::Tree(_) | Request::Data | Request::Run(_) | Request::Crash => Script::Tree,
+        Request::Tree(_) | Request::Data | Request::Events | Request::Run(_) | Request::Crash =>
+            Script::Tree,
         Request::Xa => Script::Xa,
         Request::Log | Request::Audit(_) | Request::Migrate => Script::Logs,
     }
@@ -695,7 +717,7 @@ fn tell_notes(rt: &HostRuntime, request: Request, told: Told, input: &[u8]) {
     if told == Told::Silent && input.len() > MOST_NOTED {
         return;
     }
-    if let Request::Tree(_) | Request::Data = request {
+    if let Request::Tree(_) | Request::Data | Request::Events = request {
         tell(
             rt,
             notes_text(rt.alloc(), input, told == Told::Explained).ok(),

@@ -8,14 +8,15 @@ ghost use Rattle.picture_words.specs.Labels.{title_in};
 ghost use Rattle.run_picture.specs.Pictures.{record_key, square_key};
 
 use crate::plan::{Plan, Scene};
+use crate::room::is_call;
 use crate::sheet::{Draft, Sheet};
 use picture_rows::{Arrow, Mark, Rows, Seat, StepRows, Stretch, Stub, place_of};
 use picture_shapes::{
-    APPLICATION, Bar, Dot, EventRule, Frame, Label, Look, Patch, Shape, Spot, Square, Stroke, Tip,
-    Tone, push_word, width_of, x_of,
+    Bar, Dot, EventRule, Frame, Label, Look, Patch, Shape, Spot, Square, Stroke, Tip, Tone,
+    push_word, width_of,
 };
 use picture_words::{
-    LABEL, act_label, act_line, act_tone, event_line, message_label, message_title, message_tone,
+    act_label, act_line, act_tone, event_line, message_label, message_title, message_tone,
     message_with, number_label, record_name, record_tone, shortened, told_label, told_title,
     told_tone,
 };
@@ -83,7 +84,7 @@ impl Drawing {
                 width: self.frame.width(),
                 words_y: y.saturating_add(4),
                 event: (rule.event as u64).saturating_add(1),
-                line: shortened(line, LABEL)?,
+                line: shortened(line, self.frame.room.events)?,
             }))?;
         }
         Ok(())
@@ -95,7 +96,10 @@ impl Drawing {
         for seat in seats {
             let mut number = Vec::new(self.alloc);
             push_number(&mut number, u64::from(seat.process.0))?;
-            let x = x_of(seat.place).saturating_sub(width_of(number.len()) / 2);
+            let x = self
+                .frame
+                .x_of(seat.place)
+                .saturating_sub(width_of(number.len()) / 2);
             self.say(Tone::Dim, Look::Bold, (x, y), true, number)?;
         }
         Ok(())
@@ -111,15 +115,20 @@ impl Drawing {
             None => (Tone::Dim, Vec::new(self.alloc)),
             Some(envelope) => (
                 message_tone(&envelope.message),
-                message_label(self.alloc, number.len(), &envelope.message)?,
+                message_label(
+                    self.alloc,
+                    number.len(),
+                    &envelope.message,
+                    self.frame.room.messages,
+                )?,
             ),
         };
         let draft = Draft {
             tone,
             title,
-            x: x_of(arrow.from),
+            x: self.frame.x_of(arrow.from),
             y: self.frame.y_of(arrow.left),
-            to_x: x_of(arrow.to),
+            to_x: self.frame.x_of(arrow.to),
             to_y: self.frame.y_of(arrow.row),
             label,
             number,
@@ -155,9 +164,14 @@ impl Drawing {
             return Ok(());
         };
         let number = number_label(self.alloc, stub.number)?;
-        let label = message_label(self.alloc, number.len(), &envelope.message)?;
+        let label = message_label(
+            self.alloc,
+            number.len(),
+            &envelope.message,
+            self.frame.room.messages,
+        )?;
         let size = width_of(number.len().saturating_add(label.len())).saturating_add(48);
-        let x = x_of(stub.from);
+        let x = self.frame.x_of(stub.from);
         let draft = Draft {
             tone: message_tone(&envelope.message),
             title: message_title(self.alloc, stub.number, messages)?,
@@ -182,8 +196,11 @@ impl Drawing {
     fn draw_mark(&mut self, mark: &Mark, lost: bool) -> Result<Square, AllocError>
         ensures { IfOk result (λ square. square_key square ≡ record_key mark.now.logged) }
     {
-        let (x, y) = (x_of(mark.place), self.frame.y_of(mark.row));
-        let words = shortened(record_name(self.alloc, &mark.logged)?, LABEL)?;
+        let (x, y) = (self.frame.x_of(mark.place), self.frame.y_of(mark.row));
+        let words = shortened(
+            record_name(self.alloc, &mark.logged)?,
+            self.frame.room.messages,
+        )?;
         let forced = mark.logged.forced;
         let tone = record_tone(mark.logged.kind);
         let look = look_of(forced, lost);
@@ -266,7 +283,7 @@ impl Drawing {
             band: stretch.band,
             process,
             count: stretch.count,
-            x: x_of(stretch.place).saturating_sub(half),
+            x: self.frame.x_of(stretch.place).saturating_sub(half),
             y,
             width: half * 2,
             height: end.saturating_sub(y),
@@ -277,7 +294,7 @@ impl Drawing {
     /// A bar behind the marks of a step of several rows, and a dot where a step only sends.
     fn draw_step(&mut self, place: u32, entry: &Entry, rows: StepRows) -> Result<(), AllocError> {
         let (x, first, last) = (
-            x_of(place),
+            self.frame.x_of(place),
             self.frame.y_of(rows.first),
             self.frame.y_of(rows.last),
         );
@@ -305,10 +322,10 @@ impl Drawing {
                 title: told_title(self.alloc, told)?,
                 x,
                 y: last,
-                to_x: APPLICATION,
+                to_x: self.frame.application(),
                 to_y: last,
                 number: Vec::new(self.alloc),
-                label: told_label(self.alloc, told)?,
+                label: told_label(self.alloc, told, self.frame.room.calls)?,
                 tip: Tip::Head,
                 again: false,
                 far: false,
@@ -327,11 +344,16 @@ impl Drawing {
         row: u32,
     ) -> Result<(), AllocError> {
         let tone = act_tone(act);
-        let label = act_label(self.alloc, act, entry.reaction.begun)?;
-        let (to_x, y) = (x_of(place), self.frame.y_of(row));
-        let plain = tone == Tone::Dim;
-        let x = if place == 0 && plain {
-            APPLICATION
+        let called = is_call(place, act);
+        let room = if called {
+            self.frame.room.calls
+        } else {
+            self.frame.room.messages.saturating_sub(2)
+        };
+        let label = act_label(self.alloc, act, entry.reaction.begun, room)?;
+        let (to_x, y) = (self.frame.x_of(place), self.frame.y_of(row));
+        let x = if called {
+            self.frame.application()
         } else {
             to_x.saturating_sub(width_of(label.len()).saturating_add(40))
         };
@@ -340,7 +362,7 @@ impl Drawing {
                 x,
                 y: y.saturating_sub(10),
             }))?;
-        } else if place != 0 || !plain {
+        } else if !called {
             self.sheet.marks.push(Shape::Dot(Dot {
                 tone,
                 x,
@@ -365,7 +387,7 @@ impl Drawing {
     }
 
     fn draw_trim(&mut self, place: u32, entry: &Entry, row: u32) -> Result<(), AllocError> {
-        let (x, y) = (x_of(place), self.frame.y_of(row));
+        let (x, y) = (self.frame.x_of(place), self.frame.y_of(row));
         self.sheet.marks.push(Shape::Trim(Spot {
             x: x.saturating_sub(10),
             y: y.saturating_sub(3),

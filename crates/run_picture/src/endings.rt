@@ -4,11 +4,9 @@ use crate::drawing::{Drawing, bytes_of};
 use crate::plan::{Plan, Scene};
 use crate::sheet::Draft;
 use picture_rows::{Ending, Seat, place_of};
-use picture_shapes::{
-    APPLICATION, Label, Look, Shape, Spot, Tip, Tone, Torn, push_word, width_of, x_of,
-};
+use picture_shapes::{Label, Look, Shape, Spot, Tip, Tone, Torn, push_word, width_of};
 use picture_words::{
-    LABEL, event_line, message_with, outcome_label, record_names, refusal_words, shortened,
+    event_line, message_with, outcome_label, record_names, refusal_words, shortened,
 };
 use std::alloc::AllocError;
 use trace_lines::{push, push_number};
@@ -16,7 +14,7 @@ use tree_model::{Act, Envelope, Event, Logged, Outcome, ProcessId, StepError};
 
 impl Drawing {
     fn draw_crash(&mut self, seat: &Seat, row: u32, lost: &[Logged]) -> Result<(), AllocError> {
-        let (x, y) = (x_of(seat.place), self.frame.y_of(row));
+        let (x, y) = (self.frame.x_of(seat.place), self.frame.y_of(row));
         let names = record_names(self.alloc, lost)?;
         let mut title = Vec::new(self.alloc);
         push_number(&mut title, u64::from(seat.process.0))?;
@@ -33,7 +31,7 @@ impl Drawing {
             y: y.saturating_sub(7),
         }))?;
         let body = bytes_of(self.alloc, "CRASH ")?;
-        let gone = shortened(names, LABEL.saturating_sub(4))?;
+        let gone = shortened(names, self.frame.room.messages.saturating_sub(4))?;
         let size = width_of(body.len().saturating_add(gone.len()));
         self.sheet.write(Label {
             tone: Tone::No,
@@ -72,7 +70,7 @@ impl Drawing {
         right: bool,
         told: Outcome,
     ) -> Result<(), AllocError> {
-        let (x, y) = (x_of(place), self.frame.y_of(row));
+        let (x, y) = (self.frame.x_of(place), self.frame.y_of(row));
         let (sign, words_at) = if right {
             (x.saturating_add(21), x.saturating_add(34))
         } else {
@@ -122,7 +120,7 @@ impl Drawing {
 
     /// What the run leaves of a process.
     pub(crate) fn draw_ending(&mut self, ending: &Ending, end: u32) -> Result<(), AllocError> {
-        let x = x_of(ending.place).saturating_add(16);
+        let x = self.frame.x_of(ending.place).saturating_add(16);
         let y = self.frame.y_of(end).saturating_sub(8);
         self.draw_left(Tone::Ask, "IN DOUBT", ending.doubts, (x, y))?;
         self.draw_left(
@@ -141,14 +139,14 @@ impl Drawing {
         row: u32,
         refusal: StepError,
     ) -> Result<(), AllocError> {
-        let (x, y) = (x_of(place), self.frame.y_of(row));
+        let (x, y) = (self.frame.x_of(place), self.frame.y_of(row));
         let mut label = Vec::new(self.alloc);
         push_word(&mut label, "REFUSED ", u64::from(refusal.number()))?;
         let draft = Draft {
             tone: Tone::No,
             title: event_line(self.alloc, event)?,
             x: if place == 0 {
-                APPLICATION
+                self.frame.application()
             } else {
                 x.saturating_sub(140)
             },

@@ -6,8 +6,10 @@
 
 mod drawing;
 mod endings;
+mod legend;
 mod page;
 mod plan;
+mod room;
 mod sheet;
 mod tree;
 

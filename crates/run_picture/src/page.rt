@@ -8,11 +8,15 @@ ghost use Rattle.run_picture.specs.Pictures.{IsPicture};
 
 use crate::drawing::Drawing;
 use crate::endings::draw_refusal;
+use crate::legend::signs_of;
 use crate::plan::{Plan, Scene, plan_of};
+use crate::room::room_of;
 use crate::sheet::Sheet;
 use crate::tree::draw_tree;
 use picture_rows::{PictureError, Seat, place_of};
-use picture_shapes::{Frame, Square, Stroke, Summary, push_head, push_squares, push_strokes};
+use picture_shapes::{
+    Frame, Room, Signs, Square, Stroke, Summary, keys_of, push_head, push_squares, push_strokes,
+};
 use std::alloc::{AllocError, Global};
 use trace_lines::push;
 
@@ -86,11 +90,23 @@ fn draw_lines(drawing: &mut Drawing, scene: &Scene, plan: &Plan) -> Result<(), A
 }
 
 /// What stands before the shapes of a picture.
-fn head_of(alloc: Global, frame: Frame, scene: &Scene, plan: &Plan) -> Result<Vec<u8>, AllocError> {
+fn head_of(
+    alloc: Global,
+    frame: Frame,
+    scene: &Scene,
+    plan: &Plan,
+    signs: &Signs,
+) -> Result<Vec<u8>, AllocError> {
     let open = plan.stubs.iter().filter(|stub| stub.crossed).count();
     let height = frame.y_of(plan.rows.end).saturating_add(30);
     let mut out = Vec::new(alloc);
-    push_head(&mut out, frame, height, &summary_of(scene, plan, open))?;
+    push_head(
+        &mut out,
+        frame,
+        height,
+        &summary_of(scene, plan, open),
+        signs,
+    )?;
     Ok(out)
 }
 
@@ -123,8 +139,8 @@ fn push_end(out: &mut Vec<u8>, sheet: &Sheet) -> Result<(), AllocError>
     push(out, "</svg>\n")
 }
 
-/// A sheet for a plan. TooLong: it has 2^32 processes.
-fn drawing_of(alloc: Global, plan: &Plan) -> Result<Drawing, PictureError>
+/// A sheet for a plan, with so much room, and so many entries in its legend. TooLong: it has 2^32 processes.
+fn drawing_of(alloc: Global, plan: &Plan, room: Room, keys: u64) -> Result<Drawing, PictureError>
     ensures err { IfErr result (λ _. 2 ^ 32 ≤ length plan.now.seats.items) }
 {
     let Ok(processes) = u32::try_from(plan.seats.len()) else {
@@ -135,6 +151,8 @@ fn drawing_of(alloc: Global, plan: &Plan) -> Result<Drawing, PictureError>
         frame: Frame {
             processes,
             levels: count_levels(&plan.seats),
+            room,
+            keys,
         },
         sheet: Sheet::new(alloc),
     })
@@ -148,13 +166,15 @@ pub fn picture(alloc: Global, scene: &Scene) -> Result<Vec<u8>, PictureError>
         → IsLong scene.now.tree.now (length scene.now.turns.now) scene.now.entries.now) }
 {
     let plan = plan_of(alloc, scene)?;
-    let mut drawing = drawing_of(alloc, &plan)?;
+    let room = room_of(alloc, scene, &plan)?;
+    let signs = signs_of(scene, &plan);
+    let mut drawing = drawing_of(alloc, &plan, room, keys_of(&signs))?;
     drawing.draw_openings(&plan.seats)?;
     let strokes = drawing.draw_arrows(&plan.messages, &plan.arrows)?;
     let squares = drawing.draw_marks(&plan.marks, &plan.history.lost)?;
     draw_run(&mut drawing, scene, &plan)?;
     draw_lines(&mut drawing, scene, &plan)?;
-    let head = head_of(alloc, drawing.frame, scene, &plan)?;
+    let head = head_of(alloc, drawing.frame, scene, &plan, &signs)?;
     let text = text_of(head, &drawing.sheet, &strokes, &squares)?;
     Ok(text)
 }

@@ -2,7 +2,7 @@
 
 use crate::sheet::Sheet;
 use picture_rows::Seat;
-use picture_shapes::{APPLICATION, Frame, Joint, Life, Plate, Shape, width_of, x_of};
+use picture_shapes::{Frame, Joint, Life, Plate, Shape, width_of};
 use std::alloc::{AllocError, Global};
 use trace_lines::{push, push_number};
 use tree_model::Kind;
@@ -80,11 +80,11 @@ fn draw_seat(
     seats: &[Seat],
     seat: &Seat,
 ) -> Result<(), AllocError> {
-    let (x, y) = (x_of(seat.place), frame.level(seat.level));
+    let (x, y) = (frame.x_of(seat.place), frame.level(seat.level));
     if let Some(parent) = seat.parent {
         if let Some(above) = seats.get(parent as usize) {
             sheet.tree.push(Shape::Joint(Joint {
-                x: x_of(parent),
+                x: frame.x_of(parent),
                 y: frame.level(above.level).saturating_add(15),
                 to_x: x,
                 to_y: y,
@@ -110,13 +110,13 @@ pub(crate) fn draw_tree(
 ) -> Result<(), AllocError> {
     let end = bottom.saturating_add(8);
     let top = frame.level(0);
-    draw_life(sheet, APPLICATION, top, &[], end)?;
+    draw_life(sheet, frame.application(), top, &[], end)?;
     let application = Vec::from_slice(alloc, b"application")?;
-    draw_box(sheet, APPLICATION, top, true, application)?;
+    draw_box(sheet, frame.application(), top, true, application)?;
     for seat in seats {
         let breaks = breaks_of(alloc, frame, seat.place, crashes)?;
         let y = frame.level(seat.level);
-        draw_life(sheet, x_of(seat.place), y, &breaks, end)?;
+        draw_life(sheet, frame.x_of(seat.place), y, &breaks, end)?;
         draw_seat(alloc, sheet, frame, seats, seat)?;
     }
     Ok(())

@@ -17,5 +17,5 @@ mod tree;
 
 pub use report_io::{Failure, Status};
 pub use run::{Refusal, Run, own_refusal};
-pub use trace::{push_refused, trace_text};
-pub use tree::{Output, refusal, run_tree};
+pub use trace::{push_opened, push_place, push_refused, trace_text};
+pub use tree::{Output, opened, refusal, run_tree};

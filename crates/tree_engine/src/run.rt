@@ -117,6 +117,18 @@ impl Run {
         &self.world
     }
 
+    /// The tree as it stands, which goes on without the run.
+    pub fn into_world(self) -> World<MemoryStore>
+        ensures { result ≡ self.world }
+    {
+        let Run {
+            world,
+            made: _,
+            refusal: _,
+        } = self;
+        world
+    }
+
     /// Which event was refused, by how many were made before it, and why.
     pub fn refusal(&self) -> Refusal
         ensures { result ≡ self.now.refusal }

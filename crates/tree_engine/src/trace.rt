@@ -61,8 +61,12 @@ pub fn push_refused(
     out.extend_from_slice(line.as_bytes())
 }
 
-/// The lines of the processes' opening.
-fn push_opened(alloc: Global, out: &mut Vec<u8>, entries: &[TreeEntry]) -> Result<(), AllocError>
+/// Adds the lines of the opening of these processes, whose logs were empty.
+pub fn push_opened(
+    alloc: Global,
+    out: &mut Vec<u8>,
+    entries: &[TreeEntry],
+) -> Result<(), AllocError>
     ensures { OnOk result (out.new.items ≡ out.old.items ++ opened_text entries.now) }
 {
     for entry in entries {
@@ -106,8 +110,9 @@ fn push_step(out: &mut Vec<u8>, sent: u64, step: &Shown) -> Result<u64, Failure>
     Ok(next)
 }
 
-/// The same of the step at a place; None, where so many were not made.
-fn push_place(
+/// Adds the lines of the step at a place, before which so many messages were sent, and tells how many are sent with its own.
+/// None: so many steps were not made, and nothing is added. Exhausted: 2^64 messages or more were sent.
+pub fn push_place(
     out: &mut Vec<u8>,
     world: &World<MemoryStore>,
     place: usize,

@@ -195,8 +195,8 @@ enum InputFault {
 }
 
 /// A tree that opens over these logs, or over empty ones if there are none; or the first log that is damaged, and
-/// where.
-fn opened(
+/// where. The tree is one that passed its check.
+pub fn opened(
     alloc: Global,
     tree: Tree,
     logs: Option<ProcessLogs>,

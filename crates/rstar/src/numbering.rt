@@ -1,0 +1,23 @@
+//! `rstar tree --events`.
+
+use event_trace::event_trace;
+use report_io::{Failure, read_all, write_all};
+use std::alloc::Global;
+use std::io::{Read, Write};
+use tree_engine::{Output, run_tree};
+
+/// Runs a tree script, writes its trace with the number of its event before each line, and answers the exit status. Of a
+/// script that is refused its line is written, as without the numbers.
+pub(crate) fn perform<R: Read, W: Write>(
+    alloc: Global,
+    reader: &mut R,
+    writer: &mut W,
+) -> Result<u8, Failure> {
+    let input = read_all(alloc, reader)?;
+    let Some((text, status)) = event_trace(alloc, &input)? else {
+        let status = run_tree(alloc, Output::Trace, &mut input.as_slice(), writer)?;
+        return Ok(status.number());
+    };
+    write_all(writer, &text)?;
+    Ok(status.number())
+}
