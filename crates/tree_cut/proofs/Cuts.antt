@@ -21,7 +21,7 @@ use Rattle.tree_cut.specs.Cuts.{AreGiven, CutsAreRuns, CutsGrow, FindsMessage, I
 
 -- Lists.
 
-nil_snoc : {A : Type 0} (xs : List A) (x : A) → xs ++ x ∷ [] ≡ [] → ⊥
+pub nil_snoc : {A : Type 0} (xs : List A) (x : A) → xs ++ x ∷ [] ≡ [] → ⊥
 nil_snoc [] x h = absurd (cc)
 nil_snoc (y ∷ ys) x h = absurd (cc)
 
@@ -84,7 +84,7 @@ at_one q a f r = if same_process q r then a else f r
 pub here_one : {A : Type 0} (q : ProcessId) (a : A) (f : ProcessId → A) → at_one q a f q ≡ a
 here_one q a f = rw (self q) refl
 
-there_one : {A : Type 0} (q r : ProcessId) (a : A) (f : ProcessId → A) → same_process q r ≡ false
+pub there_one : {A : Type 0} (q r : ProcessId) (a : A) (f : ProcessId → A) → same_process q r ≡ false
     → at_one q a f r ≡ f r
 there_one q r a f away = rw away refl
 

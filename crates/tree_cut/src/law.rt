@@ -1,5 +1,6 @@
 //! The laws. The functions do nothing: each one's contract is a law.
 
+ghost use Rattle.tree_cut.specs.Alone.{AloneIsTogether};
 ghost use Rattle.tree_cut.specs.Cuts.{CutsAreRuns, CutsGrow, RunsAreCut};
 ghost use Rattle.tree_cut.specs.Owns.{CutsHold, EndsModelled, EntersOwn, InputsAreMade, OneStands, OpensOwn, RestartsAreMade, SameStays, TrimsAreMade};
 
@@ -63,4 +64,10 @@ pub fn one_stands()
 /// What all processes keep at the end stands for one run, whose journal it is.
 pub fn ends_modelled()
     ensures { EndsModelled }
+{}
+
+/// What each process made by itself is what a tree on one thread makes that makes the events of all: each process is
+/// left so, with its data.
+pub fn alone_is_together()
+    ensures { AloneIsTogether }
 {}
