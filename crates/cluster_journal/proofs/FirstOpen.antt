@@ -1,108 +1,214 @@
--- The first open message.
-use Rattle.std.proofs.Common.{◌≡◌, ◌⊎◌, ◌∙◌, ap, sym, subst, refl, inl, inr, ℕ, zero, suc, ◌+◌, ◌<◌, ◌≤◌, Some, None, List, [], ◌∷◌, length, get_or, slice_set, take, arith}
+-- The first open message to a process.
+use Rattle.std.proofs.Common.{◌≡◌, ◌⊎◌, ◌∙◌, ap, sym, subst, refl, inl, inr, ℕ, zero, suc, ◌+◌, ◌<◌, ◌≤◌, Bool, true, false, ◌&&◌, if◌then◌else◌, All, Option, Some, None, List, [], ◌∷◌, ◌++◌, length, get_or, slice_set, take, arith}
+use Rattle.std.proofs.lemmas.List.{length-append, length-set, take-append-le}
+use Rattle.std.proofs.lemmas.List.Elements.{All-weaker}
 use Rattle.std.proofs.lemmas.Option.{slice_get-get_or, slice_get_past}
+use Rattle.tree_model.specs.declared.names.ProcessId.{ProcessId}
+use Rattle.tree_model.specs.Names.{same_process}
 use Rattle.cluster_journal.specs.declared.marks.Mark.{Mark}
 use Rattle.cluster_journal.specs.declared.marks.Mark.TheVariants.{Open, Claimed, Delivered}
-use Rattle.cluster_journal.specs.Marks.{first_open, given_back, reopened}
+use Rattle.cluster_journal.specs.declared.marks.Marked.{Marked}
+use Rattle.cluster_journal.specs.declared.marks.Receiver.{Receiver}
+use Rattle.cluster_journal.specs.Marks.{IsSettled, StaySettled, first_open, given_back, is_open, is_open_to, marked, marked_at, reopened, reopened_from}
+
+rest_none : (b : Bool) (k : ℕ) (o : Option ℕ) → (if b then Some k else o) ≡ None → o ≡ None
+rest_none true k o h = absurd (cc)
+rest_none false k o h = h
+
+none_if : (b : Bool) (k : ℕ) (o : Option ℕ) → b ≡ false → o ≡ None → (if b then Some k else o) ≡ None
+none_if true k o is h = absurd (cc)
+none_if false k o is h = h
+
+goes_by : (b : Bool) (k : ℕ) (o p : Option ℕ) → (if b then Some k else o) ≡ None → (o ≡ None → p ≡ None)
+    → (if b then Some k else p) ≡ None
+goes_by true k o p h next = absurd (cc)
+goes_by false k o p h next = next h
+
+past : (b : Bool) (k : ℕ) (o p q : Option ℕ) → (if b then Some k else o) ≡ None → (o ≡ None → p ≡ q)
+    → (if b then Some k else p) ≡ q
+past true k o p q h next = absurd (cc)
+past false k o p q h next = next h
 
 -- an open message behind ones that are not is the first open one
-pub opens : (k : ℕ) (ms : List Mark) (p : ℕ) (m d : Mark) → p < length ms → first_open k (take p ms) ≡ None
-    → m ≡ get_or ms p d → m ≡ Open → first_open k ms ≡ Some (p + k)
-opens k [] p m d lt front at is = absurd (omega arith)
-opens k (Open ∷ ms) zero m d lt front at is = let none : zero + k ≡ k = omega arith in rw none refl
-opens k (Claimed ∷ ms) zero m d lt front at is = absurd (let no : Claimed ≡ Open = sym at ∙ is in cc)
-opens k (Delivered ∷ ms) zero m d lt front at is = absurd (let no : Delivered ≡ Open = sym at ∙ is in cc)
-opens k (Open ∷ ms) (suc p) m d lt front at is = absurd cc
-opens k (Claimed ∷ ms) (suc p) m d lt front at is =
-    let count : suc p + k ≡ p + (k + 1) = omega arith in
-    rw count (opens (k + 1) ms p m d (omega arith) front at is)
-opens k (Delivered ∷ ms) (suc p) m d lt front at is =
-    let count : suc p + k ≡ p + (k + 1) = omega arith in
-    rw count (opens (k + 1) ms p m d (omega arith) front at is)
+pub opens : (q : ProcessId) (k : ℕ) (ms : List Marked) (p : ℕ) (m d : Marked) → p < length ms
+    → first_open q k (take p ms) ≡ None → m ≡ get_or ms p d → is_open_to q m ≡ true
+    → first_open q k ms ≡ Some (p + k)
+opens q k [] p m d lt front at is = absurd (omega arith)
+opens q k (x ∷ ms) zero m d lt front at is =
+    let is_it : is_open_to q x ≡ true = ap (is_open_to q) (sym at) ∙ is in
+    let here : k ≡ zero + k = omega arith in
+    ap (λ (b : Bool). if b then Some k else first_open q (k + 1) ms) is_it ∙ ap Some here
+opens q k (x ∷ ms) (suc p) m d lt front at is =
+    past (is_open_to q x) k (first_open q (k + 1) (take p ms)) (first_open q (k + 1) ms) (Some (suc p + k)) front
+    (λ none.
+    let count : p + (k + 1) ≡ suc p + k = omega arith in
+    opens q (k + 1) ms p m d (omega (arith, lt)) none at is ∙ ap Some count)
 
-one_further : (k : ℕ) (ms : List Mark) (p : ℕ) (m d : Mark) → p < length ms → first_open k (take p ms) ≡ None
-    → m ≡ get_or ms p d → (m ≡ Open → ⊥) → first_open k (take (suc p) ms) ≡ None
-one_further k [] p m d lt front at other = absurd (omega arith)
-one_further k (Open ∷ ms) zero m d lt front at other = absurd (other at)
-one_further k (Claimed ∷ ms) zero m d lt front at other = refl
-one_further k (Delivered ∷ ms) zero m d lt front at other = refl
-one_further k (Open ∷ ms) (suc p) m d lt front at other = absurd cc
-one_further k (Claimed ∷ ms) (suc p) m d lt front at other =
-    one_further (k + 1) ms p m d (omega arith) front at other
-one_further k (Delivered ∷ ms) (suc p) m d lt front at other =
-    one_further (k + 1) ms p m d (omega arith) front at other
+one_further : (q : ProcessId) (k : ℕ) (ms : List Marked) (p : ℕ) (m d : Marked) → p < length ms
+    → first_open q k (take p ms) ≡ None → m ≡ get_or ms p d → is_open_to q m ≡ false
+    → first_open q k (take (suc p) ms) ≡ None
+one_further q k [] p m d lt front at is = absurd (omega arith)
+one_further q k (x ∷ ms) zero m d lt front at is =
+    none_if (is_open_to q x) k None (ap (is_open_to q) (sym at) ∙ is) refl
+one_further q k (x ∷ ms) (suc p) m d lt front at is =
+    goes_by (is_open_to q x) k (first_open q (k + 1) (take p ms)) (first_open q (k + 1) (take (suc p) ms)) front
+    (λ none. one_further q (k + 1) ms p m d (omega (arith, lt)) none at is)
 
 -- behind a message that is not open none is open as far as it
-pub goes_on : (k : ℕ) (ms : List Mark) (p : ℕ) (m d : Mark) → p < length ms → first_open k (take p ms) ≡ None
-    → m ≡ get_or ms p d → (m ≡ Open → ⊥) → first_open k (take (p + 1) ms) ≡ None
-goes_on k ms p m d lt front at other =
+pub goes_on : (q : ProcessId) (k : ℕ) (ms : List Marked) (p : ℕ) (m d : Marked) → p < length ms
+    → first_open q k (take p ms) ≡ None → m ≡ get_or ms p d → is_open_to q m ≡ false
+    → first_open q k (take (p + 1) ms) ≡ None
+goes_on q k ms p m d lt front at is =
     let next : suc p ≡ p + 1 = omega arith in
-    subst (λ n. first_open k (take n ms) ≡ None) next (one_further k ms p m d lt front at other)
+    subst (λ n. first_open q k (take n ms) ≡ None) next (one_further q k ms p m d lt front at is)
 
 -- a change behind a front leaves it
-pub take_set : (ms : List Mark) (p : ℕ) (m : Mark) (n : ℕ) → n ≤ p → take n (slice_set ms p m) ≡ take n ms
+pub take_set : (ms : List Marked) (p : ℕ) (m : Marked) (n : ℕ) → n ≤ p → take n (slice_set ms p m) ≡ take n ms
 take_set [] p m n le = refl
 take_set (x ∷ ms) zero m zero le = refl
 take_set (x ∷ ms) (suc p) m zero le = refl
 take_set (x ∷ ms) zero m (suc n) le = absurd (omega arith)
 take_set (x ∷ ms) (suc p) m (suc n) le = ap (λ l. x ∷ l) (take_set ms p m n (omega arith))
 
--- a delivered message opens nothing
-pub deliver_none : (k n : ℕ) (ms : List Mark) (p : ℕ) → first_open k (take n ms) ≡ None
-    → first_open k (take n (slice_set ms p Delivered)) ≡ None
-deliver_none k n [] p h = h
-deliver_none k zero (x ∷ ms) zero h = refl
-deliver_none k zero (x ∷ ms) (suc p) h = refl
-deliver_none k (suc n) (Open ∷ ms) p h = absurd cc
-deliver_none k (suc n) (Claimed ∷ ms) zero h = h
-deliver_none k (suc n) (Delivered ∷ ms) zero h = h
-deliver_none k (suc n) (Claimed ∷ ms) (suc p) h = deliver_none (k + 1) n ms p h
-deliver_none k (suc n) (Delivered ∷ ms) (suc p) h = deliver_none (k + 1) n ms p h
+-- a message that is claimed or delivered opens nothing
+closed_none : (q : ProcessId) (k n : ℕ) (ms : List Marked) (p : ℕ) (m : Marked) → is_open_to q m ≡ false
+    → first_open q k (take n ms) ≡ None → first_open q k (take n (slice_set ms p m)) ≡ None
+closed_none q k n [] p m closed h = h
+closed_none q k zero (x ∷ ms) zero m closed h = refl
+closed_none q k zero (x ∷ ms) (suc p) m closed h = refl
+closed_none q k (suc n) (x ∷ ms) zero m closed h =
+    none_if (is_open_to q m) k (first_open q (k + 1) (take n ms)) closed
+    (rest_none (is_open_to q x) k (first_open q (k + 1) (take n ms)) h)
+closed_none q k (suc n) (x ∷ ms) (suc p) m closed h =
+    goes_by (is_open_to q x) k (first_open q (k + 1) (take n ms)) (first_open q (k + 1) (take n (slice_set ms p m))) h
+    (λ none. closed_none q (k + 1) n ms p m closed none)
 
 -- a shorter front has no more that are open
-pub less_none : (k : ℕ) (ms : List Mark) (n s : ℕ) → n ≤ s → first_open k (take s ms) ≡ None
-    → first_open k (take n ms) ≡ None
-less_none k [] zero s le h = refl
-less_none k [] (suc n) s le h = refl
-less_none k (x ∷ ms) zero s le h = refl
-less_none k (x ∷ ms) (suc n) zero le h = absurd (omega arith)
-less_none k (Open ∷ ms) (suc n) (suc s) le h = absurd cc
-less_none k (Claimed ∷ ms) (suc n) (suc s) le h = less_none (k + 1) ms n s (omega arith) h
-less_none k (Delivered ∷ ms) (suc n) (suc s) le h = less_none (k + 1) ms n s (omega arith) h
+less_none : (q : ProcessId) (k : ℕ) (ms : List Marked) (n s : ℕ) → n ≤ s → first_open q k (take s ms) ≡ None
+    → first_open q k (take n ms) ≡ None
+less_none q k [] zero s le h = refl
+less_none q k [] (suc n) s le h = refl
+less_none q k (x ∷ ms) zero s le h = refl
+less_none q k (x ∷ ms) (suc n) zero le h = absurd (omega arith)
+less_none q k (x ∷ ms) (suc n) (suc s) le h =
+    goes_by (is_open_to q x) k (first_open q (k + 1) (take s ms)) (first_open q (k + 1) (take n ms)) h
+    (λ none. less_none q (k + 1) ms n s (omega (arith, le)) none)
 
--- a message that is open again is behind the front that has none
-pub reopen_none : (ms : List Mark) (n s p : ℕ) (m : Mark) → n ≤ s → n ≤ p
-    → first_open 1 (take s ms) ≡ None → first_open 1 (take n (slice_set ms p m)) ≡ None
-reopen_none ms n s p m low within h =
-    ap (λ l. first_open 1 l) (take_set ms p m n within) ∙ less_none 1 ms n s low h
+-- Receivers.
 
--- Claims that are given back.
+closed_to : (q : ProcessId) (m : Marked) → is_open m.mark ≡ false → is_open_to q m ≡ false
+closed_to q m closed = ap (λ b. b && same_process q m.to) closed
+
+-- a message that is claimed or delivered leaves each receiver settled
+pub settled_closed : (ms : List Marked) (p : ℕ) (m : Marked) (r : Receiver) → is_open m.mark ≡ false → IsSettled ms r
+    → IsSettled (slice_set ms p m) r
+settled_closed ms p m r closed h = record {
+  within = subst (λ n. r.settled ≤ n) (sym (length-set ms p m)) h.within;
+  none = closed_none r.process 1 r.settled ms p m (closed_to r.process m closed) h.none;
+}
+
+pub all_closed : (ms : List Marked) (p : ℕ) (m : Marked) (rs : List Receiver) → is_open m.mark ≡ false
+    → All (IsSettled ms) rs → All (IsSettled (slice_set ms p m)) rs
+all_closed ms p m rs closed h =
+    All-weaker (IsSettled ms) (IsSettled (slice_set ms p m)) (λ r is. settled_closed ms p m r closed is) rs h
+
+-- so do messages more
+settled_more : (ms more : List Marked) (r : Receiver) → IsSettled ms r → IsSettled (ms ++ more) r
+settled_more ms more r h = record {
+  within = let long = length-append ms more in let low = h.within in omega (arith, long, low);
+  none = ap (λ l. first_open r.process 1 l) (take-append-le r.settled ms more h.within) ∙ h.none;
+}
+
+pub all_more : (ms more : List Marked) (rs : List Receiver) → All (IsSettled ms) rs → All (IsSettled (ms ++ more)) rs
+all_more ms more rs h =
+    All-weaker (IsSettled ms) (IsSettled (ms ++ more)) (λ r is. settled_more ms more r is) rs h
+
+-- a receiver is settled up to a place before which it was, and before which nothing changed
+pub settled_lower : (ms : List Marked) (p : ℕ) (m : Marked) (r s : Receiver) → s.process ≡ r.process
+    → s.settled ≤ r.settled → s.settled ≤ p → IsSettled ms r → IsSettled (slice_set ms p m) s
+settled_lower ms p m r s same low before h = record {
+  within = let long = length-set ms p m in let within = h.within in omega (arith, long, low, within);
+  none = ap (λ l. first_open s.process 1 l) (take_set ms p m s.settled before)
+      ∙ subst (λ q. first_open q 1 (take s.settled ms) ≡ None) (sym same)
+      (less_none r.process 1 ms s.settled r.settled low h.none);
+}
+
+-- a receiver is settled up to an earlier place, too
+pub settled_less : (ms : List Marked) (r s : Receiver) → s.process ≡ r.process → s.settled ≤ r.settled → IsSettled ms r
+    → IsSettled ms s
+settled_less ms r s same low h = record {
+  within = let within = h.within in omega (arith, low, within);
+  none = subst (λ q. first_open q 1 (take s.settled ms) ≡ None) (sym same)
+      (less_none r.process 1 ms s.settled r.settled low h.none);
+}
+
+-- it is settled up to its first open message, which is changed
+pub settled_here : (ms : List Marked) (p : ℕ) (m : Marked) (s : Receiver) → s.settled ≡ p → p < length ms
+    → first_open s.process 1 (take p ms) ≡ None → IsSettled (slice_set ms p m) s
+settled_here ms p m s at lt none = record {
+  within = let long = length-set ms p m in omega (arith, long, at, lt);
+  none = subst (λ n. first_open s.process 1 (take n (slice_set ms p m)) ≡ None) (sym at)
+      (ap (λ l. first_open s.process 1 l) (take_set ms p m p (omega arith)) ∙ none);
+}
+
+-- the receiver itself, where its counts alone are otherwise
+pub settled_so : (ms : List Marked) (r s : Receiver) → s.process ≡ r.process → s.settled ≡ r.settled → IsSettled ms r
+    → IsSettled ms s
+settled_so ms r s same place h = record {
+  within = subst (λ n. n ≤ length ms) (sym place) h.within;
+  none = subst (λ n. first_open s.process 1 (take n ms) ≡ None) (sym place)
+      (subst (λ q. first_open q 1 (take r.settled ms) ≡ None) (sym same) h.none);
+}
+
+-- Marks by number.
 
 number_of : (number place : ℕ) → number ≡ place + 1 → number ≡ suc place
 number_of number place is = omega arith
 
-there : (ms : List Mark) (number place : ℕ) (m d : Mark) → number ≡ place + 1 → place < length ms
-    → m ≡ get_or ms place d → given_back ms number ≡ reopened ms place (Some m)
+-- the message with a number, where there is one
+pub marks_it : (ms : List Marked) (number place : ℕ) (m d : Marked) (to : ProcessId) (mark : Mark)
+    → number ≡ place + 1 → place < length ms → m ≡ get_or ms place d → to ≡ m.to
+    → slice_set ms place (record { to = to; mark = mark }) ≡ marked ms number mark
+marks_it ms number place m d to mark is lt at same =
+    ap (λ t. slice_set ms place (record { to = t; mark = mark })) same
+    ∙ sym (ap (λ n. marked ms n mark) (number_of number place is)
+    ∙ ap (λ o. marked_at ms place o mark) (slice_get-get_or ms place d lt ∙ ap Some (sym at)))
+
+-- there is none
+pub marks_none : (ms : List Marked) (number : ℕ) (mark : Mark) → (number ≡ 0) ⊎ (length ms < number)
+    → ms ≡ marked ms number mark
+marks_none ms zero mark h = refl
+marks_none ms (suc k) mark (inl z) = absurd (omega (arith, z))
+marks_none ms (suc k) mark (inr far) =
+    sym (ap (λ o. marked_at ms k o mark) (slice_get_past ms k (omega (arith, far))))
+
+-- Claims that are given back.
+
+there : (ms : List Marked) (number place : ℕ) (m d : Marked) → number ≡ place + 1 → place < length ms
+    → m ≡ get_or ms place d → given_back ms number ≡ reopened_from ms place m.to m.mark
 there ms number place m d is lt at =
     ap (λ n. given_back ms n) (number_of number place is)
     ∙ ap (λ o. reopened ms place o) (slice_get-get_or ms place d lt ∙ ap Some (sym at))
 
-not_claimed : (ms : List Mark) (place : ℕ) (m : Mark) → (m ≡ Claimed → ⊥) → reopened ms place (Some m) ≡ ms
-not_claimed ms place Open other = refl
-not_claimed ms place Claimed other = absurd (other refl)
-not_claimed ms place Delivered other = refl
+not_claimed : (ms : List Marked) (place : ℕ) (to : ProcessId) (mark : Mark) → (mark ≡ Claimed → ⊥)
+    → reopened_from ms place to mark ≡ ms
+not_claimed ms place to Open other = refl
+not_claimed ms place to Claimed other = absurd (other refl)
+not_claimed ms place to Delivered other = refl
 
-pub gives_back : (ms : List Mark) (number place : ℕ) (m d : Mark) → number ≡ place + 1 → place < length ms
-    → m ≡ get_or ms place d → m ≡ Claimed → slice_set ms place Open ≡ given_back ms number
-gives_back ms number place m d is lt at claimed =
-    sym (there ms number place m d is lt at ∙ ap (λ n. reopened ms place (Some n)) claimed)
+pub gives_back : (ms : List Marked) (number place : ℕ) (m d : Marked) (to : ProcessId) → number ≡ place + 1
+    → place < length ms → m ≡ get_or ms place d → to ≡ m.to → m.mark ≡ Claimed
+    → slice_set ms place (record { to = to; mark = Open }) ≡ given_back ms number
+gives_back ms number place m d to is lt at same claimed =
+    ap (λ t. slice_set ms place (record { to = t; mark = Open })) same
+    ∙ sym (there ms number place m d is lt at ∙ ap (λ n. reopened_from ms place m.to n) claimed)
 
-pub keeps_back : (ms : List Mark) (number place : ℕ) (m d : Mark) → number ≡ place + 1 → place < length ms
-    → m ≡ get_or ms place d → (m ≡ Claimed → ⊥) → ms ≡ given_back ms number
+pub keeps_back : (ms : List Marked) (number place : ℕ) (m d : Marked) → number ≡ place + 1 → place < length ms
+    → m ≡ get_or ms place d → (m.mark ≡ Claimed → ⊥) → ms ≡ given_back ms number
 keeps_back ms number place m d is lt at other =
-    sym (there ms number place m d is lt at ∙ not_claimed ms place m other)
+    sym (there ms number place m d is lt at ∙ not_claimed ms place m.to m.mark other)
 
-pub nothing_back : (ms : List Mark) (number : ℕ) → (number ≡ 0) ⊎ (length ms < number)
+pub nothing_back : (ms : List Marked) (number : ℕ) → (number ≡ 0) ⊎ (length ms < number)
     → ms ≡ given_back ms number
 nothing_back ms zero h = refl
 nothing_back ms (suc k) (inl z) = absurd (omega (arith, z))

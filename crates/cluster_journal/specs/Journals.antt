@@ -4,7 +4,7 @@ use Rattle.tree_model.specs.declared.events.Entry.{Entry}
 use Rattle.tree_model.specs.declared.events.Happening.{Happening}
 use Rattle.tree_model.specs.declared.events.Happening.TheVariants.{Input as Handles}
 use Rattle.tree_model.specs.declared.events.Input.TheVariants.{Message as MessageInput}
-use Rattle.cluster_journal.specs.declared.marks.Mark.{Mark}
+use Rattle.cluster_journal.specs.declared.marks.Marked.{Marked}
 use Rattle.cluster_journal.specs.declared.marks.Mark.TheVariants.{Delivered}
 use Rattle.cluster_journal.specs.Marks.{marked}
 
@@ -13,13 +13,13 @@ use Rattle.cluster_journal.specs.Marks.{marked}
 pub record ClusterState : Type 0 where
   pub entries : List (ℕ × Entry)
   pub late : ℕ
-  pub marks : List Mark
+  pub marks : List Marked
 
 -- the entries, without their callers
 abbrev pub entries_of : List (ℕ × Entry) → List Entry
 entries_of xs = map (λ x. x.1) xs
 
 -- the marks once this has happened: a message that it delivers is delivered
-abbrev pub marked_by : Happening → List Mark → List Mark
+abbrev pub marked_by : Happening → List Marked → List Marked
 marked_by (Handles (MessageInput k m)) ms = marked ms k Delivered
 marked_by _ ms = ms

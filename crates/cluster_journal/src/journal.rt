@@ -9,14 +9,14 @@ ghost use Rattle.cluster_journal.specs.Marks.{first_open, given_back, marked};
 ghost use Rattle.cluster_journal.specs.Spots.{message_in};
 ghost use Rattle.cluster_journal.specs.declared.marks.Mark.TheVariants as kinds;
 
-use crate::marks::Marks;
+use crate::marks::{Claim, Marks};
 use crate::room::Room;
 use crate::spots::{Spot, add_spots, spot_at};
 use std::alloc::{AllocError, Global};
 use std::collections::LinkedList;
 use std::marker::Model;
 use std::sync::Wait;
-use tree_model::{Entry, Envelope, Happening, Input};
+use tree_model::{Entry, Envelope, Happening, Input, ProcessId};
 
 /// Every entry with its caller's number, and what became of each message.
 #[derive(Drop)]
@@ -103,10 +103,11 @@ impl ClusterJournal {
         let Some((_, entry)) = self.late.front() else {
             return Ok(());
         };
-        let more = entry.reaction.messages.len();
+        let messages = entry.reaction.messages.as_slice();
+        let more = messages.len();
         self.placed.reserve(1)?;
         self.spots.reserve(more)?;
-        self.marks.extend(more)?;
+        self.marks.extend(messages)?;
         let place = self.placed.len();
         if let Some(entry) = self.late.pop_front() {
             add_spots(&mut self.spots, place, more);
@@ -129,15 +130,27 @@ impl ClusterJournal {
         }
     }
 
-    /// Claims the first message that nobody delivers and that was not delivered, of those that are placed.
-    pub fn claim(&mut self) -> Option<u64>
+    /// Claims the first open message of a process to which nobody delivers, of those that are placed: of this process, if
+    /// it has one, or else of the one with the most.
+    pub fn claim(&mut self, near: ProcessId) -> Option<Claim>
         ensures entries { (self.new.entries ≡ self.old.entries) × (self.new.late ≡ self.old.late) }
-        ensures found { IfSome result (λ number. (first_open 1 self.old.marks ≡ Some number)
-            × (self.new.marks ≡ marked self.old.marks number kinds.Claimed)) }
-        ensures none { IfNone result ((first_open 1 self.old.marks ≡ None)
-            × (self.new.marks ≡ self.old.marks)) }
+        ensures found { IfSome result (λ c. (first_open c.to 1 self.old.marks ≡ Some c.number)
+            × (self.new.marks ≡ marked self.old.marks c.number kinds.Claimed)) }
+        ensures none { IfNone result (self.new.marks ≡ self.old.marks) }
     {
-        self.marks.claim()
+        self.marks.claim(near)
+    }
+
+    /// Nobody delivers a message to this process any more.
+    pub fn end_claim(&mut self, process: ProcessId)
+        ensures { self.new ≡ self.old }
+    {
+        self.marks.end_claim(process);
+    }
+
+    /// How many messages are open at processes to which nobody delivers.
+    pub fn waiting(&self) -> usize {
+        self.marks.waiting()
     }
 
     /// Gives back the claim of the message with this number: it is open again, if it was not delivered

@@ -18,5 +18,5 @@ mod room;
 mod spots;
 
 pub use journal::ClusterJournal;
-pub use marks::Mark;
+pub use marks::{Claim, Mark, Marked};
 pub use room::{Room, nothing};

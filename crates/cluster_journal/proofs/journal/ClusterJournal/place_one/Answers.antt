@@ -1,6 +1,6 @@
-use Rattle.std.proofs.Common.{◌≡◌, ◌∙◌, ◌++◌, ◌∷◌, [], ap, arith, length, length-append, replicate, rules, sym}
-use Rattle.std.proofs.lemmas.List.{length-replicate}
-use Rattle.cluster_journal.specs.declared.marks.Mark.TheVariants as kinds
+use Rattle.std.proofs.Common.{◌≡◌, ◌∙◌, ◌++◌, ◌∷◌, [], ap, arith, length, length-append, map, rules, sym}
+use Rattle.std.proofs.lemmas.List.{length-map}
+use Rattle.cluster_journal.specs.Marks.{sent_to}
 use Rattle.cluster_journal.specs.Spots.{spots_at, spots_of}
 use Rattle.cluster_journal.proofs.Finding.{length_spots, same_first, spots_entered}
 use Rattle.cluster_journal.proofs.journal.ClusterJournal.place_one.Goals as goal
@@ -12,7 +12,8 @@ invariant_of-self-in-Some-pop_front c =
     let spots = j.spots.items in
     let x = c.in-Some-pop_front.entry in
     let n = c.len-place.result in
-    let m = c.len-more.result in
+    let sent = c.as_slice-messages.result.now in
+    let m = length sent in
     let first : c.in-Some.field-0.now ≡ x =
     same_first j.late c.pop_front.new.self c.in-Some.field-0.now x c.in-Some-pop_front.ensures.items
     c.in-Some.ensures.lookup in
@@ -21,8 +22,8 @@ invariant_of-self-in-Some-pop_front c =
     let place : n ≡ length placed = search rules in
     let added = c.add_spots.ensures ∙ ap (λ l. l ++ spots_at n m) c.reserve-2.ensures.items in
     let pushed = c.push_reserved.ensures.items ∙ ap (λ l. l ++ x ∷ []) c.reserve.ensures.items in
-    let long = ap length c.in_ok-extend.ensures.ok ∙ length-append j.marks (replicate m kinds.Open) in
-    let news = length-replicate m kinds.Open in
+    let long = ap length c.in_ok-extend.ensures.ok ∙ length-append j.marks (map sent_to sent) in
+    let news = length-map sent sent_to in
     let behind = ap length added ∙ length-append spots (spots_at n m) in
     let those = length_spots n m in
     let same = c.self.invariant.1 in (
