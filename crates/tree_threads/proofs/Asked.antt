@@ -9,10 +9,11 @@ use Rattle.tree_model.specs.declared.events.Happening.TheVariants.{Input as Hand
 use Rattle.tree_model.specs.declared.events.Input.TheVariants.{Message as MessageInput}
 use Rattle.tree_model.specs.Plays.{sent_as}
 use Rattle.core_model.specs.States.{CoreState}
+use Rattle.tree_cut.specs.Alone.{IsMine}
 use Rattle.tree_cut.specs.Cuts.{FindsMessage}
 use Rattle.tree_threads.specs.Makes.{FitsNode}
-use Rattle.tree_threads.specs.Marks.{Happens, IsNotFor, IsStrange}
-use Rattle.tree_threads.specs.Posts.{IsFor}
+use Rattle.tree_threads.specs.Marks.{ActsHere, Happens, IsNotFor, IsStrange}
+use Rattle.tree_threads.specs.Posts.{AsksAt}
 
 sent_finds : (net : List Envelope) (me : ProcessId) (k : ℕ) (l : Envelope) → sent_as net k ≡ Some l → l.to ≡ me
     → FindsMessage net me (Handles (MessageInput k l.message))
@@ -44,14 +45,23 @@ fits_it net me s Settle h keep is = absurd is
 fits_it net me s (Restart p bytes) h keep is = subst (λ x. FitsNode s keep x) (sym is.2) refl
 fits_it net me s (Trim p) h keep is = subst (λ x. FitsNode s keep x) (sym is.1) tt
 
--- what happens by an event is what it asks
-pub for_it : (net : List Envelope) (me : ProcessId) (s : CoreState) (event : Event) (h : Happening) (keep : ℕ)
-    → Happens net me s event h keep → IsFor event h
-for_it net me s (ActOf a) h keep is = is
-for_it net me s (Deliver k) h keep is = (is.envelope.message, is.happens)
-for_it net me s Settle h keep is = absurd is
-for_it net me s (Restart p bytes) h keep is = (_, is.2)
-for_it net me s (Trim p) h keep is = is.1
+-- what happens by an event is what it asks of the process
+pub asks_it : (net : List Envelope) (me : ProcessId) (s : CoreState) (event : Event) (h : Happening) (keep : ℕ)
+    → Happens net me s event h keep → AsksAt s event h
+asks_it net me s (ActOf a) h keep is = is
+asks_it net me s (Deliver k) h keep is = (is.envelope.message, is.happens)
+asks_it net me s Settle h keep is = absurd is
+asks_it net me s (Restart p bytes) h keep is = (keep, is.1, is.2)
+asks_it net me s (Trim p) h keep is = is.1
+
+-- an act of this process
+pub mine_it : (root me : ProcessId) (net : List Envelope) (s : CoreState) (event : Event) (h : Happening) (keep : ℕ)
+    → ActsHere root me event → Happens net me s event h keep → IsMine root me h
+mine_it root me net s (ActOf a) h keep acts is = subst (λ x. IsMine root me x) (sym is) (sym acts)
+mine_it root me net s (Deliver k) h keep acts is = subst (λ x. IsMine root me x) (sym is.happens) tt
+mine_it root me net s Settle h keep acts is = absurd is
+mine_it root me net s (Restart p bytes) h keep acts is = subst (λ x. IsMine root me x) (sym is.2) tt
+mine_it root me net s (Trim p) h keep acts is = subst (λ x. IsMine root me x) (sym is.1) tt
 
 pub not_strange : (net : List Envelope) (me : ProcessId) (k : ℕ) (l : Envelope) → sent_as net k ≡ Some l
     → l.to ≡ me → IsNotFor me (sent_as net k) → ⊥

@@ -9,6 +9,8 @@ use Rattle.tree_model.specs.World.{entries_of}
 use Rattle.rec_log.specs.Sights.{records_of}
 use Rattle.core_model.specs.States.{CoreState}
 use Rattle.log_store.specs.declared.memory.MemoryStore.{MemoryStore}
+use Rattle.manager_model.specs.Data.{ManagerData}
+use Rattle.tree_cut.specs.Alone.{RunsAlone}
 use Rattle.tree_cut.specs.Cuts.{IsCut}
 use Rattle.tree_cut.specs.Owns.{OwnRun}
 use Rattle.tree_node.specs.declared.node.Node.{Node as Process}
@@ -24,8 +26,10 @@ pub record SeatedState : Type 0 where
   pub own : List Entry
   pub node : Process MemoryStore
 
--- the log is that of the process, as it stands once it has made just the journal's entries of it
+-- the log is that of the process, as it stands once it has made just the journal's entries of it, with its data
 pub record LeavesLog (tree : List TreeEntry) (xs : List Entry) (q : ProcessId) (log : List LogRecord) : Type 0 where
   pub core : CoreState
+  pub held : ManagerData
   pub own : OwnRun tree q (entries_of q xs) core
+  pub alone : RunsAlone tree q (entries_of q xs) core held
   pub log_is : log ≡ records_of core.log.kept

@@ -7,7 +7,7 @@ use Rattle.tree_model.specs.declared.events.Event.TheVariants.{Act as ActOf, Del
 use Rattle.tree_model.specs.declared.events.Happening.{Happening}
 use Rattle.tree_model.specs.declared.events.Happening.TheVariants.{Input as Handles, Trim as Trims}
 use Rattle.tree_model.specs.declared.events.Input.TheVariants.{Act as ActInput, Message as MessageInput}
-use Rattle.tree_model.specs.Plays.{sent_as}
+use Rattle.tree_model.specs.Plays.{process_of_act, sent_as}
 use Rattle.core_model.specs.States.{CoreState}
 use Rattle.core_law.specs.Steps.{restart_of}
 use Rattle.core_law.specs.worlds.Worlds.{KeepsBytes}
@@ -31,6 +31,11 @@ Happens net me s (Deliver k) h keep = Delivers net me k h
 Happens net me s Settle h keep = ⊥
 Happens net me s (Restart p bytes) h keep = (p ≡ me) × KeepsBytes s bytes keep × (h ≡ restart_of s keep)
 Happens net me s (Trim p) h keep = (p ≡ me) × (h ≡ Trims)
+
+-- an act is one of this process's, in a tree with this root
+abbrev pub ActsHere : ProcessId → ProcessId → Event → Type 0
+ActsHere root me (ActOf a) = me ≡ process_of_act root a
+ActsHere root me _ = ⊤
 
 -- the message was not sent to this process
 abbrev pub IsNotFor : ProcessId → Option Envelope → Type 0

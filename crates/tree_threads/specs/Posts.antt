@@ -1,16 +1,19 @@
 -- What was posted.
-use Rattle.std.specs.Prelude.{◌≡◌, ℕ, Option}
+use Rattle.std.specs.Prelude.{◌≡◌, ℕ, Option, List}
 use Rattle.tree_model.specs.declared.names.ProcessId.{ProcessId}
 use Rattle.tree_model.specs.declared.names.Txn.{Txn}
-use Rattle.tree_model.specs.declared.messages.Message.{Message}
 use Rattle.tree_model.specs.declared.events.Entry.{Entry}
 use Rattle.tree_model.specs.declared.events.Event.{Event}
-use Rattle.tree_model.specs.declared.events.Event.TheVariants.{Act as ActOf, Deliver, Settle, Restart, Trim}
+use Rattle.tree_model.specs.declared.events.Event.TheVariants.{Restart}
 use Rattle.tree_model.specs.declared.events.Happening.{Happening}
-use Rattle.tree_model.specs.declared.events.Happening.TheVariants.{Input as Handles, Restart as Restarts, Trim as Trims}
-use Rattle.tree_model.specs.declared.events.Input.TheVariants.{Act as ActInput, Message as MessageInput}
 use Rattle.tree_model.specs.declared.events.StepError.{StepError}
 use Rattle.tree_model.specs.declared.events.StepError.TheVariants as steps
+use Rattle.tree_model.specs.declared.trees.TreeEntry.{TreeEntry}
+use Rattle.core_model.specs.States.{CoreState}
+use Rattle.core_law.specs.Steps.{restart_of}
+use Rattle.core_law.specs.worlds.Worlds.{KeepsBytes}
+use Rattle.manager_model.specs.Data.{ManagerData}
+use Rattle.tree_cut.specs.Alone.{AsksFor, RunsAlone, StepAlone}
 use Rattle.tree_threads.specs.declared.errors.PostError.{PostError}
 use Rattle.tree_threads.specs.declared.errors.PostError.TheVariants.{Stranger, JournalFull, Step, Memory}
 use Rattle.tree_threads.specs.Passes.{NotesOne, PassState}
@@ -27,20 +30,25 @@ post_error_number JournalFull = 2
 post_error_number (Step e) = 3
 post_error_number Memory = 4
 
--- what happens is what this event asks
-abbrev pub IsFor : Event → Happening → Type 0
-IsFor (ActOf a) h = h ≡ Handles (ActInput a)
-IsFor (Deliver k) h = (m : Message) × (h ≡ Handles (MessageInput k m))
-IsFor Settle h = ⊥
-IsFor (Restart p bytes) h = (k : ℕ) × (h ≡ Restarts k)
-IsFor (Trim p) h = h ≡ Trims
+-- What happens is what this event asks of a process that keeps this: a restart keeps so many bytes behind the forced
+-- front as it names.
+abbrev pub AsksAt : CoreState → Event → Happening → Type 0
+AsksAt s (Restart p bytes) h = (keep : ℕ) × KeepsBytes s bytes keep × (h ≡ restart_of s keep)
+AsksAt s event h = AsksFor event h
 
 -- The event was posted at this process: the pass has one pair more, of the answered place, from 0, and an entry of
--- the event, whose transaction begun is the one answered.
-pub record PostsOne (q : ProcessId) (event : Event) (old new : PassState) (place : ℕ)
+-- the event, whose transaction begun is the one answered. Before it the process had made these entries by itself, with
+-- its data, and then it made this one, as the event asks of it there.
+pub record PostsOne (tree : List TreeEntry) (q : ProcessId) (event : Event) (old new : PassState) (place : ℕ)
     (begun : Option Txn) : Type 0 where
   pub entry : Entry
   pub notes : NotesOne old new place entry
-  pub process : entry.step.process ≡ q
-  pub is_for : IsFor event entry.step.happening
+  pub own : List Entry
+  pub before : CoreState
+  pub behind : CoreState
+  pub held : ManagerData
+  pub kept : ManagerData
+  pub ran : RunsAlone tree q own before held
+  pub step : StepAlone tree q before behind held kept entry
+  pub is_for : AsksAt before event entry.step.happening
   pub begun_is : begun ≡ entry.reaction.begun

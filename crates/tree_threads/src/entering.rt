@@ -109,7 +109,6 @@ pub fn enter<N: Seats, R: Wait>(
         pass.caller,
         &entry,
     );
-    ledger.turns = ledger.turns.with_sent(entry.reaction.messages.len());
     ledger.journal.enter(rt, pass.caller, entry, room);
     place
 }

@@ -21,60 +21,24 @@ use tree_ties::ties::meet;
 pub(crate) struct Turns {
     /// So many messages are claimed.
     claims: usize,
-    /// About so many were sent, and nobody has claimed them.
-    open: usize,
+    /// So many workers wait for a message.
+    sleepers: usize,
+    /// So many of them were called since one last woke.
+    called: usize,
 }
 
 impl Turns {
-    /// Nothing is claimed, and nothing was sent.
+    /// Nothing is claimed, and nobody waits.
     pub(crate) fn none() -> Turns {
-        Turns { claims: 0, open: 0 }
-    }
-
-    /// So many messages more were sent.
-    pub(crate) fn with_sent(self, sent: usize) -> Turns {
         Turns {
-            claims: self.claims,
-            open: self.open.saturating_add(sent),
-        }
-    }
-
-    /// One message more is claimed.
-    fn claimed(self) -> Turns {
-        Turns {
-            claims: self.claims.saturating_add(1),
-            open: self.open.saturating_sub(1),
-        }
-    }
-
-    /// No message is open that nobody has claimed.
-    fn all_claimed(self) -> Turns {
-        Turns {
-            claims: self.claims,
-            open: 0,
-        }
-    }
-
-    /// A claim has ended.
-    fn ended(self) -> Turns {
-        Turns {
-            claims: self.claims.saturating_sub(1),
-            open: self.open,
-        }
-    }
-
-    /// Whether more messages are open than those who are awake have in hand. Where a gate holds steps, one is
-    /// enough.
-    fn is_much(self, holds: bool) -> bool {
-        if holds {
-            self.open > 0
-        } else {
-            self.open / MESSAGES_A_WORKER > self.claims
+            claims: 0,
+            sleepers: 0,
+            called: 0,
         }
     }
 }
 
-/// A worker is woken for so many messages that nobody has claimed.
+/// A worker is woken for so many messages that are open at processes to which nobody delivers.
 const MESSAGES_A_WORKER: usize = 8;
 
 /// A message that somebody delivers now: its number, its receiver, and whether there is more to do than those
@@ -118,18 +82,6 @@ impl<N: Seats> Model for Ledger<N> {
         ))
         × IsTree N.tree
         × HasCut N.tree (entries_in l.journal.entries) };
-}
-
-/// The claim of the message with this number, where all entries are placed.
-fn claim_of(journal: &ClusterJournal, number: u64, wakes: bool) -> Option<Claim>
-    requires { journal.now.late ≡ 0 }
-{
-    let envelope = journal.message(number)?;
-    Some(Claim {
-        number,
-        to: envelope.to,
-        wakes,
-    })
 }
 
 impl<N: Seats> Ledger<N> {
@@ -176,38 +128,70 @@ impl<N: Seats> Ledger<N> {
         self.journal.message(number)
     }
 
-    /// Claims the least message that nobody delivers and that was not delivered, if there is one. Where a gate
-    /// holds steps, a worker is to be woken for each that is open. Memory: a growth was refused.
-    pub fn claim(&mut self, holds: bool) -> Result<Option<Claim>, AllocError>
+    /// Claims the first open message of a process to which nobody delivers, if there is one: of this process, if it has
+    /// one. Where a gate holds steps, a worker is to be woken for each that is left. Memory: a growth was refused.
+    pub fn claim(&mut self, near: ProcessId, holds: bool) -> Result<Option<Claim>, AllocError>
         ensures { self.new.entries ≡ self.old.entries }
     {
         self.journal.place()?;
-        match self.journal.claim() {
-            None => {
-                self.turns = self.turns.all_claimed();
-                Ok(None)
-            }
-            Some(number) => {
-                self.turns = self.turns.claimed();
-                let wakes = self.turns.is_much(holds);
-                Ok(claim_of(&self.journal, number, wakes))
-            }
+        let Some(claim) = self.journal.claim(near) else {
+            return Ok(None);
+        };
+        self.turns.claims = self.turns.claims.saturating_add(1);
+        let wakes = self.is_much(holds);
+        if wakes {
+            self.turns.called = self.turns.called.saturating_add(1);
+        }
+        Ok(Some(Claim {
+            number: claim.number,
+            to: claim.to,
+            wakes,
+        }))
+    }
+
+    /// Whether a worker that waits was not called, and enough messages are left for it. Where a gate holds steps, one is
+    /// enough.
+    fn is_much(&self, holds: bool) -> bool {
+        if self.turns.sleepers <= self.turns.called {
+            return false;
+        }
+        let waiting = self.journal.waiting();
+        if holds {
+            waiting > 0
+        } else {
+            waiting >= MESSAGES_A_WORKER
         }
     }
 
-    /// A claim has ended.
-    pub fn end_claim(&mut self)
-        ensures { self.new ≡ self.old }
+    /// The claim of a message to this process has ended.
+    pub fn end_claim(&mut self, process: ProcessId)
+        ensures { self.new.entries ≡ self.old.entries }
     {
-        self.turns = self.turns.ended();
+        self.journal.end_claim(process);
+        self.turns.claims = self.turns.claims.saturating_sub(1);
     }
 
     /// The claim of this message is given back: it is open again, if it was not delivered.
-    pub fn give_back(&mut self, number: u64)
+    pub fn give_back(&mut self, claim: Claim)
         ensures { self.new.entries ≡ self.old.entries }
     {
-        self.journal.give_back(number);
-        self.turns = self.turns.ended().with_sent(1);
+        self.journal.give_back(claim.number);
+        self.end_claim(claim.to);
+    }
+
+    /// A worker begins to wait for a message.
+    pub fn sleep(&mut self)
+        ensures { self.new ≡ self.old }
+    {
+        self.turns.sleepers = self.turns.sleepers.saturating_add(1);
+    }
+
+    /// A worker waits no longer.
+    pub fn wake(&mut self)
+        ensures { self.new ≡ self.old }
+    {
+        self.turns.sleepers = self.turns.sleepers.saturating_sub(1);
+        self.turns.called = 0;
     }
 
     /// Whether nobody delivers a message.

@@ -5,13 +5,14 @@ ghost use Rattle.tree_model.specs.declared.events.Happening.TheVariants as kinds
 ghost use Rattle.tree_model.specs.Nodes.{is_listed};
 ghost use Rattle.tree_model.specs.Trees.{IsTree};
 ghost use Rattle.core_model.specs.Inputs.{input_of};
-ghost use Rattle.core_model.specs.Restarting.{Restarts};
-ghost use Rattle.core_law.specs.Steps.{trim_reaction};
+ghost use Rattle.core_law.specs.Steps.{records_kept, trim_reaction};
+ghost use Rattle.core_law.specs.worlds.Worlds.{HandlesInput};
+ghost use Rattle.tree_cut.specs.Alone.{MakesAlone, RestartsAlone, TrimsAlone};
 ghost use Rattle.tree_cut.specs.Owns.{OwnMakes, OwnRun};
-ghost use Rattle.tree_node.specs.Nodes.{core_of};
+ghost use Rattle.tree_node.specs.Nodes.{core_of, data_of};
 ghost use Rattle.tree_ties.specs.Seats.{WorksIn};
 ghost use Rattle.tree_ties.specs.Views.{cleared, made as made_by, worker};
-ghost use Rattle.tree_threads.specs.Makes.{FitsNode, HandlesIt, IsAt, MakesIt, NotMadeIt, NotRestartedIt, TrimsIt, TrimsSo};
+ghost use Rattle.tree_threads.specs.Makes.{FitsNode, IsAt, NotMadeIt};
 
 use crate::marking::Marked;
 use cluster_journal::Room;
@@ -54,20 +55,24 @@ fn trimmed(alloc: Global, remain: u64) -> Reaction
 
 /// A process handles an input. A store in memory does not fail.
 fn handle(node: &mut Node<MemoryStore>, input: InputRef<'_>) -> Result<Reaction, StepError>
-    ensures ok { IfOk result (HandlesIt (core_of node.old) (core_of node.new) (input_of input.entry)) }
-    ensures err { IfErr result (NotMadeIt (core_of node.old) (core_of node.new)
-        (kinds.Input (input_of input.entry))) }
+    ensures ok { IfOk result (HandlesInput (core_of node.old) (core_of node.new) (data_of node.old)
+        (data_of node.new) (input_of input.entry)) }
+    ensures err { IfErr result (NotMadeIt (core_of node.old) (core_of node.new) (data_of node.old)
+        (data_of node.new) (kinds.Input (input_of input.entry))) }
 {
     let handled = node.handle(input);
     node.never_failed();
     handled
 }
 
-/// A process restarts, and keeps so many bytes behind its forced front.
-fn restart(node: &mut Node<MemoryStore>, keep: usize) -> Result<Reaction, StepError>
-    ensures ok { IfOk result (Restarts (core_of node.old) keep (core_of node.new)) }
-    ensures err { IfErr result (NotRestartedIt (core_of node.old) (core_of node.new)) }
+/// A process restarts, and keeps so many bytes behind its forced front, which are so many records.
+fn restart(node: &mut Node<MemoryStore>, kept: u64, keep: usize) -> Result<Reaction, StepError>
+    requires { kept ≡ records_kept (core_of node.old) keep }
+    ensures ok { IfOk result (RestartsAlone (core_of node.old) (core_of node.new) (data_of node.new) keep kept) }
+    ensures err { IfErr result (NotMadeIt (core_of node.old) (core_of node.new) (data_of node.old)
+        (data_of node.new) (kinds.Restart kept)) }
 {
+    let _ = kept;
     let restarted = node.restart(keep);
     node.never_failed();
     restarted
@@ -75,8 +80,10 @@ fn restart(node: &mut Node<MemoryStore>, keep: usize) -> Result<Reaction, StepEr
 
 /// The log of a process is trimmed. Gives how many records remain.
 fn trim(node: &mut Node<MemoryStore>) -> Result<u64, StepError>
-    ensures ok { IfOk result (TrimsSo (core_of node.old) (core_of node.new)) }
-    ensures err { IfErr result (NotMadeIt (core_of node.old) (core_of node.new) kinds.Trim) }
+    ensures ok { IfOk result (TrimsAlone (core_of node.old) (core_of node.new) (data_of node.old)
+        (data_of node.new)) }
+    ensures err { IfErr result (NotMadeIt (core_of node.old) (core_of node.new) (data_of node.old)
+        (data_of node.new) kinds.Trim) }
 {
     let remain = node.trim_sound();
     node.never_failed();
@@ -85,8 +92,10 @@ fn trim(node: &mut Node<MemoryStore>) -> Result<u64, StepError>
 
 /// The same, as it is shown.
 fn trim_shown(alloc: Global, node: &mut Node<MemoryStore>) -> Result<Reaction, StepError>
-    ensures ok { IfOk result (TrimsIt (core_of node.old) (core_of node.new)) }
-    ensures err { IfErr result (NotMadeIt (core_of node.old) (core_of node.new) kinds.Trim) }
+    ensures ok { IfOk result (MakesAlone (core_of node.old) (core_of node.new) (data_of node.old)
+        (data_of node.new) 0 kinds.Trim) }
+    ensures err { IfErr result (NotMadeIt (core_of node.old) (core_of node.new) (data_of node.old)
+        (data_of node.new) kinds.Trim) }
 {
     match trim(node) {
         Ok(remain) => Ok(trimmed(alloc, remain)),
@@ -101,22 +110,25 @@ fn make_it(
     happening: &Happening,
     keep: usize,
 ) -> Result<Reaction, StepError>
-    ensures ok { IfOk result (MakesIt (core_of node.old) (core_of node.new) keep happening.now) }
-    ensures err { IfErr result (NotMadeIt (core_of node.old) (core_of node.new) happening.now) }
+    requires { FitsNode (core_of node.old) keep happening.now }
+    ensures ok { IfOk result (MakesAlone (core_of node.old) (core_of node.new) (data_of node.old)
+        (data_of node.new) keep happening.now) }
+    ensures err { IfErr result (NotMadeIt (core_of node.old) (core_of node.new) (data_of node.old)
+        (data_of node.new) happening.now) }
 {
     match happening {
         Happening::Input(Input::Act(act)) => handle(node, InputRef::Act(act)),
         Happening::Input(Input::Message(number, message)) => {
             handle(node, InputRef::Message(*number, message))
         }
-        Happening::Restart(_) => restart(node, keep),
+        Happening::Restart(kept) => restart(node, *kept, keep),
         Happening::Trim => trim_shown(alloc, node),
     }
 }
 
-/// Makes the marked step under the process's lock alone, whatever the others do meanwhile. The step's entry is
-/// one behind the process's own. A refusal, which is never Device, leaves the process as it was, and takes the
-/// mark away.
+/// Makes the marked step under the process's lock alone, whatever the others do meanwhile, as the process's data answer
+/// it. The step's entry is one behind the process's own. A refusal, which is never Device, leaves the process and its
+/// data as they were, and takes the mark away.
 pub fn make_step<N: Seats>(
     alloc: Global,
     ties: &Ties,
@@ -137,9 +149,11 @@ pub fn make_step<N: Seats>(
     ensures ok { IfOk result (λ m. (seat.new.me ≡ (worker (made_by seat.old.me.0.process m.entry), []))
         × (m.entry.step ≡ marked.wanted.step)
         × OwnMakes N.tree me seat.old.me.0.process.own (core_of node.new) m.entry) }
+    ensures made { IfOk result (λ m. MakesAlone (core_of node.old) (core_of node.new) (data_of node.old)
+        (data_of node.new) marked.keep m.entry.step.happening m.entry.reaction) }
     ensures err { OnErr result (seat.new.me ≡ (worker (cleared seat.old.me.0.process), [])) }
-    ensures refused { IfErr result (NotMadeIt (core_of node.old) (core_of node.new)
-        marked.wanted.step.happening) }
+    ensures refused { IfErr result (NotMadeIt (core_of node.old) (core_of node.new) (data_of node.old)
+        (data_of node.new) marked.wanted.step.happening) }
 {
     let Marked { wanted, keep, room } = marked;
     match make_it(alloc, node, &wanted.step.happening, keep) {

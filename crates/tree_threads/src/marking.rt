@@ -2,12 +2,14 @@
 
 ghost use Rattle.std.specs.Prelude.{◌≡◌, ◌≢◌, ◌<◌, ◌≤◌, [], Some, IfErr, IfNone, IfOk, IfSome, IsTrue, OnErr, OnOk, length};
 ghost use Rattle.tree_model.specs.Plays.{sent_as};
+ghost use Rattle.tree_model.specs.Trees.{root_of};
 ghost use Rattle.tree_model.specs.World.{entries_of};
 ghost use Rattle.core_law.specs.worlds.Worlds.{KeepsBytes};
+ghost use Rattle.tree_cut.specs.Alone.{IsMine};
 ghost use Rattle.tree_cut.specs.Cuts.{net_of};
 ghost use Rattle.tree_node.specs.Nodes.{core_of};
 ghost use Rattle.tree_ties.specs.Views.{entries_in, idle_at, wanting, worker};
-ghost use Rattle.tree_threads.specs.Marks.{Happens, IsMarked, IsNotFor, NotMarked};
+ghost use Rattle.tree_threads.specs.Marks.{ActsHere, Happens, IsMarked, IsNotFor, NotMarked};
 
 use crate::errors::PostError;
 use crate::ledger::Ledger;
@@ -144,11 +146,13 @@ pub fn mark<N: Seats>(
     requires here { (ties.now.shared.table_id ≡ N.table) × (seat.old.table_id ≡ N.table)
         × (word < N.table.words) }
     requires seat { seat.old.me ≡ (worker (idle_at word (Some me) seat.old.me.0.process.own), []) }
+    requires acts { ActsHere (root_of N.tree) me event }
     ensures ledger { ledger.new.entries ≡ ledger.old.entries }
     ensures tied { OnOk result (seat.old.me.0.process.own ≡ entries_of me (entries_in ledger.old.entries)) }
     ensures here { seat.new.table_id ≡ seat.old.table_id }
     ensures ok { IfOk result (λ m. IsMarked (net_of (entries_in ledger.old.entries)) me (core_of node.now) event m
         × (seat.new.me ≡ (worker (wanting seat.old.me.0.process m.wanted), []))) }
+    ensures mine { IfOk result (λ m. IsMine (root_of N.tree) me m.wanted.step.happening) }
     ensures room { OnOk result (length ledger.old.entries < 1000000) }
     ensures err { OnErr result (seat.new.me ≡ seat.old.me) }
     ensures refused { IfErr result (NotMarked (net_of (entries_in ledger.old.entries))

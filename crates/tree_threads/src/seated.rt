@@ -3,12 +3,14 @@
 ghost use Rattle.std.specs.Prelude.{◌≡◌, ◌<◌, ◌+◌, [], Some, true, IfErr, IfOk, OnErr};
 ghost use Rattle.tree_model.specs.declared.events.Entry.{Entry as AnyEntry};
 ghost use Rattle.tree_model.specs.Nodes.{is_listed};
-ghost use Rattle.tree_model.specs.Trees.{IsTree};
+ghost use Rattle.tree_model.specs.Trees.{IsTree, root_of};
 ghost use Rattle.tree_model.specs.World.{entries_of};
+ghost use Rattle.tree_cut.specs.Alone.{RunsAlone};
 ghost use Rattle.tree_cut.specs.Owns.{OwnRun, StandsInRun};
-ghost use Rattle.tree_node.specs.Nodes.{core_of};
+ghost use Rattle.tree_node.specs.Nodes.{core_of, data_of};
 ghost use Rattle.tree_ties.specs.Views.{entries_in, idle_at, worker};
 ghost use Rattle.tree_threads.specs.Locked.{LeavesLog};
+ghost use Rattle.tree_threads.specs.Marks.{ActsHere};
 ghost use Rattle.tree_threads.specs.Posts.{PostsOne};
 
 use crate::entering::enter;
@@ -64,17 +66,24 @@ pub struct Posted {
     pub begun: Option<Txn>,
     /// A worker's next claim.
     pub next: Option<Claim>,
+    /// Whether nobody delivers a message any more.
+    pub is_quiet: bool,
 }
 
-/// A worker's claim ends, and it makes the next, if there is one and memory for it.
-fn next_of<N: Seats>(ledger: &mut Ledger<N>, turn: Turn, holds: bool) -> Option<Claim>
+/// A worker's claim at this process ends, and it makes the next, if there is one and memory for it.
+fn next_of<N: Seats>(
+    ledger: &mut Ledger<N>,
+    process: ProcessId,
+    turn: Turn,
+    holds: bool,
+) -> Option<Claim>
     ensures { ledger.new.entries ≡ ledger.old.entries }
 {
     if turn == Turn::Once {
         return None;
     }
-    ledger.end_claim();
-    ledger.claim(holds).unwrap_or(None)
+    ledger.end_claim(process);
+    ledger.claim(process, holds).unwrap_or(None)
 }
 
 /// A process and its seat, between two events. To a contract it is its name, its entries, and the process itself.
@@ -91,9 +100,10 @@ impl<N: Seats> Model for Seated<N> {
     ghost use Rattle.std.specs.Prelude.{◌≡◌, ◌<◌, Some, [], true};
     ghost use Rattle.tree_model.specs.Nodes.{is_listed};
     ghost use Rattle.tree_model.specs.Trees.{IsTree};
+    ghost use Rattle.tree_cut.specs.Alone.{RunsAlone};
     ghost use Rattle.tree_cut.specs.Owns.{OwnRun};
     ghost use Rattle.tree_threads.specs.Locked.{SeatedState};
-    ghost use Rattle.tree_node.specs.Nodes.{core_of};
+    ghost use Rattle.tree_node.specs.Nodes.{core_of, data_of};
     ghost use Rattle.tree_ties.specs.Views.{idle_at, worker};
 
     ghost Value = { SeatedState };
@@ -104,7 +114,8 @@ impl<N: Seats> Model for Seated<N> {
         × (s.seat.me ≡ (worker (idle_at s.word (Some s.me) s.seat.me.0.process.own), []))
         × IsTree N.tree
         × (is_listed N.tree s.me ≡ true)
-        × OwnRun N.tree s.me s.seat.me.0.process.own (core_of s.node) };
+        × OwnRun N.tree s.me s.seat.me.0.process.own (core_of s.node)
+        × RunsAlone N.tree s.me s.seat.me.0.process.own (core_of s.node) (data_of s.node) };
 }
 
 impl<N: Seats> Seated<N> {
@@ -113,7 +124,7 @@ impl<N: Seats> Seated<N> {
         requires here { (seat.table_id ≡ N.table) × (word < N.table.words) }
         requires seat { seat.me ≡ (worker (idle_at word (Some me) []), []) }
         requires tree { IsTree N.tree × (is_listed N.tree me ≡ true) }
-        requires own { OwnRun N.tree me [] (core_of node) }
+        requires own { OwnRun N.tree me [] (core_of node) × RunsAlone N.tree me [] (core_of node) (data_of node) }
         ensures { result ≡ record { me = me; own = []; node = node } }
     {
         Seated {
@@ -133,7 +144,8 @@ impl<N: Seats> Seated<N> {
     }
 
     /// Marks, makes and enters an event of this process, under its lock, which the caller has; the journal's is
-    /// taken for the mark and for the entry. A worker's claim ends with the entry, and it makes the next there.
+    /// taken for the mark and for the entry. A worker's claim ends with the entry, and it makes the next there. An act is
+    /// this process's.
     pub fn post<R: Wait, G: Gate>(
         &mut self,
         rt: &R,
@@ -146,8 +158,9 @@ impl<N: Seats> Seated<N> {
         gate: &G,
         turn: Turn,
     ) -> Result<Posted, PostError>
-        requires { ties.now.shared.table_id ≡ N.table }
-        ensures ok { IfOk result (λ r. PostsOne process event pass.old pass.new r.place r.begun) }
+        requires here { ties.now.shared.table_id ≡ N.table }
+        requires acts { ActsHere (root_of N.tree) process event }
+        ensures ok { IfOk result (λ r. PostsOne N.tree process event pass.old pass.new r.place r.begun) }
         ensures err { OnErr result (pass.new ≡ pass.old) }
     {
         if !is_same(self.me, process) {
@@ -188,18 +201,25 @@ impl<N: Seats> Seated<N> {
                     pass,
                     made,
                 );
-                let next = next_of(&mut *journal, turn, gate.holds());
-                Ok(Posted { place, begun, next })
+                let next = next_of(&mut *journal, self.me, turn, gate.holds());
+                let is_quiet = journal.is_quiet();
+                Ok(Posted {
+                    place,
+                    begun,
+                    next,
+                    is_quiet,
+                })
             }
         }
     }
 
     /// Whoever has the process's lock and the journal's knows: the process's entries are the journal's of it,
-    /// and it stands where some run of the whole journal leaves it.
+    /// it stands where some run of the whole journal leaves it, and it made them by itself, with the data that it has.
     pub fn stands(&mut self, ties: &Ties, ledger: &mut Ledger<N>)
         requires { ties.now.shared.table_id ≡ N.table }
         ensures own { self.old.own ≡ entries_of self.old.me (entries_in ledger.old.entries) }
         ensures stands { StandsInRun N.tree (entries_in ledger.old.entries) self.old.me (core_of self.old.node) }
+        ensures alone { RunsAlone N.tree self.old.me self.old.own (core_of self.old.node) (data_of self.old.node) }
         ensures same { (self.new ≡ self.old) × (ledger.new ≡ ledger.old) }
     {
         compare(ties, &mut self.seat, &mut ledger.seat);
