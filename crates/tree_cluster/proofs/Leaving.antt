@@ -8,15 +8,16 @@ use Rattle.tree_model.specs.declared.records.LogRecord.{LogRecord}
 use Rattle.tree_model.specs.declared.trees.TreeEntry.{TreeEntry}
 use Rattle.tree_model.specs.Names.{same_process}
 use Rattle.tree_model.specs.NameLaws.{same_process_tells}
-use Rattle.tree_model.specs.Nodes.{is_listed}
+use Rattle.tree_model.specs.Nodes.{Node, is_listed}
 use Rattle.tree_model.specs.Trees.{IsTree}
 use Rattle.tree_model.specs.World.{entries_of, made_by}
-use Rattle.manager_model.specs.Data.{no_data}
+use Rattle.manager_model.specs.Data.{ManagerData}
 use Rattle.core_model.specs.States.{CoreState}
 use Rattle.core_model.specs.Turns.{this_version}
-use Rattle.core_law.specs.worlds.Worlds.{WorldState}
+use Rattle.tree_cut.specs.Alone.{MadeTogether, RunsAlone}
 use Rattle.tree_cut.specs.Cuts.{IsCut, net_of}
-use Rattle.tree_cut.specs.Owns.{CutHolds, OwnRun}
+use Rattle.tree_cut.specs.Owns.{CutHolds, IsAtEnd, OwnRun}
+use Rattle.tree_cut.proofs.Alone.{alone_is_together}
 use Rattle.tree_cut.proofs.Cuts.{made_by_all, runs_are_cut, self}
 use Rattle.tree_cut.proofs.Owns.{ends_modelled}
 use Rattle.tree_ties.specs.Views.{entries_in}
@@ -25,64 +26,85 @@ use Rattle.tree_threads.specs.Passes.{PassState}
 use Rattle.tree_cluster.specs.Closing.{AreMet, IsClosed, IsMet, LeaveLogs, log_by}
 use Rattle.tree_cluster.proofs.Apart.{Apart, tree_apart}
 
+-- what a process keeps, and its data
+pub record Kept : Type 0 where
+  pub core : CoreState
+  pub held : ManagerData
+
+-- the first of these that is there, or else this one
+abbrev kept_or : Kept → Option Kept → Kept
+kept_or d None = d
+kept_or d (Some k) = k
+
+abbrev core_some : Option Kept → Option CoreState
+core_some None = None
+core_some (Some k) = Some k.core
+
 module _ (tree : List TreeEntry) (xs : List Entry) where
   -- what the process keeps, by the first entry of its name
-  core_in : (es : List TreeEntry) (ls : List (List LogRecord)) → LeaveLogs tree xs es ls → ProcessId
-      → Option CoreState
-  core_in [] [] h q = None
-  core_in [] (l ∷ ls) h q = None
-  core_in (e ∷ es) [] h q = None
-  core_in (e ∷ es) (l ∷ ls) h q = if same_process e.id q then Some h.0.core else core_in es ls h.1 q
+  pub kept_in : (es : List TreeEntry) (ls : List (List LogRecord)) → LeaveLogs tree xs es ls → ProcessId → Option Kept
+  kept_in [] [] h q = None
+  kept_in [] (l ∷ ls) h q = None
+  kept_in (e ∷ es) [] h q = None
+  kept_in (e ∷ es) (l ∷ ls) h q =
+      if same_process e.id q then Some (record { core = h.0.core; held = h.0.held }) else kept_in es ls h.1 q
 
   listed_in : (es : List TreeEntry) (ls : List (List LogRecord)) (h : LeaveLogs tree xs es ls)
-      (q : ProcessId) → is_some (core_in es ls h q) ≡ is_listed es q
-  unfolding is_listed core_in
+      (q : ProcessId) → is_some (kept_in es ls h q) ≡ is_listed es q
+  unfolding is_listed kept_in
   listed_in [] [] h q = refl
   listed_in [] (l ∷ ls) h q = absurd h
   listed_in (e ∷ es) [] h q = absurd h
   listed_in (e ∷ es) (l ∷ ls) h q = by_test (same_process e.id q) (listed_in es ls h.1 q)
     where
-      by_test : (b : Bool) → is_some (core_in es ls h.1 q) ≡ is_listed es q
-          → is_some (if b then Some h.0.core else core_in es ls h.1 q) ≡ (b || is_listed es q)
+      by_test : (b : Bool) → is_some (kept_in es ls h.1 q) ≡ is_listed es q
+          → is_some (if b then Some (record { core = h.0.core; held = h.0.held }) else kept_in es ls h.1 q)
+          ≡ (b || is_listed es q)
       by_test true rest = refl
       by_test false rest = rest
 
-  some_one : (a b : CoreState) → Some a ≡ Some b → a ≡ b
+  some_one : (a b : Kept) → Some a ≡ Some b → a ≡ b
   some_one a b h = cc
 
-  own_in : (es : List TreeEntry) (ls : List (List LogRecord)) (h : LeaveLogs tree xs es ls)
-      (q : ProcessId) (c : CoreState) → core_in es ls h q ≡ Some c → OwnRun tree q (entries_of q xs) c
-  unfolding core_in
-  own_in [] [] h q c at = absurd (cc)
-  own_in [] (l ∷ ls) h q c at = absurd h
-  own_in (e ∷ es) [] h q c at = absurd h
-  own_in (e ∷ es) (l ∷ ls) h q c at = elim (same_process_tells e.id q) [
-    | inl t ↦
-        let is : h.0.core ≡ c = some_one h.0.core c
-        (sym (ap (λ b. if b then Some h.0.core else core_in es ls h.1 q) t.0) ∙ at) in
-        subst (λ p. OwnRun tree p (entries_of p xs) c) t.1
-        (subst (λ d. OwnRun tree e.id (entries_of e.id xs) d) is h.0.own)
-    | inr z ↦ own_in es ls h.1 q c
-        (sym (ap (λ b. if b then Some h.0.core else core_in es ls h.1 q) z.0) ∙ at)
-  ]
+  -- what is known of it
+  abbrev Fact : ProcessId → Kept → Type 0
+  Fact q k = OwnRun tree q (entries_of q xs) k.core × RunsAlone tree q (entries_of q xs) k.core k.held
+
+  fact_in : (es : List TreeEntry) (ls : List (List LogRecord)) (h : LeaveLogs tree xs es ls)
+      (q : ProcessId) (k : Kept) → kept_in es ls h q ≡ Some k → Fact q k
+  unfolding kept_in
+  fact_in [] [] h q k at = absurd (cc)
+  fact_in [] (l ∷ ls) h q k at = absurd h
+  fact_in (e ∷ es) [] h q k at = absurd h
+  fact_in (e ∷ es) (l ∷ ls) h q k at =
+      let mine : Kept = record { core = h.0.core; held = h.0.held } in
+      elim (same_process_tells e.id q) [
+        | inl t ↦
+            let is : mine ≡ k = some_one mine k
+            (sym (ap (λ b. if b then Some mine else kept_in es ls h.1 q) t.0) ∙ at) in
+            subst (λ p. Fact p k) t.1 (subst (λ d. Fact e.id d) is (h.0.own, h.0.alone))
+        | inr z ↦ fact_in es ls h.1 q k
+            (sym (ap (λ b. if b then Some mine else kept_in es ls h.1 q) z.0) ∙ at)
+      ]
 
   -- the logs are those of what each process keeps
   logs_in : (es : List TreeEntry) (ls : List (List LogRecord)) (h : LeaveLogs tree xs es ls)
       (f : ProcessId → Option CoreState) → Apart es
-      → ((q : ProcessId) → is_listed es q ≡ true → f q ≡ core_in es ls h q)
+      → ((q : ProcessId) → is_listed es q ≡ true → f q ≡ core_some (kept_in es ls h q))
       → ls ≡ map (λ e. log_by (f e.id)) es
-  unfolding is_listed core_in same_process
+  unfolding is_listed kept_in same_process
   logs_in [] [] h f apart agree = refl
   logs_in [] (l ∷ ls) h f apart agree = absurd h
   logs_in (e ∷ es) [] h f apart agree = absurd h
   logs_in (e ∷ es) (l ∷ ls) h f apart agree =
+      let own : Kept = record { core = h.0.core; held = h.0.held } in
       let mine : f e.id ≡ Some h.0.core =
       agree e.id (ap (λ b. b || is_listed es e.id) (self e.id))
-      ∙ ap (λ b. if b then Some h.0.core else core_in es ls h.1 e.id) (self e.id) in
+      ∙ ap (λ b. core_some (if b then Some own else kept_in es ls h.1 e.id)) (self e.id) in
       let rest = logs_in es ls h.1 f apart.1 (λ q there. elim (same_process_tells e.id q) [
         | inl t ↦ absurd (unlisted there (ap (is_listed es) (sym t.1) ∙ apart.0))
         | inr z ↦ agree q (or_true (same_process e.id q) (is_listed es q) there)
-            ∙ ap (λ b. if b then Some h.0.core else core_in es ls h.1 q) z.0
+            ∙ ap (λ b. core_some (if b then Some own else kept_in es ls h.1 q)) z.0
       ]) in
       ap (λ t. l ∷ t) rest ∙ ap (λ t. t ∷ map (λ y. log_by (f y.id)) es) (h.0.log_is ∙ sym (ap log_by mine))
     where
@@ -92,6 +114,35 @@ module _ (tree : List TreeEntry) (xs : List Entry) where
       or_true : (b c : Bool) → c ≡ true → (b || c) ≡ true
       or_true true c h = refl
       or_true false c h = h
+
+  -- what each process keeps, and this where there is none
+  module _ (d : Kept) (ls : List (List LogRecord)) (h : LeaveLogs tree xs tree ls) where
+    abbrev pub core_at : ProcessId → CoreState
+    core_at q = (kept_or d (kept_in tree ls h q)).core
+
+    abbrev pub held_at : ProcessId → ManagerData
+    held_at q = (kept_or d (kept_in tree ls h q)).held
+
+    fact_or : (q : ProcessId) (o : Option Kept) → is_some o ≡ true → ((k : Kept) → o ≡ Some k → Fact q k)
+        → Fact q (kept_or d o)
+    fact_or q None is facts = absurd (cc)
+    fact_or q (Some k) is facts = facts k refl
+
+    pub fact_at : (q : ProcessId) → is_listed tree q ≡ true → Fact q (kept_or d (kept_in tree ls h q))
+    fact_at q is = fact_or q (kept_in tree ls h q) (listed_in tree ls h q ∙ is) (fact_in tree ls h q)
+
+    some_or : (o : Option Kept) → is_some o ≡ true → Some (kept_or d o).core ≡ core_some o
+    some_or None is = absurd (cc)
+    some_or (Some k) is = refl
+
+    pub some_at : (q : ProcessId) → is_listed tree q ≡ true → Some (core_at q) ≡ core_some (kept_in tree ls h q)
+    some_at q is = some_or (kept_in tree ls h q) (listed_in tree ls h q ∙ is)
+
+    pub logs_at : (f : ProcessId → Option CoreState) → IsTree tree
+        → ((q : ProcessId) → is_listed tree q ≡ true → f q ≡ Some (core_at q))
+        → ls ≡ map (λ e. log_by (f e.id)) tree
+    logs_at f is_tree agree =
+        logs_in tree ls h f (tree_apart tree is_tree) (λ q is. agree q is ∙ some_at q is)
 
 -- a run of the whole tree falls apart by process
 cut_of : (tree : List TreeEntry) (xs : List Entry) (h : CutHolds tree xs) → IsCut tree xs h.world.at
@@ -103,35 +154,74 @@ cut_of tree xs h = record {
   given = h.given;
 }
 
+-- the state that a tree on one thread comes to has them all
+at_end : (tree : List TreeEntry) (xs : List Entry) (core : ProcessId → CoreState) (held : ProcessId → ManagerData)
+    (left : ProcessId → Node) → IsCut tree xs left → (again : MadeTogether tree xs core held)
+    → ((q : ProcessId) → is_listed tree q ≡ true → OwnRun tree q (entries_of q xs) (core q))
+    → IsAtEnd again.end left
+at_end tree xs core held left cut again own = record {
+  cut = subst (λ t. IsCut t again.end.entries left) (sym again.tree_is)
+      (subst (λ l. IsCut tree l left) (sym again.entries) cut);
+  net = again.net ∙ ap net_of (sym again.entries);
+  listed = λ q. listed_by q (is_listed tree q) refl ∙ ap (λ t. is_listed t q) (sym again.tree_is);
+  own = λ q c at. subst (λ t. OwnRun t q (entries_of q again.end.entries) c) (sym again.tree_is)
+      (subst (λ l. OwnRun tree q (entries_of q l) c) (sym again.entries) (own_by q (is_listed tree q) refl c at));
+}
+  where
+    listed_by : (q : ProcessId) (b : Bool) → is_listed tree q ≡ b → is_some (again.end.node_at q) ≡ is_listed tree q
+    listed_by q true is = ap is_some (again.nodes q is) ∙ sym is
+    listed_by q false is = ap is_some (again.listed q is) ∙ sym is
+
+    some_core : (a b : CoreState) → Some a ≡ Some b → a ≡ b
+    some_core a b h = cc
+
+    nothing : (c : CoreState) → None ≡ Some c → ⊥
+    nothing c h = cc
+
+    own_by : (q : ProcessId) (b : Bool) → is_listed tree q ≡ b → (c : CoreState) → again.end.node_at q ≡ Some c
+        → OwnRun tree q (entries_of q xs) c
+    own_by q true is c at =
+        subst (λ d. OwnRun tree q (entries_of q xs) d) (some_core (core q) c (sym (again.nodes q is) ∙ at)) (own q is)
+    own_by q false is c at = absurd (nothing c (sym (again.listed q is) ∙ at))
+
+-- a closed cluster, of which some process keeps this
+closes_with : (d : Kept) (tree : List TreeEntry) (journal : List (ℕ × Entry)) (logs : List (List LogRecord))
+    → IsTree tree → CutHolds tree (entries_in journal) → LeaveLogs tree (entries_in journal) tree logs
+    → IsClosed tree journal logs
+closes_with d tree journal logs is_tree run left =
+    let xs = entries_in journal in
+    let core = core_at tree xs d logs left in
+    let held = held_at tree xs d logs left in
+    let fact = fact_at tree xs d logs left in
+    let again = alone_is_together tree xs core held run.given (λ q is. (fact q is).1) in
+    let cut = cut_of tree xs run in
+    let is_tree' = subst IsTree (sym again.tree_is) is_tree in
+    record {
+      run = run;
+      start = again.start;
+      state = again.end;
+      events = again.events;
+      opens = again.opens;
+      ask = again.ask;
+      leads = again.leads;
+      tree_is = again.tree_is;
+      entries_are = again.entries;
+      modelled = ends_modelled again.end run.world.at is_tree'
+          (at_end tree xs core held run.world.at cut again (λ q is. (fact q is).0));
+      logs_are = logs_at tree xs d logs left again.end.node_at is_tree again.nodes;
+    }
+
 -- a closed cluster
 pub closes : (tree : List TreeEntry) (journal : List (ℕ × Entry)) (logs : List (List LogRecord)) → IsTree tree
     → CutHolds tree (entries_in journal) → LeaveLogs tree (entries_in journal) tree logs
     → IsClosed tree journal logs
-closes tree journal logs is_tree run left =
-    let xs = entries_in journal in
-    let at = core_in tree xs tree logs left in
-    let cut = cut_of tree xs run in
-    let s : WorldState = record {
-      tree = tree;
-      node_at = at;
-      data_at = λ q. no_data;
-      net = net_of xs;
-      delivered = [];
-      entries = xs;
-    } in
-    record {
-      run = run;
-      state = s;
-      tree_is = refl;
-      entries_are = refl;
-      modelled = ends_modelled s run.world.at is_tree (record {
-        cut = cut;
-        net = refl;
-        listed = listed_in tree xs tree logs left;
-        own = own_in tree xs tree logs left;
-      });
-      logs_are = logs_in tree xs tree logs left at (tree_apart tree is_tree) (λ q there. refl);
-    }
+closes [] journal logs is_tree run left = absurd (never is_tree.not_empty)
+  where
+    never : true ≡ false → ⊥
+    never h = cc
+closes (e ∷ es) journal [] is_tree run left = absurd left
+closes (e ∷ es) journal (l ∷ ls) is_tree run left =
+    closes_with (record { core = left.0.core; held = left.0.held }) (e ∷ es) journal (l ∷ ls) is_tree run left
 
 -- the logs of one process more
 pub leave_more : (tree : List TreeEntry) (xs : List Entry) (es : List TreeEntry) (ls : List (List LogRecord))

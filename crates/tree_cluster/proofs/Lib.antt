@@ -3,3 +3,4 @@ mod MemoryAlone
 mod Seating
 mod Leaving
 mod Passing
+mod Posting

@@ -1,17 +1,29 @@
 -- A pass gets longer.
-use Rattle.std.proofs.Common.{◌≡◌, ◌∙◌, ◌+◌, ap, sym, refl, ℕ, zero, suc, List, [], ◌∷◌, ◌++◌, length, add-one, append-nil, append_assoc, length-append, arith}
+use Rattle.std.proofs.Common.{◌≡◌, ◌∙◌, ◌+◌, ap, sym, refl, ℕ, zero, suc, Option, List, [], ◌∷◌, ◌++◌, length, add-one, append-nil, append_assoc, length-append, arith}
 use Rattle.tree_model.specs.declared.events.Entry.{Entry}
-use Rattle.tree_threads.specs.Passes.{NotesOne, PassState}
-use Rattle.tree_cluster.specs.Passes.{IsLonger, new_pass, new_passes}
+use Rattle.std.proofs.lemmas.List.Elements.{All-append, All-cons, All-nil}
+use Rattle.tree_model.specs.declared.events.Event.TheVariants.{Deliver}
+use Rattle.tree_model.specs.declared.names.ProcessId.{ProcessId}
+use Rattle.tree_model.specs.declared.names.Txn.{Txn}
+use Rattle.tree_model.specs.declared.trees.TreeEntry.{TreeEntry}
+use Rattle.tree_threads.specs.Passes.{PassState}
+use Rattle.tree_threads.specs.Posts.{PostsOne}
+use Rattle.tree_cluster.specs.Passes.{IsDelivery, IsLonger, new_pass, new_passes}
 
 pub as_long : (p : PassState) → IsLonger p p
-as_long p = record { caller = refl; more = []; pairs = sym (append-nil p.pairs) }
+as_long p = record {
+  caller = refl;
+  more = [];
+  pairs = sym (append-nil p.pairs);
+  deliver = All-nil IsDelivery;
+}
 
 pub longer_still : (a b c : PassState) → IsLonger a b → IsLonger b c → IsLonger a c
 longer_still a b c one two = record {
   caller = two.caller ∙ one.caller;
   more = one.more ++ two.more;
   pairs = two.pairs ∙ ap (λ l. l ++ two.more) one.pairs ∙ append_assoc a.pairs one.more two.more;
+  deliver = All-append IsDelivery one.more two.more one.deliver two.deliver;
 }
 
 pub same_longer : (a b : PassState) → b ≡ a → IsLonger a b
@@ -19,10 +31,18 @@ same_longer a b same = record {
   caller = ap (λ p. p.caller) same;
   more = [];
   pairs = ap (λ p. p.pairs) same ∙ sym (append-nil a.pairs);
+  deliver = All-nil IsDelivery;
 }
 
-pub noted_longer : (a b : PassState) (place : ℕ) (x : Entry) → NotesOne a b place x → IsLonger a b
-noted_longer a b place x n = record { caller = n.caller; more = (place, x) ∷ []; pairs = n.pairs }
+-- a message was delivered
+pub delivered_longer : (tree : List TreeEntry) (q : ProcessId) (k : ℕ) (a b : PassState) (place : ℕ)
+    (begun : Option Txn) → PostsOne tree q (Deliver k) a b place begun → IsLonger a b
+delivered_longer tree q k a b place begun p = record {
+  caller = p.notes.caller;
+  more = (place, p.entry) ∷ [];
+  pairs = p.notes.pairs;
+  deliver = All-cons IsDelivery (place, p.entry) [] (k, p.is_for.0, p.is_for.1) (All-nil IsDelivery);
+}
 
 -- so many new passes
 pub passes_more : (n : ℕ) → new_passes (n + 1) ≡ new_passes n ++ new_pass n ∷ []

@@ -10,6 +10,8 @@ use Rattle.tree_model.specs.Nodes.{place_of}
 use Rattle.tree_model.specs.Trees.{IsTree}
 use Rattle.core_model.specs.States.{CoreState}
 use Rattle.core_model.specs.Opening.{IsOpened}
+use Rattle.manager_model.specs.Data.{ManagerData, Rests, no_data}
+use Rattle.tree_cut.specs.Alone.{RunsAlone, opens_alone}
 use Rattle.tree_cut.specs.Owns.{OwnRun}
 use Rattle.tree_cut.proofs.Owns.{opens_own}
 use Rattle.tree_node.specs.Openings.{OpenedAs}
@@ -26,6 +28,17 @@ opened_own tree i e s t lt is o =
     let role = role_at tree i e lt is (tree_apart tree t) in
     opens_own tree e.id s o.failures
     (subst (λ r. IsOpened s (record { me = e.id; role = r; tree = tree }) o.failures) (sym role) o.opened)
+
+-- and has no data
+pub opened_by_itself : (tree : List TreeEntry) (i : ℕ) (e : TreeEntry) (s : CoreState) (d : ManagerData) → IsTree tree
+    → i < length tree → e ≡ get_or tree i e → OpenedAs tree e s → Rests no_data d → RunsAlone tree e.id [] s d
+opened_by_itself tree i e s d t lt is o empty =
+    let role = role_at tree i e lt is (tree_apart tree t) in
+    opens_alone s d
+    (record {
+      failures = o.failures;
+      opened = subst (λ r. IsOpened s (record { me = e.id; role = r; tree = tree }) o.failures) (sym role) o.opened;
+    }) empty
 
 -- a tree has a process
 pub tree_has_one : (tree : List TreeEntry) → IsTree tree → 0 < length tree

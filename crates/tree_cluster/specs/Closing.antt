@@ -1,12 +1,15 @@
 -- What a cluster leaves that is closed.
 use Rattle.std.specs.Prelude.{◌≡◌, ℕ, All, Option, Some, None, List, [], ◌∷◌, map}
 use Rattle.tree_model.specs.declared.events.Entry.{Entry}
+use Rattle.tree_model.specs.declared.events.Event.{Event}
 use Rattle.tree_model.specs.declared.records.LogRecord.{LogRecord}
 use Rattle.tree_model.specs.declared.trees.TreeEntry.{TreeEntry}
 use Rattle.rec_log.specs.Sights.{records_of}
 use Rattle.core_model.specs.States.{CoreState}
+use Rattle.core_law.specs.worlds.Runs.{IsOpened}
 use Rattle.core_law.specs.worlds.Ties.{IsModelled}
 use Rattle.core_law.specs.worlds.Worlds.{WorldState}
+use Rattle.tree_cut.specs.Alone.{AskForAll, LeadsOn}
 use Rattle.tree_cut.specs.Owns.{CutHolds}
 use Rattle.tree_ties.specs.Views.{AllIn, Rise, entries_in}
 use Rattle.tree_threads.specs.Locked.{LeavesLog}
@@ -29,10 +32,16 @@ abbrev pub logs_in : WorldState → List TreeEntry → List (List LogRecord)
 logs_in s tree = map (λ e. log_by (s.node_at e.id)) tree
 
 -- Of a closed cluster: the journal is a run, of which the headline holds, and the logs are those of a state that
--- stands for a run with this journal.
+-- stands for a run with this journal. A tree on one thread that has opened comes to that state by the events of the
+-- journal, and makes just these entries.
 pub record IsClosed (tree : List TreeEntry) (journal : List (ℕ × Entry)) (logs : List (List LogRecord)) : Type 0 where
   pub run : CutHolds tree (entries_in journal)
+  pub start : WorldState
   pub state : WorldState
+  pub events : List Event
+  pub opens : IsOpened start tree
+  pub ask : AskForAll (entries_in journal) events
+  pub leads : LeadsOn start events state
   pub tree_is : state.tree ≡ tree
   pub entries_are : state.entries ≡ entries_in journal
   pub modelled : IsModelled state

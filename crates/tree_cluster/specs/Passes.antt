@@ -1,13 +1,21 @@
 -- What callers' passes show.
-use Rattle.std.specs.Prelude.{◌≡◌, ℕ, zero, suc, List, [], ◌∷◌, ◌++◌}
+use Rattle.std.specs.Prelude.{◌≡◌, ℕ, zero, suc, All, List, [], ◌∷◌, ◌++◌}
 use Rattle.tree_model.specs.declared.events.Entry.{Entry}
+use Rattle.tree_model.specs.declared.events.Happening.TheVariants.{Input as Handles}
+use Rattle.tree_model.specs.declared.events.Input.TheVariants.{Message as MessageInput}
+use Rattle.tree_model.specs.declared.messages.Message.{Message}
 use Rattle.tree_threads.specs.Passes.{PassState}
 
--- the pass has more pairs, or as many
+-- a message is delivered in the entry of this pair
+abbrev pub IsDelivery : ℕ × Entry → Type 0
+IsDelivery p = (k : ℕ) × (m : Message) × (p.1.step.happening ≡ Handles (MessageInput k m))
+
+-- The pass has more pairs, or as many: those of messages that were delivered.
 pub record IsLonger (old new : PassState) : Type 0 where
   pub caller : new.caller ≡ old.caller
   pub more : List (ℕ × Entry)
   pub pairs : new.pairs ≡ old.pairs ++ more
+  pub deliver : All IsDelivery more
 
 -- the pass of this caller, of which nothing is noted
 abbrev pub new_pass : ℕ → PassState

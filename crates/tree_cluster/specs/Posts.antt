@@ -1,10 +1,12 @@
 -- What was posted to a cluster.
-use Rattle.std.specs.Prelude.{◌≡◌, ◌+◌, ⊤, ℕ, Option}
+use Rattle.std.specs.Prelude.{◌≡◌, ◌+◌, ⊤, ℕ, Option, List}
 use Rattle.tree_model.specs.declared.names.ProcessId.{ProcessId}
 use Rattle.tree_model.specs.declared.names.Txn.{Txn}
 use Rattle.tree_model.specs.declared.events.Event.{Event}
 use Rattle.tree_model.specs.declared.events.Event.TheVariants.{Act as ActOf, Deliver, Settle, Restart, Trim}
+use Rattle.tree_model.specs.declared.trees.TreeEntry.{TreeEntry}
 use Rattle.tree_model.specs.Plays.{process_of_act}
+use Rattle.tree_model.specs.Trees.{root_of}
 use Rattle.tree_threads.specs.Passes.{PassState}
 use Rattle.tree_threads.specs.Posts.{PostsOne}
 
@@ -16,12 +18,12 @@ IsOf root q Settle = ⊥
 IsOf root q (Restart p bytes) = q ≡ p
 IsOf root q (Trim p) = q ≡ p
 
--- The event was posted at its process in a tree with this root: the pass has one pair more, of an entry of this
--- event and its place, which is answered from 1.
-pub record Posts (root : ProcessId) (event : Event) (old new : PassState) (number : ℕ)
+-- The event was posted at its process in this tree: the pass has one pair more, of an entry of this event and its place,
+-- which is answered from 1.
+pub record Posts (tree : List TreeEntry) (event : Event) (old new : PassState) (number : ℕ)
     (begun : Option Txn) : Type 0 where
   pub process : ProcessId
   pub place : ℕ
   pub number_is : number ≡ place + 1
-  pub is_of : IsOf root process event
-  pub posts : PostsOne process event old new place begun
+  pub is_of : IsOf (root_of tree) process event
+  pub posts : PostsOne tree process event old new place begun

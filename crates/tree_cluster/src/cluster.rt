@@ -3,6 +3,7 @@
 ghost use Rattle.std.specs.Prelude.{◌≡◌, ◌+◌, ◌<◌, ◌≤◌, IfErr, IfOk, OnErr, map};
 ghost use Rattle.tree_model.specs.Plays.{process_of_act};
 ghost use Rattle.tree_model.specs.Trees.{IsTree, root_of as root_in};
+ghost use Rattle.tree_threads.specs.Marks.{ActsHere};
 ghost use Rattle.tree_threads.specs.Posts.{PostsOne};
 ghost use Rattle.tree_cluster.specs.Closing.{AreMet, IsClosed};
 ghost use Rattle.tree_cluster.specs.Opening.{SeatsTree};
@@ -130,7 +131,7 @@ impl<N: Seats> Cluster<N> {
         receiver_in(&mut *ledger, number)
     }
 
-    /// Posts an event of this process, or of none where no process has this name.
+    /// Posts an event of this process, or of none where no process has this name. An act is this process's.
     pub(crate) fn post_at<R: Wait, G: Gate>(
         &self,
         rt: &R,
@@ -140,7 +141,8 @@ impl<N: Seats> Cluster<N> {
         gate: &G,
         turn: Turn,
     ) -> Result<Posted, PostError>
-        ensures ok { IfOk result (λ r. PostsOne process event pass.old pass.new r.place r.begun) }
+        requires { ActsHere (root_in N.tree) process event }
+        ensures ok { IfOk result (λ r. PostsOne N.tree process event pass.old pass.new r.place r.begun) }
         ensures err { OnErr result (pass.new ≡ pass.old) }
     {
         let Some(place) = place_of(self.tree.entries(), process) else {
@@ -176,7 +178,7 @@ impl<N: Seats> Cluster<N> {
         pass: &mut Pass<N>,
         gate: &G,
     ) -> Result<(usize, Option<Txn>), PostError>
-        ensures ok { IfOk result (λ r. Posts (root_in N.tree) event pass.old pass.new r.0 r.1) }
+        ensures ok { IfOk result (λ r. Posts N.tree event pass.old pass.new r.0 r.1) }
         ensures err { OnErr result (pass.new ≡ pass.old) }
     {
         let process = self.process_by(rt, &event)?;
@@ -186,8 +188,9 @@ impl<N: Seats> Cluster<N> {
     }
 
     /// The journal, which is a run, with the caller's number beside each entry; and the logs that this run
-    /// leaves, in the order of the tree. The journal has each pair of each of these passes, under its caller's
-    /// number. Memory: a growth was refused, and the cluster goes on.
+    /// leaves, in the order of the tree. A tree on one thread that makes the events of the journal leaves them, too. The
+    /// journal has each pair of each of these passes, under its caller's number. Memory: a growth was refused, and the
+    /// cluster goes on.
     pub fn close(
         self,
         passes: &mut [Pass<N>],

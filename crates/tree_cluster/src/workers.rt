@@ -17,15 +17,15 @@ use tree_ties::seats::Seats;
 const LOOKS: u32 = 10_000;
 
 impl<N: Seats> Cluster<N> {
-    /// The least message that is open; or none, once all are delivered or a delivery was refused. It waits while
-    /// others deliver.
+    /// A message that is open at a process to which nobody delivers; or none, once all are delivered or a delivery was
+    /// refused. It waits while others deliver.
     fn next_claim<R: Wait>(&self, rt: &R, rounds: &Rounds, holds: bool) -> Option<Claim> {
         for _ in rt.forever() {
             let mut ledger = self.ledger.lock(rt);
             if rounds.is_stopped() {
                 return None;
             }
-            match ledger.claim(holds) {
+            match ledger.claim(self.tree.root(), holds) {
                 Ok(Some(claim)) => return Some(claim),
                 Ok(None) => {}
                 Err(_) => {
@@ -36,12 +36,15 @@ impl<N: Seats> Cluster<N> {
             if ledger.is_quiet() {
                 return None;
             }
-            let _ = self.moved.wait(rt, ledger);
+            ledger.sleep();
+            let mut ledger = self.moved.wait(rt, ledger);
+            ledger.wake();
         }
         unreachable!()
     }
 
-    /// Delivers a message that is claimed. Gives the next claim, if there is an open message.
+    /// Delivers a message that is claimed. Gives the next claim, if there is an open message at a process to which nobody
+    /// delivers.
     fn deliver<R: Wait, G: Gate>(
         &self,
         rt: &R,
@@ -59,7 +62,7 @@ impl<N: Seats> Cluster<N> {
         let event = Event::Deliver(claim.number);
         match self.post_at(rt, claim.to, event, pass, gate, Turn::Worker) {
             Ok(posted) => {
-                if posted.next.is_none() {
+                if posted.is_quiet {
                     self.moved.notify_all();
                 }
                 posted.next
@@ -74,7 +77,7 @@ impl<N: Seats> Cluster<N> {
     /// A delivery was refused: its claim is given back, and the workers stop.
     fn stop<R: Wait>(&self, rt: &R, rounds: &Rounds, claim: Claim, why: PostError) {
         let mut ledger = self.ledger.lock(rt);
-        ledger.give_back(claim.number);
+        ledger.give_back(claim);
         rounds.stop(rt, why);
         drop(ledger);
         self.moved.notify_all();
@@ -150,7 +153,7 @@ impl<N: Seats> Cluster<N> {
                 return None;
             }
             if rounds.is_open() {
-                match ledger.claim(holds) {
+                match ledger.claim(self.tree.root(), holds) {
                     Ok(Some(claim)) => return Some(claim),
                     Ok(None) => {}
                     Err(_) => {
@@ -159,7 +162,9 @@ impl<N: Seats> Cluster<N> {
                     }
                 }
             }
-            let _ = self.called.wait(rt, ledger);
+            ledger.sleep();
+            let mut ledger = self.called.wait(rt, ledger);
+            ledger.wake();
         }
         unreachable!()
     }

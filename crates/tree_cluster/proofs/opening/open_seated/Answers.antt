@@ -1,10 +1,11 @@
 use Rattle.std.proofs.Common.{◌≡◌, [], subst, true}
 use Rattle.tree_model.specs.Nodes.{is_listed}
 use Rattle.tree_model.specs.Trees.{IsTree}
+use Rattle.tree_cut.specs.Alone.{RunsAlone}
 use Rattle.tree_cut.specs.Owns.{OwnRun}
-use Rattle.tree_node.specs.Nodes.{core_of}
+use Rattle.tree_node.specs.Nodes.{core_of, data_of}
 use Rattle.tree_node.specs.Openings.{OpenedAs}
-use Rattle.tree_cluster.proofs.Seating.{any_words, has_name, keeps_journal, opened_own, sits_at}
+use Rattle.tree_cluster.proofs.Seating.{any_words, has_name, keeps_journal, opened_by_itself, opened_own, sits_at}
 use Rattle.tree_cluster.proofs.Apart.{listed_at}
 use Rattle.tree_cluster.proofs.opening.open_seated.Goals as goal
 
@@ -30,6 +31,12 @@ pub new-requires-clause-own : goal.new-requires-clause-own
 new-requires-clause-own g c =
     let e = c.args.entry.now in
     let core = core_of c.in_ok-node.node in
-    let opened = subst (λ t. OpenedAs t e core) c.in_ok-copy.ensures c.in_ok-node.ensures.ok in
-    subst (λ t. OwnRun t e.id [] core) c.requires.tree.1
-    (opened_own c.args.tree.now c.args.place e core c.requires.tree.0 c.requires.entry.0 c.requires.entry.1 opened)
+    let held = data_of c.in_ok-node.node in
+    let opened = subst (λ t. OpenedAs t e core) c.in_ok-copy.ensures c.in_ok-node.ensures.ok in (
+      subst (λ t. OwnRun t e.id [] core) c.requires.tree.1
+          (opened_own c.args.tree.now c.args.place e core c.requires.tree.0 c.requires.entry.0 c.requires.entry.1
+          opened),
+      subst (λ t. RunsAlone t e.id [] core held) c.requires.tree.1
+          (opened_by_itself c.args.tree.now c.args.place e core held c.requires.tree.0 c.requires.entry.0
+          c.requires.entry.1 opened c.in_ok-node.ensures.holdings),
+    )
