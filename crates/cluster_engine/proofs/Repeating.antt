@@ -5,11 +5,11 @@ use Rattle.tree_model.specs.declared.events.Entry.{Entry}
 use Rattle.tree_model.specs.declared.events.Event.{Event}
 use Rattle.core_law.specs.worlds.Runs.{Leads}
 use Rattle.core_law.specs.worlds.Worlds.{Applies, WorldState}
-use Rattle.tree_threads.specs.Posts.{IsFor}
+use Rattle.tree_cut.specs.Alone.{AsksFor}
 use Rattle.cluster_engine.specs.Replays.{AreFor, Repeats, RepeatsOne}
 
 for_more : (xs : List (ℕ × Entry)) (es : List Event) (x : ℕ × Entry) (e : Event) → AreFor xs es
-    → IsFor e x.1.step.happening → AreFor (xs ++ x ∷ []) (es ++ e ∷ [])
+    → AsksFor e x.1.step.happening → AreFor (xs ++ x ∷ []) (es ++ e ∷ [])
 for_more [] [] x e are is = (is, tt)
 for_more [] (f ∷ es) x e are is = absurd are
 for_more (y ∷ xs) [] x e are is = absurd are

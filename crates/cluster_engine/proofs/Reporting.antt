@@ -2,7 +2,6 @@
 use Rattle.std.proofs.Common.{◌≡◌, ◌∙◌, ◌⊎◌, ◌<◌, sym, subst, inl, inr, ℕ, zero, suc, List, [], ◌∷◌, length, Result, Ok, Err, IfOk, arith}
 use Rattle.tree_model.specs.declared.events.Event.{Event}
 use Rattle.tree_model.specs.declared.trees.TreeEntry.{TreeEntry}
-use Rattle.tree_model.specs.Trees.{root_of}
 use Rattle.link_script.specs.Inputs.{IsScript}
 use Rattle.report_io.specs.declared.streams.Failure.{Failure}
 use Rattle.report_io.specs.declared.streams.Failure.TheVariants as failure
@@ -45,7 +44,7 @@ refused_written text_of output tree events count (Ok r) within line status =
 refused_written text_of output tree events count (Err e) within line status = tt
 
 runs_tree : (output : Output) (status : Status) (tree : List TreeEntry) (events : List Event) (q : PassState)
-    (qs : List PassState) (text : List ℕ) → AreMade (root_of tree) events (new_pass 0) q
+    (qs : List PassState) (text : List ℕ) → AreMade tree events (new_pass 0) q
     → TellsClosed output status tree (q ∷ qs) text → RunsTree output status tree events text
 runs_tree output status tree events q qs text made told = record {
   journal = told.journal;
@@ -59,7 +58,7 @@ runs_tree output status tree events q qs text made told = record {
 
 told_so : (output : Output) (status : Status) (tree : List TreeEntry) (events : List Event)
     (rest passes : List PassState) (text : List ℕ)
-    → FirstMade (root_of tree) events (new_pass 0 ∷ rest) passes → TellsClosed output status tree passes text
+    → FirstMade tree events (new_pass 0 ∷ rest) passes → TellsClosed output status tree passes text
     → Writes output status tree events text
 told_so output status tree events rest [] text made told = absurd made
 told_so output Ended tree events rest (q ∷ qs) text made told =
@@ -71,14 +70,14 @@ told_so output Refused tree events rest (q ∷ qs) text made told = absurd told.
 -- what a closed cluster tells is what is written of its run
 pub closed_written : {A E : Type 0} (text_of : A × Status → List ℕ) (output : Output) (tree : List TreeEntry)
     (events : List Event) (workers : ℕ) (given passes : List PassState) (made : Result (A × Status) E)
-    → 0 < workers → given ≡ new_passes workers → FirstMade (root_of tree) events given passes
+    → 0 < workers → given ≡ new_passes workers → FirstMade tree events given passes
     → IfOk made (λ r. TellsClosed output r.1 tree passes (text_of r))
     → IfOk made (λ r. Writes output r.1 tree events (text_of r))
 closed_written text_of output tree events zero given passes made some new first told = absurd (omega (arith, some))
 closed_written text_of output tree events (suc n) given passes (Ok r) some new first told =
     let rest = first_new n in
     told_so output r.1 tree events rest.0 passes (text_of r)
-    (subst (λ l. FirstMade (root_of tree) events l passes) (new ∙ rest.1) first) told
+    (subst (λ l. FirstMade tree events l passes) (new ∙ rest.1) first) told
 closed_written text_of output tree events (suc n) given passes (Err e) some new first told = tt
 
 -- Why nothing is written.

@@ -6,7 +6,7 @@ use Rattle.tree_model.specs.declared.records.LogRecord.{LogRecord}
 use Rattle.tree_model.specs.declared.trees.TreeEntry.{TreeEntry}
 use Rattle.core_law.specs.worlds.Runs.{IsOpened, Leads}
 use Rattle.core_law.specs.worlds.Worlds.{Applies, WorldState}
-use Rattle.tree_threads.specs.Posts.{IsFor}
+use Rattle.tree_cut.specs.Alone.{AsksFor}
 use Rattle.tree_world.specs.Worlds.{logs_at}
 
 -- each of these events asks for what happens in one of these entries, in order
@@ -14,12 +14,12 @@ abbrev pub AreFor : List (ℕ × Entry) → List Event → Type 0
 AreFor [] [] = Unit {0}
 AreFor [] (e ∷ es) = ⊥
 AreFor (x ∷ xs) [] = ⊥
-AreFor (x ∷ xs) (e ∷ es) = IsFor e x.1.step.happening × AreFor xs es
+AreFor (x ∷ xs) (e ∷ es) = AsksFor e x.1.step.happening × AreFor xs es
 
 -- the event of this entry was made
 pub record RepeatsOne (x : Entry) (old new : WorldState) : Type 0 where
   pub event : Event
-  pub is_for : IsFor event x.step.happening
+  pub is_for : AsksFor event x.step.happening
   pub applies : Applies old event new
 
 -- the events of these entries, made one after another, lead from one state of a tree to the other

@@ -6,7 +6,6 @@ use Rattle.tree_model.specs.declared.events.StepError.TheVariants as steps
 use Rattle.tree_model.specs.declared.records.LogRecord.{LogRecord}
 use Rattle.tree_model.specs.declared.trees.TreeEntry.{TreeEntry}
 use Rattle.tree_model.specs.Errors.{step_error_number}
-use Rattle.tree_model.specs.Trees.{root_of}
 use Rattle.trace_lines.specs.Trace.{entries_text}
 use Rattle.link_script.specs.Inputs.{IsScript}
 use Rattle.report_io.specs.declared.status.Status.{Status}
@@ -73,7 +72,7 @@ pub record RunsTree (output : Output) (status : Status) (tree : List TreeEntry) 
   pub logs : List (List LogRecord)
   pub closed : IsClosed tree journal logs
   pub pass : PassState
-  pub made : AreMade (root_of tree) events (new_pass 0) pass
+  pub made : AreMade tree events (new_pass 0) pass
   pub met : IsMet journal pass
   pub tells : Tells output status tree journal logs text
 

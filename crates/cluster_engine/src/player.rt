@@ -1,7 +1,8 @@
 //! The events of a script, made by one caller; the others deliver.
 
-ghost use Rattle.std.specs.Prelude.{◌≡◌, ◌<◌, IfSome, OnOk, length};
-ghost use Rattle.tree_model.specs.Trees.{root_of as root_in};
+ghost use Rattle.std.specs.Prelude.{◌≡◌, ◌<◌, ℕ, IfSome, OnOk, length, slice_index_or};
+ghost use Rattle.tree_threads.specs.Passes.{PassState as AnyPass};
+ghost use Rattle.tree_cluster.specs.Passes.{IsLonger};
 ghost use Rattle.cluster_engine.specs.Made.{AreMade, FirstMade, IsMade, IsPosted};
 
 use std::alloc::Global;
@@ -25,7 +26,7 @@ fn post<N: Seats, R: Wait, G: Gate>(
     gate: &G,
     pass: &mut Pass<N>,
 ) -> Result<(), PostError>
-    ensures { OnOk result (IsPosted (root_in N.tree) event.now pass.old pass.new) }
+    ensures { OnOk result (IsPosted N.tree event.now pass.old pass.new) }
 {
     let copy = event.copied(alloc)?;
     cluster.post(rt, copy, pass, gate)?;
@@ -42,7 +43,7 @@ fn make<N: Seats, R: Wait, G: Gate>(
     gate: &G,
     pass: &mut Pass<N>,
 ) -> Result<(), PostError>
-    ensures { OnOk result (IsMade (root_in N.tree) event.now pass.old pass.new) }
+    ensures { OnOk result (IsMade N.tree event.now pass.old pass.new) }
 {
     match event {
         Event::Settle => cluster.settle(rt, rounds, pass, gate),
@@ -60,7 +61,7 @@ fn make_all<N: Seats, R: Wait, G: Gate>(
     gate: &G,
     pass: &mut Pass<N>,
 ) -> Refusal
-    ensures made { result ≡ None → AreMade (root_in N.tree) events.now pass.old pass.new }
+    ensures made { result ≡ None → AreMade N.tree events.now pass.old pass.new }
     ensures within { IfSome result (λ r. r.0 < length events.now) }
 {
     for (made, event) in events.iter().enumerate() {
@@ -81,7 +82,7 @@ fn lead<N: Seats, R: Wait, G: Gate>(
     gate: &G,
     pass: &mut Pass<N>,
 ) -> Refusal
-    ensures made { result ≡ None → AreMade (root_in N.tree) events.now pass.old pass.new }
+    ensures made { result ≡ None → AreMade N.tree events.now pass.old pass.new }
     ensures within { IfSome result (λ r. r.0 < length events.now) }
 {
     cluster.lead(rounds);
@@ -90,21 +91,26 @@ fn lead<N: Seats, R: Wait, G: Gate>(
     refusal
 }
 
-/// The workers of a run, one for each of these passes.
+/// The workers of a run, one for each of these passes: they deliver messages, and do nothing else.
 fn serve<N: Seats + Send + Sync, R: Threads + Wait + Sync, G: Gate + Sync>(
     rt: &R,
     cluster: &Cluster<N>,
     rounds: &Rounds,
     gate: &G,
     passes: &mut [Pass<N>],
-) {
+)
+    ensures { (i : ℕ) (d : AnyPass) → i < length passes.old
+        → IsLonger (slice_index_or passes.old i d) (slice_index_or passes.new i d) }
+{
     let threads = passes.len();
     if threads > 0 {
         thread::for_each_mut(
             rt,
             passes,
             threads,
-            &|_place, pass: &mut Pass<N>| cluster.serve(rt, rounds, pass, gate),
+            &|_place, pass: &mut Pass<N>|
+                ensures { IsLonger pass.old pass.new }
+            { cluster.serve(rt, rounds, pass, gate) },
         );
     }
 }
@@ -120,7 +126,7 @@ fn lead_and_serve<'a, N: Seats + Send + Sync, R: Threads + Wait + Sync, G: Gate 
     first: &'a mut Pass<N>,
     others: &'a mut [Pass<N>],
 ) -> Refusal
-    ensures made { result ≡ None → AreMade (root_in N.tree) events.now first.old first.new }
+    ensures made { result ≡ None → AreMade N.tree events.now first.old first.new }
     ensures within { IfSome result (λ r. r.0 < length events.now) }
 {
     let (_, refusal) = thread::join_mut(
@@ -141,7 +147,7 @@ pub(crate) fn play<N: Seats + Send + Sync, R: Threads + Wait + Sync, G: Gate + S
     passes: &mut [Pass<N>],
 ) -> Refusal
     requires { 0 < length passes.old }
-    ensures made { result ≡ None → FirstMade (root_in N.tree) events.now passes.old passes.new }
+    ensures made { result ≡ None → FirstMade N.tree events.now passes.old passes.new }
     ensures within { IfSome result (λ r. r.0 < length events.now) }
 {
     let rounds = Rounds::new();

@@ -2,7 +2,7 @@
 
 ghost use Rattle.std.specs.Prelude.{IfOk, IsTrue, map};
 ghost use Rattle.tree_model.specs.Trees.{IsTree};
-ghost use Rattle.tree_threads.specs.Posts.{IsFor};
+ghost use Rattle.tree_cut.specs.Alone.{AsksFor};
 ghost use Rattle.tree_world.specs.Worlds.{state};
 ghost use Rattle.cluster_engine.specs.Replays.{LeavesLogs, Repeats, RepeatsOne, Replays};
 
@@ -25,7 +25,7 @@ fn bytes_of(sizes: &[u64], count: u64) -> u64 {
 
 /// The event of an entry, where the tree has made those before it.
 fn event_of(alloc: Global, world: &World<MemoryStore>, entry: &Entry) -> Result<Event, AllocError>
-    ensures { IfOk result (λ event. IsFor event entry.now.step.happening) }
+    ensures { IfOk result (λ event. AsksFor event entry.now.step.happening) }
 {
     let process = entry.step.process;
     match &entry.step.happening {

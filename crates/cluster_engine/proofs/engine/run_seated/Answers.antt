@@ -1,5 +1,4 @@
 use Rattle.std.proofs.Common.{◌∙◌, refl, subst, sym}
-use Rattle.tree_model.specs.Trees.{root_of}
 use Rattle.tree_cluster.specs.Opening.{SeatsTree}
 use Rattle.cluster_engine.specs.Made.{FirstMade}
 use Rattle.std.proofs.lemmas.Result.{IfErr-weaker}
@@ -20,7 +19,7 @@ returns-in-None-clause-text g c =
     closed_written (λ r. r.0.items) c.args.output c.args.tree c.args.events.now c.args.workers
     c.as_mut_slice-passes.result.now c.play.new.passes c.closed_text.result c.requires.workers.0
     (c.as_mut_slice-passes.ensures.value ∙ c.in-Ok.ensures.passes)
-    (subst (λ t. FirstMade (root_of t) c.args.events.now c.as_mut_slice-passes.result.now c.play.new.passes)
+    (subst (λ t. FirstMade t c.args.events.now c.as_mut_slice-passes.result.now c.play.new.passes)
     (sym c.requires.seats.tree_is) (c.in-None.ensures.made refl))
     c.closed_text.ensures.text
 

@@ -1,9 +1,8 @@
-use Rattle.tree_model.specs.Trees.{root_of}
 use Rattle.cluster_engine.proofs.Making.{made_more}
 use Rattle.cluster_engine.proofs.player.make_all.Goals as goal
 
 pub loop-made-preserved : goal.loop-made-preserved
 loop-made-preserved g c =
-    made_more (root_of g.N.Seats.tree) c.args.events.now c.loop-made.made c.index-events-made.result c.args.pass.now
+    made_more g.N.Seats.tree c.args.events.now c.loop-made.made c.index-events-made.result c.args.pass.now
     c.loop-made.pass c.make.new.pass c.loop-made-test.true c.index-events-made.is c.loop-made.invariant
     c.in_default.ensures

@@ -1,7 +1,6 @@
 use Rattle.std.proofs.Common.{take}
-use Rattle.tree_model.specs.Trees.{root_of}
 use Rattle.cluster_engine.specs.Made.{AreMade}
 use Rattle.cluster_engine.proofs.player.make_all.Given as goal
 
 abbrev pub invariant-loop-made : goal.invariant-loop-made
-invariant-loop-made g l = AreMade (root_of g.N.Seats.tree) (take l.made l.events) l.fn.pass l.pass
+invariant-loop-made g l = AreMade g.N.Seats.tree (take l.made l.events) l.fn.pass l.pass
