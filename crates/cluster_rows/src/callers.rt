@@ -2,57 +2,63 @@
 
 ghost use Rattle.tree_cluster.specs.Opening.{SeatsTree};
 
-use crate::opening::{begin, close, tree};
+use crate::opening::{close, tree};
 use std::alloc::Global;
 use std::marker::Brand;
-use std::sync::Wait;
-use std::sync::atomic::{AtomicU64, Ordering};
+use std::sync::{Mutex, Wait};
 use std::thread;
 use std::thread::Threads;
 use tree_cluster::{Cluster, seats};
-use tree_model::{Entry, Tree};
-use tree_threads::Pass;
+use tree_model::{Act, Entry, Event, Presumption, Tree, Txn};
+use tree_threads::{Open, Pass};
 use tree_ties::seats::{Opened, Seats};
 
 /// So many times each caller begins a transaction.
 const TIMES: u64 = 100;
 
-/// A caller begins transactions, and counts those that were answered.
+/// What a caller was answered: its number, the place of the entry, from 1, and the transaction.
+type Answer = (u64, usize, Txn);
+
+/// A caller begins a transaction.
+fn begin<N: Seats, R: Wait>(rt: &R, cluster: &Cluster<N>, pass: &mut Pass<N>) -> Option<Answer> {
+    let begin = Event::Act(Act::Begin(Presumption::PresumeAbort));
+    let (number, begun) = cluster.post(rt, begin, pass, &Open).ok()?;
+    Some((pass.caller(), number, begun?))
+}
+
+/// A caller begins transactions, and notes what it was answered.
 fn begin_all<N: Seats, R: Wait>(
     rt: &R,
     cluster: &Cluster<N>,
     pass: &mut Pass<N>,
-    answered: &AtomicU64,
+    answers: &Mutex<Vec<Answer>>,
 ) {
     for _ in 0..TIMES {
-        if begin(rt, cluster, pass).is_some() {
-            answered.fetch_add(1, Ordering::SeqCst);
+        if let Some(answer) = begin(rt, cluster, pass) {
+            let _ = answers.lock(rt).push(answer);
         }
     }
 }
 
-/// How many entries of the caller with this number began a transaction.
-fn begun_by(journal: &[(u64, Entry)], caller: u64) -> u64 {
-    let mut count: u64 = 0;
-    for (by, entry) in journal {
-        if *by == caller && entry.reaction.begun.is_some() {
-            count = count.saturating_add(1);
-        }
+/// Whether the entry at the answered place is the caller's, and began the transaction.
+fn is_there(journal: &[(u64, Entry)], answer: &Answer) -> bool {
+    let (caller, number, txn) = answer;
+    match journal.get(number.saturating_sub(1)) {
+        None => false,
+        Some((by, entry)) => by == caller && entry.reaction.begun == Some(*txn),
     }
-    count
 }
 
-/// Whether each of the four callers has as many transactions in the journal as it began, and so many were
-/// answered.
-fn are_answered(journal: &[(u64, Entry)], answered: u64) -> bool {
-    let mut holds = journal.len() as u64 == 4 * TIMES;
-    for caller in 0..4 {
-        holds = holds && begun_by(journal, caller) == TIMES;
+/// Whether the journal has one entry for each answer, each at the place that was answered.
+fn are_answered(journal: &[(u64, Entry)], answers: &[Answer]) -> bool {
+    let mut holds = journal.len() as u64 == 4 * TIMES && answers.len() == journal.len();
+    for answer in answers {
+        holds = holds && is_there(journal, answer);
     }
-    holds && answered == 4 * TIMES
+    holds
 }
 
-/// Four callers begin transactions at the same time: each has as many in the journal as were answered.
+/// Four callers begin transactions at the same time: each that was answered is in the journal, at its place.
 fn begin_at_once<N: Seats + Send + Sync, R: Threads + Wait + Sync>(
     rt: &R,
     alloc: Global,
@@ -64,15 +70,16 @@ fn begin_at_once<N: Seats + Send + Sync, R: Threads + Wait + Sync>(
     let Ok((cluster, mut passes)) = Cluster::<N>::new(alloc, tree, opened, 4) else {
         return None;
     };
-    let answered = AtomicU64::new(0);
+    let answers = Mutex::new(Vec::new(alloc));
     thread::for_each_mut(
         rt,
         passes.as_mut_slice(),
         4,
-        &|_place, pass: &mut Pass<N>| { begin_all(rt, &cluster, pass, &answered) },
+        &|_place, pass: &mut Pass<N>| { begin_all(rt, &cluster, pass, &answers) },
     );
     let (journal, _) = close(cluster, passes.as_mut_slice())?;
-    Some(are_answered(&journal, answered.load(Ordering::SeqCst)))
+    let answers = answers.into_inner();
+    Some(are_answered(&journal, &answers))
 }
 
 /// Whether each answered call stands in the journal.

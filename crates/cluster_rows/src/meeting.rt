@@ -7,7 +7,7 @@ use crate::opening::{begin, close, deliver_by, tree};
 use std::alloc::Global;
 use std::marker::Brand;
 use std::sync::Wait;
-use std::sync::atomic::{AtomicBool, Ordering};
+use std::sync::atomic::{AtomicBool, AtomicU64, Ordering};
 use std::thread;
 use std::thread::Threads;
 use tree_cluster::{Cluster, seats};
@@ -28,26 +28,35 @@ fn wait_a_turn() {
     }
 }
 
-/// A gate that holds a step of process 2 until process 3 has stepped.
+/// A gate that holds a step of process 2 until process 3 has stepped, and a step of process 3 until process 2 has.
 #[derive(Drop)]
 struct Meeting {
-    stepped: AtomicBool,
-    met: AtomicBool,
+    first: AtomicBool,
+    second: AtomicBool,
+    met: AtomicU64,
+}
+
+impl Meeting {
+    /// A process has stepped, and waits for the other.
+    fn meet(&self, mine: &AtomicBool, other: &AtomicBool) {
+        mine.store(true, Ordering::SeqCst);
+        for _ in 0..TURNS {
+            if other.load(Ordering::SeqCst) {
+                self.met.fetch_add(1, Ordering::SeqCst);
+                return;
+            }
+            wait_a_turn();
+        }
+    }
 }
 
 impl Gate for Meeting {
     fn before<R: Wait>(&self, _rt: &R, process: ProcessId) {
-        if process.0 == 3 {
-            self.stepped.store(true, Ordering::SeqCst);
-        }
         if process.0 == 2 {
-            for _ in 0..TURNS {
-                if self.stepped.load(Ordering::SeqCst) {
-                    self.met.store(true, Ordering::SeqCst);
-                    return;
-                }
-                wait_a_turn();
-            }
+            self.meet(&self.first, &self.second);
+        }
+        if process.0 == 3 {
+            self.meet(&self.second, &self.first);
         }
     }
 
@@ -56,7 +65,7 @@ impl Gate for Meeting {
     }
 }
 
-/// The root invites two managers, and workers deliver: the first's step is held until the second's is made.
+/// The root invites two managers, and workers deliver: the step of each is held until that of the other is made.
 fn deliver_two<N: Seats + Send + Sync, R: Threads + Wait + Sync>(
     rt: &R,
     cluster: &Cluster<N>,
@@ -86,12 +95,13 @@ fn meet<N: Seats + Send + Sync, R: Threads + Wait + Sync>(
         return None;
     };
     let gate = Meeting {
-        stepped: AtomicBool::new(false),
-        met: AtomicBool::new(false),
+        first: AtomicBool::new(false),
+        second: AtomicBool::new(false),
+        met: AtomicU64::new(0),
     };
     let delivered = deliver_two(rt, &cluster, &gate, passes.as_mut_slice());
     let closed = close(cluster, passes.as_mut_slice());
-    Some(delivered.is_some() && closed.is_some() && gate.met.load(Ordering::SeqCst))
+    Some(delivered.is_some() && closed.is_some() && gate.met.load(Ordering::SeqCst) == 2)
 }
 
 /// Whether they meet.
