@@ -180,3 +180,14 @@ spots_entered spots xs x n m are count messages =
     let z : n ≡ 0 + length xs = omega (arith, count) in
     ap (λ l. l ++ spots_at n m) are ∙ ap (λ k. spots_of 0 xs ++ spots_at k m) z
     ∙ ap (λ k. spots_of 0 xs ++ spots_at (0 + length xs) k) messages ∙ more_spots 0 xs x
+
+-- there are as many spots as messages
+pub spots_sent : (n : ℕ) (xs : List (ℕ × Entry)) → length (spots_of n xs) ≡ length (net_of (entries_of xs))
+spots_sent n [] = refl
+spots_sent n (x ∷ xs) =
+    let m = length x.1.reaction.messages in
+    let here = length-append (spots_at n m) (spots_of (suc n) xs) in
+    let there = length-append x.1.reaction.messages (net_of (entries_of xs)) in
+    let long = length_spots n m in
+    let rest = spots_sent (suc n) xs in
+    omega (arith, here, there, long, rest)

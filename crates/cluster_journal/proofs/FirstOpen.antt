@@ -1,21 +1,18 @@
 -- The first open message to a process.
-use Rattle.std.proofs.Common.{◌≡◌, ◌⊎◌, ◌∙◌, ap, sym, subst, refl, inl, inr, ℕ, zero, suc, ◌+◌, ◌<◌, ◌≤◌, Bool, true, false, ◌&&◌, if◌then◌else◌, All, Option, Some, None, List, [], ◌∷◌, ◌++◌, length, get_or, slice_set, take, arith}
-use Rattle.std.proofs.lemmas.List.{length-append, length-set, take-append-le}
-use Rattle.std.proofs.lemmas.List.Elements.{All-weaker}
+use Rattle.std.proofs.Common.{◌≡◌, ◌⊎◌, ◌∙◌, ap, sym, subst, refl, inl, inr, ℕ, zero, suc, ◌+◌, ◌<◌, ◌≤◌, Bool, true, false, ◌&&◌, if◌then◌else◌, Option, Some, None, List, [], ◌∷◌, length, get_or, slice_set, take, arith}
 use Rattle.std.proofs.lemmas.Option.{slice_get-get_or, slice_get_past}
 use Rattle.tree_model.specs.declared.names.ProcessId.{ProcessId}
 use Rattle.tree_model.specs.Names.{same_process}
 use Rattle.cluster_journal.specs.declared.marks.Mark.{Mark}
 use Rattle.cluster_journal.specs.declared.marks.Mark.TheVariants.{Open, Claimed, Delivered}
 use Rattle.cluster_journal.specs.declared.marks.Marked.{Marked}
-use Rattle.cluster_journal.specs.declared.marks.Receiver.{Receiver}
-use Rattle.cluster_journal.specs.Marks.{IsSettled, StaySettled, first_open, given_back, is_open, is_open_to, marked, marked_at, reopened, reopened_from}
+use Rattle.cluster_journal.specs.Marks.{first_open, given_back, is_open, is_open_to, marked, marked_at, reopened, reopened_from}
 
-rest_none : (b : Bool) (k : ℕ) (o : Option ℕ) → (if b then Some k else o) ≡ None → o ≡ None
+pub rest_none : (b : Bool) (k : ℕ) (o : Option ℕ) → (if b then Some k else o) ≡ None → o ≡ None
 rest_none true k o h = absurd (cc)
 rest_none false k o h = h
 
-none_if : (b : Bool) (k : ℕ) (o : Option ℕ) → b ≡ false → o ≡ None → (if b then Some k else o) ≡ None
+pub none_if : (b : Bool) (k : ℕ) (o : Option ℕ) → b ≡ false → o ≡ None → (if b then Some k else o) ≡ None
 none_if true k o is h = absurd (cc)
 none_if false k o is h = h
 
@@ -71,7 +68,7 @@ take_set (x ∷ ms) zero m (suc n) le = absurd (omega arith)
 take_set (x ∷ ms) (suc p) m (suc n) le = ap (λ l. x ∷ l) (take_set ms p m n (omega arith))
 
 -- a message that is claimed or delivered opens nothing
-closed_none : (q : ProcessId) (k n : ℕ) (ms : List Marked) (p : ℕ) (m : Marked) → is_open_to q m ≡ false
+pub closed_none : (q : ProcessId) (k n : ℕ) (ms : List Marked) (p : ℕ) (m : Marked) → is_open_to q m ≡ false
     → first_open q k (take n ms) ≡ None → first_open q k (take n (slice_set ms p m)) ≡ None
 closed_none q k n [] p m closed h = h
 closed_none q k zero (x ∷ ms) zero m closed h = refl
@@ -84,7 +81,7 @@ closed_none q k (suc n) (x ∷ ms) (suc p) m closed h =
     (λ none. closed_none q (k + 1) n ms p m closed none)
 
 -- a shorter front has no more that are open
-less_none : (q : ProcessId) (k : ℕ) (ms : List Marked) (n s : ℕ) → n ≤ s → first_open q k (take s ms) ≡ None
+pub less_none : (q : ProcessId) (k : ℕ) (ms : List Marked) (n s : ℕ) → n ≤ s → first_open q k (take s ms) ≡ None
     → first_open q k (take n ms) ≡ None
 less_none q k [] zero s le h = refl
 less_none q k [] (suc n) s le h = refl
@@ -94,71 +91,9 @@ less_none q k (x ∷ ms) (suc n) (suc s) le h =
     goes_by (is_open_to q x) k (first_open q (k + 1) (take s ms)) (first_open q (k + 1) (take n ms)) h
     (λ none. less_none q (k + 1) ms n s (omega (arith, le)) none)
 
--- Receivers.
-
-closed_to : (q : ProcessId) (m : Marked) → is_open m.mark ≡ false → is_open_to q m ≡ false
+-- a message that nobody may take opens nothing
+pub closed_to : (q : ProcessId) (m : Marked) → is_open m.mark ≡ false → is_open_to q m ≡ false
 closed_to q m closed = ap (λ b. b && same_process q m.to) closed
-
--- a message that is claimed or delivered leaves each receiver settled
-pub settled_closed : (ms : List Marked) (p : ℕ) (m : Marked) (r : Receiver) → is_open m.mark ≡ false → IsSettled ms r
-    → IsSettled (slice_set ms p m) r
-settled_closed ms p m r closed h = record {
-  within = subst (λ n. r.settled ≤ n) (sym (length-set ms p m)) h.within;
-  none = closed_none r.process 1 r.settled ms p m (closed_to r.process m closed) h.none;
-}
-
-pub all_closed : (ms : List Marked) (p : ℕ) (m : Marked) (rs : List Receiver) → is_open m.mark ≡ false
-    → All (IsSettled ms) rs → All (IsSettled (slice_set ms p m)) rs
-all_closed ms p m rs closed h =
-    All-weaker (IsSettled ms) (IsSettled (slice_set ms p m)) (λ r is. settled_closed ms p m r closed is) rs h
-
--- so do messages more
-settled_more : (ms more : List Marked) (r : Receiver) → IsSettled ms r → IsSettled (ms ++ more) r
-settled_more ms more r h = record {
-  within = let long = length-append ms more in let low = h.within in omega (arith, long, low);
-  none = ap (λ l. first_open r.process 1 l) (take-append-le r.settled ms more h.within) ∙ h.none;
-}
-
-pub all_more : (ms more : List Marked) (rs : List Receiver) → All (IsSettled ms) rs → All (IsSettled (ms ++ more)) rs
-all_more ms more rs h =
-    All-weaker (IsSettled ms) (IsSettled (ms ++ more)) (λ r is. settled_more ms more r is) rs h
-
--- a receiver is settled up to a place before which it was, and before which nothing changed
-pub settled_lower : (ms : List Marked) (p : ℕ) (m : Marked) (r s : Receiver) → s.process ≡ r.process
-    → s.settled ≤ r.settled → s.settled ≤ p → IsSettled ms r → IsSettled (slice_set ms p m) s
-settled_lower ms p m r s same low before h = record {
-  within = let long = length-set ms p m in let within = h.within in omega (arith, long, low, within);
-  none = ap (λ l. first_open s.process 1 l) (take_set ms p m s.settled before)
-      ∙ subst (λ q. first_open q 1 (take s.settled ms) ≡ None) (sym same)
-      (less_none r.process 1 ms s.settled r.settled low h.none);
-}
-
--- a receiver is settled up to an earlier place, too
-pub settled_less : (ms : List Marked) (r s : Receiver) → s.process ≡ r.process → s.settled ≤ r.settled → IsSettled ms r
-    → IsSettled ms s
-settled_less ms r s same low h = record {
-  within = let within = h.within in omega (arith, low, within);
-  none = subst (λ q. first_open q 1 (take s.settled ms) ≡ None) (sym same)
-      (less_none r.process 1 ms s.settled r.settled low h.none);
-}
-
--- it is settled up to its first open message, which is changed
-pub settled_here : (ms : List Marked) (p : ℕ) (m : Marked) (s : Receiver) → s.settled ≡ p → p < length ms
-    → first_open s.process 1 (take p ms) ≡ None → IsSettled (slice_set ms p m) s
-settled_here ms p m s at lt none = record {
-  within = let long = length-set ms p m in omega (arith, long, at, lt);
-  none = subst (λ n. first_open s.process 1 (take n (slice_set ms p m)) ≡ None) (sym at)
-      (ap (λ l. first_open s.process 1 l) (take_set ms p m p (omega arith)) ∙ none);
-}
-
--- the receiver itself, where its counts alone are otherwise
-pub settled_so : (ms : List Marked) (r s : Receiver) → s.process ≡ r.process → s.settled ≡ r.settled → IsSettled ms r
-    → IsSettled ms s
-settled_so ms r s same place h = record {
-  within = subst (λ n. n ≤ length ms) (sym place) h.within;
-  none = subst (λ n. first_open s.process 1 (take n ms) ≡ None) (sym place)
-      (subst (λ q. first_open q 1 (take r.settled ms) ≡ None) (sym same) h.none);
-}
 
 -- Marks by number.
 

@@ -1,2 +1,4 @@
-pub mod FirstOpen
-pub mod Finding
+mod Delivering
+mod Finding
+mod FirstOpen
+mod Telling

@@ -1,11 +1,14 @@
 -- The journal of a cluster, as the definitions see it.
-use Rattle.std.specs.Prelude.{ℕ, List, map}
+use Rattle.std.specs.Prelude.{◌≡◌, ◌<◌, ℕ, suc, Some, List, length, map, slice_get}
 use Rattle.tree_model.specs.declared.events.Entry.{Entry}
 use Rattle.tree_model.specs.declared.events.Happening.{Happening}
 use Rattle.tree_model.specs.declared.events.Happening.TheVariants.{Input as Handles}
 use Rattle.tree_model.specs.declared.events.Input.TheVariants.{Message as MessageInput}
 use Rattle.cluster_journal.specs.declared.marks.Marked.{Marked}
 use Rattle.cluster_journal.specs.declared.marks.Mark.TheVariants.{Delivered}
+use Rattle.tree_model.specs.declared.messages.Message.{Message}
+use Rattle.tree_model.specs.declared.names.ProcessId.{ProcessId}
+use Rattle.tree_cut.specs.Cuts.{net_of}
 use Rattle.cluster_journal.specs.Marks.{marked}
 
 -- Every entry with its caller's number, the oldest first; how many of the last ones are not placed yet; and
@@ -23,3 +26,21 @@ entries_of xs = map (λ x. x.1) xs
 abbrev pub marked_by : Happening → List Marked → List Marked
 marked_by (Handles (MessageInput k m)) ms = marked ms k Delivered
 marked_by _ ms = ms
+
+-- one of these entries delivers the message with this number
+pub record IsDelivered (xs : List (ℕ × Entry)) (number : ℕ) : Type 0 where
+  pub place : ℕ
+  pub caller : ℕ
+  pub entry : Entry
+  pub message : Message
+  pub stands : slice_get xs place ≡ Some (caller, entry)
+  pub happens : entry.step.happening ≡ Handles (MessageInput number message)
+
+-- of each message that is marked as delivered that is so
+abbrev pub AreDelivered : List Marked → List (ℕ × Entry) → Type 0
+AreDelivered ms xs = (k : ℕ) (to : ProcessId) → slice_get ms k ≡ Some (record { to = to; mark = Delivered })
+    → IsDelivered xs (suc k)
+
+-- it is so of each message that these entries send
+abbrev pub AllDelivered : List (ℕ × Entry) → Type 0
+AllDelivered xs = (k : ℕ) → k < length (net_of (entries_of xs)) → IsDelivered xs (suc k)

@@ -1,5 +1,5 @@
 -- What became of each message.
-use Rattle.std.specs.Prelude.{◌≡◌, ◌+◌, ◌≤◌, ℕ, zero, suc, All, Bool, true, false, ◌&&◌, if◌then◌else◌, Option, Some, None, List, [], ◌∷◌, length, take, slice_get, slice_set}
+use Rattle.std.specs.Prelude.{◌≡◌, ◌⊎◌, ◌+◌, ◌<◌, ◌≤◌, ℕ, zero, suc, All, Contains, count_by, Bool, true, false, ◌&&◌, if◌then◌else◌, Option, Some, None, List, [], ◌∷◌, length, map, take, slice_get, slice_set}
 use Rattle.tree_model.specs.declared.names.ProcessId.{ProcessId}
 use Rattle.tree_model.specs.declared.messages.Envelope.{Envelope}
 use Rattle.tree_model.specs.Names.{same_process}
@@ -51,11 +51,57 @@ abbrev pub given_back : List Marked → ℕ → List Marked
 given_back ms zero = ms
 given_back ms (suc k) = reopened ms k (slice_get ms k)
 
--- no message to this receiver is open before the place that it names
-pub record IsSettled (ms : List Marked) (r : Receiver) : Type 0 where
+-- whether a mark says that somebody delivers the message now
+abbrev pub is_claimed : Mark → Bool
+is_claimed Claimed = true
+is_claimed _ = false
+
+-- whether somebody delivers the message now, which is sent to this process
+abbrev pub is_claimed_to : ProcessId → Marked → Bool
+is_claimed_to q m = is_claimed m.mark && same_process q m.to
+
+-- how many messages to this process are open
+abbrev pub open_to : ProcessId → List Marked → ℕ
+open_to q ms = count_by (is_open_to q) ms
+
+-- how many messages to this process somebody delivers now
+abbrev pub claimed_to : ProcessId → List Marked → ℕ
+claimed_to q ms = count_by (is_claimed_to q) ms
+
+-- Nothing is to be claimed: where a message to a process is open, somebody delivers another to it.
+abbrev pub NoneToClaim : List Marked → Type 0
+NoneToClaim ms = (q : ProcessId) → (first_open q 1 ms ≡ None) ⊎ (0 < claimed_to q ms)
+
+-- each message is delivered
+abbrev pub AreAllDelivered : List Marked → Type 0
+AreAllDelivered ms = All (λ m. m.mark ≡ Delivered) ms
+
+-- a count of 1, if so
+abbrev pub one_if : Bool → ℕ
+one_if true = 1
+one_if false = 0
+
+-- Of these messages: none to this receiver is open before the place that it names, and so many to it are open, and
+-- claimed, as it says.
+pub record IsTold (ms : List Marked) (r : Receiver) : Type 0 where
   pub within : r.settled ≤ length ms
   pub none : first_open r.process 1 (take r.settled ms) ≡ None
+  pub waiting : r.waiting ≡ open_to r.process ms
+  pub claimed : r.claimed ≡ claimed_to r.process ms
 
--- where that is so of the first list of receivers it is of the second
-abbrev pub StaySettled : List Receiver → List Receiver → Type 0
-StaySettled old new = (ms : List Marked) → All (IsSettled ms) old → All (IsSettled ms) new
+-- the processes of these receivers
+abbrev pub processes_of : List Receiver → List ProcessId
+processes_of rs = map (λ r. r.process) rs
+
+-- these are the messages' receivers, and what they tell of them is so
+pub record AreTold (ms : List Marked) (rs : List Receiver) : Type 0 where
+  pub told : All (IsTold ms) rs
+  pub listed : All (λ m. Contains (processes_of rs) m.to) ms
+
+-- a worker may be sent to this receiver
+abbrev pub IsFree : Receiver → Type 0
+IsFree r = (r.claimed ≡ 0) × (0 < r.waiting)
+
+-- no worker may
+abbrev pub IsNotFree : Receiver → Type 0
+IsNotFree r = (r.waiting ≡ 0) ⊎ (0 < r.claimed)

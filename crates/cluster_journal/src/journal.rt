@@ -1,11 +1,11 @@
 //! The journal of a cluster.
 
-ghost use Rattle.std.specs.Prelude.{◌≡◌, ◌+◌, ◌-◌, ◌++◌, ◌∷◌, [], OnOk, OnErr, IfSome, IfNone, None, Some, length};
+ghost use Rattle.std.specs.Prelude.{◌≡◌, ◌+◌, ◌-◌, ◌++◌, ◌∷◌, [], IsTrue, OnOk, OnErr, IfSome, IfNone, None, Some, length};
 ghost use Rattle.std.specs.Option.{option_copied};
 ghost use Rattle.tree_model.specs.Plays.{sent_as};
 ghost use Rattle.tree_cut.specs.Cuts.{net_of};
-ghost use Rattle.cluster_journal.specs.Journals.{entries_of, marked_by};
-ghost use Rattle.cluster_journal.specs.Marks.{first_open, given_back, marked};
+ghost use Rattle.cluster_journal.specs.Journals.{AllDelivered, entries_of, marked_by};
+ghost use Rattle.cluster_journal.specs.Marks.{NoneToClaim, claimed_to, first_open, given_back, marked};
 ghost use Rattle.cluster_journal.specs.Spots.{message_in};
 ghost use Rattle.cluster_journal.specs.declared.marks.Mark.TheVariants as kinds;
 
@@ -16,7 +16,7 @@ use std::alloc::{AllocError, Global};
 use std::collections::LinkedList;
 use std::marker::Model;
 use std::sync::Wait;
-use tree_model::{Entry, Envelope, Happening, Input, ProcessId};
+use tree_model::{Entry, Envelope, ProcessId};
 
 /// Every entry with its caller's number, and what became of each message.
 #[derive(Drop)]
@@ -33,7 +33,7 @@ pub struct ClusterJournal {
 
 impl Model for ClusterJournal {
     ghost use Rattle.std.specs.Prelude.{◌≡◌, ◌++◌, length};
-    ghost use Rattle.cluster_journal.specs.Journals.{ClusterState};
+    ghost use Rattle.cluster_journal.specs.Journals.{AreDelivered, ClusterState};
     ghost use Rattle.cluster_journal.specs.Spots.{spots_of};
 
     ghost Value = { ClusterState };
@@ -45,7 +45,8 @@ impl Model for ClusterJournal {
     } };
 
     ghost invariant = { λ j. (j.spots.items ≡ spots_of 0 j.placed.items)
-        × (length j.marks ≡ length j.spots.items) };
+        × (length j.marks ≡ length j.spots.items)
+        × AreDelivered j.marks (j.placed.items ++ j.late) };
 }
 
 /// No journal has as many entries as would fail here.
@@ -135,17 +136,19 @@ impl ClusterJournal {
     pub fn claim(&mut self, near: ProcessId) -> Option<Claim>
         ensures entries { (self.new.entries ≡ self.old.entries) × (self.new.late ≡ self.old.late) }
         ensures found { IfSome result (λ c. (first_open c.to 1 self.old.marks ≡ Some c.number)
+            × (claimed_to c.to self.old.marks ≡ 0)
             × (self.new.marks ≡ marked self.old.marks c.number kinds.Claimed)) }
-        ensures none { IfNone result (self.new.marks ≡ self.old.marks) }
+        ensures none { IfNone result (NoneToClaim self.old.marks × (self.new.marks ≡ self.old.marks)) }
     {
         self.marks.claim(near)
     }
 
-    /// Nobody delivers a message to this process any more.
-    pub fn end_claim(&mut self, process: ProcessId)
-        ensures { self.new ≡ self.old }
+    /// Whether each message is delivered, where all entries are placed.
+    pub fn are_delivered(&self) -> bool
+        requires { self.now.late ≡ 0 }
+        ensures { IsTrue result → AllDelivered self.now.entries }
     {
-        self.marks.end_claim(process);
+        self.marks.are_delivered()
     }
 
     /// How many messages are open at processes to which nobody delivers.
@@ -168,9 +171,7 @@ impl ClusterJournal {
         ensures entries { self.new.entries ≡ self.old.entries ++ (caller, entry) ∷ [] }
         ensures marks { self.new.marks ≡ marked_by entry.step.happening self.old.marks }
     {
-        if let Happening::Input(Input::Message(number, _)) = &entry.step.happening {
-            self.marks.deliver(*number);
-        }
+        self.marks.note(&entry.step.happening);
         link(rt, &mut self.late, &mut room.fill(caller, entry));
     }
 

@@ -1,14 +1,32 @@
 //! What became of each message, and whose turn it is to receive one.
 
-ghost use Rattle.std.specs.Prelude.{◌≡◌, ◌+◌, ◌<◌, ◌≤◌, ◌⊎◌, ◌++◌, [], All, IsTrue, List, OnOk, OnErr, IfSome, IfNone, None, Some, length, map, slice_set, take};
+ghost use Rattle.std.specs.Prelude.{◌≡◌, ◌≢◌, ◌+◌, ◌<◌, ◌≤◌, ◌⊎◌, ◌^◌, ◌++◌, ◌∷◌, [], All, Contains, HoldsAt, IsTrue, List, OnOk, OnErr, IfSome, IfNone, None, Some, length, map, take, true, false};
 ghost use Rattle.std.specs.Vec.{vec_capacity, vec_len};
-ghost use Rattle.cluster_journal.specs.Marks.{IsSettled, StaySettled, first_open, given_back, is_open, is_open_to, marked, sent_to};
+ghost use Rattle.cluster_journal.specs.Journals.{marked_by};
+ghost use Rattle.cluster_journal.specs.Marks.{
+  AreAllDelivered,
+  AreTold,
+  IsFree,
+  IsNotFree,
+  IsTold,
+  NoneToClaim,
+  claimed_to,
+  first_open,
+  given_back,
+  is_claimed,
+  is_open,
+  is_open_to,
+  marked,
+  one_if,
+  processes_of,
+  sent_to,
+};
 ghost use Rattle.cluster_journal.specs.declared.marks.Marked.{Marked as AnyMarked};
 ghost use Rattle.cluster_journal.specs.declared.marks.Mark.TheVariants as kinds;
 
 use std::alloc::{AllocError, Global};
 use std::marker::Model;
-use tree_model::{Envelope, ProcessId};
+use tree_model::{Envelope, Happening, Input, ProcessId};
 
 /// What became of a message.
 #[derive(Clone, Copy, PartialEq, Eq)]
@@ -30,8 +48,7 @@ pub struct Marked {
     pub mark: Mark,
 }
 
-/// A process to which messages were sent. Contracts speak of `process` and `settled` alone; the rest says where a worker
-/// is to look, and a wrong count has it look in vain.
+/// A process to which messages were sent, and where it stands.
 #[derive(Clone, Copy)]
 pub(crate) struct Receiver {
     /// Its name.
@@ -39,9 +56,9 @@ pub(crate) struct Receiver {
     /// No message to it before this place is open.
     pub(crate) settled: usize,
     /// So many messages to it are open.
-    pub(crate) open: usize,
-    /// Somebody delivers one to it.
-    pub(crate) is_busy: bool,
+    pub(crate) waiting: usize,
+    /// So many messages to it are claimed: one, or none.
+    pub(crate) claimed: usize,
 }
 
 /// A message that somebody delivers now.
@@ -61,15 +78,15 @@ pub(crate) struct Marks {
 }
 
 impl Model for Marks {
-    ghost use Rattle.std.specs.Prelude.{All, List};
+    ghost use Rattle.std.specs.Prelude.{List};
     ghost use Rattle.cluster_journal.specs.declared.marks.Marked.{Marked as AnyMarked};
-    ghost use Rattle.cluster_journal.specs.Marks.{IsSettled};
+    ghost use Rattle.cluster_journal.specs.Marks.{AreTold};
 
     ghost Value = { List AnyMarked };
 
     ghost view = { λ m. m.marks.items };
 
-    ghost invariant = { λ m. All (IsSettled m.marks.items) m.receivers.items };
+    ghost invariant = { λ m. AreTold m.marks.items m.receivers.items };
 }
 
 impl Marks {
@@ -90,8 +107,7 @@ impl Marks {
     {
         self.marks.reserve(messages.len())?;
         self.receivers.reserve(messages.len())?;
-        add_marks(&mut self.marks, messages);
-        add_receivers(&mut self.receivers, messages);
+        add_all(&mut self.marks, &mut self.receivers, messages);
         Ok(())
     }
 
@@ -99,45 +115,48 @@ impl Marks {
     /// the one with the most.
     pub(crate) fn claim(&mut self, near: ProcessId) -> Option<Claim>
         ensures found { IfSome result (λ c. (first_open c.to 1 self.old ≡ Some c.number)
-            × (self.new ≡ marked self.old c.number kinds.Claimed)) }
-        ensures none { IfNone result (self.new ≡ self.old) }
+            × (claimed_to c.to self.old ≡ 0) × (self.new ≡ marked self.old c.number kinds.Claimed)) }
+        ensures none { IfNone result (NoneToClaim self.old × (self.new ≡ self.old)) }
     {
-        let place = picked(&self.receivers, near)?;
-        claim_for(&mut self.marks, &mut self.receivers, place)
+        match picked(&self.receivers, near) {
+            None => None,
+            Some(place) => Some(claim_for(&mut self.marks, &mut self.receivers, place)),
+        }
     }
 
-    /// Nobody delivers a message to this process any more.
-    pub(crate) fn end_claim(&mut self, process: ProcessId)
-        ensures { self.new ≡ self.old }
+    /// Whether each message is delivered.
+    pub(crate) fn are_delivered(&self) -> bool
+        ensures { IsTrue result → AreAllDelivered self.now }
     {
-        if let Some(at) = receiver_at(&self.receivers, process) {
-            let open = self.receivers[at].open;
-            count(&mut self.receivers, at, open, false);
-        }
+        are_settled(&self.receivers)
     }
 
     /// How many messages are open at processes to which nobody delivers.
     pub(crate) fn waiting(&self) -> usize {
         let mut waiting: usize = 0;
         for receiver in &self.receivers {
-            if !receiver.is_busy {
-                waiting = waiting.saturating_add(receiver.open);
+            if receiver.claimed == 0 {
+                waiting = waiting.saturating_add(receiver.waiting);
             }
         }
         waiting
     }
 
     /// The message with this number is delivered, if there is one.
-    pub(crate) fn deliver(&mut self, number: u64)
+    fn deliver(&mut self, number: u64)
         ensures { self.new ≡ marked self.old number kinds.Delivered }
     {
         if let Some(place) = place_of(number, self.marks.len()) {
-            let message = self.marks[place];
-            note_delivered(&mut self.receivers, message);
-            self.marks[place] = Marked {
-                to: message.to,
-                mark: Mark::Delivered,
-            };
+            set_mark(&mut self.marks, &mut self.receivers, place, Mark::Delivered);
+        }
+    }
+
+    /// This has happened: a message that it delivers is delivered.
+    pub(crate) fn note(&mut self, happening: &Happening)
+        ensures { self.new ≡ marked_by happening.now self.old }
+    {
+        if let Happening::Input(Input::Message(number, _)) = happening {
+            self.deliver(*number);
         }
     }
 
@@ -146,207 +165,249 @@ impl Marks {
         ensures { self.new ≡ given_back self.old number }
     {
         if let Some(place) = place_of(number, self.marks.len()) {
-            let message = self.marks[place];
-            if is_claimed(message.mark) {
-                self.marks[place] = Marked {
-                    to: message.to,
-                    mark: Mark::Open,
-                };
-                lower(&mut self.receivers, place);
-                one_more(&mut self.receivers, message.to);
+            if is_claimed(self.marks[place].mark) {
+                set_mark(&mut self.marks, &mut self.receivers, place, Mark::Open);
             }
         }
     }
 }
 
-/// Claims the first open message of the receiver at this place. What is not open at the front is not gone through again.
-fn claim_for(marks: &mut Vec<Marked>, receivers: &mut Vec<Receiver>, place: usize) -> Option<Claim>
-    requires { (place < length receivers.old.items) × All (IsSettled marks.old.items) receivers.old.items }
-    ensures settled { All (IsSettled marks.new.items) receivers.new.items }
-    ensures found { IfSome result (λ c. (first_open c.to 1 marks.old.items ≡ Some c.number)
-        × (marks.new.items ≡ marked marks.old.items c.number kinds.Claimed)) }
-    ensures none { IfNone result (marks.new.items ≡ marks.old.items) }
+/// Claims the first open message of the receiver at this place, to which nobody delivers. What is not open at the front is
+/// not gone through again.
+fn claim_for(marks: &mut Vec<Marked>, receivers: &mut Vec<Receiver>, place: usize) -> Claim
+    requires told { (place < length receivers.old.items) × AreTold marks.old.items receivers.old.items }
+    requires free { HoldsAt IsFree receivers.old.items place }
+    ensures told { AreTold marks.new.items receivers.new.items }
+    ensures first { first_open result.to 1 marks.old.items ≡ Some result.number }
+    ensures alone { claimed_to result.to marks.old.items ≡ 0 }
+    ensures marks { marks.new.items ≡ marked marks.old.items result.number kinds.Claimed }
 {
     let receiver = receivers[place];
     let Some(found) = first_open_in(marks, receiver.settled, receiver.process) else {
-        receivers[place] = Receiver {
-            process: receiver.process,
-            settled: marks.len(),
-            open: 0,
-            is_busy: receiver.is_busy,
-        };
-        return None;
-    };
-    let message = marks[found];
-    marks[found] = Marked {
-        to: message.to,
-        mark: Mark::Claimed,
+        unreachable!()
     };
     receivers[place] = Receiver {
         process: receiver.process,
         settled: found,
-        open: receiver.open.saturating_sub(1),
-        is_busy: true,
+        waiting: receiver.waiting,
+        claimed: receiver.claimed,
     };
-    Some(Claim {
+    set_mark(marks, receivers, found, Mark::Claimed);
+    Claim {
         number: found as u64 + 1,
         to: receiver.process,
-    })
+    }
 }
 
 /// The place of the receiver at which a worker is to deliver: this one, if it has an open message and nobody delivers to
 /// it; or else, of those of which that is so, the one with the most.
 fn picked(receivers: &[Receiver], near: ProcessId) -> Option<usize>
-    ensures { IfSome result (λ place. place < length receivers.now) }
+    ensures found { IfSome result (λ place. (place < length receivers.now) × HoldsAt IsFree receivers.now place) }
+    ensures none { IfNone result (All IsNotFree receivers.now) }
 {
     let mut picked = None;
     let mut most = 0;
     for place in 0..receivers.len() {
         let receiver = receivers[place];
-        if receiver.is_busy || receiver.open == 0 {
+        if receiver.claimed > 0 || receiver.waiting == 0 {
             continue;
         }
         if receiver.process.0 == near.0 {
             return Some(place);
         }
-        if most < receiver.open {
-            most = receiver.open;
+        if most < receiver.waiting {
+            most = receiver.waiting;
             picked = Some(place);
         }
     }
     picked
 }
 
-/// The place of the receiver with this name.
-fn receiver_at(receivers: &[Receiver], process: ProcessId) -> Option<usize>
-    ensures { IfSome result (λ place. place < length receivers.now) }
+/// Whether no message to any of these receivers is open or claimed.
+fn are_settled(receivers: &[Receiver]) -> bool
+    ensures { IsTrue result → All (λ r. (r.waiting ≡ 0) × (r.claimed ≡ 0)) receivers.now }
 {
     for place in 0..receivers.len() {
-        if receivers[place].process.0 == process.0 {
-            return Some(place);
+        let receiver = receivers[place];
+        if receiver.waiting > 0 || receiver.claimed > 0 {
+            return false;
         }
     }
-    None
+    true
 }
 
-/// The receiver at this place has so many open messages, and somebody delivers to it or nobody does.
-fn count(receivers: &mut Vec<Receiver>, at: usize, open: usize, is_busy: bool)
-    requires { at < length receivers.old.items }
-    ensures { StaySettled receivers.old.items receivers.new.items }
+/// The message at this place is marked so, and its receiver tells it.
+fn set_mark(marks: &mut Vec<Marked>, receivers: &mut Vec<Receiver>, place: usize, mark: Mark)
+    requires { (place < length marks.old.items) × AreTold marks.old.items receivers.old.items }
+    ensures told { AreTold marks.new.items receivers.new.items }
+    ensures marks { marks.new.items ≡ marked marks.old.items (place + 1) mark }
 {
-    let receiver = receivers[at];
-    receivers[at] = Receiver {
-        process: receiver.process,
-        settled: receiver.settled,
-        open,
-        is_busy,
-    };
+    tell_all(marks, receivers, place, mark);
+    let to = marks[place].to;
+    marks[place] = Marked { to, mark };
 }
 
-/// The message's receiver has one open message less, if that was open.
-fn note_delivered(receivers: &mut Vec<Receiver>, message: Marked)
-    ensures { StaySettled receivers.old.items receivers.new.items }
-{
-    if !is_open(message.mark) {
-        return;
-    }
-    if let Some(at) = receiver_at(receivers, message.to) {
-        let receiver = receivers[at];
-        count(
-            receivers,
-            at,
-            receiver.open.saturating_sub(1),
-            receiver.is_busy,
-        );
-    }
-}
-
-/// The process has one open message more, and nobody delivers to it.
-fn one_more(receivers: &mut Vec<Receiver>, process: ProcessId)
-    ensures { StaySettled receivers.old.items receivers.new.items }
-{
-    if let Some(at) = receiver_at(receivers, process) {
-        let receiver = receivers[at];
-        count(receivers, at, receiver.open.saturating_add(1), false);
-    }
-}
-
-/// The receiver, to which messages from this place on may be open.
-fn lowered(receiver: Receiver, place: usize) -> Receiver
-    ensures { (result.process ≡ receiver.process) × (result.settled ≤ receiver.settled) × (result.settled ≤ place) }
-{
-    Receiver {
-        process: receiver.process,
-        settled: lesser(receiver.settled, place),
-        open: receiver.open,
-        is_busy: receiver.is_busy,
-    }
-}
-
-/// The message at this place may be open again.
-fn lower(receivers: &mut Vec<Receiver>, place: usize)
-    ensures { (ms : List AnyMarked) (m : AnyMarked) → All (IsSettled ms) receivers.old.items
-        → All (IsSettled (slice_set ms place m)) receivers.new.items }
+/// What these receivers tell once the message at this place is marked so.
+fn tell_all(marks: &[Marked], receivers: &mut Vec<Receiver>, place: usize, mark: Mark)
+    requires { (place < length marks.now) × All (IsTold marks.now) receivers.old.items }
+    ensures told { All (IsTold (marked marks.now (place + 1) mark)) receivers.new.items }
+    ensures same { processes_of receivers.new.items ≡ processes_of receivers.old.items }
 {
     for at in 0..receivers.len() {
-        receivers[at] = lowered(receivers[at], place);
+        receivers[at] = told(marks, receivers[at], place, mark);
     }
 }
 
-/// A mark more for each of these messages, where there is room for them.
-fn add_marks(marks: &mut Vec<Marked>, messages: &[Envelope])
-    requires { vec_len marks.old + length messages.now ≤ vec_capacity marks.old }
-    ensures { marks.new.items ≡ marks.old.items ++ map sent_to messages.now }
+/// What this receiver tells once the message at this place is marked so.
+fn told(marks: &[Marked], receiver: Receiver, place: usize, mark: Mark) -> Receiver
+    requires { (place < length marks.now) × IsTold marks.now receiver }
+    ensures told { IsTold (marked marks.now (place + 1) mark) result }
+    ensures same { result.process ≡ receiver.process }
+{
+    let message = marks[place];
+    if receiver.process.0 != message.to.0 {
+        return receiver;
+    }
+    let among = marks.len();
+    Receiver {
+        process: receiver.process,
+        settled: settled_before(receiver.settled, place, mark),
+        waiting: counted(
+            among,
+            receiver.waiting,
+            is_open(message.mark),
+            is_open(mark),
+        ),
+        claimed: counted(
+            among,
+            receiver.claimed,
+            is_claimed(message.mark),
+            is_claimed(mark),
+        ),
+    }
+}
+
+/// No message before this place is open, where the message at a place is marked so.
+fn settled_before(settled: usize, place: usize, mark: Mark) -> usize
+    ensures less { result ≤ settled }
+    ensures opened { is_open mark ≡ true → result ≤ place }
+{
+    if is_open(mark) && place < settled {
+        place
+    } else {
+        settled
+    }
+}
+
+/// A count among so many, where one of them was counted or not, and is.
+fn counted(among: usize, count: usize, was: bool, is: bool) -> usize
+    requires { (one_if was ≤ count) × (count + one_if is ≤ among + one_if was) }
+    ensures { result + one_if was ≡ count + one_if is }
+{
+    match (was, is) {
+        (true, false) => count - 1,
+        (false, true) => count + 1,
+        _ => count,
+    }
+}
+
+/// A mark more for each of these messages, where there is room for them and for their receivers.
+fn add_all(marks: &mut Vec<Marked>, receivers: &mut Vec<Receiver>, messages: &[Envelope])
+    requires room { (vec_len marks.old + length messages.now ≤ vec_capacity marks.old)
+        × (vec_len receivers.old + length messages.now ≤ vec_capacity receivers.old) }
+    requires told { AreTold marks.old.items receivers.old.items }
+    ensures told { AreTold marks.new.items receivers.new.items }
+    ensures marks { marks.new.items ≡ marks.old.items ++ map sent_to messages.now }
 {
     for place in 0..messages.len() {
-        marks.push_reserved(Marked {
-            to: messages[place].to,
-            mark: Mark::Open,
-        });
+        add_one(marks, receivers, messages[place].to);
     }
 }
 
-/// The receivers of these messages have them to receive, too; where there is room for them.
-fn add_receivers(receivers: &mut Vec<Receiver>, messages: &[Envelope])
-    requires { vec_len receivers.old + length messages.now ≤ vec_capacity receivers.old }
-    ensures { StaySettled receivers.old.items receivers.new.items }
+/// An open message to this process more, where there is room for it and for a receiver.
+fn add_one(marks: &mut Vec<Marked>, receivers: &mut Vec<Receiver>, to: ProcessId)
+    requires room { (vec_len marks.old + 1 ≤ vec_capacity marks.old)
+        × (vec_len receivers.old + 1 ≤ vec_capacity receivers.old) }
+    requires told { AreTold marks.old.items receivers.old.items }
+    ensures told { AreTold marks.new.items receivers.new.items }
+    ensures marks { marks.new.items ≡ marks.old.items ++ record { to = to; mark = kinds.Open } ∷ [] }
+    ensures room { (vec_len marks.new ≡ vec_len marks.old + 1)
+        × (vec_capacity marks.new ≡ vec_capacity marks.old)
+        × (vec_len receivers.new ≤ vec_len receivers.old + 1)
+        × (vec_capacity receivers.new ≡ vec_capacity receivers.old) }
 {
-    for place in 0..messages.len() {
-        add_receiver(receivers, messages[place].to);
-    }
+    tell_more(marks, receivers, to);
+    add_receiver(marks, receivers, to);
+    marks.push_reserved(Marked {
+        to,
+        mark: Mark::Open,
+    });
 }
 
-/// The process has one open message more, where there is room for a receiver.
-fn add_receiver(receivers: &mut Vec<Receiver>, process: ProcessId)
-    requires { vec_len receivers.old + 1 ≤ vec_capacity receivers.old }
-    ensures stay { StaySettled receivers.old.items receivers.new.items }
+/// The process is a receiver, where there is room for one. The others tell of an open message to it more.
+fn add_receiver(marks: &[Marked], receivers: &mut Vec<Receiver>, to: ProcessId)
+    requires room { vec_len receivers.old + 1 ≤ vec_capacity receivers.old }
+    requires told { All (IsTold (marks.now ++ record { to = to; mark = kinds.Open } ∷ [])) receivers.old.items
+        × All (λ m. Contains (processes_of receivers.old.items) m.to) marks.now }
+    ensures told { AreTold (marks.now ++ record { to = to; mark = kinds.Open } ∷ []) receivers.new.items }
     ensures room { (vec_len receivers.new ≤ vec_len receivers.old + 1)
         × (vec_capacity receivers.new ≡ vec_capacity receivers.old) }
 {
-    match receiver_at(receivers, process) {
-        Some(at) => {
-            let receiver = receivers[at];
-            receivers[at] = Receiver {
-                process: receiver.process,
-                settled: receiver.settled,
-                open: receiver.open.saturating_add(1),
-                is_busy: receiver.is_busy,
-            };
+    let _ = marks;
+    if is_receiver(receivers, to) {
+        return;
+    }
+    receivers.push_reserved(Receiver {
+        process: to,
+        settled: 0,
+        waiting: 1,
+        claimed: 0,
+    });
+}
+
+/// Whether one of these receivers is this process.
+fn is_receiver(receivers: &[Receiver], to: ProcessId) -> bool
+    ensures found { IsTrue result → Contains (processes_of receivers.now) to }
+    ensures none { result ≡ false → All (λ r. r.process ≢ to) receivers.now }
+{
+    for at in 0..receivers.len() {
+        let receiver = receivers[at];
+        if receiver.process.0 == to.0 {
+            return true;
         }
-        None => receivers.push_reserved(Receiver {
-            process,
-            settled: 0,
-            open: 1,
-            is_busy: false,
-        }),
+    }
+    false
+}
+
+/// What these receivers tell of an open message more to this process.
+fn tell_more(marks: &[Marked], receivers: &mut Vec<Receiver>, to: ProcessId)
+    requires { (length marks.now + 1 < 2 ^ 64) × All (IsTold marks.now) receivers.old.items }
+    ensures told { All (IsTold (marks.now ++ record { to = to; mark = kinds.Open } ∷ [])) receivers.new.items }
+    ensures same { processes_of receivers.new.items ≡ processes_of receivers.old.items }
+    ensures room { (vec_len receivers.new ≡ vec_len receivers.old)
+        × (vec_capacity receivers.new ≡ vec_capacity receivers.old) }
+{
+    for at in 0..receivers.len() {
+        receivers[at] = told_more(marks, receivers[at], to);
     }
 }
 
-/// The lesser of two places.
-fn lesser(a: usize, b: usize) -> usize
-    ensures { (result ≤ a) × (result ≤ b) }
+/// What this receiver tells of an open message more to this process.
+fn told_more(marks: &[Marked], receiver: Receiver, to: ProcessId) -> Receiver
+    requires { (length marks.now + 1 < 2 ^ 64) × IsTold marks.now receiver }
+    ensures told { IsTold (marks.now ++ record { to = to; mark = kinds.Open } ∷ []) result }
+    ensures same { result.process ≡ receiver.process }
 {
-    if a < b { a } else { b }
+    let _ = marks;
+    if receiver.process.0 != to.0 {
+        return receiver;
+    }
+    Receiver {
+        process: receiver.process,
+        settled: receiver.settled,
+        waiting: receiver.waiting + 1,
+        claimed: receiver.claimed,
+    }
 }
 
 /// Whether this says that nobody delivers the message.
@@ -358,8 +419,7 @@ fn is_open(mark: Mark) -> bool
 
 /// Whether this says that somebody delivers the message now.
 fn is_claimed(mark: Mark) -> bool
-    ensures yes { IsTrue result → mark ≡ kinds.Claimed }
-    ensures no { mark ≡ kinds.Claimed → IsTrue result }
+    ensures { result ≡ is_claimed mark }
 {
     matches!(mark, Mark::Claimed)
 }

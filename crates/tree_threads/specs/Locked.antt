@@ -1,5 +1,5 @@
 -- What lies under locks.
-use Rattle.std.specs.Prelude.{◌≡◌, List}
+use Rattle.std.specs.Prelude.{◌≡◌, ℕ, Some, List}
 use Rattle.tree_model.specs.declared.names.ProcessId.{ProcessId}
 use Rattle.tree_model.specs.declared.events.Entry.{Entry}
 use Rattle.tree_model.specs.declared.records.LogRecord.{LogRecord}
@@ -10,6 +10,9 @@ use Rattle.rec_log.specs.Sights.{records_of}
 use Rattle.core_model.specs.States.{CoreState}
 use Rattle.log_store.specs.declared.memory.MemoryStore.{MemoryStore}
 use Rattle.manager_model.specs.Data.{ManagerData}
+use Rattle.cluster_journal.specs.Marks.{claimed_to, first_open, marked}
+use Rattle.cluster_journal.specs.declared.marks.Mark.TheVariants.{Claimed}
+use Rattle.cluster_journal.specs.declared.marks.Marked.{Marked as MarkOf}
 use Rattle.tree_cut.specs.Alone.{RunsAlone}
 use Rattle.tree_cut.specs.Cuts.{IsCut}
 use Rattle.tree_cut.specs.Owns.{OwnRun}
@@ -33,3 +36,11 @@ pub record LeavesLog (tree : List TreeEntry) (xs : List Entry) (q : ProcessId) (
   pub own : OwnRun tree q (entries_of q xs) core
   pub alone : RunsAlone tree q (entries_of q xs) core held
   pub log_is : log ≡ records_of core.log.kept
+
+-- This message to this process is claimed, which leaves these marks: it was the first open one to it, and nobody
+-- delivered another.
+pub record IsClaimed (to : ProcessId) (number : ℕ) (marks : List MarkOf) : Type 0 where
+  pub before : List MarkOf
+  pub first : first_open to 1 before ≡ Some number
+  pub alone : claimed_to to before ≡ 0
+  pub marks_are : marks ≡ marked before number Claimed

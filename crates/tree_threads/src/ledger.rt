@@ -1,12 +1,15 @@
 //! What lies under the journal's lock.
 
-ghost use Rattle.std.specs.Prelude.{◌≡◌, ◌<◌, ℕ, [], IfSome, IfNone, OnOk, None, Some};
+ghost use Rattle.std.specs.Prelude.{◌≡◌, ◌<◌, ℕ, [], IfOk, IfSome, IfNone, IsTrue, OnOk, None, Some};
 ghost use Rattle.std.specs.Option.{option_copied};
 ghost use Rattle.tree_model.specs.Plays.{sent_as};
 ghost use Rattle.tree_model.specs.Trees.{IsTree};
 ghost use Rattle.tree_cut.specs.Cuts.{net_of};
 ghost use Rattle.tree_cut.specs.Owns.{CutHolds};
 ghost use Rattle.tree_ties.specs.Views.{AllIn, Rise, entries_in, keeper};
+ghost use Rattle.cluster_journal.specs.Journals.{AllDelivered};
+ghost use Rattle.cluster_journal.specs.Marks.{NoneToClaim};
+ghost use Rattle.tree_threads.specs.Locked.{IsClaimed};
 
 use crate::pass::Pass;
 use cluster_journal::ClusterJournal;
@@ -129,9 +132,13 @@ impl<N: Seats> Ledger<N> {
     }
 
     /// Claims the first open message of a process to which nobody delivers, if there is one: of this process, if it has
-    /// one. Where a gate holds steps, a worker is to be woken for each that is left. Memory: a growth was refused.
+    /// one. None: each process has no open message, or somebody delivers another to it. Where a gate holds steps, a worker
+    /// is to be woken for each message that is left. Memory: a growth was refused.
     pub fn claim(&mut self, near: ProcessId, holds: bool) -> Result<Option<Claim>, AllocError>
-        ensures { self.new.entries ≡ self.old.entries }
+        ensures entries { self.new.entries ≡ self.old.entries }
+        ensures placed { OnOk result (self.new.late ≡ 0) }
+        ensures found { IfOk result (λ r. IfSome r (λ c. IsClaimed c.to c.number self.new.marks)) }
+        ensures none { IfOk result (λ r. IfNone r (NoneToClaim self.new.marks)) }
     {
         self.journal.place()?;
         let Some(claim) = self.journal.claim(near) else {
@@ -163,11 +170,10 @@ impl<N: Seats> Ledger<N> {
         }
     }
 
-    /// The claim of a message to this process has ended.
-    pub fn end_claim(&mut self, process: ProcessId)
-        ensures { self.new.entries ≡ self.old.entries }
+    /// A claim has ended: its message was delivered, or it was given back.
+    pub fn end_claim(&mut self)
+        ensures { self.new ≡ self.old }
     {
-        self.journal.end_claim(process);
         self.turns.claims = self.turns.claims.saturating_sub(1);
     }
 
@@ -176,7 +182,7 @@ impl<N: Seats> Ledger<N> {
         ensures { self.new.entries ≡ self.old.entries }
     {
         self.journal.give_back(claim.number);
-        self.end_claim(claim.to);
+        self.end_claim();
     }
 
     /// A worker begins to wait for a message.
@@ -197,6 +203,14 @@ impl<N: Seats> Ledger<N> {
     /// Whether nobody delivers a message.
     pub fn is_quiet(&self) -> bool {
         self.turns.claims == 0
+    }
+
+    /// Whether each message of the journal is delivered, where all entries are placed.
+    pub fn is_settled(&self) -> bool
+        requires { self.now.late ≡ 0 }
+        ensures { IsTrue result → AllDelivered self.now.entries }
+    {
+        self.journal.are_delivered()
     }
 
     /// The journal has every pair of the pass, under its caller's number, and their places rise.

@@ -70,7 +70,7 @@ pub struct Posted {
     pub is_quiet: bool,
 }
 
-/// A worker's claim at this process ends, and it makes the next, if there is one and memory for it.
+/// A worker's claim ends, and it makes the next, if there is one and memory for it: of this process, if it has one.
 fn next_of<N: Seats>(
     ledger: &mut Ledger<N>,
     process: ProcessId,
@@ -82,7 +82,7 @@ fn next_of<N: Seats>(
     if turn == Turn::Once {
         return None;
     }
-    ledger.end_claim(process);
+    ledger.end_claim();
     ledger.claim(process, holds).unwrap_or(None)
 }
 

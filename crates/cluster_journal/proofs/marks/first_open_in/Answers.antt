@@ -1,4 +1,4 @@
-use Rattle.std.proofs.Common.{◌∙◌, refl, sym}
+use Rattle.std.proofs.Common.{refl, sym}
 use Rattle.cluster_journal.proofs.FirstOpen.{goes_on, opens}
 use Rattle.cluster_journal.proofs.marks.first_open_in.Goals as goal
 

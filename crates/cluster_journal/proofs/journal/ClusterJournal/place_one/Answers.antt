@@ -1,7 +1,9 @@
-use Rattle.std.proofs.Common.{◌≡◌, ◌∙◌, ◌++◌, ◌∷◌, [], ap, arith, length, length-append, map, rules, sym}
+use Rattle.std.proofs.Common.{◌≡◌, ◌∙◌, ◌++◌, ◌∷◌, [], ap, append_assoc, arith, length, length-append, map, rules, subst, sym}
 use Rattle.std.proofs.lemmas.List.{length-map}
+use Rattle.cluster_journal.specs.Journals.{AreDelivered}
 use Rattle.cluster_journal.specs.Marks.{sent_to}
 use Rattle.cluster_journal.specs.Spots.{spots_at, spots_of}
+use Rattle.cluster_journal.proofs.Delivering.{sent_so}
 use Rattle.cluster_journal.proofs.Finding.{length_spots, same_first, spots_entered}
 use Rattle.cluster_journal.proofs.journal.ClusterJournal.place_one.Goals as goal
 
@@ -30,4 +32,10 @@ invariant_of-self-in-Some-pop_front c =
       added ∙ spots_entered spots placed x n m c.self.invariant.0 place many
           ∙ ap (λ l. spots_of 0 l) (sym pushed),
       omega (arith, long, news, behind, those, same),
+      subst (λ l. AreDelivered c.extend.new.self l)
+          (sym (ap (λ l. l ++ c.pop_front.new.self) pushed
+          ∙ append_assoc placed (x ∷ []) c.pop_front.new.self
+          ∙ ap (λ l. placed ++ l) (sym c.in-Some-pop_front.ensures.items)))
+          (subst (λ ms. AreDelivered ms (placed ++ j.late)) (sym c.in_ok-extend.ensures.ok)
+          (sent_so j.marks sent (placed ++ j.late) c.self.invariant.2)),
     )

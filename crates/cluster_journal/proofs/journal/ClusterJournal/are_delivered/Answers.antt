@@ -1,0 +1,18 @@
+use Rattle.std.proofs.Common.{◌≡◌, ◌∙◌, ◌++◌, [], append-nil, ap, length, subst, sym}
+use Rattle.tree_cut.specs.Cuts.{net_of}
+use Rattle.cluster_journal.specs.Journals.{AllDelivered, entries_of}
+use Rattle.cluster_journal.proofs.Delivering.{all_in}
+use Rattle.cluster_journal.proofs.Finding.{empty, spots_sent}
+use Rattle.cluster_journal.proofs.journal.ClusterJournal.are_delivered.Goals as goal
+
+pub returns : goal.returns
+returns c is =
+    let j = c.self.inside in
+    let placed = j.placed.items in
+    let none : j.late ≡ [] = empty j.late (ap (λ s. s.late) c.self.view_is ∙ c.requires) in
+    let all : placed ++ j.late ≡ placed = ap (λ l. placed ++ l) none ∙ append-nil placed in
+    let long : length j.marks ≡ length (net_of (entries_of (placed ++ j.late))) =
+    c.self.invariant.1 ∙ ap length c.self.invariant.0 ∙ spots_sent 0 placed
+    ∙ ap (λ l. length (net_of (entries_of l))) (sym all) in
+    subst AllDelivered (ap (λ s. s.entries) c.self.view_is)
+    (all_in j.marks (placed ++ j.late) (c.are_delivered.ensures is) long c.self.invariant.2)
