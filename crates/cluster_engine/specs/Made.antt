@@ -7,14 +7,15 @@ use Rattle.tree_model.specs.declared.trees.TreeEntry.{TreeEntry}
 use Rattle.tree_threads.specs.Passes.{PassState}
 use Rattle.tree_cluster.specs.Passes.{IsLonger}
 use Rattle.tree_cluster.specs.Posts.{Posts}
+use Rattle.tree_cluster.specs.Settling.{IsSettled}
 
 -- the event was posted in this tree: the pass has one pair more, of an entry of it
 abbrev pub IsPosted : List TreeEntry → Event → PassState → PassState → Type 0
 IsPosted tree event old new = (number : ℕ) × (begun : Option Txn) × Posts tree event old new number begun
 
--- the event was posted, or it was a settle, in which messages were delivered
+-- the event was posted, or it was a settle, in which messages were delivered, until none of the journal was left
 abbrev pub IsMade : List TreeEntry → Event → PassState → PassState → Type 0
-IsMade tree event old new = ((event ≡ Settle) × IsLonger old new) ⊎ IsPosted tree event old new
+IsMade tree event old new = ((event ≡ Settle) × IsLonger old new × IsSettled tree new) ⊎ IsPosted tree event old new
 
 -- these events were made, one after another
 abbrev pub AreMade : List TreeEntry → List Event → PassState → PassState → Type 0

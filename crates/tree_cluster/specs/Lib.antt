@@ -2,3 +2,4 @@ pub mod Passes
 pub mod Posts
 pub mod Closing
 pub mod Opening
+pub mod Settling

@@ -1,5 +1,7 @@
 //! What the workers of one call share.
 
+ghost use Rattle.std.specs.Prelude.{IsTrue, OnOk};
+
 use std::sync::atomic::{AtomicBool, Ordering};
 use std::sync::{Mutex, Wait};
 use tree_threads::PostError;
@@ -68,11 +70,14 @@ impl Rounds {
         self.stopped.store(true, Ordering::SeqCst);
     }
 
-    /// How the deliveries ended.
-    pub(crate) fn result<R: Wait>(&self, rt: &R) -> Result<(), PostError> {
+    /// How the deliveries ended, where the last worker found that every message is delivered, or did not.
+    pub(crate) fn ended<R: Wait>(&self, rt: &R, is_settled: bool) -> Result<(), PostError>
+        ensures { OnOk result (IsTrue is_settled) }
+    {
         match *self.why.lock(rt) {
-            None => Ok(()),
             Some(why) => Err(why),
+            None if is_settled => Ok(()),
+            None => Err(PostError::Memory),
         }
     }
 }

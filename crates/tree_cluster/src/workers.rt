@@ -1,40 +1,78 @@
 //! Workers: they deliver the messages of the journal.
 
-ghost use Rattle.std.specs.Prelude.{◌≡◌, ◌<◌, ◌≤◌, ℕ, length, slice_index_or};
+ghost use Rattle.std.specs.Prelude.{◌≡◌, ◌<◌, ◌≤◌, ℕ, IfOk, IsTrue, OnOk, length, slice_index_or};
 ghost use Rattle.tree_threads.specs.Passes.{PassState as AnyPass};
 ghost use Rattle.tree_cluster.specs.Passes.{IsLonger};
+ghost use Rattle.tree_cluster.specs.Settling.{IsSettled};
 
 use crate::cluster::Cluster;
 use crate::rounds::Rounds;
+use std::alloc::AllocError;
 use std::sync::Wait;
 use std::thread;
 use std::thread::Threads;
-use tree_model::Event;
-use tree_threads::{Claim, Gate, Pass, PostError, Turn};
-use tree_ties::seats::Seats;
+use tree_model::{Event, ProcessId};
+use tree_threads::{Claim, Gate, Ledger, Pass, PostError, Turn};
+use tree_ties::seats::{Seats, Ties};
 
 /// A worker that is served looks so often whether the call that leads it has begun.
 const LOOKS: u32 = 10_000;
 
+/// What a worker is to do next.
+#[derive(Clone, Copy, PartialEq, Eq)]
+pub(crate) enum Next {
+    /// To deliver this message.
+    Claim(Claim),
+    /// To wait: others deliver.
+    Wait,
+    /// Nothing: each message was delivered.
+    Settled,
+    /// Nothing: a delivery was refused.
+    Stopped,
+}
+
+/// What a worker with this pass is to do next, by the journal. Memory: a growth was refused.
+fn next_in<N: Seats>(
+    ledger: &mut Ledger<N>,
+    ties: &Ties,
+    root: ProcessId,
+    pass: &mut Pass<N>,
+    holds: bool,
+) -> Result<Next, AllocError>
+    requires { (ties.now.shared.table_id ≡ N.table) × (0 < N.table.words) }
+    ensures settled { IfOk result (λ next. next ≡ Next.Settled → IsSettled N.tree pass.new) }
+    ensures same { pass.new ≡ pass.old }
+{
+    if let Some(claim) = ledger.claim(root, holds)? {
+        return Ok(Next::Claim(claim));
+    }
+    if !ledger.is_quiet() || !ledger.is_settled() {
+        return Ok(Next::Wait);
+    }
+    ledger.is_a_run();
+    ledger.meets(ties, pass);
+    Ok(Next::Settled)
+}
+
 impl<N: Seats> Cluster<N> {
     /// A message that is open at a process to which nobody delivers; or none, once all are delivered or a delivery was
     /// refused. It waits while others deliver.
-    fn next_claim<R: Wait>(&self, rt: &R, rounds: &Rounds, holds: bool) -> Option<Claim> {
+    fn next_claim<R: Wait>(&self, rt: &R, rounds: &Rounds, pass: &mut Pass<N>, holds: bool) -> Next
+        ensures settled { result ≡ Next.Settled → IsSettled N.tree pass.new }
+        ensures same { pass.new ≡ pass.old }
+    {
         for _ in rt.forever() {
             let mut ledger = self.ledger.lock(rt);
             if rounds.is_stopped() {
-                return None;
+                return Next::Stopped;
             }
-            match ledger.claim(self.tree.root(), holds) {
-                Ok(Some(claim)) => return Some(claim),
-                Ok(None) => {}
+            match next_in(&mut *ledger, &self.ties, self.tree.root(), pass, holds) {
+                Ok(Next::Wait) => {}
+                Ok(next) => return next,
                 Err(_) => {
                     rounds.stop(rt, PostError::Memory);
-                    return None;
+                    return Next::Stopped;
                 }
-            }
-            if ledger.is_quiet() {
-                return None;
             }
             ledger.sleep();
             let mut ledger = self.moved.wait(rt, ledger);
@@ -104,19 +142,23 @@ impl<N: Seats> Cluster<N> {
         }
     }
 
-    /// Delivers messages until every one is delivered, or a delivery was refused.
-    fn work<R: Wait, G: Gate>(&self, rt: &R, rounds: &Rounds, pass: &mut Pass<N>, gate: &G)
-        ensures { IsLonger pass.old pass.new }
+    /// Delivers messages until every one is delivered, or a delivery was refused. Whether every one is.
+    fn work<R: Wait, G: Gate>(&self, rt: &R, rounds: &Rounds, pass: &mut Pass<N>, gate: &G) -> bool
+        ensures longer { IsLonger pass.old pass.new }
+        ensures settled { IsTrue result → IsSettled N.tree pass.new }
     {
         for _ in rt.forever() {
-            match self.next_claim(rt, rounds, gate.holds()) {
-                None => return,
-                Some(claim) => self.deliver_from(rt, rounds, claim, pass, gate),
+            match self.next_claim(rt, rounds, pass, gate.holds()) {
+                Next::Claim(claim) => self.deliver_from(rt, rounds, claim, pass, gate),
+                Next::Settled => return true,
+                Next::Wait | Next::Stopped => return false,
             }
         }
+        unreachable!()
     }
 
-    /// Delivers every message, as the call that leads the workers, and calls those that are served to help.
+    /// Delivers every message, as the call that leads the workers, and calls those that are served to help. At Ok each
+    /// message of the journal was delivered, and the journal had each pair of the pass.
     pub fn settle<R: Wait, G: Gate>(
         &self,
         rt: &R,
@@ -124,12 +166,13 @@ impl<N: Seats> Cluster<N> {
         pass: &mut Pass<N>,
         gate: &G,
     ) -> Result<(), PostError>
-        ensures { IsLonger pass.old pass.new }
+        ensures longer { IsLonger pass.old pass.new }
+        ensures settled { OnOk result (IsSettled N.tree pass.new) }
     {
         rounds.set_open(true);
-        self.work(rt, rounds, pass, gate);
+        let is_settled = self.work(rt, rounds, pass, gate);
         rounds.set_open(false);
-        rounds.result(rt)
+        rounds.ended(rt, is_settled)
     }
 
     /// The call that leads the workers has begun.
@@ -187,8 +230,9 @@ impl<N: Seats> Cluster<N> {
     }
 
     /// Delivers every message of the journal that was not delivered, by as many workers as there are passes, the
-    /// calling thread among them; where a thread cannot be made, its worker comes after another. At the first
-    /// refusal the workers stop, and it is answered.
+    /// calling thread among them; where a thread cannot be made, its worker comes after another. At Ok each message of
+    /// the journal was delivered, and the journal had each pair of the first pass. At the first refusal the workers stop,
+    /// and it is answered.
     pub fn run_workers<R: Threads + Wait + Sync, G: Gate + Sync>(
         &self,
         rt: &R,
@@ -198,8 +242,9 @@ impl<N: Seats> Cluster<N> {
     where
         N: Send + Sync,
         requires { (0 < length passes.old) × (length passes.old ≤ 16) }
-        ensures { (i : ℕ) (d : AnyPass) → i < length passes.old
+        ensures longer { (i : ℕ) (d : AnyPass) → i < length passes.old
             → IsLonger (slice_index_or passes.old i d) (slice_index_or passes.new i d) }
+        ensures settled { OnOk result ((d : AnyPass) → IsSettled N.tree (slice_index_or passes.new 0 d)) }
     {
         let rounds = Rounds::new();
         let threads = passes.len();
@@ -209,9 +254,12 @@ impl<N: Seats> Cluster<N> {
             threads,
             &|_i, pass: &mut Pass<N>|
                 ensures { IsLonger pass.old pass.new }
-            { self.work(rt, &rounds, pass, gate) },
+            {
+                self.work(rt, &rounds, pass, gate);
+            },
         );
-        rounds.result(rt)
+        let is_settled = self.work(rt, &rounds, &mut passes[0], gate);
+        rounds.ended(rt, is_settled)
     }
 }
 
