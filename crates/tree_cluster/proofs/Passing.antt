@@ -1,6 +1,5 @@
 -- A pass gets longer.
-use Rattle.std.proofs.Common.{◌≡◌, ◌∙◌, ◌+◌, ap, sym, refl, ℕ, zero, suc, Option, List, [], ◌∷◌, ◌++◌, length, add-one, append-nil, append_assoc, length-append, arith}
-use Rattle.tree_model.specs.declared.events.Entry.{Entry}
+use Rattle.std.proofs.Common.{◌≡◌, ◌<◌, ◌∙◌, ◌+◌, ap, get_or, slice_set, sym, refl, ℕ, zero, suc, Option, List, [], ◌∷◌, ◌++◌, length, add-one, append-nil, append_assoc, length-append, arith}
 use Rattle.std.proofs.lemmas.List.Elements.{All-append, All-cons, All-nil}
 use Rattle.tree_model.specs.declared.events.Event.TheVariants.{Deliver}
 use Rattle.tree_model.specs.declared.names.ProcessId.{ProcessId}
@@ -43,6 +42,15 @@ delivered_longer tree q k a b place begun p = record {
   pairs = p.notes.pairs;
   deliver = All-cons IsDelivery (place, p.entry) [] (k, p.is_for.0, p.is_for.1) (All-nil IsDelivery);
 }
+
+-- passes that got longer, of which the first gets longer still
+pub longer_first : (old mid : List PassState) (q p : PassState)
+    → ((i : ℕ) (d : PassState) → i < length old → IsLonger (get_or old i d) (get_or mid i d)) → 0 < length mid
+    → IsLonger (get_or mid 0 q) p → (i : ℕ) (d : PassState) → i < length old
+    → IsLonger (get_or old i d) (get_or (slice_set mid 0 p) i d)
+longer_first old [] q p h some still i d lt = absurd (omega (arith, some))
+longer_first old (x ∷ mid) q p h some still zero d lt = longer_still (get_or old 0 d) x p (h 0 d lt) still
+longer_first old (x ∷ mid) q p h some still (suc i) d lt = h (suc i) d lt
 
 -- so many new passes
 pub passes_more : (n : ℕ) → new_passes (n + 1) ≡ new_passes n ++ new_pass n ∷ []

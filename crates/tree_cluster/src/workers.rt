@@ -247,6 +247,26 @@ impl<N: Seats> Cluster<N> {
         ensures settled { OnOk result ((d : AnyPass) → IsSettled N.tree (slice_index_or passes.new 0 d)) }
     {
         let rounds = Rounds::new();
+        self.work_each(rt, &rounds, passes, gate);
+        let is_settled = self.work(rt, &rounds, &mut passes[0], gate);
+        rounds.ended(rt, is_settled)
+    }
+
+    /// A worker for each of these passes delivers messages until every one is delivered, or a delivery was refused.
+    fn work_each<R: Threads + Wait + Sync, G: Gate + Sync>(
+        &self,
+        rt: &R,
+        rounds: &Rounds,
+        passes: &mut [Pass<N>],
+        gate: &G,
+    )
+    where
+        N: Send + Sync,
+        requires { (0 < length passes.old) × (length passes.old ≤ 16) }
+        ensures longer { (i : ℕ) (d : AnyPass) → i < length passes.old
+            → IsLonger (slice_index_or passes.old i d) (slice_index_or passes.new i d) }
+        ensures long { length passes.new ≡ length passes.old }
+    {
         let threads = passes.len();
         thread::for_each_mut(
             rt,
@@ -255,11 +275,9 @@ impl<N: Seats> Cluster<N> {
             &|_i, pass: &mut Pass<N>|
                 ensures { IsLonger pass.old pass.new }
             {
-                self.work(rt, &rounds, pass, gate);
+                self.work(rt, rounds, pass, gate);
             },
         );
-        let is_settled = self.work(rt, &rounds, &mut passes[0], gate);
-        rounds.ended(rt, is_settled)
     }
 }
 

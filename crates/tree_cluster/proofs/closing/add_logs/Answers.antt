@@ -1,4 +1,4 @@
-use Rattle.std.proofs.Common.{◌≡◌, ◌∙◌, ◌++◌, ◌∷◌, [], Global, Vec, ap, get_or, map, subst}
+use Rattle.std.proofs.Common.{◌≡◌, ◌∙◌, ◌∷◌, [], Global, Vec, ap, get_or, map, subst}
 use Rattle.std.proofs.lemmas.List.{map-append}
 use Rattle.cluster_journal.specs.Journals.{ClusterState}
 use Rattle.tree_model.specs.declared.records.LogRecord.{LogRecord}

@@ -1,7 +1,7 @@
 use Rattle.std.proofs.Common.{◌∙◌, subst, sym}
 use Rattle.tree_model.specs.Trees.{IsTree}
 use Rattle.tree_cluster.specs.Opening.{IsTableOf, KeepsSeats}
-use Rattle.tree_cluster.proofs.Seating.{keeps_none, regiven, seats_opened, some_words, table_opened}
+use Rattle.tree_cluster.proofs.Seating.{regiven, seats_opened, some_words, table_opened}
 use Rattle.tree_cluster.proofs.cluster.Cluster.new.Goals as goal
 
 pub give_passes-requires-clause-table : goal.give_passes-requires-clause-table
