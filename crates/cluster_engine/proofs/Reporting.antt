@@ -11,8 +11,8 @@ use Rattle.tree_threads.specs.declared.errors.PostError.{PostError}
 use Rattle.tree_threads.specs.Passes.{PassState}
 use Rattle.tree_cluster.specs.Passes.{new_pass, new_passes}
 use Rattle.cluster_engine.specs.declared.engine.Output.{Output}
-use Rattle.cluster_engine.specs.Made.{AreMade, FirstMade}
-use Rattle.cluster_engine.specs.Reports.{CannotReport, CannotWrite, ClosesUnnumbered, IsClusterReport, IsPostFailure, RefusesBehind, RefusesOne, RunsTree, TellsClosed, Writes}
+use Rattle.cluster_engine.specs.Made.{AreMade, FirstMade, FirstRefused, RefusedNext}
+use Rattle.cluster_engine.specs.Reports.{CannotReport, CannotWrite, ClosesUnnumbered, IsClusterReport, IsPostFailure, RefusesAfter, RefusesOne, RunsTree, TellsClosed, Writes}
 use Rattle.cluster_engine.proofs.Making.{first_new}
 
 by_status : (output : Output) (status : Status) (input : List ℕ) (tree : List TreeEntry) (events : List Event)
@@ -35,13 +35,36 @@ reported text_of output input tree events (Err e) script writes = tt
 
 -- the line of a refused event is what is written of a run that stopped there
 pub refused_written : {A E : Type 0} (text_of : A × Status → List ℕ) (output : Output) (tree : List TreeEntry)
-    (events : List Event) (count : ℕ) (made : Result (A × Status) E) → count < length events
-    → IfOk made (λ r. RefusesBehind count (text_of r)) → IfOk made (λ r. r.1 ≡ Stopped)
+    (events : List Event) (count : ℕ) (why : PostError) (made : Result (A × Status) E)
+    → RefusedNext tree events count why (new_pass 0)
+    → IfOk made (λ r. RefusesAfter count why (text_of r)) → IfOk made (λ r. r.1 ≡ Stopped)
     → IfOk made (λ r. Writes output r.1 tree events (text_of r))
-refused_written text_of output tree events count (Ok r) within line status =
-    let refuses : RefusesOne events (text_of r) = (count, within, line) in
+refused_written text_of output tree events count why (Ok r) refused line status =
+    let refuses : RefusesOne tree events (text_of r) = (count, why, refused, line) in
     subst (λ s. Writes output s tree events (text_of r)) (sym status) (inl refuses)
-refused_written text_of output tree events count (Err e) within line status = tt
+refused_written text_of output tree events count why (Err e) refused line status = tt
+
+first_refused : (tree : List TreeEntry) (events : List Event) (count : ℕ) (why : PostError) (p : PassState)
+    (given ps : List PassState) → given ≡ p ∷ ps → FirstRefused tree events count why given
+    → RefusedNext tree events count why p
+first_refused tree events count why p given ps same refused =
+    subst (λ l. FirstRefused tree events count why l) same refused
+
+new_refused : (tree : List TreeEntry) (events : List Event) (count : ℕ) (why : PostError) (workers : ℕ)
+    (given : List PassState) → 0 < workers → given ≡ new_passes workers → FirstRefused tree events count why given
+    → RefusedNext tree events count why (new_pass 0)
+new_refused tree events count why zero given some new refused = absurd (omega (arith, some))
+new_refused tree events count why (suc n) given some new refused =
+    let rest = first_new n in
+    first_refused tree events count why (new_pass 0) given rest.0 (new ∙ rest.1) refused
+
+-- what was refused to the first of some new passes, of the tree that is meant
+pub refused_first : (tree meant : List TreeEntry) (events : List Event) (count : ℕ) (why : PostError) (workers : ℕ)
+    (given : List PassState) → 0 < workers → tree ≡ meant → given ≡ new_passes workers
+    → FirstRefused meant events count why given → RefusedNext tree events count why (new_pass 0)
+refused_first tree meant events count why workers given some is new refused =
+    new_refused tree events count why workers given some new
+    (subst (λ t. FirstRefused t events count why given) (sym is) refused)
 
 runs_tree : (output : Output) (status : Status) (tree : List TreeEntry) (events : List Event) (q : PassState)
     (qs : List PassState) (text : List ℕ) → AreMade tree events (new_pass 0) q
@@ -91,10 +114,10 @@ not_closed tree events why (inr (exhausted, closes)) = inr (inr (exhausted, clos
 
 -- one of the events was refused for a reason behind which no run goes on
 pub not_posted : (tree : List TreeEntry) (events : List Event) (made : ℕ) (refusal : PostError) (why : Failure)
-    → made < length events → (why ≡ failure.Memory) ⊎ IsPostFailure refusal why
+    → RefusedNext tree events made refusal (new_pass 0) → (why ≡ failure.Memory) ⊎ IsPostFailure refusal why
     → (why ≡ failure.Memory) ⊎ CannotWrite tree events why
-not_posted tree events made refusal why within (inl memory) = inl memory
-not_posted tree events made refusal why within (inr fails) = inr (inl (made, within, refusal, fails))
+not_posted tree events made refusal why refused (inl memory) = inl memory
+not_posted tree events made refusal why refused (inr fails) = inr (inl (made, refusal, refused, fails))
 
 -- nothing is written of a script
 pub not_reported : (input : List ℕ) (tree : List TreeEntry) (events : List Event) (why : Failure)

@@ -1,5 +1,5 @@
 -- What the engine of `rstar run` writes.
-use Rattle.std.specs.Prelude.{◌≡◌, ◌+◌, ◌<◌, ◌≤◌, ◌^◌, ◌⊎◌, ℕ, Option, Some, None, List, [], ◌∷◌, ◌++◌, codes, length}
+use Rattle.std.specs.Prelude.{◌≡◌, ◌+◌, ◌≤◌, ◌^◌, ◌⊎◌, ℕ, Option, Some, None, List, [], ◌∷◌, ◌++◌, codes}
 use Rattle.tree_model.specs.declared.events.Entry.{Entry}
 use Rattle.tree_model.specs.declared.events.Event.{Event}
 use Rattle.tree_model.specs.declared.events.StepError.TheVariants as steps
@@ -24,7 +24,7 @@ use Rattle.tree_engine.specs.Trees.{RefusesScript, opened_text, refused_text}
 use Rattle.cluster_engine.specs.declared.engine.Output.{Output}
 use Rattle.cluster_engine.specs.declared.engine.Output.TheVariants.{Told, Trace}
 use Rattle.cluster_engine.specs.Told.{TellsAll}
-use Rattle.cluster_engine.specs.Made.{AreMade}
+use Rattle.cluster_engine.specs.Made.{AreMade, RefusedNext}
 use Rattle.cluster_engine.specs.Replays.{Replays}
 
 -- the last line: the journal, made once more on one thread, left the same logs, or others
@@ -87,21 +87,22 @@ refusal_number (Step steps.Exhausted) = None
 refusal_number (Step e) = Some (step_error_number e)
 refusal_number Memory = None
 
--- the text is the one line of an event that was refused so, behind so many that were made
-pub record RefusesBehind (made : ℕ) (text : List ℕ) : Type 0 where
-  pub why : PostError
+-- the text is the one line of an event that was refused for this reason, after so many that were made
+pub record RefusesAfter (made : ℕ) (why : PostError) (text : List ℕ) : Type 0 where
   pub number : ℕ
   pub number_is : refusal_number why ≡ Some number
   pub line : text ≡ refused_text (made + 1) number
 
--- the text is the one line of one of these events, which was refused
-abbrev pub RefusesOne : List Event → List ℕ → Type 0
-RefusesOne events text = (made : ℕ) × (made < length events) × RefusesBehind made text
+-- Those of these events that come before one of them were made, one after another; that one was refused, and the text is
+-- its line, with the number of the reason.
+abbrev pub RefusesOne : List TreeEntry → List Event → List ℕ → Type 0
+RefusesOne tree events text =
+    (made : ℕ) × (why : PostError) × RefusedNext tree events made why (new_pass 0) × RefusesAfter made why text
 
 -- what is written of a tree and its events, by how the run ends
 abbrev pub Writes : Output → Status → List TreeEntry → List Event → List ℕ → Type 0
 Writes output Ended tree events text = RunsTree output Ended tree events text
-Writes output Stopped tree events text = RefusesOne events text ⊎ RunsTree output Stopped tree events text
+Writes output Stopped tree events text = RefusesOne tree events text ⊎ RunsTree output Stopped tree events text
 Writes output Refused tree events text = ⊥
 
 -- the input is a script, and this is written of its tree and its events
@@ -125,9 +126,10 @@ IsPostFailure (Step e) why = IsFailure e why
 IsPostFailure Memory why = why ≡ failure.Memory
 IsPostFailure _ why = ⊥
 
--- one of these events was refused so
-abbrev pub PostFails : List Event → Failure → Type 0
-PostFails events why = (made : ℕ) × (made < length events) × (refusal : PostError) × IsPostFailure refusal why
+-- one of these events was refused so, after those before it were made
+abbrev pub PostFails : List TreeEntry → List Event → Failure → Type 0
+PostFails tree events why = (made : ℕ) × (refusal : PostError) × RefusedNext tree events made refusal (new_pass 0)
+    × IsPostFailure refusal why
 
 -- 2^64 messages or more were sent in this journal
 abbrev pub IsUnnumbered : List (ℕ × Entry) → Type 0
@@ -140,7 +142,7 @@ ClosesUnnumbered tree =
 
 -- why nothing is written of a tree and these events
 abbrev pub CannotWrite : List TreeEntry → List Event → Failure → Type 0
-CannotWrite tree events why = PostFails events why ⊎ ((why ≡ failure.Exhausted) × ClosesUnnumbered tree)
+CannotWrite tree events why = PostFails tree events why ⊎ ((why ≡ failure.Exhausted) × ClosesUnnumbered tree)
 
 -- why nothing is written of an input, which is a script
 pub record CannotReport (input : List ℕ) (why : Failure) : Type 0 where

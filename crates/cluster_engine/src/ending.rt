@@ -4,7 +4,7 @@ ghost use Rattle.std.specs.Prelude.{◌≡◌, ◌⊎◌, ◌+◌, ◌<◌, ◌^
 ghost use Rattle.tree_model.specs.Trees.{IsTree};
 ghost use Rattle.report_io.specs.declared.status.Status.TheVariants as ends;
 ghost use Rattle.report_io.specs.Streams.{IsOfRun};
-ghost use Rattle.cluster_engine.specs.Reports.{ClosesUnnumbered, IsPostFailure, IsUnnumbered, RefusesBehind, Tells, TellsClosed, refusal_number};
+ghost use Rattle.cluster_engine.specs.Reports.{ClosesUnnumbered, IsPostFailure, IsUnnumbered, RefusesAfter, Tells, TellsClosed, refusal_number};
 
 use crate::engine::Output;
 use crate::replay::is_replayed;
@@ -33,14 +33,14 @@ fn refusal_number(why: PostError) -> Result<u8, Failure>
     }
 }
 
-/// The line of an event that was refused behind so many that were made.
+/// The line of an event that was refused after so many that were made.
 pub(crate) fn refused_line(
     alloc: Global,
     made: usize,
     why: PostError,
 ) -> Result<(Vec<u8>, Status), Failure>
     requires { made + 1 < 2 ^ 64 }
-    ensures line { IfOk result (λ r. RefusesBehind made r.0.items) }
+    ensures line { IfOk result (λ r. RefusesAfter made why r.0.items) }
     ensures status { IfOk result (λ r. r.1 ≡ ends.Stopped) }
     ensures err { IfErr result (λ e. (e ≡ Failure.Memory) ⊎ IsPostFailure why e) }
     ensures why { IfErr result IsOfRun }

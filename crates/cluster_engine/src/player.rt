@@ -1,9 +1,10 @@
 //! The events of a script, made by one caller; the others deliver.
 
-ghost use Rattle.std.specs.Prelude.{◌≡◌, ◌<◌, ℕ, IfSome, OnOk, length, slice_index_or};
+ghost use Rattle.std.specs.Prelude.{◌≡◌, ◌<◌, ℕ, IfErr, IfSome, OnOk, length, slice_index_or};
 ghost use Rattle.tree_threads.specs.Passes.{PassState as AnyPass};
 ghost use Rattle.tree_cluster.specs.Passes.{IsLonger};
-ghost use Rattle.cluster_engine.specs.Made.{AreMade, FirstMade, IsMade, IsPosted};
+ghost use Rattle.tree_cluster.specs.Posts.{IsUnposted};
+ghost use Rattle.cluster_engine.specs.Made.{AreMade, FirstMade, FirstRefused, IsMade, IsPosted, IsRefused, RefusedNext};
 
 use std::alloc::Global;
 use std::sync::Wait;
@@ -26,9 +27,12 @@ fn post<N: Seats, R: Wait, G: Gate>(
     gate: &G,
     pass: &mut Pass<N>,
 ) -> Result<(), PostError>
-    ensures { OnOk result (IsPosted N.tree event.now pass.old pass.new) }
+    ensures posted { OnOk result (IsPosted N.tree event.now pass.old pass.new) }
+    ensures refused { IfErr result (IsUnposted N.tree event.now) }
 {
-    let copy = event.copied(alloc)?;
+    let Ok(copy) = event.copied(alloc) else {
+        return Err(PostError::Memory);
+    };
     cluster.post(rt, copy, pass, gate)?;
     Ok(())
 }
@@ -38,12 +42,13 @@ fn make<N: Seats, R: Wait, G: Gate>(
     rt: &R,
     alloc: Global,
     cluster: &Cluster<N>,
-    rounds: &Rounds,
+    rounds: &Rounds<N>,
     event: &Event,
     gate: &G,
     pass: &mut Pass<N>,
 ) -> Result<(), PostError>
-    ensures { OnOk result (IsMade N.tree event.now pass.old pass.new) }
+    ensures made { OnOk result (IsMade N.tree event.now pass.old pass.new) }
+    ensures refused { IfErr result (IsRefused N.tree event.now) }
 {
     match event {
         Event::Settle => cluster.settle(rt, rounds, pass, gate),
@@ -56,13 +61,13 @@ fn make_all<N: Seats, R: Wait, G: Gate>(
     rt: &R,
     alloc: Global,
     cluster: &Cluster<N>,
-    rounds: &Rounds,
+    rounds: &Rounds<N>,
     events: &[Event],
     gate: &G,
     pass: &mut Pass<N>,
 ) -> Refusal
     ensures made { result ≡ None → AreMade N.tree events.now pass.old pass.new }
-    ensures within { IfSome result (λ r. r.0 < length events.now) }
+    ensures refused { IfSome result (λ r. RefusedNext N.tree events.now r.0 r.1 pass.old) }
 {
     for (made, event) in events.iter().enumerate() {
         if let Err(why) = make(rt, alloc, cluster, rounds, event, gate, pass) {
@@ -77,13 +82,13 @@ fn lead<N: Seats, R: Wait, G: Gate>(
     rt: &R,
     alloc: Global,
     cluster: &Cluster<N>,
-    rounds: &Rounds,
+    rounds: &Rounds<N>,
     events: &[Event],
     gate: &G,
     pass: &mut Pass<N>,
 ) -> Refusal
     ensures made { result ≡ None → AreMade N.tree events.now pass.old pass.new }
-    ensures within { IfSome result (λ r. r.0 < length events.now) }
+    ensures refused { IfSome result (λ r. RefusedNext N.tree events.now r.0 r.1 pass.old) }
 {
     cluster.lead(rounds);
     let refusal = make_all(rt, alloc, cluster, rounds, events, gate, pass);
@@ -95,7 +100,7 @@ fn lead<N: Seats, R: Wait, G: Gate>(
 fn serve<N: Seats + Send + Sync, R: Threads + Wait + Sync, G: Gate + Sync>(
     rt: &R,
     cluster: &Cluster<N>,
-    rounds: &Rounds,
+    rounds: &Rounds<N>,
     gate: &G,
     passes: &mut [Pass<N>],
 )
@@ -120,14 +125,14 @@ fn lead_and_serve<'a, N: Seats + Send + Sync, R: Threads + Wait + Sync, G: Gate 
     rt: &'a R,
     alloc: Global,
     cluster: &'a Cluster<N>,
-    rounds: &'a Rounds,
+    rounds: &'a Rounds<N>,
     events: &'a [Event],
     gate: &'a G,
     first: &'a mut Pass<N>,
     others: &'a mut [Pass<N>],
 ) -> Refusal
     ensures made { result ≡ None → AreMade N.tree events.now first.old first.new }
-    ensures within { IfSome result (λ r. r.0 < length events.now) }
+    ensures refused { IfSome result (λ r. RefusedNext N.tree events.now r.0 r.1 first.old) }
 {
     let (_, refusal) = thread::join_mut(
         rt,
@@ -148,9 +153,9 @@ pub(crate) fn play<N: Seats + Send + Sync, R: Threads + Wait + Sync, G: Gate + S
 ) -> Refusal
     requires { 0 < length passes.old }
     ensures made { result ≡ None → FirstMade N.tree events.now passes.old passes.new }
-    ensures within { IfSome result (λ r. r.0 < length events.now) }
+    ensures refused { IfSome result (λ r. FirstRefused N.tree events.now r.0 r.1 passes.old) }
 {
-    let rounds = Rounds::new();
+    let rounds = Rounds::<N>::new();
     let Some((first, others)) = passes.split_first_mut() else {
         unreachable!()
     };

@@ -1,6 +1,6 @@
 //! A tree whose processes run at the same time.
 
-ghost use Rattle.std.specs.Prelude.{◌≡◌, ◌+◌, ◌<◌, ◌≤◌, IfErr, IfOk, OnErr, map};
+ghost use Rattle.std.specs.Prelude.{◌≡◌, ◌⊎◌, ◌+◌, ◌<◌, ◌≤◌, IfErr, IfOk, OnErr, map};
 ghost use Rattle.tree_model.specs.Plays.{process_of_act};
 ghost use Rattle.tree_model.specs.Trees.{IsTree, root_of as root_in};
 ghost use Rattle.tree_threads.specs.Marks.{ActsHere};
@@ -8,7 +8,7 @@ ghost use Rattle.tree_threads.specs.Posts.{PostsOne};
 ghost use Rattle.tree_cluster.specs.Closing.{AreMet, IsClosed};
 ghost use Rattle.tree_cluster.specs.Opening.{SeatsTree};
 ghost use Rattle.tree_cluster.specs.Passes.{new_passes};
-ghost use Rattle.tree_cluster.specs.Posts.{IsOf, Posts};
+ghost use Rattle.tree_cluster.specs.Posts.{IsOf, IsOfNone, IsSentTo, IsUnposted, IsUnsent, Posts, RefusesAt};
 
 use crate::closing::{left_logs, let_go, meet_all};
 use crate::opening::{give_passes, open_all};
@@ -114,7 +114,9 @@ impl<N: Seats> Cluster<N> {
     /// The process of an event: an act's, the receiver of a message, or the one that is named. Stranger: there is
     /// none. Memory: a growth was refused.
     fn process_by<R: Wait>(&self, rt: &R, event: &Event) -> Result<ProcessId, PostError>
-        ensures { IfOk result (λ q. IsOf (root_in N.tree) q event.now) }
+        ensures ok { IfOk result (λ q. IsOf N.tree q event.now) }
+        ensures err { IfErr result (λ why. (why ≡ PostError.Memory)
+            ⊎ ((why ≡ PostError.Stranger) × IsOfNone N.tree event.now)) }
     {
         match event {
             Event::Act(act) => Ok(process_of(self.tree.root(), act)),
@@ -126,9 +128,25 @@ impl<N: Seats> Cluster<N> {
     }
 
     /// The receiver of the message with this number. Stranger: the journal has none.
-    fn receiver<R: Wait>(&self, rt: &R, number: u64) -> Result<ProcessId, PostError> {
+    fn receiver<R: Wait>(&self, rt: &R, number: u64) -> Result<ProcessId, PostError>
+        ensures ok { IfOk result (λ q. IsSentTo N.tree q number) }
+        ensures err { IfErr result (λ why. (why ≡ PostError.Memory)
+            ⊎ ((why ≡ PostError.Stranger) × IsUnsent N.tree number)) }
+    {
         let mut ledger = self.ledger.lock(rt);
         receiver_in(&mut *ledger, number)
+    }
+
+    /// What lies under the lock of this process, which the tree lists.
+    fn seat_of<R: Wait>(&self, rt: &R, process: ProcessId) -> &Mutex<Seated<N>> {
+        if let Some(place) = place_of(self.tree.entries(), process) {
+            if let Some(seated) = self.processes.get(place) {
+                return seated;
+            }
+        }
+        // For the proof: a listed process has a place, and sits there, so this does not come.
+        for _ in rt.forever() {}
+        unreachable!()
     }
 
     /// Posts an event of this process, or of none where no process has this name. An act is this process's.
@@ -144,14 +162,12 @@ impl<N: Seats> Cluster<N> {
         requires { ActsHere (root_in N.tree) process event }
         ensures ok { IfOk result (λ r. PostsOne N.tree process event pass.old pass.new r.place r.begun) }
         ensures err { OnErr result (pass.new ≡ pass.old) }
+        ensures refused { IfErr result (RefusesAt N.tree process event) }
     {
-        let Some(place) = place_of(self.tree.entries(), process) else {
+        if !self.tree.is_listed(process) {
             return Err(PostError::Step(StepError::NoSuch));
-        };
-        let Some(seated) = self.processes.get(place) else {
-            return Err(PostError::Step(StepError::NoSuch));
-        };
-        let mut seated = seated.lock(rt);
+        }
+        let mut seated = self.seat_of(rt, process).lock(rt);
         seated.post(
             rt,
             self.alloc,
@@ -170,7 +186,8 @@ impl<N: Seats> Cluster<N> {
     ///
     /// Stranger: a settle, or a message that the journal has not. JournalFull: the journal has 1,000,000 entries
     /// or more. Step: the process refused it, or there is none of its name. Memory: a growth was refused. Behind
-    /// a refusal the pass is as before.
+    /// a refusal the pass is as before. The clause `refused` says of each why it came.
+    #[tactic(auto, using(crate::proofs::Posting::of_none, crate::proofs::Posting::refused_at))]
     pub fn post<R: Wait, G: Gate>(
         &self,
         rt: &R,
@@ -180,6 +197,7 @@ impl<N: Seats> Cluster<N> {
     ) -> Result<(usize, Option<Txn>), PostError>
         ensures ok { IfOk result (λ r. Posts N.tree event pass.old pass.new r.0 r.1) }
         ensures err { OnErr result (pass.new ≡ pass.old) }
+        ensures refused { IfErr result (IsUnposted N.tree event) }
     {
         let process = self.process_by(rt, &event)?;
         let posted = self.post_at(rt, process, event, pass, gate, Turn::Once)?;
@@ -237,8 +255,15 @@ impl<N: Seats> Cluster<N> {
 }
 
 /// The receiver of the message with this number, of those that the journal has.
-fn receiver_in<N: Seats>(ledger: &mut Ledger<N>, number: u64) -> Result<ProcessId, PostError> {
-    ledger.place()?;
+fn receiver_in<N: Seats>(ledger: &mut Ledger<N>, number: u64) -> Result<ProcessId, PostError>
+    ensures ok { IfOk result (λ q. IsSentTo N.tree q number) }
+    ensures err { IfErr result (λ why. (why ≡ PostError.Memory)
+        ⊎ ((why ≡ PostError.Stranger) × IsUnsent N.tree number)) }
+{
+    ledger.is_a_run();
+    if ledger.place().is_err() {
+        return Err(PostError::Memory);
+    }
     match ledger.message(number) {
         None => Err(PostError::Stranger),
         Some(envelope) => Ok(envelope.to),

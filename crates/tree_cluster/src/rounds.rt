@@ -1,25 +1,46 @@
 //! What the workers of one call share.
 
-ghost use Rattle.std.specs.Prelude.{IsTrue, OnOk};
+ghost use Rattle.std.specs.Prelude.{IfErr, IsTrue, OnOk};
+ghost use Rattle.tree_cluster.specs.Posts.{IsStopped};
 
+use std::marker::{Model, PhantomData};
 use std::sync::atomic::{AtomicBool, Ordering};
 use std::sync::{Mutex, Wait};
 use tree_threads::PostError;
+use tree_ties::seats::Seats;
+
+/// Why the workers stopped. To a contract it is that refusal.
+#[derive(Drop)]
+pub(crate) struct Stop<N: Seats> {
+    why: PostError,
+    name: PhantomData<N>,
+}
+
+impl<N: Seats> Model for Stop<N> {
+    ghost use Rattle.tree_threads.specs.declared.errors.PostError.{PostError as AnyError};
+    ghost use Rattle.tree_cluster.specs.Posts.{IsStopped};
+
+    ghost Value = { AnyError };
+
+    ghost view = { λ s. s.why };
+
+    ghost invariant = { λ s. IsStopped N.tree s.why };
+}
 
 /// What the workers of one call, or of one run of a script, share: whether they are to deliver now, whether all
 /// is done, and the first refusal. It changes under the journal's lock alone, so that no wake is lost.
 #[derive(Drop)]
-pub struct Rounds {
+pub struct Rounds<N: Seats> {
     begun: AtomicBool,
     open: AtomicBool,
     done: AtomicBool,
     stopped: AtomicBool,
-    why: Mutex<Option<PostError>>,
+    why: Mutex<Option<Stop<N>>>,
 }
 
-impl Rounds {
+impl<N: Seats> Rounds<N> {
     /// Nothing is delivered yet.
-    pub fn new() -> Rounds {
+    pub fn new() -> Rounds<N> {
         Rounds {
             begun: AtomicBool::new(false),
             open: AtomicBool::new(false),
@@ -62,20 +83,26 @@ impl Rounds {
     }
 
     /// A delivery was refused. The first refusal is kept.
-    pub(crate) fn stop<R: Wait>(&self, rt: &R, why: PostError) {
+    pub(crate) fn stop<R: Wait>(&self, rt: &R, why: PostError)
+        requires { IsStopped N.tree why }
+    {
         let mut kept = self.why.lock(rt);
         if kept.is_none() {
-            *kept = Some(why);
+            *kept = Some(Stop {
+                why,
+                name: PhantomData,
+            });
         }
         self.stopped.store(true, Ordering::SeqCst);
     }
 
     /// How the deliveries ended, where the last worker found that every message is delivered, or did not.
     pub(crate) fn ended<R: Wait>(&self, rt: &R, is_settled: bool) -> Result<(), PostError>
-        ensures { OnOk result (IsTrue is_settled) }
+        ensures ok { OnOk result (IsTrue is_settled) }
+        ensures err { IfErr result (IsStopped N.tree) }
     {
-        match *self.why.lock(rt) {
-            Some(why) => Err(why),
+        match &*self.why.lock(rt) {
+            Some(stop) => Err(stop.why),
             None if is_settled => Ok(()),
             None => Err(PostError::Memory),
         }

@@ -1,5 +1,5 @@
 -- What was posted.
-use Rattle.std.specs.Prelude.{◌≡◌, ℕ, Option, List}
+use Rattle.std.specs.Prelude.{◌≡◌, ⊤, ℕ, Option, List, length}
 use Rattle.tree_model.specs.declared.names.ProcessId.{ProcessId}
 use Rattle.tree_model.specs.declared.names.Txn.{Txn}
 use Rattle.tree_model.specs.declared.events.Entry.{Entry}
@@ -9,13 +9,19 @@ use Rattle.tree_model.specs.declared.events.Happening.{Happening}
 use Rattle.tree_model.specs.declared.events.StepError.{StepError}
 use Rattle.tree_model.specs.declared.events.StepError.TheVariants as steps
 use Rattle.tree_model.specs.declared.trees.TreeEntry.{TreeEntry}
+use Rattle.tree_model.specs.World.{entries_of}
 use Rattle.core_model.specs.States.{CoreState}
 use Rattle.core_law.specs.Steps.{restart_of}
 use Rattle.core_law.specs.worlds.Worlds.{KeepsBytes}
 use Rattle.manager_model.specs.Data.{ManagerData}
 use Rattle.tree_cut.specs.Alone.{AsksFor, RunsAlone, StepAlone}
+use Rattle.tree_cut.specs.Cuts.{net_of}
+use Rattle.tree_cut.specs.Owns.{CutHolds}
+use Rattle.tree_ties.specs.Views.{entries_in}
 use Rattle.tree_threads.specs.declared.errors.PostError.{PostError}
 use Rattle.tree_threads.specs.declared.errors.PostError.TheVariants.{Stranger, JournalFull, Step, Memory}
+use Rattle.tree_threads.specs.Makes.{NotMadeIt}
+use Rattle.tree_threads.specs.Marks.{Happens, NotMarked}
 use Rattle.tree_threads.specs.Passes.{NotesOne, PassState}
 
 -- how a step's refusal is answered
@@ -52,3 +58,31 @@ pub record PostsOne (tree : List TreeEntry) (q : ProcessId) (event : Event) (old
   pub step : StepAlone tree q before behind held kept entry
   pub is_for : AsksAt before event entry.step.happening
   pub begun_is : begun ≡ entry.reaction.begun
+
+-- The event was not marked at this process: the journal, a run of the tree, then gave this reason.
+pub record MarksNot (tree : List TreeEntry) (q : ProcessId) (event : Event) (why : PostError) : Type 0 where
+  pub journal : List (ℕ × Entry)
+  pub run : CutHolds tree (entries_in journal)
+  pub not_marked : NotMarked (net_of (entries_in journal)) (length journal) q event why
+
+-- The process did not make the step that the event asks of it. The journal was a run of the tree, and the process had made
+-- its entries of it by itself, with its data. Neither the process nor its data changed.
+pub record RefusesStep (tree : List TreeEntry) (q : ProcessId) (event : Event) (e : StepError) : Type 0 where
+  pub journal : List (ℕ × Entry)
+  pub run : CutHolds tree (entries_in journal)
+  pub core : CoreState
+  pub held : ManagerData
+  pub ran : RunsAlone tree q (entries_of q (entries_in journal)) core held
+  pub happening : Happening
+  pub keep : ℕ
+  pub happens : Happens (net_of (entries_in journal)) q core event happening keep
+  pub left : CoreState
+  pub kept : ManagerData
+  pub not_made : NotMadeIt core left held kept happening e
+
+-- why the event was not posted at this process
+abbrev pub NotPosted : List TreeEntry → ProcessId → Event → PostError → Type 0
+NotPosted tree q event Stranger = MarksNot tree q event Stranger
+NotPosted tree q event JournalFull = MarksNot tree q event JournalFull
+NotPosted tree q event (Step e) = RefusesStep tree q event e
+NotPosted tree q event Memory = ⊤

@@ -7,6 +7,7 @@ ghost use Rattle.tree_model.specs.World.{entries_of};
 ghost use Rattle.core_law.specs.worlds.Worlds.{KeepsBytes};
 ghost use Rattle.tree_cut.specs.Alone.{IsMine};
 ghost use Rattle.tree_cut.specs.Cuts.{net_of};
+ghost use Rattle.tree_cut.specs.Owns.{CutHolds};
 ghost use Rattle.tree_node.specs.Nodes.{core_of};
 ghost use Rattle.tree_ties.specs.Views.{entries_in, idle_at, wanting, worker};
 ghost use Rattle.tree_threads.specs.Marks.{ActsHere, Happens, IsMarked, IsNotFor, NotMarked};
@@ -148,6 +149,7 @@ pub fn mark<N: Seats>(
     requires seat { seat.old.me ≡ (worker (idle_at word (Some me) seat.old.me.0.process.own), []) }
     requires acts { ActsHere (root_of N.tree) me event }
     ensures ledger { ledger.new.entries ≡ ledger.old.entries }
+    ensures run { CutHolds N.tree (entries_in ledger.old.entries) }
     ensures tied { OnOk result (seat.old.me.0.process.own ≡ entries_of me (entries_in ledger.old.entries)) }
     ensures here { seat.new.table_id ≡ seat.old.table_id }
     ensures ok { IfOk result (λ m. IsMarked (net_of (entries_in ledger.old.entries)) me (core_of node.now) event m
@@ -158,6 +160,7 @@ pub fn mark<N: Seats>(
     ensures refused { IfErr result (NotMarked (net_of (entries_in ledger.old.entries))
         (length ledger.old.entries) me event) }
 {
+    ledger.is_a_run();
     ledger.place()?;
     let (happening, keep) = asked(alloc, me, node, ledger, event)?;
     let room = Room::new(alloc)?;

@@ -11,7 +11,7 @@ ghost use Rattle.tree_node.specs.Nodes.{core_of, data_of};
 ghost use Rattle.tree_ties.specs.Views.{entries_in, idle_at, worker};
 ghost use Rattle.tree_threads.specs.Locked.{LeavesLog};
 ghost use Rattle.tree_threads.specs.Marks.{ActsHere};
-ghost use Rattle.tree_threads.specs.Posts.{PostsOne};
+ghost use Rattle.tree_threads.specs.Posts.{NotPosted, PostsOne};
 
 use crate::entering::enter;
 use crate::errors::PostError;
@@ -23,7 +23,7 @@ use log_store::MemoryStore;
 use std::alloc::{AllocError, Global};
 use std::marker::{Model, PhantomData};
 use std::sync::{Mutex, Wait};
-use tree_model::{Event, LogRecord, ProcessId, StepError, Txn};
+use tree_model::{Event, LogRecord, ProcessId, Txn};
 use tree_node::Node;
 use tree_ties::seats::{Place, Seats, Ties};
 use tree_ties::ties::compare;
@@ -145,7 +145,8 @@ impl<N: Seats> Seated<N> {
 
     /// Marks, makes and enters an event of this process, under its lock, which the caller has; the journal's is
     /// taken for the mark and for the entry. A worker's claim ends with the entry, and it makes the next there. An act is
-    /// this process's.
+    /// this process's. A refusal says why the event was not marked, or what the process refused, where it stood.
+    #[tactic(auto, using(crate::proofs::NotPosting::marked_not))]
     pub fn post<R: Wait, G: Gate>(
         &mut self,
         rt: &R,
@@ -162,9 +163,12 @@ impl<N: Seats> Seated<N> {
         requires acts { ActsHere (root_of N.tree) process event }
         ensures ok { IfOk result (λ r. PostsOne N.tree process event pass.old pass.new r.place r.begun) }
         ensures err { OnErr result (pass.new ≡ pass.old) }
+        ensures refused { IfErr result (NotPosted N.tree process event) }
     {
         if !is_same(self.me, process) {
-            return Err(PostError::Step(StepError::NoSuch));
+            // For the proof: a process sits at its place of the tree, so this does not come.
+            for _ in rt.forever() {}
+            unreachable!()
         }
         let marked = mark(
             alloc,

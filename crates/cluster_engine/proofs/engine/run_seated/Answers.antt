@@ -2,7 +2,7 @@ use Rattle.std.proofs.Common.{◌∙◌, refl, subst, sym}
 use Rattle.tree_cluster.specs.Opening.{SeatsTree}
 use Rattle.cluster_engine.specs.Made.{FirstMade}
 use Rattle.std.proofs.lemmas.Result.{IfErr-weaker}
-use Rattle.cluster_engine.proofs.Reporting.{closed_written, not_closed, not_posted}
+use Rattle.cluster_engine.proofs.Reporting.{closed_written, not_closed, not_posted, refused_first, refused_written}
 use Rattle.cluster_engine.proofs.engine.run_seated.Goals as goal
 
 pub new-requires-clause-seats : goal.new-requires-clause-seats
@@ -30,4 +30,15 @@ returns-in-None-clause-err g c =
 pub returns-in-Some-clause-err : goal.returns-in-Some-clause-err
 returns-in-Some-clause-err g c =
     IfErr-weaker c.refused_line.result _ _ (λ why. not_posted c.args.tree c.args.events.now c.in-Some.made c.in-Some.why why
-    c.in-Some.ensures.within) c.refused_line.ensures.err
+    (refused_first c.args.tree g.N.Seats.tree c.args.events.now c.in-Some.made c.in-Some.why c.args.workers
+    c.as_mut_slice-passes.result.now c.requires.workers.0 c.requires.seats.tree_is
+    (c.as_mut_slice-passes.ensures.value ∙ c.in-Ok.ensures.passes) c.in-Some.ensures.refused)) c.refused_line.ensures.err
+
+pub returns-in-Some-clause-text : goal.returns-in-Some-clause-text
+returns-in-Some-clause-text g c =
+    refused_written (λ r. r.0.items) c.args.output c.args.tree c.args.events.now c.in-Some.made c.in-Some.why
+    c.refused_line.result
+    (refused_first c.args.tree g.N.Seats.tree c.args.events.now c.in-Some.made c.in-Some.why c.args.workers
+    c.as_mut_slice-passes.result.now c.requires.workers.0 c.requires.seats.tree_is
+    (c.as_mut_slice-passes.ensures.value ∙ c.in-Ok.ensures.passes) c.in-Some.ensures.refused)
+    c.refused_line.ensures.line c.refused_line.ensures.status

@@ -1,3 +1,4 @@
+use Rattle.std.proofs.Common.{inr}
 use Rattle.tree_cluster.proofs.Passing.{delivered_longer}
 use Rattle.tree_cluster.proofs.cluster.Cluster.deliver.Goals as goal
 
@@ -8,3 +9,6 @@ returns-then-posted g c =
 pub returns-else-posted : goal.returns-else-posted
 returns-else-posted g c =
     delivered_longer g.N.Seats.tree c.args.claim.to c.args.claim.number _ _ _ _ c.in-Ok.ensures.ok
+
+pub stop-requires : goal.stop-requires
+stop-requires g c = inr (c.args.claim.to, c.args.claim.number, c.in-Err.ensures.refused)

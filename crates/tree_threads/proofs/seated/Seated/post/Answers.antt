@@ -6,6 +6,7 @@ use Rattle.tree_node.specs.Nodes.{core_of, data_of}
 use Rattle.tree_threads.specs.Marks.{ActsHere}
 use Rattle.tree_threads.specs.Posts.{AsksAt}
 use Rattle.tree_threads.proofs.Asked.{asks_it}
+use Rattle.tree_threads.proofs.NotPosting.{made_not}
 use Rattle.tree_threads.proofs.OwnSteps.{step_alone}
 use Rattle.tree_threads.proofs.seated.Seated.post.Goals as goal
 
@@ -83,3 +84,11 @@ invariant_of-self-in-Ok g c =
           (step_alone tree me (core_of old) (core_of new) (data_of old) (data_of new) m.keep m.wanted x
           c.in_ok-marked.ensures.ok.0.at c.in_ok-marked.ensures.mine c.in-Ok.ensures.ok.1 c.in-Ok.ensures.made)),
     )
+
+pub returns-in-Err-clause-refused : goal.returns-in-Err-clause-refused
+returns-in-Err-clause-refused g c =
+    made_not g.N.Seats.tree c.self.inside.me c.args.process c.args.event _ c.self.inside.seat.me.0.process.own
+    (core_of c.self.inside.node) (core_of c.make_step.new.node) (data_of c.self.inside.node)
+    (data_of c.make_step.new.node) c.in_ok-marked.marked.wanted.step.happening c.in_ok-marked.marked.keep
+    c.in-Err.error _ (c.if-not-is_same.ensures.yes refl) c.from.ensures c.in_ok-marked.ensures.run
+    c.in_ok-marked.ensures.tied c.self.invariant.6 c.in_ok-marked.ensures.ok.0.happens c.in-Err.ensures.refused
