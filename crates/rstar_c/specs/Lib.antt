@@ -1,0 +1,5 @@
+pub mod Handles
+pub mod Numbers
+pub mod Turns
+pub mod Openings
+pub mod Texts
