@@ -63,7 +63,7 @@ typedef struct rstar_node {
 #define RSTAR_XID_GTRID 32     /* a global name that is not of 1 to 64 bytes */
 #define RSTAR_XID_BQUAL 33     /* a name of the branch of more than 64 bytes */
 #define RSTAR_XID_SHORT 34     /* too few bytes */
-#define RSTAR_XID_LONG 35      /* bytes behind it */
+#define RSTAR_XID_LONG 35      /* bytes after it */
 #define RSTAR_XID_TEXT 36      /* a text that is not spelled as one */
 #define RSTAR_NO_CASE 37       /* a text that spells no case, or a parent that does not fit it */
 #define RSTAR_FOREIGN 38       /* an XID that names no case of a tree */

@@ -184,7 +184,7 @@ static void close_all(void)
     sqlite3_close(files[3]);
 }
 
-/* Promises to add an amount, where the account allows it. */
+/* Promises to add an amount, if the account allows it. */
 static void promise(int leaf, int amount)
 {
     run(leaf, "INSERT INTO promised SELECT ?1, ?2 FROM account WHERE balance + ?2 >= 0", cases[leaf], amount);

@@ -177,7 +177,7 @@ public final class Transfer {
         refused(1, "[[", 1, folder + "/none.log", true);
         byte[] xid = Node.xidOfCase(1, 1, "a1.1@2.1.1");
         int[] above = new int[2];
-        String logs = TREE + "---\nlog 1 \nlog 2 \nlog 3 \n";
+        String logs = TREE + "---\nlog 1\nlog 2\nlog 3\n";
         if (Node.version() != 1 || !Node.xidCase(xid, above).equals("a1.1@2.1.1") || above[0] != 1 || above[1] != 1
                 || !java.util.Arrays.equals(Node.xidBytes(Node.xidText(xid)), xid)
                 || !Node.audit(logs, true).text.equals("mismatches 0\n") || Node.log(logs).status != 0

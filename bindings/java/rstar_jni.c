@@ -123,7 +123,7 @@ JNIEXPORT void JNICALL Java_rstar_Node_release(JNIEnv *env, jclass type, jlong h
         throw_refused(env, why);
 }
 
-/* What a call without a node tells of some bytes; it is made again where the room was short. */
+/* What a call without a node tells of some bytes; it is made again if the room was short. */
 typedef unsigned int teller(const unsigned char *bytes, size_t size, unsigned int first, unsigned int second, unsigned char *room,
                             size_t room_size, size_t *told, unsigned int *out);
 

@@ -57,13 +57,13 @@ REASONS = {
     24: "numbers are used up", 25: "a line `end` was answered before", 26: "the node is closed",
     28: "an earlier answer waits", 31: "the format of an XID is negative", 32: "the gtrid of an XID is not 1 to 64 bytes long",
     33: "the bqual of an XID is longer than 64 bytes", 34: "the bytes of an XID are cut short",
-    35: "there are bytes behind an XID", 36: "the text of an XID is not spelled as one", 37: "it is no case",
+    35: "there are bytes after an XID", 36: "the text of an XID is not spelled as one", 37: "it is no case",
     38: "the XID names no case of a tree",
 }
 
 
 class Refused(Exception):
-    """Why there is no answer: its number in rstar.h, and the system's reason where there is one."""
+    """Why there is no answer: its number in rstar.h, and the system's reason if there is one."""
 
     def __init__(self, number, reason=0):
         told = REASONS.get(number, str(number))
@@ -81,7 +81,7 @@ def _bytes(text):
 
 
 def _fetched(call):
-    """What a call tells: call(room, its size, the size of what is told) is made again where the room was short."""
+    """What a call tells: call(room, its size, the size of what is told) is made again if the room was short."""
     size, room = _SIZE(), ctypes.create_string_buffer(512)
     for _ in range(2):
         _check(call(room, len(room), ctypes.byref(size)))

@@ -36,8 +36,8 @@ def main(folder):
     assert "told a1.1 committed" in told and "outcome a1.1 committed" in told, told
     refused(5, rstar.Node, TREE, 1, path(1))
     refused(7, rstar.Node, TREE, 1, path(1), new=True)
-    refused(1, rstar.Node, "[[", 1, path(1))
-    refused(3, rstar.Node, TREE, 9, path(1))
+    refused(1, rstar.Node, "[[", 1, path(3), new=True)
+    refused(3, rstar.Node, TREE, 9, path(3), new=True)
     assert refused(9, rstar.Node, TREE, 1, f"{folder}/no/1.log", new=True).errno == 2
     for _ in range(40):
         nodes[1].line("begin pa")
@@ -57,9 +57,9 @@ def main(folder):
     xid = rstar.xid_of_case(1, 1, "a1.1@2.1.1")
     assert rstar.xid_case(xid) == (1, 1, "a1.1@2.1.1") and rstar.xid_bytes(rstar.xid_text(xid)) == xid
     refused(36, rstar.xid_bytes, "x")
-    report, ending = rstar.audit(TREE + "---\nlog 1 \nlog 2 \n")
+    report, ending = rstar.audit(TREE + "---\nlog 1\nlog 2\n")
     assert ending == 0 and report == "mismatches 0\n", (report, ending)
-    assert rstar.log(TREE + "---\nlog 1 \nlog 2 \n")[1] == 0 and rstar.audit("x")[1] == 1
+    assert rstar.log(TREE + "---\nlog 1\nlog 2\n")[1] == 0 and rstar.audit("x")[1] == 1
     print("the module does as it says")
 
 

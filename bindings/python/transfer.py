@@ -48,7 +48,7 @@ class Leaf:
         return self.run("SELECT balance FROM account")[0][0]
 
     def promise(self, amount):
-        """Promises to add an amount, where the account allows it."""
+        """Promises to add an amount, if the account allows it."""
         self.run("INSERT INTO promised SELECT ?1, ?2 FROM account WHERE balance + ?2 >= 0", self.case, amount)
 
     def hear(self, message, name):

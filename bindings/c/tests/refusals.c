@@ -1,6 +1,6 @@
 /* Each number of rstar.h, seen from C: refusals TREE FOLDER
  *
- * TREE is tree.toml: root 1, manager 2 below it. Prints a line for each number with what it was seen of, and fails where
+ * TREE is tree.toml: root 1, manager 2 below it. Prints a line for each number with what it was seen of, and fails if
  * a call answers another. Refused calls are made on real files: locked, linked, cut, damaged, of another process. */
 #include "rstar.h"
 #include "rstar_core.h"
@@ -350,7 +350,7 @@ static void texts(void)
     want(rstar_xid_text(bytes, 7, room, sizeof room, &size), RSTAR_XID_SHORT, "an XID cut short");
     want(rstar_xid_text(long_name, 3, room, sizeof room, &size), RSTAR_XID_SHORT, "three bytes");
     memcpy(long_name, bytes, 8);
-    want(rstar_xid_text(long_name, 9, room, sizeof room, &size), RSTAR_XID_LONG, "a byte behind an XID");
+    want(rstar_xid_text(long_name, 9, room, sizeof room, &size), RSTAR_XID_LONG, "a byte after an XID");
     want(rstar_xid_bytes((const unsigned char *)"7:1:2", 5, room, sizeof room, &size), RSTAR_XID_TEXT, "a text that is no XID");
     want(rstar_xid_bytes((const unsigned char *)"-2:01:", 6, room, sizeof room, &size), RSTAR_XID_FORMAT, "a text with a negative format");
     want(rstar_xid_of_case(1, 1, (const unsigned char *)"a1.1@2.1.1", 10, room, sizeof room, &size), RSTAR_DONE, "the XID of a case");
@@ -368,7 +368,7 @@ static void texts(void)
     want(rstar_xid_of_case(1, 0, (const unsigned char *)"a1.1@2.1.1", 10, room, sizeof room, &size), RSTAR_NO_CASE, "a case below no parent");
     want(rstar_xid_of_case(1, 1, (const unsigned char *)"x", 1, room, sizeof room, &size), RSTAR_NO_CASE, "a text that is no case");
     want(rstar_xid_case(bytes, 8, &root, &parent, room, sizeof room, &size), RSTAR_FOREIGN, "an XID of nobody's");
-    at = (size_t)sprintf(text, "%.*s---\nlog 1 \nlog 2 \n", (int)tree_size, (const char *)tree);
+    at = (size_t)sprintf(text, "%.*s---\nlog 1\nlog 2\n", (int)tree_size, (const char *)tree);
     want(rstar_audit((const unsigned char *)text, at, 0, room, sizeof room, &size, &ending), RSTAR_DONE, "an audit");
     printf("    the audit ends with %u: %.*s", ending, (int)size, (char *)room);
     want(rstar_audit((const unsigned char *)"x", 1, 1, room, sizeof room, &size, &ending), RSTAR_DONE, "an audit of no logs");

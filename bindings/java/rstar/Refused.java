@@ -1,6 +1,6 @@
 package rstar;
 
-/** Why there is no answer: its number in rstar.h, and the system's reason where there is one. */
+/** Why there is no answer: its number in rstar.h, and the system's reason if there is one. */
 public final class Refused extends Exception {
     private static final long serialVersionUID = 1;
     private static final String[] TOLD = {
@@ -12,7 +12,7 @@ public final class Refused extends Exception {
         "the handle is of an open node", "a place is null", "", "out of memory", "", "the log's file failed",
         "numbers are used up", "a line `end` was answered before", "the node is closed", "", "an earlier answer waits", "", "",
         "the format of an XID is negative", "the gtrid of an XID is not 1 to 64 bytes long",
-        "the bqual of an XID is longer than 64 bytes", "the bytes of an XID are cut short", "there are bytes behind an XID",
+        "the bqual of an XID is longer than 64 bytes", "the bytes of an XID are cut short", "there are bytes after an XID",
         "the text of an XID is not spelled as one", "it is no case", "the XID names no case of a tree",
     };
 

@@ -92,7 +92,7 @@ impl Refused {
             32 => "the gtrid of an XID is not 1 to 64 bytes long",
             33 => "the bqual of an XID is longer than 64 bytes",
             34 => "the bytes of an XID are cut short",
-            35 => "there are bytes behind an XID",
+            35 => "there are bytes after an XID",
             36 => "the text of an XID is not spelled as one",
             37 => "it is no case",
             38 => "the XID names no case of a tree",

@@ -86,7 +86,7 @@ fn names_and_audits() {
     assert_eq!(rstar::xid_case(&xid), Ok((1, Some(1), "a1.1@2.1.1".to_string())));
     assert_eq!(rstar::xid_bytes(&rstar::xid_text(&xid).unwrap()), Ok(xid));
     assert_eq!(rstar::xid_bytes("x").err().map(|why| why.number), Some(36));
-    let logs = format!("{TREE}---\nlog 1 \nlog 2 \n");
+    let logs = format!("{TREE}---\nlog 1\nlog 2\n");
     assert_eq!(rstar::audit(&logs, false), Ok(("mismatches 0\n".to_string(), 0)));
     assert_eq!(rstar::log(&logs).unwrap().1, 0);
     assert_eq!(rstar::audit("x", true).unwrap().1, 1);

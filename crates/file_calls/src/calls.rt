@@ -16,13 +16,13 @@ pub struct Calls {
 #[derive(Clone, Copy)]
 pub struct NextCall {
     pub kind: CallKind,
-    /// Behind how many bytes of the file it writes.
+    /// After how many bytes of the file it writes.
     pub place: u64,
     /// How many bytes it has.
     pub size: usize,
 }
 
-/// Copies bytes to the front of a room, and gives their number. Where they are more nothing is copied.
+/// Copies bytes to the front of a room, and gives their number. If they are more nothing is copied.
 fn copy_into(bytes: &[u8], room: &mut [u8]) -> usize {
     let size = bytes.len();
     if size <= room.len() {
@@ -32,7 +32,7 @@ fn copy_into(bytes: &[u8], room: &mut [u8]) -> usize {
     size
 }
 
-/// A call, with its bytes copied to the front of a room where they fit.
+/// A call, with its bytes copied to the front of a room if they fit.
 fn shown(call: &Call, room: &mut [u8]) -> NextCall {
     match call {
         Call::Write(place, bytes) => NextCall {
@@ -62,7 +62,7 @@ impl Calls {
         }
     }
 
-    /// The same calls, for somebody else.
+    /// These calls, for somebody else.
     pub fn shared(&self) -> Result<Calls, AllocError> {
         Ok(Calls {
             alloc: self.alloc,
@@ -89,7 +89,7 @@ impl Calls {
         asked
     }
 
-    /// The call that is to be made next, with its bytes copied to the front of a room where they fit; None, if no call
+    /// The call that is to be made next, with its bytes copied to the front of a room if they fit; None, if no call
     /// is left.
     pub fn show_next(&self, room: &mut [u8]) -> Option<NextCall> {
         let left = self.left.replace(Vec::new(self.alloc));
@@ -101,7 +101,7 @@ impl Calls {
         next
     }
 
-    /// The call that is to be made next is left no more.
+    /// The call that was to be made next is no longer left.
     pub fn pass(&self) {
         let mut left = self.left.replace(Vec::new(self.alloc));
         if !left.is_empty() {
@@ -110,7 +110,7 @@ impl Calls {
         self.left.set(left);
     }
 
-    /// No call is left any more.
+    /// No call is left.
     pub fn clear(&self) {
         self.left.set(Vec::new(self.alloc));
     }

@@ -6,15 +6,15 @@ use file_store::LogFile;
 use std::alloc::{AllocError, Global};
 use std::io::{self, ErrorKind};
 
-/// A log's file whose calls are left to somebody else. Each method answers Ok where it has asked for its call, and Err
-/// alone where there is no memory to ask for it.
+/// A log's file whose calls are left to somebody else. Each method answers Ok if it has asked for its call, and Err
+/// only if there is no memory to ask for it.
 #[derive(Drop)]
 pub struct CalledFile {
     alloc: Global,
     calls: Calls,
 }
 
-/// What is said where there is no memory.
+/// What is said if there is no memory.
 fn no_memory() -> io::Error {
     io::Error::from(ErrorKind::OutOfMemory)
 }

@@ -36,7 +36,7 @@ module _ (R A : RattleType) (LA : Laws A) (g : Ghosts A.Denot) where
   abbrev pub heap : Al
   heap = record { row = A; laws = LA; g = g; d = impl [] tnil dnil; drops = impl [] tnil dnil }
 
-  -- it is of its type where the handle is
+  -- it is of its type if the handle is
   pub laid_fits : (b o : ℕ) (handle : Val) → Good (layout A) handle
       → T (has_ty (layout A) handle && true) × WT (laid (block_ptr b o) handle)
   laid_fits b o handle good = (and_tt (has_ty (layout A) handle) good.0, (tt, (good.1, tt)))

@@ -75,7 +75,7 @@ ends_closes bytes forced failures start opening left held store none h =
     subst (λ (c : CoreState). ClosesLog bytes forced failures c store) (ends_core h.by start opening h.last none h.ends)
     h.closes
 
--- a node that was given no line has ended in order, where its store was closed
+-- a node that was given no line has ended in order, if its store was closed
 pub if_ended : {V E : Type 0} (r : Result V E) (s : NodeState) (from held : Known) (opening : Reaction) (left now : Known)
     (store : FileStore CalledFile) → from ≡ Some [] → IfOk r (λ _. Closed store)
     → EndsInOrder file_bytes file_forced file_failures (stand from held s) opening left now store → IfOk r (λ _. Ends s)

@@ -3,7 +3,7 @@ use Rattle.std.specs.Prelude.{◌≡◌, ◌⊎◌, ℕ}
 use Rattle.node_engine.specs.declared.failure.NodeFailure.{NodeFailure}
 use Rattle.node_engine.specs.declared.failure.NodeFailure.TheVariants.{Read, Memory, Write, Device, Exhausted}
 
--- of a node that answers no line any more
+-- of a node that no longer answers a line
 abbrev pub failure_number : NodeFailure → ℕ
 failure_number Read = 20
 failure_number Memory = 21

@@ -35,9 +35,9 @@ pub record Boxes (node : Serving (FileStore CalledFile)) (answer : List ℕ) (ke
   pub answers : kept.answer.items ≡ answer
 
 -- a node that serves, whose answer is what it did as it opened
-abbrev pub ServesBehind : Serving (FileStore CalledFile) → Reaction → Kept → Life → Type 0
-ServesBehind first opening kept (Serves node) = Shows (state_of first) (state_of node.value) opening kept.answer.items
-ServesBehind first opening kept _ = ⊥
+abbrev pub ServesAfter : Serving (FileStore CalledFile) → Reaction → Kept → Life → Type 0
+ServesAfter first opening kept (Serves node) = Shows (state_of first) (state_of node.value) opening kept.answer.items
+ServesAfter first opening kept _ = ⊥
 
 -- a node of a process of the tree that the text is, over the log in the file, that was just started
 pub record Opened (text : List ℕ) (process : ℕ) (file : List ℕ) (is_new : Bool) (kept : Kept) : Type 0 where
@@ -52,7 +52,7 @@ pub record Opened (text : List ℕ) (process : ℕ) (file : List ℕ) (is_new : 
   pub first : Serving (FileStore CalledFile)
   pub opening : Reaction
   pub starts : IsStart tree entry (file_bytes store) (file_forced store) (file_failures store) first opening
-  pub serves : ServesBehind first opening kept kept.life
+  pub serves : ServesAfter first opening kept kept.life
 
 -- how 1 says that the log is new, and 0 that it is not
 abbrev pub is_new_by : ℕ → Bool

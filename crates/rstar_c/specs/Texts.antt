@@ -9,7 +9,7 @@ use Rattle.report_io.specs.declared.status.Status.{Status}
 use Rattle.report_io.specs.Streams.{status_number}
 use Rattle.rstar_c.specs.Turns.{Fills}
 
--- this text is in the room, where it fits, and this is its size
+-- this text is in the room, if it fits, and this is its size
 abbrev pub Told : (text old new : List ℕ) → ℕ → Type 0
 Told text old new size = (size ≡ length text) × Fills text old new
 

@@ -53,7 +53,7 @@ abbrev pub HasEnded : Life → Life → Type 0
 HasEnded (Serves old) new = (new ≡ Ended) × Ends (state_of old.value)
 HasEnded _ new = ⊥
 
--- it has not, and answers no line any more, for the reason of this number
+-- it has not, and no longer answers a line, for the reason of this number
 abbrev pub HasNotEnded : Life → Life → ℕ → Type 0
 HasNotEnded (Serves old) new number = (why : NodeFailure) × (new ≡ Failed why) × (number ≡ failure_number why)
 HasNotEnded (Failed why) new number = (new ≡ Failed why) × (number ≡ failure_number why)
@@ -81,12 +81,12 @@ TellsBy _ status = IsTold status
 abbrev pub Fills : (text old new : List ℕ) → Type 0
 Fills text old new = length text ≤ length old → new ≡ text ++ drop (length text) old
 
--- an answer that is told by 0 is in the room, where it fits, and this is its size; else the room is as it was
+-- an answer that is told by 0 is in the room, if it fits, and this is its size; else the room is as it was
 pub record Shown (status : ℕ) (text old new : List ℕ) (size : ℕ) : Type 0 where
   pub told : status ≡ 0 → (size ≡ length text) × Fills text old new
   pub untold : status ≢ 0 → (size ≡ 0) × (new ≡ old)
 
--- The call of the file that was to be made next was made; or it failed, and the node answers no line any more. Or no
+-- The call of the file that was to be made next was made; or it failed, and the node no longer answers a line. Or no
 -- call was asked for.
 pub data Passed (made : ℕ) (old new : Kept) (status : ℕ) : Type 0 where
   none : status ≡ 29 → new ≡ old → Passed made old new status
@@ -94,7 +94,7 @@ pub data Passed (made : ℕ) (old new : Kept) (status : ℕ) : Type 0 where
   is_over : made ≡ 0 → status ≡ 23 → new.life ≡ Failed failure.Device → new.answer.items ≡ []
       → Passed made old new status
 
--- the same between handles
+-- of handles: what a call makes of the nodes that they keep
 abbrev pub TurnedAt : List ℕ → Option Kept → Option Kept → ℕ → Type 0
 TurnedAt line (Some old) (Some new) status = Turned line old new status
 TurnedAt line _ _ status = ⊥

@@ -9,7 +9,7 @@ use std::alloc::Global;
 use std::marker::Model;
 use std::ptr;
 
-/// The handle of a node, or of none: a pointer, null where there is none.
+/// The handle of a node, or of none: a pointer, which is null if there is none.
 #[repr(C)]
 #[derive(Drop)]
 pub struct Core {

@@ -39,7 +39,7 @@ pub type FileNode = Serving<FileStore<CalledFile>>;
 pub enum Life {
     /// It answers lines.
     Serves(Box<FileNode>),
-    /// It answers no line any more, for this reason.
+    /// It no longer answers a line, for this reason.
     Failed(NodeFailure),
     /// A line asked it to end, and it has.
     Ended,
@@ -140,7 +140,8 @@ fn end_node(alloc: Global, node: FileNode) -> Result<Vec<u8>, NodeFailure>
     }
 }
 
-/// Lets a node go. One function does it: what letting go of one means is proved once, and not at each way out.
+// For the proof: one function drops a node, so that what its drop means is proved once, and not at each way out.
+/// Drops a node.
 fn let_go(_node: FileNode) {}
 
 /// Ends a node in order. Err: by which number it has not.
@@ -160,7 +161,7 @@ fn end(alloc: Global, life: &mut Life) -> Result<Vec<u8>, u32>
     Err(failure_number(failure))
 }
 
-/// Copies a text to the front of a room, and gives its size. Where it is longer nothing is copied.
+/// Copies a text to the front of a room, and gives its size. If it is longer nothing is copied.
 pub fn copy_into(text: &[u8], room: &mut [u8]) -> usize
     ensures size { result ≡ length text.now }
     ensures copied { Fills text.now room.old room.new }
@@ -181,7 +182,7 @@ impl Kept {
         if self.calls.len() == 0 { DONE } else { CALLS }
     }
 
-    /// There is no answer; what was asked of the file is asked no more.
+    /// There is no answer; what was asked of the file is no longer asked.
     fn forget(&mut self)
         ensures answer { self.new.answer.items ≡ [] }
         ensures life { self.new.life ≡ self.old.life }
@@ -239,7 +240,7 @@ impl Kept {
         }
     }
 
-    /// Shows the last answer, which is told by this number: 0, and it is copied to the front of a room, where it fits.
+    /// Shows the last answer, which is told by this number: 0, and it is copied to the front of a room, if it fits.
     /// Gives its size.
     pub fn show(&self, status: u32, room: &mut [u8]) -> usize
         ensures { Shown status self.now.answer.items room.old room.new result }
@@ -261,8 +262,8 @@ impl Kept {
         }
     }
 
-    /// The call of the file that was to be made next was made (is_made is not 0), or it failed: then the node answers
-    /// no line any more.
+    /// The call of the file that was to be made next was made (is_made is not 0), or it failed: then the node no longer
+    /// answers a line.
     pub fn pass(&mut self, is_made: u32) -> u32
         ensures { Passed is_made self.old self.new result }
     {

@@ -2,7 +2,7 @@
 
 ghost use Rattle.std.specs.Prelude.{◌≡◌, IfOk, length};
 ghost use Rattle.file_store.specs.Stores.{file_bytes, file_failures, file_forced};
-ghost use Rattle.rstar_c.specs.Openings.{Boxes, FoundIn, IsTreeOf, Opened, ServesBehind};
+ghost use Rattle.rstar_c.specs.Openings.{Boxes, FoundIn, IsTreeOf, Opened, ServesAfter};
 
 use crate::kept::{FileNode, Kept, Life};
 use crate::numbers::{
@@ -123,7 +123,7 @@ fn shown(
     opening: &Reaction,
     calls: Calls,
 ) -> Result<Box<Kept>, u32>
-    ensures { IfOk result (λ kept. ServesBehind node opening.now kept.value kept.value.life) }
+    ensures { IfOk result (λ kept. ServesAfter node opening.now kept.value kept.value.life) }
 {
     match node.show(opening) {
         Ok(answer) => kept_of(alloc, boxed(alloc, node)?, answer, calls),
@@ -131,7 +131,7 @@ fn shown(
     }
 }
 
-/// Where the first record of a log stands.
+/// The place of the first record of a log.
 const FIRST_FRAME: usize = 5;
 
 /// Whether these bytes begin as the log of this process: with a header and a record of its own.

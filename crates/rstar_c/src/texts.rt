@@ -7,7 +7,7 @@ use crate::numbers::{DONE, MEMORY};
 use audit_engine::{Detail, run_audit, run_log};
 use std::alloc::Global;
 
-/// Audits the logs of a tree, as `rstar audit` does; with `--explain` where that is asked for.
+/// Audits the logs of a tree, as `rstar audit` does; with `--explain` if that is asked for.
 #[unsafe(no_mangle)]
 pub extern "C" fn rstar_audit(
     alloc: Global,
