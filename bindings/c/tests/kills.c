@@ -1,7 +1,8 @@
 /* Opens two nodes in a child, has it commit until it is killed (SIGKILL), and opens them again: kills TREE FOLDER ROUNDS
  *
- * The child tells each transaction that was told committed. What was told committed is committed for ever: each opening
- * after a kill asks the root's log for it. At the end nothing is in doubt. */
+ * The child tells each transaction that was told committed. The kill comes at a random time after none to three of them.
+ * What was told committed is committed for ever: each opening after a kill asks the root's log for it. At the end
+ * nothing is in doubt. */
 #include "rstar.h"
 #include <signal.h>
 #include <stdio.h>
@@ -111,7 +112,7 @@ static void work(int out)
 int main(int argc, char **argv)
 {
     FILE *f;
-    int rounds, round, pipes[2], status, p;
+    int rounds, round, wait, pipes[2], status, p;
     unsigned long all = 0, checked = 0;
     char name[64], last[64] = "";
     if (argc != 4)
@@ -151,15 +152,19 @@ int main(int argc, char **argv)
             fprintf(stderr, "round %d: the child ended by itself: %d\n", round, status);
             return 4;
         }
-        usleep((useconds_t)(rand() % 8000));
+        checked += *last != 0;
+        last[0] = 0;
+        for (wait = rand() % 4; wait > 0 && read(pipes[0], name, 64) == 64; wait--) {
+            all++;
+            memcpy(last, name, 64);
+        }
+        usleep((useconds_t)(rand() % 4000));
         kill(child, SIGKILL);
         waitpid(child, &status, 0);
         if (!WIFSIGNALED(status)) {
             fprintf(stderr, "round %d: the child ended by itself: %d\n", round, status);
             return 5;
         }
-        checked += *last != 0;
-        last[0] = 0;
         while (read(pipes[0], name, 64) == 64) {
             all++;
             memcpy(last, name, 64);

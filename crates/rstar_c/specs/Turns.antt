@@ -16,13 +16,13 @@ use Rattle.rstar_c.specs.declared.kept.Life.{Life}
 use Rattle.rstar_c.specs.declared.kept.Life.TheVariants.{Serves, Failed, Ended}
 use Rattle.rstar_c.specs.Numbers.{IsTold, failure_number}
 
--- why a step failed: the calls of the file are asked for in it and made after it, so what fails there is the asking, for
--- want of memory
+-- why a step failed: the calls of the file are asked for in it and made after it, and what is written goes to memory, so
+-- what fails of either is memory
 abbrev pub told_of : NodeFailure → NodeFailure
 told_of failure.Device = failure.Memory
 told_of failure.Read = failure.Read
 told_of failure.Memory = failure.Memory
-told_of failure.Write = failure.Write
+told_of failure.Write = failure.Memory
 told_of failure.Exhausted = failure.Exhausted
 
 -- a line is answered

@@ -53,12 +53,13 @@ pub struct Kept {
     pub calls: Calls,
 }
 
-/// Why a step failed. No call of the file is made within a step, so what failed there is the asking for it: memory.
+/// Why a step failed. No call of the file is made within a step, and what is written goes to memory: so what failed of
+/// either is memory.
 fn told_of(failure: NodeFailure) -> NodeFailure
     ensures { result ≡ told_by failure }
 {
     match failure {
-        NodeFailure::Device => NodeFailure::Memory,
+        NodeFailure::Device | NodeFailure::Write => NodeFailure::Memory,
         other => other,
     }
 }
