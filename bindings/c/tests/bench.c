@@ -1,8 +1,9 @@
 /* What a call costs: bench TREE FOLDER ROUNDS
  *
  * Lines that force nothing, a line at a time, by rstar_node_line; and of each, the nanoseconds of a call, the least of
- * five runs. */
+ * fifty runs, and how many allocations a call asks for. */
 #include "rstar.h"
+#include "faults.h"
 #include <stdio.h>
 #include <stdlib.h>
 #include <string.h>
@@ -35,7 +36,8 @@ int main(int argc, char **argv)
         return 1;
     for (i = 0; i < sizeof lines / sizeof *lines; i++) {
         double least = 1e9;
-        for (run = 0; run < 5; run++) {
+        unsigned long before = allocations(), count;
+        for (run = 0; run < 50; run++) {
             double from = now(), took;
             for (k = 0; k < rounds; k++)
                 if (rstar_node_line(&node, lines[i], strlen(lines[i]), room, sizeof room, &size) != RSTAR_DONE)
@@ -43,7 +45,8 @@ int main(int argc, char **argv)
             took = (now() - from) / rounds * 1e9;
             least = took < least ? took : least;
         }
-        printf("%s\t%.0f\n", lines[i], least);
+        count = allocations() - before;
+        printf("%-14s %8.0f ns %8.2f allocations\n", lines[i], least, (double)count / (50.0 * rounds));
     }
     return rstar_node_close(&node) == RSTAR_DONE ? 0 : 1;
 }

@@ -7,6 +7,7 @@
 
 static const char *failing;
 static int why, countdown, refused;
+static unsigned long asked;
 
 void fail_next(const char *call, int reason)
 {
@@ -30,8 +31,14 @@ static int fails(const char *call)
     return 1;
 }
 
+unsigned long allocations(void)
+{
+    return asked;
+}
+
 static int is_refused(void)
 {
+    asked++;
     if (countdown == 0 || --countdown > 0)
         return 0;
     refused = 1;

@@ -8,4 +8,7 @@ void fail_next(const char *call, int reason);
 /* The allocation with this number from now on is refused, and those after it are not; 0: none. Tells whether one was. */
 int refuse_malloc(int number);
 
+/* How many allocations were asked for so far. */
+unsigned long allocations(void);
+
 #endif
