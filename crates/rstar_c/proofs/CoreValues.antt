@@ -12,7 +12,7 @@ use denote.Steps.{nothing}
 use denote.Struct.Struct.{within}
 use denote.Struct.Owning.{shape}
 use Rattle.rstar_c.specs.Handles.{handle_owns}
-use Rattle.rstar_c.specs.contracts.kept.Kept as kept
+use Rattle.linked_node.specs.contracts.kept.Kept as kept
 use Rattle.rstar_c.specs.contracts.handle.Core as handle
 
 abbrev pub handle_val : Ptr → Val

@@ -1,2 +1,1 @@
 pub mod CoreValues
-pub mod Ends

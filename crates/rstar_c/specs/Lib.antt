@@ -1,5 +1,2 @@
 pub mod Handles
-pub mod Numbers
-pub mod Turns
-pub mod Openings
 pub mod Texts

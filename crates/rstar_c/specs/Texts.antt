@@ -7,7 +7,7 @@ use Rattle.audit_engine.specs.Audits.{IsAuditReport, IsTrueReport, ending_number
 use Rattle.audit_engine.specs.logs.Reports.{IsLogReport}
 use Rattle.report_io.specs.declared.status.Status.{Status}
 use Rattle.report_io.specs.Streams.{status_number}
-use Rattle.rstar_c.specs.Turns.{Fills}
+use Rattle.linked_node.specs.Turns.{Fills}
 
 -- this text is in the room, if it fits, and this is its size
 abbrev pub Told : (text old new : List ℕ) → ℕ → Type 0

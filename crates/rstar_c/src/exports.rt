@@ -1,14 +1,13 @@
 //! What C calls of a node.
 
 ghost use Rattle.std.specs.Prelude.{◌≡◌, IsSome, None};
-ghost use Rattle.rstar_c.specs.Numbers.{IsRefused};
-ghost use Rattle.rstar_c.specs.Openings.{OpensAt};
-ghost use Rattle.rstar_c.specs.Turns.{PassedAt, ShownAt, TellsAt, TurnedAt};
+ghost use Rattle.linked_node.specs.Numbers.{IsRefused};
+ghost use Rattle.linked_node.specs.Openings.{OpensAt};
+ghost use Rattle.linked_node.specs.Turns.{PassedAt, ShownAt, TellsAt, TurnedAt};
 
 use crate::handle::Core;
-use crate::numbers::{CALLS, DONE, HOW, IO, NO_CALL};
-use crate::opening::opened;
 use file_calls::CallKind;
+use linked_node::{CALLS, DONE, HOW, IO, NO_CALL, opened};
 use std::alloc::Global;
 use std::mem;
 

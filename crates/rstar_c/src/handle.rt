@@ -1,10 +1,10 @@
 //! The handle of a node: what C holds.
 
 ghost use Rattle.std.specs.Prelude.{◌≡◌, Option, Some, None, IsSome};
-ghost use Rattle.rstar_c.specs.declared.kept.Kept.{Kept};
+ghost use Rattle.linked_node.specs.declared.kept.Kept.{Kept};
 
-use crate::kept::Kept;
 use held::Loose;
+use linked_node::Kept;
 use std::alloc::Global;
 use std::marker::Model;
 use std::ptr;
@@ -18,7 +18,7 @@ pub struct Core {
 }
 
 impl Model for Core {
-    ghost use Rattle.rstar_c.specs.contracts.kept.Kept.{the_row};
+    ghost use Rattle.linked_node.specs.contracts.kept.Kept.{the_row};
     ghost use Rattle.rstar_c.specs.Handles.{handle_owns};
 
     ghost also_owns = { λ h. handle_owns the_row h.at h.node };

@@ -5,9 +5,6 @@
 
 mod exports;
 mod handle;
-mod kept;
-mod numbers;
-mod opening;
 mod texts;
 mod xids;
 

@@ -2,9 +2,8 @@
 
 ghost use Rattle.rstar_c.specs.Texts.{Audits, Logs, detail_by};
 
-use crate::kept::copy_into;
-use crate::numbers::{DONE, MEMORY};
 use audit_engine::{Detail, run_audit, run_log};
+use linked_node::{DONE, MEMORY, copy_into};
 use std::alloc::Global;
 
 /// Audits the logs of a tree, as `rstar audit` does; with `--explain` if that is asked for.

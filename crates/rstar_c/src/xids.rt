@@ -1,8 +1,7 @@
 //! What C calls of XIDs: the names of branches.
 
-use crate::kept::copy_into;
-use crate::numbers::{DONE, FOREIGN, MEMORY, NO_CASE};
 use link_script::case_of;
+use linked_node::{DONE, FOREIGN, MEMORY, NO_CASE, copy_into};
 use log_text::{name_in, name_xid};
 use std::alloc::Global;
 use std::str;

@@ -17,7 +17,7 @@ use denote.Steps.{nothing}
 use denote.Triple.Entry.{alive}
 use denote.Triple.Walked.{walk_of}
 use Rattle.std.proofs.raw_atomic.Walks.{proved_at, leaves}
-use Rattle.rstar_c.specs.contracts.kept.Kept as kept
+use Rattle.linked_node.specs.contracts.kept.Kept as kept
 use Rattle.rstar_c.proofs.CoreValues.{handle_val, handle_in}
 use Rattle.rstar_c.specs.contracts.handle.Core.none.{ended, clauses}
 use Rattle.rstar_c.specs.contracts.handle.Core.none.Key.{name as #self}

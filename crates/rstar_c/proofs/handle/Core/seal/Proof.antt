@@ -22,7 +22,7 @@ use Rattle.std.specs.contracts.alloc.Global as global
 use Rattle.std.proofs.alloc.Global.TheLaws as global_laws
 use Rattle.std.specs.contracts.impls.GlobalAllocator.TheImpl.{ghosts}
 use Rattle.held.proofs.Laid.{Row, laid, laid_fits, take_apart}
-use Rattle.rstar_c.specs.contracts.kept.Kept as kept
+use Rattle.linked_node.specs.contracts.kept.Kept as kept
 use Rattle.rstar_c.proofs.CoreValues.{handle_val, handle_in}
 use Rattle.rstar_c.specs.contracts.handle.Core.seal.{ended, clauses}
 use Rattle.rstar_c.specs.contracts.handle.Core.seal.Key.{name as #self}

@@ -28,7 +28,7 @@ use Rattle.held.proofs.Laid.{Row, laid, heap as heap_al, laid_fits, put_together
 use Rattle.rstar_c.specs.Handles.{handle_owns}
 use Rattle.std.specs.Option.{IsSome}
 use Rattle.held.specs.Boxes.{heap}
-use Rattle.rstar_c.specs.contracts.kept.Kept as kept
+use Rattle.linked_node.specs.contracts.kept.Kept as kept
 use Rattle.rstar_c.specs.contracts.handle.Core as handle
 use Rattle.rstar_c.proofs.CoreValues.{handle_val, handle_out}
 use Rattle.rstar_c.specs.contracts.handle.Core.unseal.{ended, clauses}

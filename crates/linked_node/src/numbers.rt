@@ -1,7 +1,7 @@
 //! The numbers that calls answer, as `rstar_core.h` names them.
 
 ghost use Rattle.std.specs.Prelude.{◌≡◌};
-ghost use Rattle.rstar_c.specs.Numbers.{failure_number as number_of_failure};
+ghost use Rattle.linked_node.specs.Numbers.{failure_number as number_of_failure};
 
 use file_store::OpenError;
 use node_engine::{NodeFailure, StartError};

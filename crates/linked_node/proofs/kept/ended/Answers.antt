@@ -1,7 +1,7 @@
 use Rattle.std.proofs.Common.{ap, Some}
 use Rattle.node_engine.specs.Answers.{state_of}
-use Rattle.rstar_c.proofs.Ends.{if_ended}
-use Rattle.rstar_c.proofs.kept.ended.Goals as goal
+use Rattle.linked_node.proofs.Ends.{if_ended}
+use Rattle.linked_node.proofs.kept.ended.Goals as goal
 
 pub returns-in-Ok : goal.returns-in-Ok
 returns-in-Ok c =

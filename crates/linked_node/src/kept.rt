@@ -5,8 +5,8 @@ ghost use Rattle.node_engine.specs.Answers.{state_of};
 ghost use Rattle.node_answers.specs.Texts.{ok_text};
 ghost use Rattle.script_words.specs.Steps.{same};
 ghost use Rattle.node_lines.specs.Asked.{end_word};
-ghost use Rattle.rstar_c.specs.Numbers.{IsTold};
-ghost use Rattle.rstar_c.specs.Turns.{
+ghost use Rattle.linked_node.specs.Numbers.{IsTold};
+ghost use Rattle.linked_node.specs.Turns.{
   Answered,
   Closed as IsClosed,
   Ends,

@@ -2,7 +2,7 @@
 
 ghost use Rattle.std.specs.Prelude.{◌≡◌, IfOk, length};
 ghost use Rattle.file_store.specs.Stores.{file_bytes, file_failures, file_forced};
-ghost use Rattle.rstar_c.specs.Openings.{Boxes, FoundIn, IsTreeOf, Opened, ServesAfter};
+ghost use Rattle.linked_node.specs.Openings.{Boxes, FoundIn, IsTreeOf, Opened, ServesAfter};
 
 use crate::kept::{FileNode, Kept, Life};
 use crate::numbers::{

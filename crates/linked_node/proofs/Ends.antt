@@ -16,7 +16,7 @@ use Rattle.node_engine.specs.declared.run.Ended.{Ended}
 use Rattle.node_engine.specs.declared.run.Ended.TheVariants.{Input, Asked as EndAsked}
 use Rattle.node_engine.specs.Answers.{Answers, AnswersLine, Asks, NodeState}
 use Rattle.node_engine.specs.Runs.{ClosesLog, EndsBy, EndsInOrder, Known, Served, Serves, Stand, line_of, stand}
-use Rattle.rstar_c.specs.Turns.{Closed, Ends}
+use Rattle.linked_node.specs.Turns.{Closed, Ends}
 
 abbrev is_nil : List ℕ → Bool
 is_nil [] = true

@@ -11,10 +11,10 @@ use Rattle.file_calls.specs.declared.file.CalledFile.{CalledFile}
 use Rattle.node_engine.specs.declared.serving.Serving.{Serving}
 use Rattle.node_engine.specs.Answers.{Shows, state_of}
 use Rattle.node_engine.specs.Starts.{IsStart}
-use Rattle.rstar_c.specs.Numbers.{IsRefused, IsTold}
-use Rattle.rstar_c.specs.declared.kept.Kept.{Kept}
-use Rattle.rstar_c.specs.declared.kept.Life.{Life}
-use Rattle.rstar_c.specs.declared.kept.Life.TheVariants.{Serves}
+use Rattle.linked_node.specs.Numbers.{IsRefused, IsTold}
+use Rattle.linked_node.specs.declared.kept.Kept.{Kept}
+use Rattle.linked_node.specs.declared.kept.Life.{Life}
+use Rattle.linked_node.specs.declared.kept.Life.TheVariants.{Serves}
 
 -- the tree that a text is
 abbrev pub IsTreeOf : List ℕ → List TreeEntry → Type 0

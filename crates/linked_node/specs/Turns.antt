@@ -11,10 +11,10 @@ use Rattle.node_engine.specs.declared.failure.NodeFailure.{NodeFailure}
 use Rattle.node_engine.specs.declared.failure.NodeFailure.TheVariants as failure
 use Rattle.node_engine.specs.Answers.{AnswersLine, NodeState, TakesLine, state_of}
 use Rattle.node_engine.specs.Runs.{ClosesLog}
-use Rattle.rstar_c.specs.declared.kept.Kept.{Kept}
-use Rattle.rstar_c.specs.declared.kept.Life.{Life}
-use Rattle.rstar_c.specs.declared.kept.Life.TheVariants.{Serves, Failed, Ended}
-use Rattle.rstar_c.specs.Numbers.{IsTold, failure_number}
+use Rattle.linked_node.specs.declared.kept.Kept.{Kept}
+use Rattle.linked_node.specs.declared.kept.Life.{Life}
+use Rattle.linked_node.specs.declared.kept.Life.TheVariants.{Serves, Failed, Ended}
+use Rattle.linked_node.specs.Numbers.{IsTold, failure_number}
 
 -- why a step failed: the calls of the file are asked for in it and made after it, and what is written goes to memory, so
 -- what fails of either is memory
