@@ -7,7 +7,7 @@ ghost use Rattle.linked_node.specs.Turns.{PassedAt, ShownAt, TellsAt, TurnedAt};
 
 use crate::handle::Core;
 use file_calls::CallKind;
-use linked_node::{CALLS, DONE, HOW, IO, NO_CALL, opened};
+use linked_node::{CALLS, DONE, HOW, IO, NO_CALL, opened, release};
 use std::alloc::Global;
 use std::mem;
 
@@ -146,5 +146,5 @@ pub extern "C" fn rstar_core_close(alloc: Global, core: &mut Core)
     requires { IsSome core.old.node }
     ensures { core.new.node ≡ None }
 {
-    drop(mem::replace(core, Core::none()).into_box(alloc));
+    release(mem::replace(core, Core::none()).into_box(alloc));
 }
