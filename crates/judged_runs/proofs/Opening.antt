@@ -127,8 +127,8 @@ module _ (n : Numbers) (old new : States) (d : Xid → Decision) (s : Sight) (fl
   Opens_so = (u : Sight) × Contains (open_rows lacks_forced (open_defects flags.0) true s (reply_of c)) u × Mirrors n new d u
 
   -- the manager was closed
-  anew : Opened old new migrates c → old.init ≡ R0 → Mirrors n new d (opened true s)
-  anew h e =
+  from_closed : Opened old new migrates c → old.init ≡ R0 → Mirrors n new d (opened true s)
+  from_closed h e =
       let none = mirrors.shut e in
       let bare = h.anew e in
       let free : IsFree new.associations =
@@ -158,7 +158,7 @@ module _ (n : Numbers) (old new : States) (d : Xid → Decision) (s : Sight) (fl
   })
 
   by_init : (i : InitState) → old.init ≡ i → Opened old new migrates c → Mirrors n new d (opened true s)
-  by_init R0 e h = anew h e
+  by_init R0 e h = from_closed h e
   by_init R1 e h = again h e
 
   open_by : (l : Result Call Code) → plain_legal call.Open flags.0 ≡ l

@@ -319,7 +319,7 @@ module _ (n : Numbers) (old new : KvSight) (e : Event) (counted : AreCounted old
 
   -- a recover, which a failed manager refuses
   scans : (t count : ℕ) (flags : Flags) (r : Result (List Xid) Code) (a : Judged) → (r ≡ Err code.RmFail → ⊥)
-      → Calls old new (r ≡ Err code.RmFail) (λ before behind. MovesTables before behind
+      → Calls old new (r ≡ Err code.RmFail) (λ before after. MovesTables before after
       (λ b c. Recovers b c t count flags.0 r))
       → IsScan n r a → Is e (asked.Function (function.Recover t count flags)) a → Deed_of
   scans t count flags r a ok calls says is = by old.log.sight.failed refl where

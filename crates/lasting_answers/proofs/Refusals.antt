@@ -261,7 +261,7 @@ module _ (tree : List TreeEntry) (t : IsTree tree) (logs : List ProcessLog) (es 
   abbrev more : ℕ → Case → List Step
   more k = steps_within k tree (kept_lists tree logs)
 
-  -- where so many steps upward of a child in doubt say rollback, a case has refused
+  -- where N steps upward of a child in doubt say rollback, a case has refused
   abbrev Says : ℕ → Type 0
   Says k = (c : Case) (u : Ticket) → sent (is_joined_message c u) w.net ≡ true
       → IsInDoubt (pair_reading tree w c u) → (a : Answer) → (a.word ≡ word.Rollback → ⊥)
